@@ -17,6 +17,7 @@ pub mod WithinLemmas
 pub mod ReachLemmas
 pub mod LevelLemmas
 pub mod SurveyLemmas
+pub mod NumberLemmas
 pub mod ListingLemmas
 pub mod RefusalLemmas
 pub mod KindLemmas

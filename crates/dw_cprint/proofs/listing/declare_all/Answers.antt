@@ -10,7 +10,8 @@ use Rattle.dw_cprint.specs.Refusals.{PrintFault}
 use Rattle.dw_cprint.specs.Shapes.{SubjectOf}
 use Rattle.dw_cprint.specs.Steps.{entries_of, first_steps}
 use Rattle.dw_cprint.specs.Surveys.{AreAmong, BySurvey}
-use Rattle.dw_cprint.proofs.ListingLemmas.{few-named, judged-more, listing-done, named-within, numbers-ranked, numbers-within, refused-within, steps-among}
+use Rattle.dw_cprint.proofs.ListingLemmas.{few-named, judged-more, listing-done, named-within, refused-within, steps-among}
+use Rattle.dw_cprint.proofs.NumberLemmas.{numbers-ranked, numbers-within}
 use Rattle.dw_cprint.proofs.WithinLemmas.{roots_within}
 use Rattle.dw_cprint.proofs.listing.declare_all.Goals as goal
 

@@ -4,7 +4,7 @@ use Rattle.std.specs.List.Sorted.{IsStableByKey}
 use Rattle.std.specs.Ordering.{nat_cmp}
 use Rattle.std.proofs.lemmas.Fn.{always_returns_same}
 use Rattle.std.proofs.lemmas.List.Sorted.{IsNonDecreasingBy-from_sort_by_key}
-use Rattle.dw_cprint.proofs.ListingLemmas.{numbers-by-level}
+use Rattle.dw_cprint.proofs.NumberLemmas.{numbers-by-level}
 use Rattle.dw_cprint.proofs.listing.numbers_by_level.Goals as goal
 
 pub returns-clause-all : goal.returns-clause-all
