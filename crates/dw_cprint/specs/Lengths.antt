@@ -62,7 +62,7 @@ abbrev pub value_bytes : Option ℤ → ℕ
 value_bytes None = 0
 value_bytes (Some value) = byte_count (value_tokens value)
 
--- the bytes of an enumerator and its value, with the comma or the brace before it and a space
+-- the bytes of an enumerator, ` = ` and its value, with the comma or the brace before it and a space
 abbrev pub enumerator_bytes : EnumeratorOf → ℕ
 enumerator_bytes e = name_bytes e.name + 5 + value_bytes e.value
 
@@ -81,7 +81,7 @@ module _ (known : TypeAt → Summary) where
   named_bytes at None = (known at).length
   named_bytes at (Some name) = bytes_around at + length name
 
-  -- the bytes of a member
+  -- the bytes of a member: its type and name, its size in bits, and `; `
   abbrev pub member_bytes : MemberOf → ℕ
   member_bytes m = named_bytes m.type_at m.name + byte_count (bits_tokens m.bits) + 2
 
@@ -119,7 +119,7 @@ module _ (known : TypeAt → Summary) where
   base_in (qualified q at) = (known at).base
   base_in shape = kind_in (Some shape)
 
-  -- the bytes of a declaration
+  -- the bytes of a declaration; a typedef has `typedef ` before and `;` after it
   abbrev pub declared_bytes : SubjectOf → ℕ
   declared_bytes (typedef_subject name at) = named_bytes at name + 9
   declared_bytes (variable_subject name at) = named_bytes at name + 1

@@ -116,7 +116,7 @@ fn bits_length(bits: Option<u64>) -> usize
     }
 }
 
-/// The bytes of a member.
+/// The bytes of a member: its type and name, its size in bits, and `; `.
 #[inline]
 fn member_length(survey: &Survey<'_>, member: &Member<'_>) -> usize
     ensures { result ≡ capped (member_bytes (known_of survey.now) (view_member member.now)) }
@@ -125,7 +125,7 @@ fn member_length(survey: &Survey<'_>, member: &Member<'_>) -> usize
     plus(plus(typed, bits_length(member.bits)), 2)
 }
 
-/// The bytes of members, in braces.
+/// The bytes of members, with `{`, a space and `}`.
 fn members_length(survey: &Survey<'_>, members: &[Member<'_>]) -> usize
     ensures { result ≡ capped (members_bytes (known_of survey.now) (map view_member members.now)) }
 {
@@ -149,7 +149,7 @@ fn value_length(value: Option<i128>) -> usize
     }
 }
 
-/// The bytes of an enumerator and its value, and of the comma or the brace before it and a space.
+/// The bytes of an enumerator, ` = ` and its value, and of the comma or the brace before it and a space.
 fn enumerator_length(enumerator: &Enumerator<'_>) -> usize
     ensures { result ≡ capped (enumerator_bytes (view_enumerator enumerator.now)) }
 {
@@ -271,7 +271,7 @@ fn tag_declaration_length(survey: &Survey<'_>, name: Name<'_>, shape: &Shape<'_>
     }
 }
 
-/// The bytes of a declaration.
+/// The bytes of a declaration. Those of a typedef have `typedef ` before and `;` after them.
 pub fn length_declared(survey: &Survey<'_>, subject: &Subject<'_>) -> usize
     ensures { result ≡ capped (declared_bytes (known_of survey.now) (view_subject subject.now)) }
 {
