@@ -1,7 +1,6 @@
 -- How far the pass over a unit's body has come.
-use Rattle.std.proofs.Common.{rules, ◌≡◌, ◌≢◌, ℕ, suc, ◌+◌, ◌-◌, ◌<◌, ◌≤◌, Bool, map, true, false, cond, List, [], ◌∷◌, ◌++◌, length, reverse, Some, None, Ok, Err, refl, sym, ap, ◌∙◌, append_assoc, append-nil, arith, length-append, eq-eqb, eqb-true, true≢false}
-use Rattle.std.specs.Prelude.{◌==◌}
-use Rattle.std.proofs.lemmas.List.{nil_from_length, length-reverse}
+use Rattle.std.proofs.Common.{rules, ◌≡◌, ◌≢◌, ℕ, suc, ◌+◌, ◌-◌, ◌<◌, ◌≤◌, Bool, map, true, false, cond, List, [], ◌∷◌, ◌++◌, length, Option, Some, None, Ok, Err, refl, sym, ap, ◌∙◌, append_assoc, append-nil, arith, length-append}
+use Rattle.std.proofs.lemmas.List.{length-reverse}
 use Rattle.dw_entries.specs.declared.walk.Record.{Record}
 use Rattle.dw_entries.specs.declared.walk.Level.{Level}
 use Rattle.dw_entries.specs.declared.fault.Broken.{Broken}
@@ -121,25 +120,18 @@ first_fault t kind header start body f fault s read e = record {
 
 -- ---- the same, in the words of the code
 
-reverse_some : (ls : List Level) → ls ≢ [] → reverse ls ≢ []
-reverse_some ls more e = more (nil_from_length ls (omega (arith, ap length e, length-reverse ls)))
+pub first_turn : (t : Context) (numbers : ℕ → ℕ) (kind : HeaderKind) (at : ℕ) (body : List ℕ) (old records : List Record) (outer : List Level) (inner : Option Level) (d : ℕ × Declaration) (rest : List ℕ) → seen (numbered_decl numbers) (first_at t kind body) ≡ Ok (Some d, rest) → walk_of records outer inner ≡ enter at d old [] → Along t numbers kind at body old rest (walk_of records outer inner)
+first_turn t numbers kind at body old records outer inner d rest read e = search (rules, seen_entry, along_first)
 
-pub first_turn : (t : Context) (numbers : ℕ → ℕ) (kind : HeaderKind) (at : ℕ) (body : List ℕ) (old records : List Record) (none levels : List Level) (d : ℕ × Declaration) (rest : List ℕ) → seen (numbered_decl numbers) (first_at t kind body) ≡ Ok (Some d, rest) → none ≡ [] → walk_of records levels ≡ enter at d old (reverse none) → Along t numbers kind at body old rest (walk_of records levels)
-first_turn t numbers kind at body old records none levels d rest read empty e = search (rules, seen_entry, along_first)
+some_level : (l : Level) (ls : List Level) → l ∷ ls ≢ []
+some_level l ls e = absurd cc
 
-pub next_turn : (t : Context) (numbers : ℕ → ℕ) (kind : HeaderKind) (at : ℕ) (body : List ℕ) (old : List Record) (rest : List ℕ) (records : List Record) (levels : List Level) (more : List Record) (above : List Level) (after : List ℕ) → Along t numbers kind at body old rest (walk_of records levels) → levels ≢ [] → seen (λ i. step numbers (at + (length body - length rest)) i (walk_of records levels)) (item_at t rest) ≡ Ok (walk_of more above, after) → Along t numbers kind at body old after (walk_of more above)
-next_turn t numbers kind at body old rest records levels more above after a some read =
-    search (rules, seen_ok, along_next, reverse_some)
+pub next_turn : (t : Context) (numbers : ℕ → ℕ) (kind : HeaderKind) (at : ℕ) (body : List ℕ) (old : List Record) (rest : List ℕ) (records : List Record) (outer : List Level) (own : Level) (more : List Record) (around : List Level) (then : Option Level) (after : List ℕ) → Along t numbers kind at body old rest (walk_of records outer (Some own)) → seen (λ i. step numbers (at + (length body - length rest)) i (walk_of records outer (Some own))) (item_at t rest) ≡ Ok (walk_of more around then, after) → Along t numbers kind at body old after (walk_of more around then)
+next_turn t numbers kind at body old rest records outer own more around then after a read =
+    search (rules, seen_ok, along_next, some_level)
 
 pub turn_shorter : {B : Type 0} (f : Item → B) (t : Context) (rest : List ℕ) (y : B) (after : List ℕ) → seen f (item_at t rest) ≡ Ok (y, after) → length after < length rest
 turn_shorter f t rest y after read = let (i, was, is) = seen_ok f (item_at t rest) y after read in item_shorter t rest i after was
-
--- what a test for an empty list says
-pub some_from : {A : Type 0} (xs : List A) (n : ℕ) → n ≡ length xs → false ≡ (n == 0) → xs ≢ []
-some_from xs n len e none = let z : n ≡ 0 = len ∙ ap length none in absurd (true≢false (sym (eq-eqb n 0 z) ∙ sym e))
-
-pub none_from : {A : Type 0} (xs : List A) (n : ℕ) → n ≡ length xs → true ≡ (n == 0) → xs ≡ []
-none_from xs n len e = nil_from_length xs (sym len ∙ eqb-true n 0 (sym e))
 
 -- ---- how much was made: one entry and one list for each item at most, and each item takes a byte
 
@@ -168,10 +160,10 @@ walk_few t numbers at (i ∷ is) w p =
     let bytes = length-append (item_bytes i) (items_bytes is) in
     (omega (arith, rs, step_records numbers at i w, some, bytes), omega (arith, ls, step_levels numbers at i w, some, bytes))
 
-pub along_few : (t : Context) (numbers : ℕ → ℕ) (kind : HeaderKind) (at : ℕ) (body : List ℕ) (old : List Record) (rest : List ℕ) (records : List Record) (levels : List Level) → Along t numbers kind at body old rest (walk_of records levels)
-    → (length records ≤ length old + (length body - length rest)) × (length levels ≤ length body - length rest)
-along_few t numbers kind at body old rest records levels a =
+pub along_few : (t : Context) (numbers : ℕ → ℕ) (kind : HeaderKind) (at : ℕ) (body : List ℕ) (old : List Record) (rest : List ℕ) (records : List Record) (outer : List Level) (own : Level) → Along t numbers kind at body old rest (walk_of records outer (Some own))
+    → (length records ≤ length old + (length body - length rest)) × (length outer < length body - length rest)
+along_few t numbers kind at body old rest records outer own a =
     let is : List Item = entry a.first ∷ a.others in
-    let bytes = taken t numbers kind at body old rest (walk_of records levels) a in
+    let bytes = taken t numbers kind at body old rest (walk_of records outer (Some own)) a in
     let (r, l) = walk_few t numbers at is (walk old []) a.front.are in
-    (omega (arith, bytes, r, ap (λ (w : Walk). length w.records) a.walked), omega (arith, bytes, l, ap (λ (w : Walk). length w.levels) a.walked, length-reverse levels))
+    (omega (arith, bytes, r, ap (λ (w : Walk). length w.records) a.walked), omega (arith, bytes, l, ap (λ (w : Walk). length w.levels) a.walked, length-reverse outer))

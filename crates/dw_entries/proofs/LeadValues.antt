@@ -1,6 +1,7 @@
 -- The values that leads lead to: their forms, and what is made of their bytes.
-use Rattle.std.proofs.Common.{◌≡◌, ℕ, true, List, map, Some, Result, Ok, Err, refl, sym, ap, ◌∙◌}
-use Rattle.std.specs.Prelude.{slice_get, option_map}
+use Rattle.std.proofs.Common.{◌≡◌, ℕ, Bool, true, false, List, length, map, Some, Result, Ok, Err, refl, sym, ap, ◌∙◌}
+use Rattle.std.specs.Prelude.{slice_get, option_map, nat_lt}
+use Rattle.std.specs.Bool.{OnTrue}
 use Rattle.dw_forms.specs.declared.attributes.Attributes.{Attributes}
 use Rattle.dw_forms.specs.declared.attribute_lists.Lead.{Lead}
 use Rattle.dw_forms.specs.declared.attribute_lists.Lead.TheVariants as lead
@@ -9,6 +10,7 @@ use Rattle.dw_forms.specs.declared.decl.AttributeSpec.{AttributeSpec}
 use Rattle.dw_forms.specs.declared.form.Form.{Form}
 use Rattle.dw_forms.specs.declared.form.Form.TheVariants.{Ref4, Strp, Strx1, Strx2, Addrx}
 use Rattle.dw_forms.specs.declared.value.ValueFault.{ValueFault}
+use Rattle.dw_forms.specs.declared.value.ValueFault.TheVariants.{Cut}
 use Rattle.dw_forms.specs.declared.value.Value.{Value}
 use Rattle.dw_forms.specs.declared.value.Value.TheVariants as value
 use Rattle.dw_forms.specs.Chains.{Numbered, items_of}
@@ -24,7 +26,7 @@ use Rattle.dw_entries.specs.Chosen.{ArePassed}
 use Rattle.dw_entries.specs.Grammar.{Context}
 use Rattle.dw_entries.specs.Leading.{DoesNotLead, IsMade, is_reference_lead}
 use Rattle.dw_entries.specs.ReadingLaws.{ok_pair}
-use Rattle.dw_entries.specs.Values.{Left, form_there, IsThere}
+use Rattle.dw_entries.specs.Values.{Left, form_there, IsCut, IsThere}
 use Rattle.dw_entries.proofs.ChosenSteps.{all_passed}
 
 -- ---- the form, by the lead
@@ -73,6 +75,19 @@ module _ (a : Attributes) (step : Step) (is : IsStep (numbered a) step) where
   passed_there e = lead_there (λ none. let no : lead.Passed ≡ lead.Nothing = sym e ∙ none in cc)
 
 -- ---- the value, by the form
+
+-- bytes that end inside a value of one size
+fixed_cut : (n : ℕ) (of : ℕ → Datum) (bytes : List ℕ) → nat_lt (length bytes) n ≡ true → layout_at (fixed n of) bytes ≡ Err Cut
+unfolding layout_at fixed_at
+fixed_cut n of bytes short = rw short refl
+
+pub text_cut : (bytes : List ℕ) (b : Bool) → b ≡ nat_lt (length bytes) 4 → OnTrue b (IsCut Strp bytes)
+text_cut bytes true short = λ version size. fixed_cut 4 str bytes (sym short)
+text_cut bytes false short = tt
+
+pub reference_cut : (bytes : List ℕ) (b : Bool) → b ≡ nat_lt (length bytes) 4 → OnTrue b (IsCut Ref4 bytes)
+reference_cut bytes true short = λ version size. fixed_cut 4 ref_unit bytes (sym short)
+reference_cut bytes false short = tt
 
 fixed_made : (n : ℕ) (of : ℕ → Datum) (bytes behind : List ℕ) (d : Datum) → layout_at (fixed n of) bytes ≡ Ok (d, behind) → (m : ℕ) × (d ≡ of m)
 unfolding layout_at

@@ -28,3 +28,4 @@ pub mod UnitTurns
 pub mod FindLaws
 pub mod RunLaws
 pub mod TextLaws
+pub mod PlacedLaws

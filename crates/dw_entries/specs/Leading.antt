@@ -40,11 +40,11 @@ pub record LeadsIn (code : ℕ) (form : Form) (specs behind : List AttributeSpec
 
 -- the form of the attribute that the next step goes to
 abbrev pub next_form : Leading → Option Form
-next_form it = form_there it.values.attributes it.step.to
+next_form it = form_there it.values.attributes it.step.now.to
 
 -- what the value of that attribute leads to
 abbrev pub next_lead : Leading → Lead
-next_lead it = it.step.lead
+next_lead it = it.step.now.lead
 
 -- a text by its offset
 abbrev pub LeadsToText : Leading → Type 0

@@ -36,4 +36,6 @@ pub mod UnitsLeft
 pub mod Chosen
 pub mod Values
 pub mod ValuesLeft
+pub mod Leaving
+pub mod Placed
 pub mod Leading

@@ -1,11 +1,13 @@
 -- State: the attributes of an entry that are still to be read.
-use Rattle.std.specs.Prelude.{◌≡◌, ℕ, List, [], ◌++◌, Option, Some, option_map, slice_get}
+use Rattle.std.specs.Prelude.{◌≡◌, ℕ, List, [], ◌++◌, Option, Some, Err, option_map, slice_get}
 use Rattle.std.specs.List.{flat_map}
 use Rattle.dw_forms.specs.declared.attributes.Attributes.{Attributes}
 use Rattle.dw_forms.specs.declared.decl.AttributeSpec.{AttributeSpec}
 use Rattle.dw_forms.specs.declared.form.Form.{Form}
 use Rattle.dw_forms.specs.AttributeLists.{list_in}
 use Rattle.dw_forms.specs.Suffixes.{nodes_of}
+use Rattle.dw_forms.specs.declared.value.ValueFault.TheVariants.{Cut}
+use Rattle.dw_forms.specs.ValueReading.{value_at}
 use Rattle.dw_entries.specs.Grammar.{Context, Attribute, attribute_bytes, AreAttributes}
 
 -- what values are read by in a unit of this version with addresses of this size: no table is needed
@@ -25,6 +27,10 @@ Left x specs bytes = (found : List Attribute × List ℕ) × Begin x specs bytes
 -- the form of the attribute of this number, among those that are kept
 abbrev pub form_there : Attributes → ℕ → Option Form
 form_there a number = option_map (λ (spec : AttributeSpec). spec.form) (slice_get (list_in (nodes_of a) number) 0)
+
+-- the bytes end inside a value of the form, in each version and for each size of addresses
+abbrev pub IsCut : Form → List ℕ → Type 0
+IsCut form bytes = (version size : ℕ) → value_at version form size bytes ≡ Err Cut
 
 -- there is an attribute of this number
 abbrev pub IsThere : Attributes → ℕ → Type 0

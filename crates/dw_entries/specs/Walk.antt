@@ -11,9 +11,14 @@ pub record Walk : Type 0 where
   pub records : List Record
   pub levels : List Level
 
--- the state of the code: its stack has the innermost list last
-abbrev pub walk_of : List Record → List Level → Walk
-walk_of records levels = record { records = records; levels = reverse levels }
+-- the innermost open list, if one is open, and those around it, of which the innermost is the last
+abbrev pub levels_of : List Level → Option Level → List Level
+levels_of outer None = []
+levels_of outer (Some inner) = inner ∷ reverse outer
+
+-- the state of the code
+abbrev pub walk_of : List Record → List Level → Option Level → Walk
+walk_of records outer inner = record { records = records; levels = levels_of outer inner }
 
 -- the entry of this number gets a next sibling
 abbrev pub link : ℕ → ℕ → List Record → List Record

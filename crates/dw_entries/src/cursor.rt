@@ -80,19 +80,6 @@ impl<'a> Entries<'a> {
 }
 
 impl<'e, 'a> Cursor<'e, 'a> {
-    /// The entry with this number, if it is one of the unit at hand.
-    #[inline(always)]
-    pub fn beside(&self, id: EntryId) -> Option<EntryAt<'e, 'a>>
-        requires { id < length (all_entries self.now.entries.now) }
-        ensures { IfSome result (λ entry. entry ≡ slice_get (all_entries self.now.entries.now) id) }
-    {
-        if self.first <= id.number() && id.number() < self.end {
-            Some(EntryAt::new(self.entries, id, self.unit))
-        } else {
-            None
-        }
-    }
-
     /// The entry with this number. Its declaration is looked up once.
     #[inline(always)]
     pub fn at(&mut self, id: EntryId) -> EntryAt<'e, 'a>

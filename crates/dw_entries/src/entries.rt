@@ -42,6 +42,14 @@ impl Hints {
     }
 }
 
+/// Keeps the hint of a block, if there is that block.
+#[inline(always)]
+fn put(blocks: &mut [u64], block: usize, hint: u64) {
+    if block < blocks.len() {
+        blocks[block] = hint;
+    }
+}
+
 impl Entries<'_> {
     ghost use Rattle.dw_entries.specs.Views.{all_entries, all_units, units_of};
 
@@ -49,16 +57,18 @@ impl Entries<'_> {
     pub fn hints(&self, alloc: Global) -> Result<Hints, AllocError> {
         let count = self.sections.info.len() / BLOCK + 1;
         let mut blocks = vec![in alloc; 0u64; count]?;
+        let mut block = 0;
+        let mut hint = 0u64;
         for number in 0..self.records.len() {
             let at = self.records[number].at as usize;
-            let block = at / BLOCK;
-            if block < blocks.len() {
-                if blocks[block] == 0 {
-                    blocks[block] = (number as u64) << BLOCK;
-                }
-                blocks[block] |= 1 << (at % BLOCK);
+            if at / BLOCK != block {
+                put(&mut blocks, block, hint);
+                block = at / BLOCK;
+                hint = (number as u64) << BLOCK;
             }
+            hint |= 1 << (at % BLOCK);
         }
+        put(&mut blocks, block, hint);
         Ok(Hints { blocks })
     }
 

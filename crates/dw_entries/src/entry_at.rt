@@ -72,14 +72,24 @@ impl<'a> Entries<'a> {
         EntryAt::new(self, id, unit_number(self, id))
     }
 
-    /// The entry with this number, which is one of this unit. The unit is not looked up.
+    /// The entry with this number, which is one of this unit, whose header this is. The unit is not looked up.
     #[inline(always)]
-    pub fn at_in(&self, id: EntryId, unit: usize) -> EntryAt<'_, 'a>
+    pub fn at_with(&self, id: EntryId, unit: usize, header: UnitHeader) -> EntryAt<'_, 'a>
         requires id { id < length (all_entries self.now) }
         requires unit { IfSome (slice_get (all_entries self.now) id) (λ e. unit ≡ e.unit) }
+        requires header { IfSome (slice_get (all_entries self.now) id)
+            (λ e. IfSome (slice_get (units_of self.now) e.unit) (λ u. header ≡ u.header)) }
         ensures { result ≡ slice_get (all_entries self.now) id }
     {
-        EntryAt::new(self, id, unit)
+        let kept = self.record(id);
+        EntryAt {
+            entries: self,
+            id,
+            kept,
+            decl: self.decls.decl(kept.decl),
+            unit,
+            header,
+        }
     }
 
     /// The parent of an entry. None at the first entry of a unit. Its unit is not looked up.
@@ -109,15 +119,7 @@ impl<'e, 'a> EntryAt<'e, 'a> {
         requires unit { IfSome (slice_get (all_entries entries.now) id) (λ e. unit ≡ e.unit) }
         ensures { result ≡ slice_get (all_entries entries.now) id }
     {
-        let kept = entries.record(id);
-        EntryAt {
-            entries,
-            id,
-            kept,
-            decl: entries.decls.decl(kept.decl),
-            unit,
-            header: entries.units[unit].header,
-        }
+        entries.at_with(id, unit, entries.units[unit].header)
     }
 
     /// Its offset in .debug_info, in bytes.
@@ -230,7 +232,23 @@ impl<'e, 'a> EntryAt<'e, 'a> {
         if attributes.lacks(attribute) {
             return None;
         }
-        self.values().value(attribute)
+        self.find_value(attribute)
+    }
+
+    /// The same, without asking first whether its declaration has the attribute.
+    #[inline(always)]
+    pub(crate) fn find_value(&self, attribute: Attribute) -> Option<Value<'a>>
+        ensures { IfSome self.now (λ e. option_map view result ≡ value_at_entry e attribute) }
+    {
+        let version = self.header.kind.version();
+        let size = self.header.address_size;
+        match self
+            .decl
+            .value(version, size, attribute, self.value_bytes())
+        {
+            Ok(value) => value,
+            Err(_) => unreachable!(),
+        }
     }
 
     /// Where the text that is the value of its attribute starts, from the first byte of the entry. The text is in the

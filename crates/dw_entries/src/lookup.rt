@@ -158,7 +158,7 @@ impl<'a> Entries<'a> {
         if self.decl(id).attributes().lacks(attribute) {
             return None;
         }
-        self.at(id).values().value(attribute)
+        self.at(id).find_value(attribute)
     }
 
     /// Where the text of an entry's attribute starts in .debug_info. The text is in the value itself.

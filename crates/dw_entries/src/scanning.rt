@@ -174,10 +174,7 @@ fn skip_attributes<'b>(
 {
     let version = context.version;
     if decl.allows(version) {
-        if let Ok(rest) = decl
-            .attributes()
-            .pass_all(version, context.address_size, bytes)
-        {
+        if let Ok(rest) = decl.pass_all(version, context.address_size, bytes) {
             return Ok(rest);
         }
     }

@@ -1,16 +1,29 @@
 //! The attributes of an entry, each value decoded on demand.
 
 ghost use Rattle.std.specs.Prelude.{◌≡◌, ◌∷◌, [], true, Some, IfNone, List, drop, length, IfSome, OnSome, MatchOption};
+ghost use Rattle.std.specs.Bool.{OnTrue};
 ghost use Rattle.dw_forms.specs.Suffixes.{numbered, specs_in, Ends};
 ghost use Rattle.dw_forms.specs.Walks.{IsStep};
 ghost use Rattle.dw_forms.specs.declared.decl.AttributeSpec.{AttributeSpec as SpecData};
 ghost use Rattle.dw_forms.specs.Chains.{Numbered};
 ghost use Rattle.dw_entries.specs.Header.{IsSize};
-ghost use Rattle.dw_entries.specs.Values.{value_context, Left, form_there};
+ghost use Rattle.dw_entries.specs.Values.{value_context, Left, form_there, IsCut};
 ghost use Rattle.dw_entries.specs.Choices.{size_unique};
 ghost use Rattle.dw_entries.specs.ValueLaws.{left_unique};
 
 use dw_forms::{Attribute, Attributes, Form, Lead, Step, Value, read_value, skip_value};
+
+/// Whether the bytes end inside a value of this form, which takes four bytes.
+#[inline(always)]
+fn is_cut(form: Form, bytes: &[u8]) -> bool
+    ensures { OnTrue result (IsCut form bytes.now) }
+{
+    match form {
+        Form::Strp => bytes.len() < 4,
+        Form::Ref4 => bytes.len() < 4,
+        _ => false,
+    }
+}
 
 /// A walk over the values of an entry, up to the last that may lead elsewhere. It reads these, and before the last one
 /// those whose forms have no one size.
@@ -18,8 +31,8 @@ use dw_forms::{Attribute, Attributes, Form, Lead, Step, Value, read_value, skip_
 pub struct Leading<'e, 'a> {
     pub(crate) values: Values<'e, 'a>,
     /// The step to the next attribute.
-    pub(crate) step: Step,
-    pub ghost steps: { IsStep (numbered values.attributes) step },
+    pub(crate) step: &'e Step,
+    pub ghost steps: { IsStep (numbered values.attributes) step.now },
 }
 
 impl<'a> Leading<'_, 'a> {
@@ -169,26 +182,13 @@ pub struct Values<'e, 'a> {
 }
 
 impl<'e, 'a> Values<'e, 'a> {
-    ghost use Rattle.std.specs.Prelude.{option_map};
     ghost use Rattle.dw_forms.specs.Value.{view};
     ghost use Rattle.dw_forms.specs.Plans.{is_stop};
     ghost use Rattle.dw_entries.specs.ValuesLeft.{viewed, values_left, specs_left};
     ghost use Rattle.dw_entries.specs.Leading.{DoesNotLead, LeadsIn, IsMade, IsPassedBy, lead_with};
     ghost use Rattle.dw_entries.specs.Values.{IsThere};
-    ghost use Rattle.dw_entries.specs.Lookups.{value_in};
+    ghost use Rattle.dw_entries.specs.Leaving.{Leaves};
     ghost use Rattle.dw_entries.specs.Chosen.{DoesNotStop, ArePassed, IsNextOf, TakesFirst};
-
-    /// The value of the first attribute with this code, if one is left.
-    #[inline(always)]
-    pub(crate) fn value(&self, attribute: Attribute) -> Option<Value<'a>>
-        ensures { option_map view result ≡ value_in (values_left self.now) attribute }
-    {
-        let attributes = self.attributes;
-        match attributes.value(self.version, self.address_size, attribute, self.bytes) {
-            Ok(value) => value,
-            Err(_) => unreachable!(),
-        }
-    }
 
     /// Passes the attributes up to these.
     #[inline(always)]
@@ -213,13 +213,13 @@ impl<'e, 'a> Values<'e, 'a> {
     /// The attribute that a step goes to, whose form is this one, and the step from those after it. Values before it
     /// are skipped.
     #[inline(always)]
-    pub(crate) fn step_to(&mut self, step: Step, form: Form) -> ((Attribute, Value<'a>), Step)
-        requires step { IsStep (numbered self.old.attributes) step }
-        requires form { form_there self.old.attributes step.to ≡ Some form }
+    pub(crate) fn step_to(&mut self, step: &Step, form: Form) -> ((Attribute, Value<'a>), &'e Step)
+        requires step { IsStep (numbered self.old.attributes) step.now }
+        requires form { form_there self.old.attributes step.now.to ≡ Some form }
         ensures found { IsNextOf DoesNotLead (values_left self.old) (viewed result.0) (values_left self.new) }
         ensures leads { LeadsIn result.0.0 form (specs_in self.old.attributes) (specs_in self.new.attributes) }
-        ensures step { IsStep (numbered self.new.attributes) result.1 }
-        ensures lead { lead_with result.0.0 form ≡ step.lead }
+        ensures step { IsStep (numbered self.new.attributes) result.1.now }
+        ensures lead { lead_with result.0.0 form ≡ step.now.lead }
         ensures made { IsMade self.old.version form self.old.address_size (view result.0.1) }
     {
         let there = self.attributes.stepped(step);
@@ -232,6 +232,10 @@ impl<'e, 'a> Values<'e, 'a> {
             step.skip_with_4
         };
         let bytes = &self.bytes[skip as usize..];
+        // Told here, so that the compiler leaves the test out where the value is read.
+        if is_cut(form, bytes) {
+            unreachable!();
+        }
         match read_value(self.version, form, self.address_size, bytes) {
             Ok((value, len)) => {
                 self.attributes = rest;
@@ -244,11 +248,13 @@ impl<'e, 'a> Values<'e, 'a> {
 
     /// Takes the first attribute that is left.
     #[inline(always)]
-    fn take_first(&mut self) -> Option<(Attribute, Value<'a>)>
+    pub(crate) fn take_first(&mut self) -> Option<(Attribute, Value<'a>)>
         ensures steps { MatchOption result ((values_left self.old ≡ []) × (values_left self.new ≡ []))
             (λ item. values_left self.old ≡ viewed item ∷ values_left self.new) }
         ensures first { OnSome result ((spec : SpecData) × Ends self.old.attributes self.new.attributes
             (record { number = self.old.attributes.first; item = spec } ∷ [])) }
+        ensures bytes { MatchOption result (self.new.bytes ≡ self.old.bytes)
+            (λ item. Leaves (view item.1) self.old.bytes.now self.new.bytes.now) }
     {
         let Some((spec, after)) = self.attributes.split_first() else {
             return None;
@@ -265,11 +271,11 @@ impl<'e, 'a> Values<'e, 'a> {
 
     /// The step from the attributes after the one that a step goes to, up to which values are skipped.
     #[inline(always)]
-    pub(crate) fn step_past(&mut self, step: Step) -> Step
-        requires step { IsStep (numbered self.old.attributes) step }
-        requires some { IsThere self.old.attributes step.to }
-        ensures passed { IsPassedBy step.lead (values_left self.old) (values_left self.new) }
-        ensures step { IsStep (numbered self.new.attributes) result }
+    pub(crate) fn step_past(&mut self, step: &Step) -> &'e Step
+        requires step { IsStep (numbered self.old.attributes) step.now }
+        requires some { IsThere self.old.attributes step.now.to }
+        ensures passed { IsPassedBy step.now.lead (values_left self.old) (values_left self.new) }
+        ensures step { IsStep (numbered self.new.attributes) result.now }
     {
         let stop = self.attributes.stepped(step);
         let Some((spec, others, next)) = stop.split_step() else {

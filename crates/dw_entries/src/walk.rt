@@ -1,7 +1,7 @@
 //! One unit's tree and nulls, in one pass over its items.
 
-ghost use Rattle.std.specs.Prelude.{◌≡◌, ◌<◌, ◌^◌, OnOk, length, Some, reverse, ◌+◌, ◌≤◌, [], Ok, false, IfSome};
-ghost use Rattle.std.specs.Prelude.{IfNone, IfOk, IfErr};
+ghost use Rattle.std.specs.Prelude.{◌≡◌, ◌<◌, ◌^◌, OnOk, length, Some, None, reverse, ◌+◌, ◌≤◌, [], ◌∷◌, Ok, false};
+ghost use Rattle.std.specs.Prelude.{IfSome, IfNone, IfOk, IfErr};
 ghost use Rattle.dw_elf.specs.declared.TheConstants.{SECTION_LIMIT};
 ghost use Rattle.dw_entries.specs.NamedDecls.{declared_view};
 ghost use Rattle.dw_entries.specs.Walk.{link, enter as entered, walk_of, step};
@@ -70,31 +70,61 @@ fn set_next(records: &mut Vec<Record>, at: u32, id: u32)
     }
 }
 
-/// Takes an entry up: the last one in its list is followed by it, and its own list is opened where it may have
-/// children.
+/// The list of children of an entry, none of which was taken up.
+#[inline(always)]
+fn list_of(id: u32) -> Level
+    requires { id < 0xffffffff }
+    ensures { result ≡ record { parent = Some id; last = None } }
+{
+    Level {
+        parent: OptionalId::some(id),
+        last: OptionalId::none(),
+    }
+}
+
+/// Takes the first entry of a unit up, and returns the list of its children if it may have any.
+fn enter_first(
+    records: &mut Vec<Record>,
+    at: u32,
+    declared: (u32, DeclAt<'_>),
+) -> Result<Option<Level>, AllocError>
+    requires few_entries { length records.old.items < 0xffffffff }
+    ensures { IfOk result (λ inner. walk_of records.new.items [] inner
+        ≡ entered at (declared_view declared.entry) records.old.items []) }
+{
+    let id = records.len() as u32;
+    records.push(Record {
+        at,
+        decl: declared.0,
+        parent: OptionalId::none(),
+        next: OptionalId::none(),
+    })?;
+    if declared.1.has_children() {
+        Ok(Some(list_of(id)))
+    } else {
+        Ok(None)
+    }
+}
+
+/// Takes an entry of the innermost open list up: the last one in the list is followed by it, and its own list is opened
+/// if it may have children. Returns the innermost list that is open after that. The lists around it are `outer`.
 #[inline(always)]
 fn enter(
     records: &mut Vec<Record>,
-    levels: &mut Vec<Level>,
+    outer: &mut Vec<Level>,
+    inner: Level,
     at: u32,
     declared: (u32, DeclAt<'_>),
-) -> Result<(), AllocError>
+) -> Result<Level, AllocError>
     requires few_entries { length records.old.items < 0xffffffff }
-    requires few_levels { length levels.old.items < 2 ^ 32 }
-    ensures { OnOk result (walk_of records.new.items levels.new.items
-        ≡ entered at (declared_view declared.entry) records.old.items (reverse levels.old.items)) }
+    requires few_levels { length outer.old.items < 2 ^ 32 }
+    ensures { IfOk result (λ own. walk_of records.new.items outer.new.items (Some own)
+        ≡ entered at (declared_view declared.entry) records.old.items (inner ∷ reverse outer.old.items)) }
 {
     let id = records.len() as u32;
-    let mut parent = OptionalId::none();
-    if let Some(level) = levels.pop() {
-        if let Some(last) = level.last.get() {
-            set_next(records, last, id);
-        }
-        parent = level.parent;
-        levels.push(Level {
-            parent,
-            last: OptionalId::some(id),
-        })?;
+    let parent = inner.parent;
+    if let Some(last) = inner.last.get() {
+        set_next(records, last, id);
     }
     records.push(Record {
         at,
@@ -102,13 +132,16 @@ fn enter(
         parent,
         next: OptionalId::none(),
     })?;
+    let own = Level {
+        parent,
+        last: OptionalId::some(id),
+    };
     if declared.1.has_children() {
-        levels.push(Level {
-            parent: OptionalId::some(id),
-            last: OptionalId::none(),
-        })?;
+        outer.push(own)?;
+        Ok(list_of(id))
+    } else {
+        Ok(own)
     }
-    Ok(())
 }
 
 /// The fault of an item at this offset, in the unit of this header. A missing first entry is at the header.
@@ -127,30 +160,29 @@ fn broken_at(failing: Failing, header: u32, at: u32) -> Broken
     }
 }
 
-/// Takes one more item, which is at `at`.
+/// Takes one more item, which is at `at`, and returns the innermost list that is open after that, if there is one, and
+/// the bytes after the item.
 #[inline(always)]
 fn turn<'b>(
     context: UnitContext<'_>,
     rest: &'b [u8],
     at: u32,
     records: &mut Vec<Record>,
-    levels: &mut Vec<Level>,
-) -> Result<&'b [u8], Stop<Failing>>
+    outer: &mut Vec<Level>,
+    inner: Level,
+) -> Result<(Option<Level>, &'b [u8]), Stop<Failing>>
     requires few_entries { length records.old.items < 0xffffffff }
-    requires few_levels { length levels.old.items < 2 ^ 32 }
-    ensures { GivesOrMemory (λ after. (walk_of records.new.items levels.new.items, after.now)) result
-        (seen (λ i. step (numbers_in context.entry) at i (walk_of records.old.items levels.old.items))
+    requires few_levels { length outer.old.items < 2 ^ 32 }
+    ensures { GivesOrMemory (λ x. (walk_of records.new.items outer.new.items x.0, x.1.now)) result
+        (seen (λ i. step (numbers_in context.entry) at i (walk_of records.old.items outer.old.items (Some inner)))
         (item_at (context_in context.entry) rest.now)) }
 {
     match read_item(context, rest) {
         Err(failing) => Err(Stop::Fault(failing)),
-        Ok((None, after)) => {
-            levels.pop();
-            Ok(after)
-        }
+        Ok((None, after)) => Ok((outer.pop(), after)),
         Ok((Some(declared), after)) => {
-            enter(records, levels, at, declared)?;
-            Ok(after)
+            let own = enter(records, outer, inner, at, declared)?;
+            Ok((Some(own), after))
         }
     }
 }
@@ -172,21 +204,23 @@ fn walk_tree<'b>(
         start records.old.items records.new.items) }
     ensures fault { IfErr result (IfFault (BodyFails (context_in context.entry) unit.header.kind unit.at body.now)) }
 {
-    let mut levels: Vec<Level> = Vec::new(alloc);
     let (declared, mut rest) = match read_first(context, unit.header.kind, body) {
         Ok(found) => found,
         Err(failing) => return Err(Stop::Fault(broken_at(failing, unit.at, start))),
     };
-    enter(records, &mut levels, start, declared)?;
-    while !levels.is_empty() {
+    let mut outer: Vec<Level> = Vec::new(alloc);
+    let mut inner = enter_first(records, start, declared)?;
+    while let Some(level) = inner {
         let at = start + (body.len() - rest.len()) as u32;
-        rest = match turn(context, rest, at, records, &mut levels) {
-            Ok(after) => after,
+        let (next, after) = match turn(context, rest, at, records, &mut outer, level) {
+            Ok(taken) => taken,
             Err(Stop::Memory) => return Err(Stop::Memory),
             Err(Stop::Fault(failing)) => {
                 return Err(Stop::Fault(broken_at(failing, unit.at, at)));
             }
         };
+        inner = next;
+        rest = after;
     }
     Ok(rest)
 }

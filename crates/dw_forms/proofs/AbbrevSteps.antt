@@ -1,5 +1,5 @@
 -- One pair more of a declaration, and one declaration more of a table.
-use Rattle.std.proofs.Common.{rules, ◌≡◌, ℕ, zero, suc, ◌-◌, ◌<◌, ◌==◌, List, [], ◌∷◌, ◌++◌, length, ltb, Option, Some, None, Result, Ok, Err, refl, sym, ap, ◌∙◌, arith}
+use Rattle.std.proofs.Common.{rules, ◌≡◌, ℕ, ◌==◌, List, [], ◌∷◌, ltb, Option, Some, None, Result, Ok, Err, refl, ap, ◌∙◌}
 use Rattle.std.specs.Prelude.{◌||◌, ◌&&◌, Bool, true, false, cond, find, option_map}
 use Rattle.std.specs.List.{list_any}
 use Rattle.dw_forms.specs.declared.decl.AttributeSpec.{AttributeSpec}
@@ -13,7 +13,6 @@ use Rattle.dw_forms.specs.declared.fault.Stop.TheVariants as stops
 use Rattle.dw_forms.specs.Steps.{◌>>=◌}
 use Rattle.dw_forms.specs.Abbrev.{Declaration, table_view, views}
 use Rattle.dw_forms.specs.AbbrevReading.{on_option, unsigned_at, form_at, has_attribute, new_form_of, begun_at, pair_at, attributes_of, has_code, tagged_at, decl_at}
-use Rattle.dw_forms.specs.declared.fault.AbbrevFault.{AbbrevFault}
 use Rattle.dw_forms.specs.Stops.{FailsOrMemory}
 
 pub has_code_views : (code : ℕ) (ds : List Decl) → has_code code (views ds) ≡ list_any (λ d. d.code == code) ds

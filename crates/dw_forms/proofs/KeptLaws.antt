@@ -6,11 +6,12 @@ use Rattle.dw_forms.specs.declared.attribute_lists.Node.{Node}
 use Rattle.dw_forms.specs.declared.chains.Link.{Link}
 use Rattle.dw_forms.specs.declared.attribute_lists.Step.{Step}
 use Rattle.dw_forms.specs.declared.decl.KeptDecl.{KeptDecl}
+use Rattle.dw_forms.specs.declared.known_places.KnownPlace.{KnownPlace}
 use Rattle.dw_forms.specs.Abbrev.{Declaration}
 use Rattle.dw_forms.specs.AbbrevReading.{has_code}
 use Rattle.dw_forms.specs.Chains.{Numbered, items_of, chain_in, chains_of, number_where, AreNumbered, codes_of, codes_in, number_in as code_number}
 use Rattle.dw_forms.specs.KeptDecls.{kept_view, decls_of, tables_of, table_in, decl_of, decl_number_in, AreWithin, HaveDeclCodes}
-use Rattle.dw_forms.specs.AttributeLists.{HasList}
+use Rattle.dw_forms.specs.DeclaredLists.{HasList}
 use Rattle.dw_forms.specs.Offsets.{Stay}
 use Rattle.dw_forms.proofs.ChainLaws.{chain_map, where_map, chains_long, chain_none, chains_more, are_numbered, item_read, none_has, some_has}
 use Rattle.dw_forms.proofs.CodeLaws.{codes_long, number_within}
@@ -48,11 +49,11 @@ views_same nodes more (k ∷ kept) within =
 pub tables_same : (old new : List Node) (kept : List KeptDecl) → Stay old new → AreWithin old kept → tables_of new kept ≡ tables_of old kept
 tables_same old new kept stay within = ap (λ (nodes : List Node). tables_of nodes kept) stay.1 ∙ ap chains_of (views_same old stay.0 kept within)
 
-pub has_stays : (old new : List Node) (first : ℕ) (step : Step) (declared : Option Bool) → Stay old new → HasList old first step declared → HasList new first step declared
-has_stays old new first step declared stay has = search (rules, lists_stay, length-append)
+pub has_stays : (old new : List Node) (first : ℕ) (step : Step) (place : KnownPlace) (declared : Option Bool) (whole : Option ℕ) → Stay old new → HasList old first step place declared whole → HasList new first step place declared whole
+has_stays old new first step place declared whole stay has = search (rules, lists_stay, length-append)
 
 pub within_stays : (old new : List Node) (kept : List KeptDecl) → Stay old new → AreWithin old kept → AreWithin new kept
-within_stays old new kept stay within k d less = has_stays old new _ _ _ stay (within k d less)
+within_stays old new kept stay within k d less = has_stays old new _ _ _ _ _ stay (within k d less)
 
 -- ---- how codes are found
 

@@ -1,4 +1,4 @@
-pub mod OneByte
+pub mod FewBytes
 pub mod SpellingSteps
 pub mod AbbrevSteps
 pub mod Texts
@@ -27,13 +27,14 @@ pub mod FrontLaws
 pub mod KeptLaws
 pub mod TailLaws
 pub mod StartLaws
-pub mod RemainderLaws
+pub mod OwnBits
 pub mod AllowedForms
 pub mod FewAttributes
 pub mod ValueAnswers
 pub mod PassSteps
 pub mod PassTurns
 pub mod SuffixLaws
+pub mod KnownPlaceLaws
 pub mod LeadLaws
 pub mod WalkSteps
 pub mod SpecLaws

@@ -1,6 +1,6 @@
 -- What is known of a list with one attribute more.
 use Rattle.std.proofs.Common.{rules, ◌≡◌, ℕ, ◌+◌, ◌-◌, ◌*◌, ◌<◌, ◌≤◌, Bool, true, false, cond, List, ◌∷◌, length, refl, sym, ◌∙◌, arith}
-use Rattle.std.specs.Prelude.{◌&&◌, ◌%◌, ◌^◌, bit_or, get_or}
+use Rattle.std.specs.Prelude.{◌&&◌, get_or}
 use Rattle.std.proofs.lemmas.List.{length-map}
 use Rattle.std.proofs.lemmas.List.Sums.{sum_by-cons}
 use Rattle.dw_forms.specs.declared.decl.AttributeSpec.{AttributeSpec}
@@ -9,9 +9,7 @@ use Rattle.dw_forms.specs.Abbrev.{AreAttributes}
 use Rattle.dw_forms.specs.AttributeLists.{IsKnown, AreKnown}
 use Rattle.dw_forms.specs.Chains.{Numbered, items_of, number_where}
 use Rattle.dw_forms.specs.Plans.{known_size, known_sum}
-use Rattle.dw_forms.specs.Remainders.{HasRemainders}
 use Rattle.dw_forms.proofs.FewAttributes.{few_specs}
-use Rattle.dw_forms.proofs.RemainderLaws.{stays, comes}
 
 -- the next list of a kind: this one, or the next after it
 pub next_more : (test : AttributeSpec → Bool) (number : ℕ) (spec : AttributeSpec) (list : List (Numbered AttributeSpec)) (b : Bool) (next result : ℕ)
@@ -31,10 +29,6 @@ and_true false all result next e held is = is
 pub and_false : (own all result next : Bool) → next ≡ all → next ≡ false → result ≡ next → result ≡ (own && all)
 and_false true all result next e failed is = is ∙ e
 and_false false all result next e failed is = is ∙ failed
-
--- the bit of its own code is set, and those of the others stay set
-pub remainders_more : (bits : ℕ) (spec : AttributeSpec) (specs : List AttributeSpec) (bit : ℕ) → bit ≡ 2 ^ (spec.attribute % 32) → HasRemainders bits specs → HasRemainders (bit_or bits bit) (spec ∷ specs)
-remainders_more bits spec specs bit e has = search (rules, comes, stays)
 
 -- ---- the sums are small
 

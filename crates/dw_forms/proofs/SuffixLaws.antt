@@ -9,19 +9,19 @@ use Rattle.dw_forms.specs.declared.decl.AttributeSpec.{AttributeSpec}
 use Rattle.dw_forms.specs.declared.attribute_lists.Node.{Node}
 use Rattle.dw_forms.specs.declared.attributes.Attributes.{Attributes}
 use Rattle.dw_forms.specs.declared.value.ValueFault.{ValueFault}
-use Rattle.dw_forms.specs.AttributeLists.{IsKnown, spec_of, numbered_in, specs_of, has_this}
+use Rattle.dw_forms.specs.AttributeLists.{IsKnown, spec_of, numbered_in, specs_of, has_this, varies}
 use Rattle.dw_forms.specs.Chains.{Numbered, items_of, number_where, number_in, codes_in}
 use Rattle.dw_forms.specs.FirstPlaces.{StandsFirst, ReadsFirst, value_behind}
-use Rattle.dw_forms.specs.Plans.{values_end, known_flag, flag_by, flag_in}
+use Rattle.dw_forms.specs.Plans.{values_end, known_flag, flag_by, flag_in, known_sum, cut_at, whole_in}
 use Rattle.dw_forms.specs.Steps.{◌>>=◌}
 use Rattle.dw_forms.specs.Suffixes.{nodes_of, numbered, specs_in, Ends, IsFrom}
 use Rattle.dw_forms.specs.Value.{Datum}
 use Rattle.dw_forms.specs.ValueReading.{value_at}
-use Rattle.dw_forms.proofs.ChainLaws.{chain_none}
+use Rattle.dw_forms.proofs.ChainLaws.{chain_none, are_numbered, none_has, some_has}
 use Rattle.dw_forms.proofs.Keys.{lacks_from}
 use Rattle.dw_forms.proofs.NodeLaws.{attribute_of, code_is, links_long}
 use Rattle.dw_forms.proofs.PartLaws.{IsSplit, split}
-use Rattle.dw_forms.proofs.PassSteps.{items_append}
+use Rattle.dw_forms.proofs.PassSteps.{items_append, run}
 
 -- ---- one list, and another that it ends with
 
@@ -99,6 +99,30 @@ module _ (all : Attributes) (code : ℕ) where
 
     pub found_within : found ≤ length (nodes_of all)
     found_within = let w = number_is_within (has_this code) all in omega (arith, found_is, w)
+
+-- ---- the size of all values together
+
+pub whole_some : (a : Attributes) (n : Node) → IsKnown (nodes_of a) a.first n → n.next_varying ≡ 0 → Some n.known_with_8 ≡ whole_in 8 (specs_in a)
+whole_some a n is none =
+    let fixed = none_has varies (specs_of (nodes_of a)) (numbered a) (are_numbered (specs_of (nodes_of a)) a.first) (sym is.knows.varying ∙ none) in
+    rw fixed (ap (λ (size : ℕ). Some size) is.knows.known_with_8)
+
+pub whole_none : (a : Attributes) (n : Node) → IsKnown (nodes_of a) a.first n → (n.next_varying ≡ 0 → ⊥) → None ≡ whole_in 8 (specs_in a)
+whole_none a n is some = rw (some_has varies (numbered a) (λ e. some (is.knows.varying ∙ e))) refl
+
+-- values that have one size each are cut off together
+pub whole_cut : (version size : ℕ) (list : List (Numbered AttributeSpec)) (bytes : List ℕ) → Some size ≡ whole_in 8 (items_of list) → values_end version 8 (items_of list) bytes ≡ cut_at size bytes
+whole_cut version size list bytes is = by_kind (list_any varies (items_of list)) refl
+  where
+    same : Some size ≡ Some (known_sum 8 (items_of list)) → size ≡ known_sum 8 (items_of list)
+    same e = cc
+
+    other : Some size ≡ None → ⊥
+    other e = cc
+
+    by_kind : (b : Bool) → list_any varies (items_of list) ≡ b → values_end version 8 (items_of list) bytes ≡ cut_at size bytes
+    by_kind true e = absurd (other (is ∙ rw e refl))
+    by_kind false e = run version 8 list bytes e ∙ ap (λ (n : ℕ). cut_at n bytes) (sym (same (is ∙ rw e refl)))
 
 -- ---- a flag, as its form says
 

@@ -75,7 +75,7 @@ module _ (section : List ℕ) where
   pub decls_stay : (old new : List Node) → Stay old new → (xs : List (Placed KeptDecl)) (offset end : ℕ) → AreAlong (IsDeclAt section old) xs offset end → AreAlong (IsDeclAt section new) xs offset end
   decls_stay old new stay = along_same (IsDeclAt section new) (IsDeclAt section old) (λ offset next d e. record {
     is = e.is ∙ ap (λ (v : Declaration). Ok (Some v, drop next section)) (sym (view_stays old new d stay e.kept.within));
-    kept = has_stays old new _ _ _ stay e.kept;
+    kept = has_stays old new _ _ _ _ _ stay e.kept;
     rises = e.rises;
     fits = e.fits;
   })

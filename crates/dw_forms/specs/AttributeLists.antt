@@ -5,13 +5,11 @@ use Rattle.std.specs.Prelude.{get_or, Bool, true, false, Option, Some, None}
 use Rattle.dw_forms.specs.declared.decl.AttributeSpec.{AttributeSpec}
 use Rattle.dw_forms.specs.declared.attribute_lists.Node.{Node}
 use Rattle.dw_forms.specs.declared.chains.Link.{Link}
-use Rattle.dw_forms.specs.declared.attribute_lists.Step.{Step}
 use Rattle.dw_forms.specs.Abbrev.{AreAttributes}
 use Rattle.dw_forms.specs.AbbrevReading.{has_attribute}
 use Rattle.dw_forms.specs.Chains.{Numbered, items_of, chain_in, chains_of, number_where, codes_of}
-use Rattle.dw_forms.specs.Codes.{DW_AT_declaration}
-use Rattle.dw_forms.specs.Plans.{known_sum, does_vary, is_stop, flag_in}
-use Rattle.dw_forms.specs.Remainders.{HasRemainders}
+use Rattle.dw_forms.specs.Plans.{known_sum, does_vary, is_stop}
+use Rattle.dw_forms.specs.AttributeBits.{AreBitsOf}
 use Rattle.dw_forms.specs.Sizes.{are_allowed}
 use Rattle.dw_forms.specs.Walks.{IsStep}
 
@@ -47,7 +45,7 @@ pub record Knows (list : List (Numbered AttributeSpec)) (n : Node) : Type 0 wher
   pub known_with_8 : n.known_with_8 ≡ known_sum 8 (items_of list)
   pub small_4 : n.known_with_4 ≤ 0xff * length list
   pub small_8 : n.known_with_8 ≤ 0xff * length list
-  pub remainders : HasRemainders n.remainders (items_of list)
+  pub bits : AreBitsOf (items_of list) n.bits
   pub allowed : n.in_version_4 ≡ are_allowed 4 (items_of list)
 
 -- the known sum of the sizes where addresses have this size
@@ -66,12 +64,6 @@ pub record IsKnown (nodes : List Node) (number : ℕ) (n : Node) : Type 0 where
 -- each node tells what is known of its list
 abbrev pub AreKnown : List Node → Type 0
 AreKnown nodes = (k : ℕ) (n : Node) → k < length nodes → n ≡ get_or nodes k n → IsKnown nodes (suc k) n
-
--- the list of this number is kept, this is the first step in it, and so much is known of DW_AT_declaration
-pub record HasList (nodes : List Node) (first : ℕ) (s : Step) (known : Option Bool) : Type 0 where
-  pub within : first ≤ length nodes
-  pub declared : known ≡ flag_in DW_AT_declaration (list_in nodes first)
-  pub step : IsStep (numbered_in nodes first) s
 
 -- the links have the codes of the attributes
 abbrev pub AreCoded : List Link → List Node → Type 0

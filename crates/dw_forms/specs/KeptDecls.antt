@@ -5,7 +5,8 @@ use Rattle.dw_forms.specs.declared.chains.Link.{Link}
 use Rattle.dw_forms.specs.declared.decl.DeclAt.{DeclAt}
 use Rattle.dw_forms.specs.declared.decl.KeptDecl.{KeptDecl}
 use Rattle.dw_forms.specs.Abbrev.{Declaration}
-use Rattle.dw_forms.specs.AttributeLists.{list_in, HasList}
+use Rattle.dw_forms.specs.AttributeLists.{list_in}
+use Rattle.dw_forms.specs.DeclaredLists.{HasList}
 use Rattle.dw_forms.specs.Chains.{Numbered, items_of, chain_in, chains_of, item_of, number_where, codes_of}
 
 -- a declaration that is kept, with its attributes among those that are kept
@@ -47,7 +48,7 @@ decl_number_in table code = number_where (λ (d : Declaration). d.code == code) 
 
 -- each declaration has a list of attributes that is kept
 abbrev pub AreWithin : List Node → List KeptDecl → Type 0
-AreWithin nodes kept = All (λ (k : KeptDecl). HasList nodes k.first k.step k.declared) kept
+AreWithin nodes kept = All (λ (k : KeptDecl). HasList nodes k.first k.step k.place k.declared k.whole) kept
 
 -- the links have the codes of the declarations
 abbrev pub HaveDeclCodes : List Link → List KeptDecl → Type 0

@@ -26,7 +26,7 @@ pub mod Stops
 pub mod Sizes
 pub mod Seen
 pub mod Plans
-pub mod Remainders
+pub mod AttributeBits
 pub mod Places
 pub mod FirstPlaces
 pub mod CodeBits
@@ -34,6 +34,7 @@ pub mod Chains
 pub mod Walks
 pub mod Offsets
 pub mod AttributeLists
+pub mod DeclaredLists
 pub mod Suffixes
 pub mod ListOffsets
 pub mod KeptDecls

@@ -70,6 +70,11 @@ flag_by None = Some false
 abbrev pub flag_in : ℕ → List AttributeSpec → Option Bool
 flag_in code specs = flag_by (find (λ (spec : AttributeSpec). spec.attribute == code) specs)
 
+-- the size of the values of these attributes together, if each has one size
+abbrev pub whole_in : ℕ → List AttributeSpec → Option ℕ
+whole_in size specs =
+    if list_any (λ (spec : AttributeSpec). does_vary spec.form) specs then None else Some (known_sum size specs)
+
 -- the bytes after so many
 abbrev pub cut_at : ℕ → List ℕ → Result (List ℕ) ValueFault
 cut_at len bytes = if nat_lt (length bytes) len then Err Cut else Ok (drop len bytes)

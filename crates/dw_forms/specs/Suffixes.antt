@@ -1,4 +1,5 @@
 -- State: attributes of a declaration: all of them, or those from one on.
+use Rattle.std.specs.Borrow.{Bor}
 use Rattle.std.specs.Prelude.{◌≡◌, List, [], ◌∷◌, Bool, Option, Some, None}
 use Rattle.dw_forms.specs.declared.decl.AttributeSpec.{AttributeSpec}
 use Rattle.dw_forms.specs.declared.attribute_lists.Node.{Node}
@@ -41,7 +42,7 @@ IsSplitFirst all None = specs_in all ≡ []
 IsSplitFirst all (Some found) = Ends all found.1 (record { number = all.first; item = found.0 } ∷ [])
 
 -- the first attribute, those after it, and the first step in those; or there are none
-abbrev pub IsSplitStep : Attributes → Option (AttributeSpec × Attributes × Step) → Type 0
+abbrev pub IsSplitStep : Attributes → Option (AttributeSpec × Attributes × Bor Step) → Type 0
 IsSplitStep all None = specs_in all ≡ []
 IsSplitStep all (Some found) =
-    Ends all found.1 (record { number = all.first; item = found.0 } ∷ []) × IsStep (numbered found.1) found.2
+    Ends all found.1 (record { number = all.first; item = found.0 } ∷ []) × IsStep (numbered found.1) found.2.now

@@ -8,7 +8,7 @@ use Rattle.dw_forms.specs.declared.offsets.Placed.{Placed}
 use Rattle.dw_forms.specs.Abbrev.{Declaration}
 use Rattle.dw_forms.specs.AbbrevReading.{has_code, decl_at, table_at}
 use Rattle.dw_forms.specs.Chains.{chain_in}
-use Rattle.dw_forms.specs.AttributeLists.{HasList}
+use Rattle.dw_forms.specs.DeclaredLists.{HasList}
 use Rattle.dw_forms.specs.KeptDecls.{Tables, kept_view, table_in}
 pub use Rattle.dw_forms.specs.Offsets.{Stay}
 use Rattle.dw_forms.specs.Offsets.{BeginsAt, AreApart, AreAlong, AreNew}
@@ -31,7 +31,7 @@ NoTable section offset = (ds : List Declaration) → table_at section offset ≡
 -- the declaration is between two offsets of the section, with a list of attributes that is kept
 pub record IsDeclAt (section : List ℕ) (nodes : List Node) (offset : ℕ) (d : KeptDecl) (next : ℕ) : Type 0 where
   pub is : decl_at [] (drop offset section) ≡ Ok (Some (kept_view nodes d), drop next section)
-  pub kept : HasList nodes d.first d.step d.declared
+  pub kept : HasList nodes d.first d.step d.place d.declared d.whole
   pub rises : offset < next
   pub fits : next ≤ length section
 

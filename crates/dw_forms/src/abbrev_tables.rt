@@ -3,7 +3,7 @@
 ghost use Rattle.std.specs.Prelude.{◌≡◌, ◌<◌, ◌≤◌, ◌==◌, ℕ, List, [], length, find, option_map};
 ghost use Rattle.std.specs.Prelude.{IfOk, IfErr, IfSome, OnOk};
 ghost use Rattle.dw_forms.specs.AbbrevReading.{table_at};
-ghost use Rattle.dw_forms.specs.AttributeLists.{HasList};
+ghost use Rattle.dw_forms.specs.DeclaredLists.{HasList};
 ghost use Rattle.dw_forms.specs.KeptDecls.{kept_view, decl_view, table_in, tables_of, decl_number_in, AreReadable};
 ghost use Rattle.dw_forms.specs.ListOffsets.{AreListsOf, MoreLists};
 ghost use Rattle.dw_forms.specs.Offsets.{AreKnownFrom, IsOffset};
@@ -49,13 +49,16 @@ fn next_at(
         Ok(list) => list,
         Err(error) => return Err(error),
     };
+    let attributes = Attributes::new(&lists.lists, first);
     let decl = KeptDecl {
         code,
         tag,
         has_children,
         is_type: tag.is_type(),
-        declared: Attributes::new(&lists.lists, first).flag(DW_AT_declaration),
+        declared: attributes.flag(DW_AT_declaration),
+        whole: attributes.whole(),
         step: lists.lists.step(first),
+        place: attributes.known_place(),
         first,
         rest: 0,
     };
@@ -126,7 +129,7 @@ fn push(
     requires rest { rest ≤ length kept.old.items }
     requires few { length kept.old.items < 0xffffffff }
     requires kept { AreReadable codes.old.links.items lists.now.nodes.items kept.old.items }
-    requires list { HasList lists.now.nodes.items decl.first decl.step decl.declared }
+    requires list { HasList lists.now.nodes.items decl.first decl.step decl.place decl.declared decl.whole }
     ensures kept { OnOk result (AreReadable codes.new.links.items lists.now.nodes.items kept.new.items) }
     ensures added { IfOk result (IsAddedTable (kept_view lists.now.nodes.items decl) rest
         (tables_of lists.now.nodes.items kept.old.items) (tables_of lists.now.nodes.items kept.new.items)) }
@@ -142,7 +145,9 @@ fn push(
         has_children: decl.has_children,
         is_type: decl.is_type,
         declared: decl.declared,
+        whole: decl.whole,
         step: decl.step,
+        place: decl.place,
         first: decl.first,
         rest,
     });

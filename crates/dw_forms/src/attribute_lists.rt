@@ -1,6 +1,6 @@
 //! The lists of attributes of a section, with each attribute kept once.
 
-ghost use Rattle.std.specs.Prelude.{◌≡◌, ◌≤◌, ◌%◌, ◌^◌, ◌<◌, ◌∷◌, List, [], length, IfOk, if◌then◌else◌};
+ghost use Rattle.std.specs.Prelude.{◌≡◌, ◌≤◌, ◌<◌, ◌∷◌, List, [], length, IfOk, if◌then◌else◌};
 ghost use Rattle.dw_forms.specs.Plans.{known_size, does_vary, is_one_of, is_stop, not_flags, not_constants};
 ghost use Rattle.dw_forms.specs.Walks.{may_lead, does_lead, stops_at, reference_lead, value_lead, lead_of, IsStep};
 ghost use Rattle.dw_forms.specs.declared.decl.AttributeSpec.{AttributeSpec as SpecData};
@@ -9,6 +9,7 @@ ghost use Rattle.dw_forms.specs.Abbrev.{IsCode16};
 ghost use Rattle.dw_forms.specs.AbbrevReading.{has_attribute};
 ghost use Rattle.dw_forms.specs.AttributeLists.{Knows, AreKnown, AreCoded, AddedSpec, numbered_in, list_in, spec_of};
 
+use crate::attribute_bits::{OWN_BITS, bit_of, mask_of};
 use crate::chains::Chains;
 use crate::constants::*;
 use crate::decl::AttributeSpec;
@@ -112,14 +113,6 @@ fn does_lead(spec: &AttributeSpec) -> bool
         || spec.attribute == DW_AT_type
         || spec.attribute == DW_AT_str_offsets_base
         || spec.attribute == DW_AT_addr_base
-}
-
-/// The bit of the remainder of an attribute's code modulo 32.
-#[inline(always)]
-pub fn remainder_bit(attribute: Attribute) -> u32
-    ensures { result ≡ 2 ^ (attribute % 32) }
-{
-    1 << u32::from(attribute.0 % 32)
 }
 
 /// What an attribute and its form say about the value that a step goes to (DWARF 5, sections 2.3, 2.13.2, 5.1 and
@@ -264,8 +257,8 @@ pub struct Node {
     pub known_with_4: u32,
     /// The same where addresses have 8 bytes.
     pub known_with_8: u32,
-    /// The remainders of the attributes' codes modulo 32, one bit for each.
-    pub remainders: u32,
+    /// The bits of the attributes.
+    pub bits: u32,
     /// The first step in the list after it.
     pub after: Step,
     pub attribute: Attribute,
@@ -321,7 +314,7 @@ fn node_before(number: u32, spec: AttributeSpec, rest: u32, next: Node, after: S
         next_stop: number_or(number, is_stop(&spec), next.next_stop),
         known_with_4: next.known_with_4 + known_size(spec.form, 4),
         known_with_8: next.known_with_8 + known_size(spec.form, 8),
-        remainders: next.remainders | remainder_bit(spec.attribute),
+        bits: next.bits | mask_of(spec.attribute),
         after,
         attribute: spec.attribute,
         in_version_4: next.in_version_4 && spec.form.allowed(4),
@@ -339,7 +332,7 @@ fn no_node() -> Node
         next_stop: 0,
         known_with_4: 0,
         known_with_8: 0,
-        remainders: 0,
+        bits: 0,
         after: no_step(),
         attribute: Attribute(0),
         in_version_4: true,
@@ -383,13 +376,17 @@ impl AttributeLists {
     }
 
     /// Whether a list of which this is known has the attribute.
-    fn has(&self, list: u32, known: &Node, attribute: Attribute) -> bool
+    #[inline(always)]
+    pub(crate) fn has(&self, list: u32, known: &Node, attribute: Attribute) -> bool
         requires list { list ≤ length self.now.nodes.items }
         requires known { Knows (numbered_in self.now.nodes.items list) known.now }
         ensures { result ≡ has_attribute attribute (list_in self.now.nodes.items list) }
     {
-        if known.remainders & remainder_bit(attribute) == 0 {
+        if known.bits & mask_of(attribute) == 0 {
             return false;
+        }
+        if bit_of(attribute) < OWN_BITS {
+            return true;
         }
         self.codes.search(list, u64::from(attribute.0)) != 0
     }

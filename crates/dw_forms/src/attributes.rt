@@ -1,17 +1,16 @@
 //! The attributes of a declaration, and where their values begin.
 
-ghost use Rattle.std.specs.Prelude.{◌≡◌, ◌≢◌, ◌≤◌, ◌⊎◌, List, [], length, All, IfSome, IfNone};
-ghost use Rattle.std.specs.Bool.{OnTrue};
+ghost use Rattle.std.specs.Prelude.{◌≡◌, ◌≢◌, ◌≤◌, ◌⊎◌, ◌↔◌, List, [], length, All, IfSome, IfNone, IsTrue};
 ghost use Rattle.dw_forms.specs.declared.decl.AttributeSpec.{AttributeSpec as SpecData};
 ghost use Rattle.dw_forms.specs.Chains.{Numbered, items_of};
 ghost use Rattle.dw_forms.specs.AttributeLists.{known_of, has_this, IsKnown};
 ghost use Rattle.dw_forms.specs.FirstPlaces.{AnswersFirst};
-ghost use Rattle.dw_forms.specs.Plans.{cut_at, flag_in, known_flag, known_sum, values_end, is_stop};
+ghost use Rattle.dw_forms.specs.Plans.{cut_at, flag_in, known_flag, known_sum, values_end, is_stop, whole_in};
 ghost use Rattle.dw_forms.specs.Sizes.{are_allowed, rest_at};
 ghost use Rattle.dw_forms.specs.ValueReading.{Gives};
 ghost use Rattle.dw_forms.specs.Walks.{IsStep};
 
-use crate::attribute_lists::{AttributeLists, Node, Step, remainder_bit};
+use crate::attribute_lists::{AttributeLists, Node, Step};
 use crate::constants::Attribute;
 use crate::decl::AttributeSpec;
 use crate::form::Form;
@@ -29,7 +28,7 @@ pub struct Attributes<'a> {
 
 /// The sum of the known sizes from a node on.
 #[inline(always)]
-fn known(node: &Node, address_size: u8) -> usize
+pub(crate) fn known(node: &Node, address_size: u8) -> usize
     ensures { result ≡ known_of address_size node.now }
 {
     if address_size == 8 {
@@ -51,7 +50,7 @@ fn known_flag(form: Form) -> Option<bool>
 
 /// The bytes after so many.
 #[inline(always)]
-fn cut_at(bytes: &[u8], len: usize) -> Result<&[u8], ValueFault>
+pub(crate) fn cut_at(bytes: &[u8], len: usize) -> Result<&[u8], ValueFault>
     ensures { Gives (λ rest. rest.now) result (cut_at len bytes.now) }
 {
     if bytes.len() < len {
@@ -87,7 +86,7 @@ impl<'a> Attributes<'a> {
 
     /// What is known of these, if there are any.
     #[inline(always)]
-    fn node(&self) -> Option<&'a Node>
+    pub(crate) fn node(&self) -> Option<&'a Node>
         ensures known { IfSome result (λ node. IsKnown (nodes_of self.now) self.now.first node.now) }
         ensures first { IfNone result (self.now.first ≡ 0) }
         ensures none { IfNone result (numbered self.now ≡ []) }
@@ -120,13 +119,14 @@ impl<'a> Attributes<'a> {
         }
     }
 
-    /// Whether none of these has the attribute, as far as that is known at once.
+    /// Whether none of these has the attribute. That takes one test for the attributes that rules and declarations look
+    /// for, and at most 16 turns for others.
     #[inline(always)]
     pub fn lacks(&self, attribute: Attribute) -> bool
-        ensures { OnTrue result (All (λ spec. spec.attribute ≢ attribute) (specs_in self.now)) }
+        ensures { IsTrue result ↔ All (λ spec. spec.attribute ≢ attribute) (specs_in self.now) }
     {
         match self.node() {
-            Some(node) => node.remainders & remainder_bit(attribute) == 0,
+            Some(node) => !self.lists.has(self.first, node, attribute),
             None => true,
         }
     }
@@ -150,6 +150,20 @@ impl<'a> Attributes<'a> {
         }
     }
 
+    /// The size of all values together, in bytes, where addresses have 8. None if one of them has no one size.
+    pub(crate) fn whole(&self) -> Option<u32>
+        ensures { result ≡ whole_in 8 (specs_in self.now) }
+    {
+        let Some(node) = self.node() else {
+            return Some(0);
+        };
+        if node.next_varying == 0 {
+            Some(node.known_with_8)
+        } else {
+            None
+        }
+    }
+
     /// The attributes from the first one on at which a search stops, or none: its value takes bytes, or has a class
     /// that is none of the attribute's.
     #[inline(always)]
@@ -164,23 +178,23 @@ impl<'a> Attributes<'a> {
 
     /// The attributes from the one on that a step from these goes to, or none.
     #[inline(always)]
-    pub fn stepped(&self, step: Step) -> Attributes<'a>
-        requires { IsStep (numbered self.now) step }
+    pub fn stepped(&self, step: &Step) -> Attributes<'a>
+        requires { IsStep (numbered self.now) step.now }
         ensures nodes { nodes_of result ≡ nodes_of self.now }
-        ensures first { result.first ≡ step.to }
+        ensures first { result.first ≡ step.now.to }
     {
         Attributes::new(self.lists, step.to)
     }
 
     /// The first attribute, those after it, and the step from these.
     #[inline(always)]
-    pub fn split_step(&self) -> Option<(AttributeSpec, Attributes<'a>, Step)>
+    pub fn split_step(&self) -> Option<(AttributeSpec, Attributes<'a>, &'a Step)>
         ensures { IsSplitStep self.now result }
     {
         match self.node() {
             Some(node) => {
                 let rest = Attributes::new(self.lists, node.next);
-                Some((node.spec(), rest, node.after))
+                Some((node.spec(), rest, &node.after))
             }
             None => None,
         }
@@ -188,7 +202,7 @@ impl<'a> Attributes<'a> {
 
     /// The sum of the sizes of the values, as far as they are known.
     #[inline(always)]
-    fn known(&self, address_size: u8) -> usize
+    pub(crate) fn known(&self, address_size: u8) -> usize
         requires { (address_size ≡ 4) ⊎ (address_size ≡ 8) }
         ensures { result ≡ known_sum address_size (specs_in self.now) }
     {
@@ -247,7 +261,7 @@ impl<'a> Attributes<'a> {
     }
 
     /// The value of the attribute with this code, if one is declared. The work is bounded by the bytes before it.
-    #[inline(always)]
+    #[inline(never)]
     pub fn value<'b>(
         &self,
         version: u16,

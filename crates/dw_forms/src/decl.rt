@@ -1,13 +1,17 @@
 //! Abbreviation declarations (DWARF 5, 7.5.3).
 
 ghost use Rattle.std.specs.Prelude.{◌≡◌, ◌<◌, ◌≤◌, ◌⊎◌, Some, All, length, map, slice_get};
-ghost use Rattle.dw_forms.specs.AttributeLists.{HasList, spec_of};
+ghost use Rattle.dw_forms.specs.ValueReading.{Gives};
+ghost use Rattle.dw_forms.specs.AttributeLists.{spec_of};
+ghost use Rattle.dw_forms.specs.DeclaredLists.{HasList};
 ghost use Rattle.dw_forms.specs.Codes.{is_type_tag};
 
 use crate::attribute_lists::{AttributeLists, Step};
-use crate::attributes::Attributes;
+use crate::attributes::{Attributes, cut_at};
 use crate::constants::{Attribute, Tag};
 use crate::form::Form;
+use crate::known_places::KnownPlace;
+use crate::value::{Value, ValueFault};
 
 /// An attribute specification: an attribute, and the form of its values.
 #[derive(Clone, Copy, Debug, PartialEq, Eq)]
@@ -26,8 +30,13 @@ pub struct KeptDecl {
     pub(crate) is_type: bool,
     /// Whether DW_AT_declaration of each entry is true. None if that depends on the entry's value.
     pub(crate) declared: Option<bool>,
+    /// The size of all values of an entry together, in bytes, where addresses have 8. None if one of them has no one
+    /// size.
+    pub(crate) whole: Option<u32>,
     /// The step to the first of its attributes at which a walk over values that may lead elsewhere stops.
     pub(crate) step: Step,
+    /// The place of one attribute.
+    pub(crate) place: KnownPlace,
     /// The list of its attributes.
     pub(crate) first: u32,
     /// The table after it.
@@ -40,7 +49,8 @@ pub struct KeptDecl {
 pub struct DeclAt<'a> {
     pub(crate) kept: &'a KeptDecl,
     pub(crate) lists: &'a AttributeLists,
-    ghost list: { HasList lists.now.nodes.items kept.now.first kept.now.step kept.now.declared },
+    ghost list: { HasList lists.now.nodes.items kept.now.first kept.now.step kept.now.place kept.now.declared
+        kept.now.whole },
 }
 
 /// The declarations of the tables of a section, each once. They are numbered from 1.
@@ -48,7 +58,7 @@ pub struct DeclAt<'a> {
 pub struct Decls {
     pub(crate) kept: Vec<KeptDecl>,
     pub(crate) lists: AttributeLists,
-    ghost all: { All (λ k. HasList lists.nodes.items k.first k.step k.declared) kept.items },
+    ghost all: { All (λ k. HasList lists.nodes.items k.first k.step k.place k.declared k.whole) kept.items },
 }
 
 impl Decls {
@@ -83,15 +93,17 @@ impl Decls {
 impl<'a> DeclAt<'a> {
     ghost use Rattle.dw_forms.specs.KeptDecls.{decl_view};
     ghost use Rattle.dw_forms.specs.Codes.{DW_AT_declaration};
-    ghost use Rattle.dw_forms.specs.Plans.{flag_in};
+    ghost use Rattle.dw_forms.specs.Plans.{flag_in, values_end};
     ghost use Rattle.dw_forms.specs.Sizes.{are_allowed};
     ghost use Rattle.dw_forms.specs.Suffixes.{numbered, numbered_of, specs_in};
+    ghost use Rattle.dw_forms.specs.FirstPlaces.{AnswersFirst};
     ghost use Rattle.dw_forms.specs.Walks.{IsStep};
 
     /// A declaration with the lists of its attributes.
     #[inline(always)]
     pub(crate) fn new(kept: &'a KeptDecl, lists: &'a AttributeLists) -> DeclAt<'a>
-        requires { HasList lists.now.nodes.items kept.now.first kept.now.step kept.now.declared }
+        requires { HasList lists.now.nodes.items kept.now.first kept.now.step kept.now.place kept.now.declared
+            kept.now.whole }
         ensures kept { result.kept.now ≡ kept.now }
         ensures lists { result.lists.now ≡ lists.now }
     {
@@ -132,10 +144,31 @@ impl<'a> DeclAt<'a> {
 
     /// The step to the first attribute at which a walk over the values that may lead elsewhere stops.
     #[inline(always)]
-    pub fn step(&self) -> Step
-        ensures { IsStep (numbered_of self.now) result }
+    pub fn step(&self) -> &'a Step
+        ensures { IsStep (numbered_of self.now) result.now }
     {
-        self.kept.step
+        &self.kept.step
+    }
+
+    /// The value of the attribute with this code, if one is declared, in an entry whose values begin with the bytes.
+    /// The work is bounded by the bytes before it.
+    #[inline(always)]
+    pub fn value<'b>(
+        &self,
+        version: u16,
+        address_size: u8,
+        attribute: Attribute,
+        bytes: &'b [u8],
+    ) -> Result<Option<Value<'b>>, ValueFault>
+        requires { (address_size ≡ 4) ⊎ (address_size ≡ 8) }
+        ensures { AnswersFirst version address_size (decl_view self.now).attributes attribute bytes.now result }
+    {
+        let attributes = self.attributes();
+        let place = self.kept.place;
+        if place.attribute == attribute && address_size == 8 {
+            return attributes.value_at(version, place, bytes);
+        }
+        attributes.value(version, address_size, attribute, bytes)
     }
 
     /// Whether the entries are types, as `Tag::is_type` says.
@@ -153,6 +186,26 @@ impl<'a> DeclAt<'a> {
         ensures { result ≡ flag_in DW_AT_declaration (decl_view self.now).attributes }
     {
         self.kept.declared
+    }
+
+    /// The bytes after all values of an entry. They are passed together if each has one size.
+    #[inline(always)]
+    pub fn pass_all<'b>(
+        &self,
+        version: u16,
+        address_size: u8,
+        bytes: &'b [u8],
+    ) -> Result<&'b [u8], ValueFault>
+        requires { (address_size ≡ 4) ⊎ (address_size ≡ 8) }
+        ensures { Gives (λ rest. rest.now) result
+            (values_end version address_size (decl_view self.now).attributes bytes.now) }
+    {
+        if address_size == 8 {
+            if let Some(size) = self.kept.whole {
+                return cut_at(bytes, size as usize);
+            }
+        }
+        self.attributes().pass_all(version, address_size, bytes)
     }
 
     /// Whether a unit of this version may have all forms of the declaration.

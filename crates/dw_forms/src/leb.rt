@@ -45,7 +45,7 @@ fn read_spelling(bytes: &[u8]) -> Result<Spelling, NumberFault>
     Err(NumberFault::Cut)
 }
 
-/// A number of several bytes, or none.
+/// A number of more bytes, or none.
 #[cold]
 #[inline(never)]
 #[tactic(auto, unfolding(crate::specs::LebReading::uleb_at))]
@@ -57,13 +57,16 @@ fn long_uleb(bytes: &[u8]) -> Result<(u64, usize), NumberFault>
     Ok((number, spelling.len))
 }
 
-/// Most numbers have one byte.
+/// Most numbers have one byte or two.
 #[inline(always)]
 fn uleb(bytes: &[u8]) -> Result<(u64, usize), NumberFault>
     ensures { result ≡ uleb_at bytes.now }
 {
     match bytes {
         [byte, ..] if *byte < 0x80 => Ok((u64::from(*byte), 1)),
+        [low, high, ..] if *high < 0x80 => {
+            Ok((u64::from(*low & 0x7f) + 128 * u64::from(*high), 2))
+        }
         _ => long_uleb(bytes),
     }
 }

@@ -4,6 +4,7 @@
 mod abbrev;
 mod abbrev_reader;
 mod abbrev_tables;
+mod attribute_bits;
 mod attribute_lists;
 mod attributes;
 mod chains;
@@ -11,6 +12,7 @@ pub mod constants;
 mod decl;
 mod fault;
 mod form;
+mod known_places;
 mod laws;
 mod layout_reader;
 mod leb;

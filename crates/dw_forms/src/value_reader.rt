@@ -128,7 +128,8 @@ fn indirect(version: u16, address_size: u8, bytes: &[u8]) -> Result<(Value<'_>, 
 }
 
 /// The value of any form, and how many bytes it has, whether the version allows its form or not. Most values that are
-/// read are offsets of strings, references within a unit and numbers of one byte, which are read in place.
+/// read are offsets and short indexes of strings, references within a unit and numbers of one byte, which are read in
+/// place.
 #[inline(always)]
 #[tactic(auto, unfolding(crate::specs::ValueReading::layout_at))]
 pub(crate) fn read_any(
@@ -152,6 +153,14 @@ pub(crate) fn read_any(
         },
         Form::Data1 => match fixed(bytes, 1) {
             Ok(number) => Ok((Value::Unsigned(number), 1)),
+            Err(fault) => Err(fault),
+        },
+        Form::Strx1 => match fixed(bytes, 1) {
+            Ok(index) => Ok((Value::StrIndex(index), 1)),
+            Err(fault) => Err(fault),
+        },
+        Form::Strx2 => match fixed(bytes, 2) {
+            Ok(index) => Ok((Value::StrIndex(index), 2)),
             Err(fault) => Err(fault),
         },
         Form::Indirect => indirect(version, address_size, bytes),

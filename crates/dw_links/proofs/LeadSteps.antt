@@ -11,6 +11,7 @@ use Rattle.dw_forms.specs.declared.form.Form.{Form}
 use Rattle.dw_forms.specs.declared.form.Form.TheVariants as form
 use Rattle.dw_forms.specs.Plans.{known_flag, flag_in}
 use Rattle.dw_forms.specs.Value.{Datum, Val, ref_unit}
+use Rattle.dw_forms.specs.Walks.{lead_of}
 use Rattle.dw_forms.proofs.LeadLaws.{lead_says}
 use Rattle.dw_entries.specs.declared.entries.Entries.{Entries}
 use Rattle.dw_entries.specs.declared.fault.Broken.{Broken}
@@ -28,7 +29,7 @@ use Rattle.dw_entries.proofs.EntryFacts.{entries_rise}
 use Rattle.dw_entries.proofs.HeadLaws.{head_stands}
 use Rattle.dw_entries.proofs.NumberOrder.{three_ways}
 use Rattle.dw_links.specs.declared.references.References.{References}
-use Rattle.dw_links.specs.Linkable.{FailsByText, FailsByTarget, target_by, entries_in, entry_with, entry_after, MayLink, IsTypeAfter, IsSiblingAfter, IsDeclaredAfter, LeadsWell}
+use Rattle.dw_links.specs.Linkable.{FailsByText, FailsByTarget, target_by, entries_in, entry_with, entry_after, MayLink, IsTypeAfter, IsSiblingAfter, IsDeclaredAfter, LeadsWell, is_index_lead}
 use Rattle.dw_links.specs.Linking.{kept_after, KeepsAt, LinksAt, HasFailedAt, FailsNextAt}
 use Rattle.dw_links.specs.Ready.{FailsByTexts}
 use Rattle.dw_links.specs.References.{is_declared, is_true, is_reference_value, permits, permits_form}
@@ -56,6 +57,18 @@ module _ (it : References) (id attribute : ℕ) (value : Datum) (left behind : L
 kept_same : (before : Option (Option ℕ)) (attribute : ℕ) (reached : Option ℕ) → attribute ≢ DW_AT_type → before ≡ kept_after before attribute reached
 kept_same (Some target) attribute reached other = refl
 kept_same None attribute reached other = rw (ne_eqb attribute DW_AT_type other) refl
+
+-- ---- the index of a string, of one byte or of two
+
+pub second_index : (l : Lead) → is_index_lead l ≡ true → (l ≡ lead.Index1 → ⊥) → l ≡ lead.Index2
+second_index lead.Index1 is other = absurd (other refl)
+second_index lead.Index2 is other = refl
+second_index _ is other = absurd cc
+
+pub index_says : (spec : AttributeSpec) (l : Lead) → lead_of spec ≡ l → is_index_lead l ≡ true → spec.attribute ≢ DW_AT_type
+index_says spec lead.Index1 says is = (lead_says spec lead.Index1 says).1
+index_says spec lead.Index2 says is = (lead_says spec lead.Index2 says).1
+index_says spec _ says is = absurd cc
 
 -- ---- a flag that is known without a value
 

@@ -1,6 +1,6 @@
 -- Entries by their offsets, from the start of .debug_info and from headers.
-use Rattle.std.proofs.Common.{rules, ◌≡◌, ℕ, ◌<◌, Bool, true, false, List, Some, None, sym, ◌∙◌, length, ◌+◌, arith}
-use Rattle.std.specs.Prelude.{slice_get, IfSome, All, ◌≢◌, nat_lt, if◌then◌else◌}
+use Rattle.std.proofs.Common.{rules, ◌≡◌, ℕ, ◌<◌, List, Some, ◌∙◌, length, ◌+◌, arith}
+use Rattle.std.specs.Prelude.{slice_get, IfSome, All, ◌≢◌}
 use Rattle.std.proofs.lemmas.Option.{slice_get_within, get_or_from_slice_get}
 use Rattle.std.proofs.lemmas.Bool.{ltb-true}
 use Rattle.dw_entries.specs.Entries.{Entry, PlacedUnit}
@@ -34,10 +34,3 @@ in_place entries units n t p id is reached = in_unit_back entries units n t (p.a
 -- the entry with a number is one of the entries
 pub nth_within : (entries : List Entry) (k id : ℕ) → nth_of entries k ≡ Some id → id < length entries
 nth_within entries k id is = search (rules, ltb-true)
-
-pub nth_number : (entries : List Entry) (k id : ℕ) → nth_of entries k ≡ Some id → id ≡ k
-nth_number entries k id is = by_test (nat_lt k (length entries)) is
-  where
-    by_test : (b : Bool) → (if b then Some k else None) ≡ Some id → id ≡ k
-    by_test true e = let same : k ≡ id = cc in sym same
-    by_test false e = absurd cc

@@ -95,7 +95,7 @@ below_or_not : (k n : ℕ) → (k < n) ⊎ (n ≤ k)
 below_or_not k n = grind arith
 
 -- a slot below the count lies within the section
-slot_within : (section : List ℕ) (slot mark base index : ℕ) → IsSize slot → IsContribution section slot mark base → index < slot_count section slot base → base + slot * index + slot ≤ length section
+pub slot_within : (section : List ℕ) (slot mark base index : ℕ) → IsSize slot → IsContribution section slot mark base → index < slot_count section slot base → base + slot * index + slot ≤ length section
 slot_within section slot mark base index size is below = search (rules)
 
 -- what follows from a contribution that is never broken, where the contrary is known otherwise

@@ -92,6 +92,13 @@ size_above size is = elim is [ inl four ↦ omega (arith, four) | inr eight ↦ 
 pub number_within : (us : List DebugUnit) (number : ℕ) (p : PlacedUnit) → slice_get (placed us) number ≡ Some p → number < length us
 number_within us number p is = omega (arith, slice_get_within (placed us) number p is, length-placed_from 0 0 us)
 
+-- its header is that of the unit
+pub unit_header : (us : List DebugUnit) (number : ℕ) (p : PlacedUnit) → slice_get (placed us) number ≡ Some p → IfSome (slice_get us number) (λ u. p.unit.header ≡ u.header)
+unit_header us number p is =
+    let (u, is_u) = there us number (number_within us number p is) in
+    let (q, is_q, same) = placed_get 0 0 us number u is_u in
+    rw is_u (ap (λ (x : PlacedUnit). x.unit.header) (same_some (slice_get (placed us) number) p q is is_q) ∙ ap (λ (x : DebugUnit). x.header) same)
+
 -- a unit's first entry
 pub first_within : (us : List DebugUnit) (number : ℕ) (told : UnitHead) → number < length us → IfSome (slice_get (placed us) number) (λ p. told ≡ unit_head p) → told.first < length (entries_of us)
 first_within us number told below tells =

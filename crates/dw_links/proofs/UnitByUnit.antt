@@ -1,17 +1,21 @@
 -- The entries of one unit after another, from the first entry to the last.
-use Rattle.std.proofs.Common.{◌≡◌, ℕ, zero, suc, ◌+◌, ◌<◌, ◌≤◌, List, [], ◌∷◌, ◌++◌, length, length-append, map, take, subst, Option, Some, None, sym, ap, ◌∙◌, arith}
+use Rattle.std.proofs.Common.{◌≡◌, ℕ, zero, suc, ◌+◌, ◌<◌, ◌≤◌, List, [], ◌∷◌, ◌++◌, length, length-append, map, take, set, refl, subst, Option, Some, None, sym, ap, ◌∙◌, arith}
 use Rattle.std.specs.Prelude.{slice_get}
+use Rattle.std.proofs.lemmas.List.{take_more_set}
 use Rattle.std.proofs.lemmas.Option.{slice_get_within}
 use Rattle.dw_entries.specs.declared.entries.Entries.{Entries}
 use Rattle.dw_entries.specs.Units.{DebugUnit, unit_bytes}
 use Rattle.dw_entries.specs.Header.{header_size}
 use Rattle.dw_entries.specs.Entries.{Entry, entries_of, entries_from, node_entries, node_count, PlacedUnit, placed, placed_from}
 use Rattle.dw_entries.specs.Views.{all_entries, all_units}
-use Rattle.dw_entries.proofs.EntryFacts.{length-placed_from, length-node_entries, first_entry}
+use Rattle.dw_entries.proofs.EntryFacts.{length-placed_from, length-node_entries}
 use Rattle.dw_entries.proofs.UnitRanges.{next_first, last_ends}
+use Rattle.dw_forms.specs.Codes.{DW_AT_str_offsets_base, DW_AT_addr_base}
+use Rattle.dw_links.specs.Bases.{base_in}
 use Rattle.dw_links.specs.Linkable.{FailsByText, FailsByTarget}
 use Rattle.dw_links.specs.Tables.{type_target}
 use Rattle.dw_links.proofs.Skips.{there}
+use Rattle.dw_links.proofs.TableLaws.{map_one_more}
 use Rattle.dw_links.proofs.Transfers.{NoneBelow}
 
 -- the entries before this number are those of the units before this one
@@ -22,10 +26,7 @@ pub record StartsAt (us : List DebugUnit) (unit number : ℕ) : Type 0 where
 pub unit_there : (us : List DebugUnit) (unit : ℕ) → unit < length us → (p : PlacedUnit) × (slice_get (placed us) unit ≡ Some p)
 unit_there us unit below = there (placed us) unit (omega (arith, below, length-placed_from 0 0 us))
 
--- a unit begins with one of the entries, and ends with one
-pub begins_within : (us : List DebugUnit) (unit : ℕ) (p : PlacedUnit) → slice_get (placed us) unit ≡ Some p → p.first < length (entries_of us)
-begins_within us unit p is = let has = first_entry us unit p is in slice_get_within (entries_of us) p.first has.entry has.is_entry
-
+-- a unit ends with one of the entries
 ends_from : (unit id at : ℕ) (us : List DebugUnit) (n : ℕ) (p : PlacedUnit) → slice_get (placed_from at id us) n ≡ Some p → p.first + node_count p.unit.root ≤ id + length (entries_from unit id at us)
 ends_from unit id at [] n p is = absurd cc
 ends_from unit id at (u ∷ us) zero p is =
@@ -48,9 +49,13 @@ ends_from unit id at (u ∷ us) (suc n) p is =
 pub ends_within : (us : List DebugUnit) (unit : ℕ) (p : PlacedUnit) → slice_get (placed us) unit ≡ Some p → p.first + node_count p.unit.root ≤ length (entries_of us)
 ends_within us unit p is = let all = ends_from 0 0 0 us unit p is in omega (arith, all)
 
-pub starts_first : (us : List DebugUnit) → 0 < length us → StartsAt us 0 0
-starts_first us some = record { begins = λ p is. first us p is; ends = λ none. absurd (omega (arith, none, some)) }
+pub starts_first : (us : List DebugUnit) → StartsAt us 0 0
+starts_first us = record { begins = λ p is. first us p is; ends = λ none. no_entries us none }
   where
+    no_entries : (us : List DebugUnit) → length us ≤ 0 → length (entries_of us) ≤ 0
+    no_entries [] none = omega arith
+    no_entries (u ∷ us) none = absurd (omega (arith, none))
+
     first : (us : List DebugUnit) (p : PlacedUnit) → slice_get (placed us) 0 ≡ Some p → 0 ≡ p.first
     first [] p is = absurd cc
     first (u ∷ us) p is =
@@ -71,7 +76,21 @@ starts_next us unit number p is after =
 pub record LinkedBelow (entries : Entries) (types : List (Option ℕ)) (number : ℕ) : Type 0 where
   pub strings : NoneBelow entries (FailsByText entries) number
   pub references : NoneBelow entries (FailsByTarget entries) number
-  pub types_are : types ≡ map (type_target (all_entries entries) (all_units entries)) (take number (all_entries entries))
+  pub long : length types ≡ length (all_entries entries)
+  pub types_are : take number types ≡ map (type_target (all_entries entries) (all_units entries)) (take number (all_entries entries))
 
-pub none_below : (entries : Entries) (types : List (Option ℕ)) → types ≡ [] → LinkedBelow entries types 0
-none_below entries types none = record { strings = λ j below. absurd (omega (arith, below)); references = λ j below. absurd (omega (arith, below)); types_are = none }
+-- of the units before this one, these are the bases
+pub record BasesBelow (entries : Entries) (str_bases addr_bases : List (Option ℕ)) (number : ℕ) : Type 0 where
+  pub str : str_bases ≡ map (λ unit. base_in (all_entries entries) unit DW_AT_str_offsets_base) (take number (all_units entries))
+  pub addr : addr_bases ≡ map (λ unit. base_in (all_entries entries) unit DW_AT_addr_base) (take number (all_units entries))
+
+pub none_below : (entries : Entries) (types : List (Option ℕ)) → length types ≡ length (all_entries entries) → LinkedBelow entries types 0
+none_below entries types long = record { strings = λ j below. absurd (omega (arith, below)); references = λ j below. absurd (omega (arith, below)); long = long; types_are = refl }
+
+-- the target of one type more
+pub types_more : (entries : Entries) (types : List (Option ℕ)) (number : ℕ) (e : Entry) (target : Option ℕ) → slice_get (all_entries entries) number ≡ Some e → length types ≡ length (all_entries entries)
+    → take number types ≡ map (type_target (all_entries entries) (all_units entries)) (take number (all_entries entries)) → target ≡ type_target (all_entries entries) (all_units entries) e
+    → take (number + 1) (set types number target) ≡ map (type_target (all_entries entries) (all_units entries)) (take (number + 1) (all_entries entries))
+types_more entries types number e target is long before here =
+    take_more_set types number target (omega (arith, long, slice_get_within (all_entries entries) number e is))
+    ∙ map_one_more (type_target (all_entries entries) (all_units entries)) (all_entries entries) (take number types) number e target is before here

@@ -1,11 +1,12 @@
 -- State: the rules among all entries, and what must be known of the unit at hand while values are followed.
-use Rattle.std.specs.Prelude.{◌≡◌, ◌≢◌, ◌<◌, ℕ, true, Option, Some, length, slice_get}
+use Rattle.std.specs.Prelude.{◌≡◌, ◌≢◌, ◌<◌, ◌≤◌, ℕ, Bool, true, false, Option, Some, length, slice_get}
 use Rattle.dw_forms.specs.Codes.{is_type_tag}
 use Rattle.dw_forms.specs.declared.attribute_lists.Lead.{Lead}
 use Rattle.dw_forms.specs.declared.attribute_lists.Lead.TheVariants as lead
 use Rattle.dw_forms.specs.Value.{Datum}
 use Rattle.dw_entries.specs.declared.entries.Entries.{Entries}
 use Rattle.dw_entries.specs.declared.lookup.EntryHead.{EntryHead}
+use Rattle.dw_entries.specs.Cursors.{HasEntries}
 use Rattle.dw_entries.specs.Entries.{Entry}
 use Rattle.dw_entries.specs.Views.{sections_of, all_entries, all_units}
 use Rattle.dw_links.specs.declared.references.References.{References}
@@ -30,7 +31,7 @@ target_by entries head v = reach_of (all_entries entries) (all_units entries) he
 
 -- the entries whose values are followed
 abbrev pub entries_in : References → Entries
-entries_in it = it.cursor.entries.now
+entries_in it = it.entries.now
 
 -- the entry with this number
 abbrev pub entry_with : References → (id : ℕ) → Option Entry
@@ -41,12 +42,14 @@ abbrev pub entry_after : References → (offset : ℕ) → Option ℕ
 entry_after it offset =
     reach_in_unit (all_entries (entries_in it)) (all_units (entries_in it)) it.texts.unit offset
 
--- the table has the type of each signature, each signature of a type unit has one, and what was read of the unit at
--- hand is right
+-- the table has the type of each signature, each signature of a type unit has one, what was read of the unit at hand
+-- is right, and the entries of this range are its entries
 pub record IsLinkable (it : References) : Type 0 where
   pub types : HasSignedTypes (entries_in it) it.signatures.now
   pub typed : AreTyped (entries_in it)
   pub texts : AreTexts (entries_in it) it.texts
+  pub range : HasEntries (all_entries (entries_in it)) it.texts.unit it.range.0 it.range.1
+  pub within : it.range.1 ≤ length (all_entries (entries_in it))
 
 -- the same, and the entry is in the unit at hand
 pub record MayAsk (it : References) (head : EntryHead) : Type 0 where
@@ -58,6 +61,12 @@ pub record MayLink (it : References) (id : ℕ) : Type 0 where
   pub within : id < length (all_entries (entries_in it))
   pub linkable : IsLinkable it
   pub in_unit : (e : Entry) → entry_with it id ≡ Some e → e.unit ≡ it.texts.unit
+
+-- the lead is that of a string by its index, of one byte or of two
+abbrev pub is_index_lead : Lead → Bool
+is_index_lead lead.Index1 = true
+is_index_lead lead.Index2 = true
+is_index_lead _ = false
 
 -- ---- the entry of the unit at hand that starts so many bytes after the unit's header
 

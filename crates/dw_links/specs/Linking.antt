@@ -1,5 +1,5 @@
 -- State: what is found at an entry and at its values, while the links of all entries are read.
-use Rattle.std.specs.Prelude.{ℕ, ◌==◌, ◌≢◌, if◌then◌else◌, Option, None, Some, ◌≡◌, ◌⊎◌, List, map}
+use Rattle.std.specs.Prelude.{ℕ, ◌==◌, if◌then◌else◌, Option, None, Some, ◌≡◌, ◌⊎◌, List}
 use Rattle.dw_elf.specs.declared.sections.Sections.{Sections}
 use Rattle.dw_forms.specs.Codes.{DW_AT_type}
 use Rattle.dw_forms.specs.Value.{Datum}
@@ -16,20 +16,17 @@ use Rattle.dw_entries.specs.Lookups.{entry_head}
 use Rattle.dw_entries.specs.Units.{DebugUnit}
 use Rattle.dw_entries.specs.Views.{sections_of, all_entries, all_units, units_of}
 use Rattle.dw_links.specs.Concerns.{Rules, AtHead}
+use Rattle.dw_links.specs.declared.links.LinkTables.{LinkTables}
 use Rattle.dw_links.specs.declared.references.References.{References}
 use Rattle.dw_links.specs.Linkable.{FailsByText, FailsByTarget, target_by, entries_in, entry_with}
 use Rattle.dw_links.specs.References.{ReferenceFailures}
 use Rattle.dw_links.specs.Strings.{StringFailures}
-use Rattle.dw_links.specs.Tables.{type_target}
+use Rattle.dw_links.specs.Tables.{type_target, AreTables}
 
 -- the target of the first type, after one attribute more
 abbrev pub kept_after : Option (Option ℕ) → (attribute : ℕ) → (reached : Option ℕ) → Option (Option ℕ)
 kept_after (Some target) attribute reached = Some target
 kept_after None attribute reached = if attribute == DW_AT_type then Some reached else None
-
--- the attribute is no type
-abbrev pub IsNoType : ℕ → Type 0
-IsNoType attribute = attribute ≢ DW_AT_type
 
 -- no rule fails at an attribute with this value
 pub record PassesAs (entries : Entries) (head : EntryHead) (attribute : ℕ) (value : Datum) : Type 0 where
@@ -121,9 +118,8 @@ abbrev pub IsFirstOfGroup : Sections → List DebugUnit → Broken → Type 0
 IsFirstOfGroup sections units broken =
     IsFirst (StringFailures sections units) broken ⊎ IsFirst (ReferenceFailures units) broken
 
--- no rule on strings, addresses and references fails, and these are the targets of the types of all entries
-pub record AreLinked (entries : Entries) (targets : List (Option ℕ)) : Type 0 where
+-- no rule on strings, addresses and references fails, and these are the tables
+pub record AreLinked (entries : Entries) (tables : LinkTables) : Type 0 where
   pub strings : HasNone (StringFailures (sections_of entries) (units_of entries))
   pub references : HasNone (ReferenceFailures (units_of entries))
-  pub types : targets ≡ map (type_target (all_entries entries) (all_units entries))
-      (all_entries entries)
+  pub tables_are : AreTables entries tables

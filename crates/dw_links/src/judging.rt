@@ -9,7 +9,6 @@ ghost use Rattle.dw_links.specs.Linkable.{entries_in, MayAsk, MayLink};
 use crate::class::broken_at;
 use crate::linking::{keep, number_of};
 use crate::references::References;
-use crate::targets::entry_at;
 use dw_entries::{Broken, EntryHead, EntryId, OptionalId};
 use dw_forms::{Attribute, Value};
 
@@ -34,14 +33,15 @@ impl References<'_, '_, '_> {
             return Err(broken_at(head, attribute, rule));
         }
         let reached = self.reach(head, value);
-        let target = number_of(self.cursor.entries, &reached);
+        let target = number_of(self.entries, &reached);
         match self.ask(declared, head, attribute, value, reached) {
             None => Ok(target),
             Some(rule) => Err(broken_at(head, attribute, rule)),
         }
     }
 
-    /// The same, of a value of the entry with this number, which is looked up.
+    /// The same, of a value of the entry with this number, which is looked up. Few values of compiled programs come here.
+    #[cold]
     #[inline(never)]
     fn judge(
         &self,
@@ -56,7 +56,7 @@ impl References<'_, '_, '_> {
         ensures ok { IfOk result (ReachesAt self.now id attribute (view value.now)) }
         ensures err { IfErr result (HasFailedAt self.now id attribute (view value.now)) }
     {
-        let head = entry_at(&self.cursor, id).head();
+        let head = self.entry(id, self.texts.head.header).head();
         self.judge_by(declared, &head, attribute, value)
     }
 

@@ -5,18 +5,31 @@ ghost use Rattle.std.specs.Prelude.{◌≡◌, ◌≢◌, true, IfSome, IfOk, If
 ghost use Rattle.std.specs.Bool.{OnTrue};
 ghost use Rattle.dw_forms.specs.Value.{str_index};
 ghost use Rattle.dw_forms.specs.declared.attribute_lists.Lead.TheVariants.{Nothing as NoLead, TypeEntry};
-ghost use Rattle.dw_entries.specs.Leading.{next_lead, leading_left, is_reference_lead, LeadsToText, LeadsByIndex1};
-ghost use Rattle.dw_entries.specs.Leading.{LeadsByIndex2, LeadsToAddress};
+ghost use Rattle.dw_entries.specs.Leading.{next_lead, leading_left, is_reference_lead, LeadsToText, LeadsToAddress};
+ghost use Rattle.dw_entries.specs.Leading.{IsTaken};
 ghost use Rattle.dw_links.specs.DeclaredEntries.{KeepsDeclared};
-ghost use Rattle.dw_links.specs.Linking.{IsNoType, HasFailedAt, KeepsAt, LinksAt, FailsNextAt};
+ghost use Rattle.dw_links.specs.Linking.{LinksAt, FailsNextAt};
 ghost use Rattle.dw_links.specs.Linkable.{entries_in, MayLink, IsLinkable, IsTypeAfter, IsSiblingAfter};
-ghost use Rattle.dw_links.specs.Linkable.{IsDeclaredAfter, LeadsWell};
+ghost use Rattle.dw_links.specs.Linkable.{IsDeclaredAfter, LeadsWell, is_index_lead};
 
 use crate::linking::{keep, number_of};
 use crate::references::References;
 use dw_entries::constants::*;
 use dw_entries::{Broken, EntryId, Leading, OptionalId};
 use dw_forms::{Attribute, Lead, Value};
+
+/// The next value, which is the index of a string in one byte or in two, and its attribute.
+#[inline(always)]
+fn take_index(leading: &mut Leading<'_, '_>) -> (Attribute, u64)
+    requires { is_index_lead (next_lead leading.old) ≡ true }
+    ensures { IsTaken (next_lead leading.old) (leading_left leading.old) (result.0, str_index result.1)
+        (leading_left leading.new) }
+{
+    match leading.lead() {
+        Lead::Index1 => leading.take_index1(),
+        _ => leading.take_index2(),
+    }
+}
 
 impl References<'_, '_, '_> {
     /// The type that starts so many bytes after the unit's header, if a guess finds it.
@@ -26,7 +39,7 @@ impl References<'_, '_, '_> {
         ensures { IfSome result (IsTypeAfter self.now offset) }
     {
         let id = self.guess_in_unit(offset)?;
-        if !self.cursor.entries.decl(id).is_type() {
+        if !self.entries.decl(id).is_type() {
             return None;
         }
         Some(id)
@@ -38,7 +51,7 @@ impl References<'_, '_, '_> {
         requires { MayLink self.now id }
         ensures { OnTrue result (IsSiblingAfter self.now id offset) }
     {
-        match self.cursor.entries.next_sibling(id) {
+        match self.entries.next_sibling(id) {
             Some(next) => self.starts_after(next.number(), offset).is_some(),
             None => false,
         }
@@ -57,7 +70,7 @@ impl References<'_, '_, '_> {
         if target.number() == id.number() {
             return false;
         }
-        self.cursor.entries.decl(target).declared().unwrap_or(false)
+        self.entries.decl(target).declared().unwrap_or(false)
     }
 
     /// Whether no rule fails at a reference with this lead. False also if that takes a search to find out.
@@ -94,7 +107,7 @@ impl References<'_, '_, '_> {
         let item = leading.take_reference();
         match self.guess_type(item.1) {
             Some(target) => {
-                let target = number_of(self.cursor.entries, &Some(target));
+                let target = number_of(self.entries, &Some(target));
                 Ok(keep(kept, DW_AT_type, target))
             }
             None => self.judge_next(declared, id, kept, item.0, Value::RefUnit(item.1)),
@@ -148,67 +161,27 @@ impl References<'_, '_, '_> {
         }
     }
 
-    /// What is kept of the entry's type after the index of a string, or the rule that fails there.
+    /// The same, where it is the index of a string.
     #[inline(always)]
-    fn link_string(
+    fn link_index(
         &self,
         declared: &mut [Option<bool>],
         id: EntryId,
+        leading: &mut Leading<'_, '_>,
         kept: Option<OptionalId>,
-        attribute: Attribute,
-        index: u64,
     ) -> Result<Option<OptionalId>, Broken>
         requires may { MayLink self.now id }
         requires kept { KeepsDeclared (entries_in self.now) declared.old }
-        requires other { IsNoType attribute }
+        requires lead { is_index_lead (next_lead leading.old) ≡ true }
         ensures kept { KeepsDeclared (entries_in self.now) declared.new }
-        ensures ok { IfOk result (KeepsAt self.now id attribute (str_index index) kept) }
-        ensures err { IfErr result (HasFailedAt self.now id attribute (str_index index)) }
+        ensures ok { IfOk result (LinksAt self.now id (leading_left leading.old) (leading_left leading.new) kept) }
+        ensures err { IfErr result (FailsNextAt self.now id (leading_left leading.old)) }
     {
-        match self.texts.ask_string(index) {
+        let item = take_index(leading);
+        match self.texts.ask_string(item.1) {
             None => Ok(kept),
-            Some(_) => self.judge_next(declared, id, kept, attribute, Value::StrIndex(index)),
+            Some(_) => self.judge_next(declared, id, kept, item.0, Value::StrIndex(item.1)),
         }
-    }
-
-    /// The same, where the next value is the index of a string in one byte.
-    #[inline(always)]
-    fn link_index1(
-        &self,
-        declared: &mut [Option<bool>],
-        id: EntryId,
-        leading: &mut Leading<'_, '_>,
-        kept: Option<OptionalId>,
-    ) -> Result<Option<OptionalId>, Broken>
-        requires may { MayLink self.now id }
-        requires kept { KeepsDeclared (entries_in self.now) declared.old }
-        requires lead { LeadsByIndex1 leading.old }
-        ensures kept { KeepsDeclared (entries_in self.now) declared.new }
-        ensures ok { IfOk result (LinksAt self.now id (leading_left leading.old) (leading_left leading.new) kept) }
-        ensures err { IfErr result (FailsNextAt self.now id (leading_left leading.old)) }
-    {
-        let item = leading.take_index1();
-        self.link_string(declared, id, kept, item.0, item.1)
-    }
-
-    /// The same, where it is the index of a string in two bytes.
-    #[inline(always)]
-    fn link_index2(
-        &self,
-        declared: &mut [Option<bool>],
-        id: EntryId,
-        leading: &mut Leading<'_, '_>,
-        kept: Option<OptionalId>,
-    ) -> Result<Option<OptionalId>, Broken>
-        requires may { MayLink self.now id }
-        requires kept { KeepsDeclared (entries_in self.now) declared.old }
-        requires lead { LeadsByIndex2 leading.old }
-        ensures kept { KeepsDeclared (entries_in self.now) declared.new }
-        ensures ok { IfOk result (LinksAt self.now id (leading_left leading.old) (leading_left leading.new) kept) }
-        ensures err { IfErr result (FailsNextAt self.now id (leading_left leading.old)) }
-    {
-        let item = leading.take_index2();
-        self.link_string(declared, id, kept, item.0, item.1)
     }
 
     /// The same, where it is the index of an address.
@@ -283,8 +256,8 @@ impl References<'_, '_, '_> {
             Lead::Specification => self.link_reference(declared, id, leading, kept),
             Lead::Entry => self.link_reference(declared, id, leading, kept),
             Lead::Text => self.link_text(declared, id, leading, kept),
-            Lead::Index1 => self.link_index1(declared, id, leading, kept),
-            Lead::Index2 => self.link_index2(declared, id, leading, kept),
+            Lead::Index1 => self.link_index(declared, id, leading, kept),
+            Lead::Index2 => self.link_index(declared, id, leading, kept),
             Lead::Address => self.link_address(declared, id, leading, kept),
             Lead::Passed => {
                 leading.pass();

@@ -8,12 +8,14 @@ mod laws;
 mod leads;
 mod linking;
 mod links;
+mod reaching;
 mod references;
 mod strings;
 mod targets;
 mod texts;
 
 pub use class::{Class, check_classes, class_of_value};
+pub use contribution::{base_in_unit, number};
 pub use laws::{one_entry_is_reached, references_have_targets, strings_have_texts};
 pub use links::{LinkTables, Links, link};
 pub use strings::check_strings;

@@ -1,5 +1,5 @@
-//! The rules on strings, addresses and references, checked in one pass over the values of all entries, and the targets
-//! of their types.
+//! The rules on strings, addresses and references, checked in one pass over the values of all entries, and what is kept
+//! of it: the bases of units, and the targets of types.
 
 ghost use Rattle.std.specs.Prelude.{◌≡◌, ◌==◌, ◌<◌, length, Some, IfSome, IfOk, IfErr};
 ghost use Rattle.dw_entries.specs.Entries.{Entry};
@@ -16,10 +16,11 @@ ghost use Rattle.dw_links.specs.References.{HeaderFailures, ReferenceFailures};
 ghost use Rattle.dw_links.specs.SignedTypes.{HasSignedTypes, AreTyped};
 
 use crate::contribution::end_of_strings;
+use crate::links::LinkTables;
 use crate::references::References;
-use crate::strings::{check_strings, keep_texts, read_texts};
+use crate::strings::check_strings;
 use dw_entries::constants::*;
-use dw_entries::{Broken, Entries, EntryId, Fault, Hints, OptionalId, Rule, Stop};
+use dw_entries::{Broken, Entries, EntryId, Fault, Hints, OptionalId, Rule, Stop, UnitHeader};
 use dw_forms::{Attribute, Lead};
 use std::alloc::Global;
 use std::collections::BTreeMap;
@@ -55,8 +56,14 @@ pub(crate) fn keep(
 impl References<'_, '_, '_> {
     /// The target of an entry's type, or the first failure at the entry. Each value is decoded once.
     #[inline(always)]
-    fn link_entry(&self, declared: &mut [Option<bool>], id: EntryId) -> Result<OptionalId, Broken>
+    fn link_entry(
+        &self,
+        declared: &mut [Option<bool>],
+        id: EntryId,
+        header: UnitHeader,
+    ) -> Result<OptionalId, Broken>
         requires may { MayLink self.now id }
+        requires header { header ≡ self.now.texts.head.header }
         requires kept { KeepsDeclared (entries_in self.now) declared.old }
         ensures kept { KeepsDeclared (entries_in self.now) declared.new }
         ensures ok { IfOk result
@@ -64,7 +71,7 @@ impl References<'_, '_, '_> {
         ensures err { IfErr result
             (λ broken. (e : Entry) → entry_with self.now id ≡ Some e → HasFailed (entries_in self.now) e broken) }
     {
-        let entry = self.cursor.entries.at_in(id, self.texts.unit);
+        let entry = self.entry(id, header);
         let mut leading = entry.leading();
         let mut kept = None;
         'values: loop {
@@ -116,46 +123,48 @@ fn stop_of(alloc: Global, entries: &Entries<'_>, broken: Broken) -> Stop<Fault>
     strings_first(alloc, entries, Stop::Fault(broken.into_fault(alloc)))
 }
 
-/// The targets of the types of all entries, in their order, or the first failure at a string or an address, or if there
-/// is none, at a reference.
+/// The tables of entries, or the first failure at a string or an address, or if there is none, at a reference. What is
+/// known of a unit is read once, and each value once.
 #[inline(never)]
-pub(crate) fn link_entries<'t>(
+pub(crate) fn link_entries(
     alloc: Global,
     entries: &Entries<'_>,
-    signatures: &'t BTreeMap<u64, EntryId>,
-    hints: &'t Hints,
-) -> Result<Vec<OptionalId>, Stop<Fault>>
-    requires types { HasSignedTypes entries.now signatures.now }
+    signatures: BTreeMap<u64, EntryId>,
+    hints: &Hints,
+) -> Result<LinkTables, Stop<Fault>>
+    requires types { HasSignedTypes entries.now signatures }
     requires typed { AreTyped entries.now }
     requires headers { HasNone (HeaderFailures (all_entries entries.now) (all_units entries.now)) }
-    ensures ok { IfOk result (λ types. AreLinked entries.now types.items) }
+    ensures ok { IfOk result (AreLinked entries.now) }
     ensures fault { IfErr result (IfPlainFault (IsFirstOfTargets (sections_of entries.now) (units_of entries.now))) }
 {
-    let mut types = Vec::with_capacity(alloc, entries.count())?;
-    if entries.unit_count() == 0 {
-        return Ok(types);
-    }
     let sections = entries.sections();
-    let str_end = end_of_strings(sections.str);
-    let line_str_end = end_of_strings(sections.line_str);
+    let ends = (
+        end_of_strings(sections.str),
+        end_of_strings(sections.line_str),
+    );
+    let mut str_bases = Vec::with_capacity(alloc, entries.unit_count())?;
+    let mut addr_bases = Vec::with_capacity(alloc, entries.unit_count())?;
+    let mut types = vec![in alloc; OptionalId::none(); entries.count()]?;
     let mut declared = vec![in alloc; None; entries.count()]?;
-    let mut references = References {
-        cursor: entries.cursor(),
-        texts: read_texts(entries, str_end, line_str_end, 0),
-        signatures,
-        hints,
-    };
     for unit in 0..entries.unit_count() {
-        keep_texts(&mut references.texts, entries, unit);
-        let range = entries.range(unit);
-        references.cursor.at(entries.id(range.0));
+        let references = References::of_unit(entries, ends, unit, &signatures, hints);
+        str_bases.push(references.texts.str_base)?;
+        addr_bases.push(references.texts.addr_base)?;
+        let header = references.texts.head.header;
+        let range = references.range;
         for number in range.0..range.1 {
             let id = entries.id(number);
-            match references.link_entry(declared.as_mut_slice(), id) {
-                Ok(target) => types.push(target)?,
+            match references.link_entry(declared.as_mut_slice(), id, header) {
+                Ok(target) => types[number] = target,
                 Err(broken) => return Err(stop_of(alloc, entries, broken)),
             }
         }
     }
-    Ok(types)
+    Ok(LinkTables {
+        signatures,
+        str_bases,
+        addr_bases,
+        types,
+    })
 }

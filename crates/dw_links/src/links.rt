@@ -6,7 +6,6 @@ ghost use Rattle.dw_entries.specs.Views.{sections_of, all_entries, all_units, un
 ghost use Rattle.dw_entries.specs.Stopped.{IfPlainFault};
 ghost use Rattle.dw_entries.specs.Failures.{HasNone};
 ghost use Rattle.dw_links.specs.Targets.{target_of};
-ghost use Rattle.dw_links.specs.Bases.{bases_in};
 ghost use Rattle.dw_links.specs.Tables.{type_target, AreTables};
 ghost use Rattle.dw_links.specs.Classes.{ClassFailures};
 ghost use Rattle.dw_links.specs.LinkFaults.{IsFirstOfLinks};
@@ -15,14 +14,13 @@ ghost use Rattle.dw_links.specs.References.{ReferenceFailures};
 ghost use Rattle.dw_links.specs.AttributeTexts.{text_at, address_at};
 
 use crate::class::check_classes;
-use crate::contribution::base_in_unit;
 use crate::linking::{link_entries, strings_first};
 use crate::references::read_signatures;
 use crate::targets::find_target;
 use dw_entries::constants::*;
 use dw_entries::{Entries, EntryId, Fault, OptionalId, Stop};
 use dw_forms::Attribute;
-use std::alloc::{AllocError, Global};
+use std::alloc::Global;
 use std::collections::BTreeMap;
 
 /// What is read once, so that values can be followed: the type of each signature, the bases of each unit, and
@@ -33,23 +31,6 @@ pub struct LinkTables {
     pub(crate) str_bases: Vec<Option<u32>>,
     pub(crate) addr_bases: Vec<Option<u32>>,
     pub(crate) types: Vec<OptionalId>,
-}
-
-/// The bases of all units under an attribute, in their order.
-fn read_bases(
-    alloc: Global,
-    entries: &Entries<'_>,
-    attribute: Attribute,
-) -> Result<Vec<Option<u32>>, AllocError>
-    ensures { IfOk result (λ bases. bases.items
-        ≡ bases_in (all_entries entries.now) (all_units entries.now) attribute) }
-{
-    let count = entries.unit_count();
-    let mut bases = Vec::with_capacity(alloc, count)?;
-    for number in 0..count {
-        bases.push(base_in_unit(entries, number, attribute))?;
-    }
-    Ok(bases)
 }
 
 impl LinkTables {
@@ -109,16 +90,8 @@ pub fn link<'r, 'a>(alloc: Global, entries: &'r Entries<'a>) -> Result<Links<'r,
         Ok(signatures) => signatures,
         Err(stop) => return Err(strings_first(alloc, entries, stop)),
     };
-    let str_bases = read_bases(alloc, entries, DW_AT_str_offsets_base)?;
-    let addr_bases = read_bases(alloc, entries, DW_AT_addr_base)?;
     let hints = entries.hints(alloc)?;
-    let types = link_entries(alloc, entries, &signatures, &hints)?;
-    let tables = LinkTables {
-        signatures,
-        str_bases,
-        addr_bases,
-        types,
-    };
+    let tables = link_entries(alloc, entries, signatures, &hints)?;
     Ok(Links { entries, tables })
 }
 

@@ -5,23 +5,27 @@ ghost use Rattle.std.specs.Prelude.{OnOk, IfErr};
 ghost use Rattle.std.specs.Bool.{OnTrue, OnFalse};
 ghost use Rattle.dw_forms.specs.Value.{view};
 ghost use Rattle.dw_entries.specs.Failures.{IsLeast, HasNone, IsFirst};
+ghost use Rattle.dw_links.specs.Contributions.{IsEndOfStrings};
 ghost use Rattle.dw_links.specs.DeclaredEntries.{KeepsDeclared};
-ghost use Rattle.dw_links.specs.Linkable.{entries_in, entry_after, FailsByTarget, target_by, IsLinkable, MayAsk};
+ghost use Rattle.dw_links.specs.Linkable.{entries_in, entry_with, entry_after, FailsByTarget, target_by, IsLinkable};
+ghost use Rattle.dw_links.specs.Linkable.{MayAsk, MayLink};
+ghost use Rattle.dw_links.specs.Targets.{entry_at};
 ghost use Rattle.dw_links.specs.References.{is_reference_value, HasType, TypeUnitFails, AtHeader, HeaderFailures};
-ghost use Rattle.dw_entries.specs.Entries.{PlacedUnit};
-ghost use Rattle.dw_entries.specs.Views.{all_entries, all_units, units_of};
-ghost use Rattle.dw_entries.specs.Runs.{ReachesInUnit};
+ghost use Rattle.dw_entries.specs.Entries.{PlacedUnit, node_count};
+ghost use Rattle.dw_entries.specs.Views.{sections_of, all_entries, all_units, units_of};
+ghost use Rattle.dw_entries.specs.Runs.{IsEntryAt, ReachesInUnit};
 ghost use Rattle.dw_entries.specs.Stopped.{IfPlainFault};
 ghost use Rattle.dw_links.specs.Signatures.{HasSignature};
 ghost use Rattle.dw_links.specs.SignedTypes.{AreSignedBelow, HasSignedTypes, AreTyped};
 
-use crate::strings::UnitTexts;
+use crate::strings::{UnitTexts, read_texts};
 use crate::targets::{
     entry_from_header, is_permitted, is_permitted_form, is_reference, is_sig8, reach,
 };
 use dw_entries::constants::*;
 use dw_entries::{
-    Broken, Cursor, Entries, EntryHead, EntryId, Fault, HeaderKind, Hints, Rule, Section, Stop,
+    Broken, Entries, EntryAt, EntryHead, EntryId, Fault, HeaderKind, Hints, Rule, Section, Stop,
+    UnitHeader,
 };
 use dw_forms::{Attribute, Value};
 use std::alloc::Global;
@@ -136,17 +140,58 @@ pub fn read_signatures(
 /// What the values of one unit after another are followed and checked with.
 #[derive(Drop)]
 pub struct References<'e, 'd, 't> {
-    /// Looks up entries, sooner those of the unit at hand.
-    pub cursor: Cursor<'e, 'd>,
+    pub entries: &'e Entries<'d>,
     /// What is read once of the unit at hand.
     pub texts: UnitTexts<'d>,
+    /// The number of the first entry of the unit at hand, and the number after that of its last entry.
+    pub range: (usize, usize),
     /// The type of each signature.
     pub signatures: &'t BTreeMap<u64, EntryId>,
     /// Guesses at the entry that starts at an offset.
     pub hints: &'t Hints,
 }
 
-impl References<'_, '_, '_> {
+impl<'e, 'd, 't> References<'e, 'd, 't> {
+    /// What the values of a unit are followed and checked with, if the strings of .debug_str and .debug_line_str end at
+    /// these offsets.
+    pub(crate) fn of_unit(
+        entries: &'e Entries<'d>,
+        ends: (usize, usize),
+        unit: usize,
+        signatures: &'t BTreeMap<u64, EntryId>,
+        hints: &'t Hints,
+    ) -> References<'e, 'd, 't>
+        requires str_end { IsEndOfStrings (sections_of entries.now).str.now ends.0 }
+        requires line_str_end { IsEndOfStrings (sections_of entries.now).line_str.now ends.1 }
+        requires unit { unit < length (units_of entries.now) }
+        requires types { HasSignedTypes entries.now signatures.now }
+        requires typed { AreTyped entries.now }
+        ensures linkable { IsLinkable result }
+        ensures entries { entries_in result ≡ entries.now }
+        ensures unit { result.texts.unit ≡ unit }
+        ensures first { IfSome (slice_get (all_units entries.now) unit) (λ p. result.range.0 ≡ p.first) }
+        ensures end { IfSome (slice_get (all_units entries.now) unit)
+            (λ p. result.range.1 ≡ p.first + node_count p.unit.root) }
+    {
+        References {
+            entries,
+            texts: read_texts(entries, ends.0, ends.1, unit),
+            range: entries.range(unit),
+            signatures,
+            hints,
+        }
+    }
+
+    /// An entry of the unit at hand, whose header this is.
+    #[inline(always)]
+    pub(crate) fn entry(&self, id: EntryId, header: UnitHeader) -> EntryAt<'_, 'd>
+        requires may { MayLink self.now id }
+        requires header { header ≡ self.now.texts.head.header }
+        ensures { result ≡ entry_with self.now id }
+    {
+        self.entries.at_with(id, self.texts.unit, header)
+    }
+
     /// The entry with this number, if it is one of the unit at hand and starts so many bytes after the unit's header.
     #[inline(always)]
     pub(crate) fn starts_after(&self, number: usize, offset: u64) -> Option<EntryId>
@@ -154,10 +199,12 @@ impl References<'_, '_, '_> {
         ensures reaches { IfSome result (λ id. entry_after self.now offset ≡ Some id) }
         ensures number { IfSome result (λ id. id ≡ number) }
     {
+        if number < self.range.0 || number >= self.range.1 {
+            return None;
+        }
         let at = offset.checked_add(u64::from(self.texts.head.offset))?;
-        let id = self.cursor.entries.nth(number)?;
-        let entry = self.cursor.beside(id)?;
-        if u64::from(entry.offset()) != at || entry.unit() != self.texts.unit {
+        let id = self.entries.id(number);
+        if u64::from(self.entries.offset(id)) != at {
             return None;
         }
         Some(id)
@@ -181,7 +228,30 @@ impl References<'_, '_, '_> {
     {
         match self.guess_in_unit(offset) {
             Some(id) => Some(id),
-            None => entry_from_header(self.cursor.entries, self.texts.unit, offset),
+            None => entry_from_header(self.entries, self.texts.unit, offset),
+        }
+    }
+
+    /// The entry that starts at this offset of .debug_info, if a guess finds it.
+    fn guess(&self, offset: u32) -> Option<EntryId>
+        ensures { IfSome result (IsEntryAt (all_entries (entries_in self.now)) offset) }
+    {
+        let at = u64::from(offset);
+        let number = self.hints.guess(at)?;
+        let id = self.entries.nth(number)?;
+        if u64::from(self.entries.offset(id)) != at {
+            return None;
+        }
+        Some(id)
+    }
+
+    /// The entry that starts at this offset of .debug_info.
+    fn find(&self, offset: u32) -> Option<EntryId>
+        ensures { result ≡ entry_at (all_entries (entries_in self.now)) offset }
+    {
+        match self.guess(offset) {
+            Some(id) => Some(id),
+            None => self.entries.find(offset),
         }
     }
 
@@ -193,7 +263,8 @@ impl References<'_, '_, '_> {
     {
         match *value {
             Value::RefUnit(offset) => self.find_in_unit(offset),
-            _ => reach(self.cursor.entries, self.signatures, head.unit, value),
+            Value::RefInfo(offset) => self.find(offset),
+            _ => reach(self.entries, self.signatures, head.unit, value),
         }
     }
 
@@ -239,7 +310,7 @@ impl References<'_, '_, '_> {
         if !is_permitted_form(head, attribute, value) {
             return Some(Rule::WrongKind);
         }
-        if !is_permitted(&self.cursor, declared, head, attribute, id) {
+        if !is_permitted(self.entries, declared, head, attribute, id) {
             return Some(Rule::WrongKind);
         }
         if attribute != DW_AT_sibling {

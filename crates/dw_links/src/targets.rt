@@ -12,7 +12,7 @@ ghost use Rattle.dw_links.specs.SignedTypes.{HasSignedTypes};
 ghost use Rattle.dw_links.specs.Targets.{reach_in_unit, signed_type, reach_of, target_of};
 
 use dw_entries::constants::*;
-use dw_entries::{Cursor, Entries, EntryAt, EntryHead, EntryId};
+use dw_entries::{Entries, EntryHead, EntryId};
 use dw_forms::{Attribute, Value};
 use std::collections::BTreeMap;
 
@@ -143,40 +143,29 @@ pub fn is_permitted_form(head: &EntryHead, attribute: Attribute, value: &Value<'
     !is_signed_by(head, attribute) || matches!(value, Value::RefSig(_))
 }
 
-/// An entry, sooner if it is one of the unit at hand.
-#[inline(always)]
-pub(crate) fn entry_at<'e, 'a>(cursor: &Cursor<'e, 'a>, id: EntryId) -> EntryAt<'e, 'a>
-    requires { id < length (all_entries cursor.now.entries.now) }
-    ensures { result ≡ slice_get (all_entries cursor.now.entries.now) id }
-{
-    match cursor.beside(id) {
-        Some(entry) => entry,
-        None => cursor.entries.at(id),
-    }
-}
-
 /// Whether an attribute of an entry may have a target. This project's choice: the type, the specification, the
-/// signature and the import of a unit have targets of their kinds, and other attributes may refer to any entry.
+/// signature and the import of a unit have targets of their kinds, and other attributes may refer to any entry. The
+/// target's unit is not looked up.
 #[inline(always)]
 pub fn is_permitted(
-    cursor: &Cursor<'_, '_>,
+    entries: &Entries<'_>,
     declared: &mut [Option<bool>],
     head: &EntryHead,
     attribute: Attribute,
     id: EntryId,
 ) -> bool
-    requires id { id < length (all_entries cursor.now.entries.now) }
-    requires kept { KeepsDeclared cursor.now.entries.now declared.old }
-    ensures kept { KeepsDeclared cursor.now.entries.now declared.new }
-    ensures exact { (target : Entry) → slice_get (all_entries cursor.now.entries.now) id ≡ Some target
+    requires id { id < length (all_entries entries.now) }
+    requires kept { KeepsDeclared entries.now declared.old }
+    ensures kept { KeepsDeclared entries.now declared.new }
+    ensures exact { (target : Entry) → slice_get (all_entries entries.now) id ≡ Some target
         → result ≡ permits head.now attribute target }
 {
-    let target = entry_at(cursor, id);
+    let target = entries.decl(id);
     if attribute == DW_AT_type {
         return target.is_type();
     }
     if attribute == DW_AT_specification {
-        return target.offset() != head.offset && is_declaration(cursor.entries, declared, id);
+        return entries.offset(id) != head.offset && is_declaration(entries, declared, id);
     }
     if is_signed_by(head, attribute) {
         return target.tag() == head.tag;

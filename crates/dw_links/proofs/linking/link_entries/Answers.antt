@@ -1,11 +1,13 @@
-use Rattle.std.proofs.Common.{rules, ◌≡◌, ◌∙◌, ℕ, Some, arith, sym, subst}
+use Rattle.std.proofs.Common.{rules, ◌≡◌, ◌<◌, ◌≤◌, ◌∙◌, ℕ, Some, length, take, arith, sym, subst}
 use Rattle.std.specs.Prelude.{slice_get}
-use Rattle.std.proofs.lemmas.Grind.{common_steps}
+use Rattle.std.proofs.lemmas.List.{length-set, take_all}
 use Rattle.dw_entries.specs.declared.entries.Entries.{Entries}
 use Rattle.dw_entries.specs.Entries.{Entry}
 use Rattle.dw_entries.specs.Views.{all_entries, all_units, units_of}
 use Rattle.dw_entries.proofs.FirstPlaces.{none_by_both}
-use Rattle.dw_entries.proofs.UnitRanges.{unit_in_range}
+use Rattle.dw_entries.proofs.EntryFacts.{length-placed_from}
+use Rattle.dw_forms.specs.Codes.{DW_AT_str_offsets_base, DW_AT_addr_base}
+use Rattle.dw_links.specs.Bases.{base_in}
 use Rattle.dw_links.specs.Linkable.{FailsByText, FailsByTarget}
 use Rattle.dw_links.specs.Linking.{IsLinked, HasFailed}
 use Rattle.dw_links.specs.References.{HeaderFailures, AttributeFailures}
@@ -14,71 +16,42 @@ use Rattle.dw_links.proofs.DeclaredLemmas.{keeps_none, keeps_whole, only_none}
 use Rattle.dw_links.proofs.Skips.{there}
 use Rattle.dw_links.proofs.TableLaws.{map_one_more, map_all}
 use Rattle.dw_links.proofs.Transfers.{more_below, none_fails, failed_first}
-use Rattle.dw_links.proofs.UnitByUnit.{LinkedBelow, starts_first, starts_next, unit_there, none_below, begins_within, ends_within}
+use Rattle.dw_links.proofs.UnitByUnit.{LinkedBelow, starts_first, starts_next, unit_there, none_below, types_more, ends_within}
 use Rattle.dw_links.proofs.linking.link_entries.Goals as goal
-
-pub returns-then-unit_count-eq0-clause-ok : goal.returns-then-unit_count-eq0-clause-ok
-returns-then-unit_count-eq0-clause-ok c = record { strings = grind (arith, common_steps); references = grind (arith, common_steps); types = grind (arith, common_steps) }
 
 pub loop-unit-init : goal.loop-unit-init
 loop-unit-init c =
     let entries = c.args.entries.now in
     let kept = keeps_none entries _ c.count-2.result c.count-2.ensures (c.in_ok-declared.ensures.items_if_clones_equal (only_none _ (λ known p. p))) in
-    record { cursor = search rules; signatures = search rules; texts = search rules; kept = kept; linked = (0, starts_first (units_of entries) (omega arith), none_below entries c.in_ok-types.types.items (search rules)) }
-
-pub id-requires : goal.id-requires
-id-requires c =
-    let us = units_of c.args.entries.now in
-    let (p, is) = unit_there us c.loop-unit.unit (omega arith) in
-    let first : c.range-range.result.0 ≡ p.first = rw is at c.range-range.ensures.first in
-    omega (arith, first, begins_within us c.loop-unit.unit p is)
-
-pub at-requires : goal.at-requires
-at-requires c =
-    let us = units_of c.args.entries.now in
-    let (p, is) = unit_there us c.loop-unit.unit (omega arith) in
-    let first : c.range-range.result.0 ≡ p.first = rw is at c.range-range.ensures.first in
-    rw c.loop-unit.invariant.cursor (omega (arith, first, c.id.ensures, begins_within us c.loop-unit.unit p is))
-
-pub id-id-requires : goal.id-id-requires
-id-id-requires c =
-    let us = units_of c.args.entries.now in
-    let (p, is) = unit_there us c.loop-unit.unit (omega arith) in
-    let end = rw is at c.range-range.ensures.end in
-    omega (arith, end, ends_within us c.loop-unit.unit p is)
+    record { kept = kept; bases = record { str = search rules; addr = search rules }; linked = (0, starts_first (units_of entries), none_below entries c.in_ok-types.types.items (search rules)) }
 
 pub loop-number-init : goal.loop-number-init
 loop-number-init c =
     let entries = c.args.entries.now in
     let (p, is) = unit_there (units_of entries) c.loop-unit.unit (omega arith) in
-    let first : c.range-range.result.0 ≡ p.first = rw is at c.range-range.ensures.first in
+    let first : c.of_unit-references.result.range.0 ≡ p.first = rw is at c.of_unit-references.ensures.first in
     let (number, starts, linked) = c.loop-unit.invariant.linked in
-    record {
-      cursor = c.at.ensures.same ∙ c.loop-unit.invariant.cursor;
-      signatures = c.loop-unit.invariant.signatures;
-      texts = c.keep_texts.ensures.texts;
-      in_unit = c.keep_texts.ensures.unit;
-      kept = c.loop-unit.invariant.kept;
-      linked = subst (LinkedBelow entries c.loop-unit.types.items) (starts.begins p is ∙ sym first) linked;
-    }
+    record { kept = c.loop-unit.invariant.kept; linked = subst (LinkedBelow entries c.loop-unit.types.items) (starts.begins p is ∙ sym first) linked }
+
+pub id-id-requires : goal.id-id-requires
+id-id-requires c =
+    let us = units_of c.args.entries.now in
+    let (p, is) = unit_there us c.loop-unit.unit (omega arith) in
+    let end = rw is at c.of_unit-references.ensures.end in
+    omega (arith, end, ends_within us c.loop-unit.unit p is)
 
 pub link_entry-requires-clause-may : goal.link_entry-requires-clause-may
 link_entry-requires-clause-may c =
-    let entries = c.args.entries.now in
-    let us = units_of entries in
-    let i = c.loop-number.invariant in
-    let (p, is) = unit_there us c.loop-unit.unit (omega arith) in
-    let first : c.range-range.result.0 ≡ p.first = rw is at c.range-range.ensures.first in
-    let end = rw is at c.range-range.ensures.end in
+    let it = c.of_unit-references.ensures.linkable in
+    let below : c.id-id.result < c.of_unit-references.result.range.1 = omega (arith, c.id-id.ensures) in
     record {
-      within = rw i.cursor (omega (arith, end, c.id-id.ensures, ends_within us c.loop-unit.unit p is));
-      linkable = record {
-        types = rw (i.cursor, i.signatures) c.requires.types;
-        typed = rw i.cursor c.requires.typed;
-        texts = rw i.cursor i.texts;
-      };
-      in_unit = λ e here. unit_in_range us c.loop-unit.unit p c.id-id.result e is (rw i.cursor at here) (omega (arith, first, c.id-id.ensures, c.loop-number.auto.number)) (omega (arith, end, c.id-id.ensures)) ∙ sym i.in_unit;
+      within = omega (arith, below, it.within);
+      linkable = it;
+      in_unit = λ e here. sym (it.range c.id-id.result e here (omega (arith, c.id-id.ensures, c.loop-number.auto.number)) below);
     }
+
+pub link_entry-requires-clause-kept : goal.link_entry-requires-clause-kept
+link_entry-requires-clause-kept c = search (rules)
 
 pub stop_of-requires : goal.stop_of-requires
 stop_of-requires c =
@@ -86,32 +59,30 @@ stop_of-requires c =
     let i = c.loop-number.invariant in
     let us = units_of entries in
     let (p, is_p) = unit_there us c.loop-unit.unit (omega arith) in
-    let end = rw is_p at c.range-range.ensures.end in
+    let end = rw is_p at c.of_unit-references.ensures.end in
     let (e, is) = there (all_entries entries) c.id-id.result (omega (arith, end, c.id-id.ensures, ends_within us c.loop-unit.unit p is_p)) in
     let P : Entries → Type 0 = λ x. (d : Entry) → slice_get (all_entries x) c.id-id.result ≡ Some d → HasFailed x d c.in-Err.broken in
     failed_first entries c.loop-number.number c.id-id.result c.id-id.ensures c.in-Err.broken i.linked.strings i.linked.references c.requires.headers e is
-    (subst P i.cursor c.in-Err.ensures.err e is)
+    (subst P c.of_unit-references.ensures.entries c.in-Err.ensures.err e is)
 
 pub loop-number-preserved : goal.loop-number-preserved
 loop-number-preserved c =
     let entries = c.args.entries.now in
     let i = c.loop-number.invariant in
+    let same = c.of_unit-references.ensures.entries in
     let P : Entries → Type 0 = λ x. (d : Entry) → slice_get (all_entries x) c.id-id.result ≡ Some d → IsLinked x d c.in-Ok.target in
-    let linked = subst P i.cursor c.in-Ok.ensures.ok in
+    let linked = subst P same c.in-Ok.ensures.ok in
     let us = units_of entries in
     let (p, is_p) = unit_there us c.loop-unit.unit (omega arith) in
-    let end = rw is_p at c.range-range.ensures.end in
+    let end = rw is_p at c.of_unit-references.ensures.end in
     let (e, is) = there (all_entries entries) c.id-id.result (omega (arith, end, c.id-id.ensures, ends_within us c.loop-unit.unit p is_p)) in
     record {
-      cursor = i.cursor;
-      signatures = i.signatures;
-      texts = i.texts;
-      in_unit = i.in_unit;
-      kept = keeps_whole entries c.loop-number.declared.items c.link_entry.new.declared c.loop-number.declared.len c.loop-number.declared.ok.0 i.kept (rw i.cursor at c.in-Ok.ensures.kept);
+      kept = keeps_whole entries c.loop-number.declared.items c.link_entry.new.declared c.loop-number.declared.len c.loop-number.declared.ok.0 i.kept (rw same at c.in-Ok.ensures.kept);
       linked = record {
         strings = more_below entries (FailsByText entries) c.loop-number.number c.id-id.result c.id-id.ensures i.linked.strings (λ d at. (linked d at).strings);
         references = more_below entries (FailsByTarget entries) c.loop-number.number c.id-id.result c.id-id.ensures i.linked.references (λ d at. (linked d at).references);
-        types_are = rw c.in_ok-push-in-Ok.ensures.items (map_one_more (type_target (all_entries entries) (all_units entries)) (all_entries entries) c.loop-number.types.items c.loop-number.number e c.in-Ok.target (let P : ℕ → Type 0 = λ n. slice_get (all_entries entries) n ≡ Some e in subst P c.id-id.ensures is) i.linked.types_are (linked e is).is_target);
+        long = length-set c.loop-number.types.items c.loop-number.number c.in-Ok.target ∙ i.linked.long;
+        types_are = types_more entries c.loop-number.types.items c.loop-number.number e c.in-Ok.target (let P : ℕ → Type 0 = λ n. slice_get (all_entries entries) n ≡ Some e in subst P c.id-id.ensures is) i.linked.long i.linked.types_are (linked e is).is_target;
       };
     }
 
@@ -119,16 +90,18 @@ pub loop-unit-preserved : goal.loop-unit-preserved
 loop-unit-preserved c =
     let entries = c.args.entries.now in
     let us = units_of entries in
-    let i = c.loop-number.invariant in
     let (p, is) = unit_there us c.loop-unit.unit (omega arith) in
-    let first : c.range-range.result.0 ≡ p.first = rw is at c.range-range.ensures.first in
-    let end = rw is at c.range-range.ensures.end in
+    let first : c.of_unit-references.result.range.0 ≡ p.first = rw is at c.of_unit-references.ensures.first in
+    let end = rw is at c.of_unit-references.ensures.end in
+    let bases = c.loop-unit.invariant.bases in
+    let texts = c.of_unit-references.ensures.linkable.texts in
     record {
-      cursor = i.cursor;
-      signatures = i.signatures;
-      texts = i.texts;
-      kept = i.kept;
-      linked = (c.loop-number.number, starts_next us c.loop-unit.unit c.loop-number.number p is (omega (arith, first, end, c.loop-number.auto.number-end (omega (arith, first, end)))), i.linked);
+      kept = c.loop-number.invariant.kept;
+      bases = record {
+        str = rw c.in_ok-push.ensures.items (map_one_more (λ u. base_in (all_entries entries) u DW_AT_str_offsets_base) (all_units entries) c.loop-unit.str_bases.items c.loop-unit.unit p c.of_unit-references.result.texts.str_base is bases.str (search rules));
+        addr = rw c.in_ok-push-2.ensures.items (map_one_more (λ u. base_in (all_entries entries) u DW_AT_addr_base) (all_units entries) c.loop-unit.addr_bases.items c.loop-unit.unit p c.of_unit-references.result.texts.addr_base is bases.addr (search rules));
+      };
+      linked = (c.loop-number.number, starts_next us c.loop-unit.unit c.loop-number.number p is (omega (arith, first, end, c.loop-number.auto.number-end (omega (arith, first, end)))), c.loop-number.invariant.linked);
     }
 
 pub returns-clause-ok : goal.returns-clause-ok
@@ -136,9 +109,16 @@ returns-clause-ok c =
     let entries = c.args.entries.now in
     let (number, starts, linked) = c.loop-unit.invariant.linked in
     let all = starts.ends (omega arith) in
+    let units : length (all_units entries) ≤ c.loop-unit.unit = omega (arith, length-placed_from 0 0 (units_of entries)) in
+    let bases = c.loop-unit.invariant.bases in
     record {
       strings = none_fails entries (FailsByText entries) number all linked.strings;
       references = none_by_both (HeaderFailures (all_entries entries) (all_units entries)) (AttributeFailures (all_entries entries) (all_units entries)) c.requires.headers
           (none_fails entries (FailsByTarget entries) number all linked.references);
-      types = map_all (type_target (all_entries entries) (all_units entries)) (all_entries entries) c.loop-unit.types.items number all linked.types_are;
+      tables_are = record {
+        signatures = c.requires.types;
+        str_bases = map_all (λ u. base_in (all_entries entries) u DW_AT_str_offsets_base) (all_units entries) c.loop-unit.str_bases.items c.loop-unit.unit units bases.str;
+        addr_bases = map_all (λ u. base_in (all_entries entries) u DW_AT_addr_base) (all_units entries) c.loop-unit.addr_bases.items c.loop-unit.unit units bases.addr;
+        types = sym (take_all number c.loop-unit.types.items (omega (arith, all, linked.long))) ∙ map_all (type_target (all_entries entries) (all_units entries)) (all_entries entries) (take number c.loop-unit.types.items) number all linked.types_are;
+      };
     }

@@ -6,4 +6,4 @@ pub returns-clause-nothing : goal.returns-clause-nothing
 returns-clause-nothing c =
     let it = c.args.self.now in
     let v = it.values in
-    nothing_left v.attributes it.step it.steps (value_context v.version v.address_size) v.bytes.now v.left
+    nothing_left v.attributes it.step.now it.steps (value_context v.version v.address_size) v.bytes.now v.left

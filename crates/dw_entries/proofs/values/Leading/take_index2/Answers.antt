@@ -4,7 +4,7 @@ use Rattle.dw_entries.proofs.values.Leading.take_index2.Goals as goal
 pub take_in-item-requires : goal.take_in-item-requires
 take_in-item-requires c =
     let it = c.args.self.now in
-    index2_form it.values.attributes it.step it.steps c.requires
+    index2_form it.values.attributes it.step.now it.steps c.requires
 
 pub unreachable-requires : goal.unreachable-requires
 unreachable-requires c =

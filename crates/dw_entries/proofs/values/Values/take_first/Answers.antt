@@ -3,6 +3,8 @@ use Rattle.dw_forms.specs.Suffixes.{specs_in}
 use Rattle.dw_forms.specs.Value.{view}
 use Rattle.dw_forms.proofs.SuffixLaws.{first_specs}
 use Rattle.dw_entries.specs.Values.{value_context}
+use Rattle.dw_entries.proofs.PlacedLaws.{leaves}
+use Rattle.dw_entries.proofs.ScanLaws.{rest_of}
 use Rattle.dw_entries.proofs.ValueSteps.{next_left, steps, never_fails, none_left, read_on}
 use Rattle.dw_entries.proofs.values.Values.take_first.Goals as goal
 
@@ -32,3 +34,9 @@ returns-clause-steps c =
 
 pub returns-clause-first : goal.returns-clause-first
 returns-clause-first c = (c.in-Some.spec, c.in-Some.ensures)
+
+pub returns-clause-bytes : goal.returns-clause-bytes
+returns-clause-bytes c =
+    let v = c.args.self.now in
+    let found = c.in-Ok.ensures.found in
+    leaves v.version v.address_size c.in-Ok.len c.in-Some.spec.form v.bytes.now _ (view c.in-Ok.value) found.spelled (rest_of c.in-Ok.len v.bytes.now found.within)

@@ -1,7 +1,7 @@
 use Rattle.std.proofs.Common.{rules, ◌∙◌, ◌-◌, ap, sym, Some, subst, arith}
 use Rattle.dw_forms.specs.declared.decl.KeptDecl.{KeptDecl}
 use Rattle.dw_forms.specs.Abbrev.{Declaration}
-use Rattle.dw_forms.specs.AttributeLists.{HasList}
+use Rattle.dw_forms.specs.DeclaredLists.{HasList}
 use Rattle.dw_forms.specs.KeptDecls.{kept_view}
 use Rattle.dw_forms.proofs.KeptLaws.{decl_read}
 use Rattle.dw_forms.proofs.decl.Decls.decl.Goals as goal
@@ -14,7 +14,7 @@ new-requires c =
     let a = c.args.self.now in
     let some = c.requires.some in
     let within = c.requires.within in
-    subst (λ (k : KeptDecl). HasList a.lists.nodes.items k.first k.step k.declared) (sym c.index.ensures) (a.all (c.args.number - 1) c.index.result.now (omega (arith, some, within)))
+    subst (λ (k : KeptDecl). HasList a.lists.nodes.items k.first k.step k.place k.declared k.whole) (sym c.index.ensures) (a.all (c.args.number - 1) c.index.result.now (omega (arith, some, within)))
 
 pub returns : goal.returns
 returns c =

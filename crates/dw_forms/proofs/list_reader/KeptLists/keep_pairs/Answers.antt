@@ -1,5 +1,5 @@
 use Rattle.std.proofs.Common.{rules, arith}
-use Rattle.dw_forms.proofs.ListStarts.{pair_less, code_before, no_list, next_leads, next_new, next_placed, next_stay}
+use Rattle.dw_forms.proofs.ListStarts.{pair_less, code_before, no_list, next_leads, next_placed, next_stay}
 use Rattle.dw_forms.proofs.OffsetLaws.{apart_few, stay_same, stay_on}
 use Rattle.dw_forms.proofs.list_reader.KeptLists.keep_pairs.Goals as goal
 

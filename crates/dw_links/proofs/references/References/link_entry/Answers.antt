@@ -1,4 +1,4 @@
-use Rattle.std.proofs.Common.{ap, ◌∙◌, sym}
+use Rattle.std.proofs.Common.{ap, ◌∙◌}
 use Rattle.std.specs.Option.{unwrap_or}
 use Rattle.std.proofs.lemmas.Result.{err_from_is_err_and}
 use Rattle.dw_entries.specs.Leading.{leading_left}
@@ -9,15 +9,9 @@ use Rattle.dw_links.proofs.RuleSteps.{fewer}
 use Rattle.dw_links.proofs.Skips.{there}
 use Rattle.dw_links.proofs.references.References.link_entry.Goals as goal
 
-pub at_in-entry-requires-clause-unit : goal.at_in-entry-requires-clause-unit
-at_in-entry-requires-clause-unit c =
-    let may = c.requires.may in
-    let (e, is) = there (all_entries (entries_in c.args.self.now)) c.args.id may.within in
-    rw is (sym (may.in_unit e is))
-
 pub values-init : goal.values-init
 values-init c = record {
-  so_far = λ e is. none_so_far (entries_in c.args.self.now) e (leading_left c.leading-leading.result) (rw (c.at_in-entry.ensures ∙ is) at c.leading-leading.ensures);
+  so_far = λ e is. none_so_far (entries_in c.args.self.now) e (leading_left c.leading-leading.result) (rw (c.entry-entry.ensures ∙ is) at c.leading-leading.ensures);
   kept = c.requires.kept;
 }
 

@@ -1,5 +1,6 @@
 use Rattle.std.proofs.Common.{sym, ap, ◌∙◌}
 use Rattle.dw_entries.specs.Leading.{next_lead, leading_left, is_reference_lead}
+use Rattle.dw_links.specs.Linkable.{is_index_lead}
 use Rattle.dw_links.proofs.LeadSteps.{passed_links}
 use Rattle.dw_links.proofs.references.References.link_next.Goals as goal
 
@@ -18,11 +19,11 @@ link_reference-requires-in-Entry-clause-lead c = ap is_reference_lead (sym c.lea
 pub link_text-requires-clause-lead : goal.link_text-requires-clause-lead
 link_text-requires-clause-lead c = sym c.lead.ensures.lead ∙ c.in-Text.is
 
-pub link_index1-requires-clause-lead : goal.link_index1-requires-clause-lead
-link_index1-requires-clause-lead c = sym c.lead.ensures.lead ∙ c.in-Index1.is
+pub link_index-requires-clause-lead : goal.link_index-requires-clause-lead
+link_index-requires-clause-lead c = ap is_index_lead (sym c.lead.ensures.lead ∙ c.in-Index1.is)
 
-pub link_index2-requires-clause-lead : goal.link_index2-requires-clause-lead
-link_index2-requires-clause-lead c = sym c.lead.ensures.lead ∙ c.in-Index2.is
+pub link_index-requires-in-Index2-clause-lead : goal.link_index-requires-in-Index2-clause-lead
+link_index-requires-in-Index2-clause-lead c = ap is_index_lead (sym c.lead.ensures.lead ∙ c.in-Index2.is)
 
 pub link_address-requires-clause-lead : goal.link_address-requires-clause-lead
 link_address-requires-clause-lead c = sym c.lead.ensures.lead ∙ c.in-Address.is

@@ -12,7 +12,7 @@ next_in-item-requires c = sym c.form.ensures.form ∙ c.in-Some.is
 pub unreachable-requires : goal.unreachable-requires
 unreachable-requires c =
     let it = c.args.leading.now in
-    let (form, there) = lead_there it.values.attributes it.step it.steps c.requires.lead in
+    let (form, there) = lead_there it.values.attributes it.step.now it.steps c.requires.lead in
     let both : ◌≡◌ {A = Option Form} None (Some form) = sym c.in-None.is ∙ c.form.ensures.form ∙ there in
     cc
 

@@ -1,0 +1,21 @@
+-- State: the attributes of an entry that are left, and where the bytes of their values are in .debug_info.
+use Rattle.std.specs.Prelude.{◌≡◌, ℕ, ◌+◌, List, ◌++◌, length}
+use Rattle.dw_forms.specs.Value.{Datum}
+use Rattle.dw_entries.specs.declared.placed.Placed.{Placed}
+use Rattle.dw_entries.specs.Leaving.{bytes_of}
+use Rattle.dw_entries.specs.ValuesLeft.{values_left}
+
+-- the attributes that are left, each with its value
+abbrev pub placed_left : Placed → List (ℕ × Datum)
+placed_left it = values_left it.values
+
+-- the section that the values are in
+abbrev pub info_of : Placed → List ℕ
+info_of it = it.info.now
+
+-- the bytes of a value are in a section, and end at this offset
+pub record EndsAt (section : List ℕ) (v : Datum) (end : ℕ) : Type 0 where
+  pub before : List ℕ
+  pub rest : List ℕ
+  pub parts : section ≡ before ++ (bytes_of v ++ rest)
+  pub end_is : end ≡ length before + length (bytes_of v)
