@@ -206,7 +206,7 @@ module _ (entries : List Facts) (targets : TargetsAreEntries entries) (ranks : L
   exact-obeys = some-obeys (by_value entries) ranks falls leads (size_line entries) (size_line-local entries)
 
   -- a table that obeys the size lines is the only one
-  is-size_table : (table : ℕ → Size) → ObeysSizeLines entries table → IsSizeTable entries table
+  pub is-size_table : (table : ℕ → Size) → ObeysSizeLines entries table → IsSizeTable entries table
   is-size_table table obeys = record {
     obeys = obeys;
     only = λ other right node below.
@@ -215,7 +215,7 @@ module _ (entries : List Facts) (targets : TargetsAreEntries entries) (ranks : L
         (let long = length-by_value entries in omega arith);
   }
 
-  exact-lines : ObeysSizeLines entries sizes_by_rank
+  pub exact-lines : ObeysSizeLines entries sizes_by_rank
   exact-lines node below = exact-obeys node (let long = length-by_value entries in omega arith)
 
   -- the capped table has the capped sizes

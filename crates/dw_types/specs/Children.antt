@@ -1,5 +1,5 @@
 -- Chapter: the children of an entry, by the entries and by their facts, and those from one child on (DWARF 5, 2.3).
-use Rattle.std.specs.Prelude.{◌≡◌, ℕ, suc, ◌-◌, ◌<◌, Bool, if◌then◌else◌, List, [], ◌∷◌, drop, filter}
+use Rattle.std.specs.Prelude.{◌≡◌, ℕ, suc, ◌-◌, ◌<◌, if◌then◌else◌, List, [], ◌∷◌, drop, filter}
 use Rattle.std.specs.Prelude.{length, Option, None, Some, option_map, slice_get}
 use Rattle.std.specs.Option.{ForSome}
 use Rattle.std.specs.List.{range_with_len}

@@ -176,8 +176,12 @@ impl FactsAt<'_, '_> {
     pub(crate) fn known_count(&self) -> Option<i128>
         ensures { result ≡ count_of self.now }
     {
+        let count = self.constant(DW_AT_count);
+        if count.is_present() {
+            return count.number();
+        }
         count_from(
-            self.constant(DW_AT_count),
+            count,
             self.language(),
             self.constant(DW_AT_upper_bound),
             self.constant(DW_AT_lower_bound),

@@ -14,7 +14,7 @@ ghost use Rattle.dw_types.specs.SizeTables.{size_at, Size};
 ghost use Rattle.dw_types.specs.Extents.{bits_end_past, end_past, ends_past, start_of};
 ghost use Rattle.dw_types.specs.Constants.{natural_of};
 ghost use Rattle.dw_types.specs.Entries.{Facts, byte_size, entry_of};
-ghost use Rattle.dw_types.specs.Kinds.{has_members, Members, Other};
+ghost use Rattle.dw_types.specs.Kinds.{has_members, kind_of, Members, Other};
 ghost use Rattle.dw_types.specs.Noted.{with_rule};
 
 use crate::facts::{FactsAt, FactsList};
@@ -151,14 +151,16 @@ impl FactsAt<'_, '_> {
         }
     }
 
-    /// Whether something is wrong where the byte size is absent.
+    /// Whether something is wrong where the byte size of an entry of this kind is absent.
     #[inline(always)]
-    fn wants_own(&self) -> bool
+    fn wants_own(&self, kind: Kind) -> bool
+        requires { kind ≡ kind_of self.now }
         ensures { result ≡ wants_own self.now }
     {
         match self.tag() {
             DW_TAG_base_type => !self.constant(DW_AT_bit_size).is_present(),
-            DW_TAG_structure_type | DW_TAG_union_type => !self.declared() && self.stands_alone(),
+            DW_TAG_structure_type | DW_TAG_union_type => !matches!(kind, Kind::Declared)
+                && self.stands_alone(),
             DW_TAG_array_type => self.constant(DW_AT_byte_stride).is_negative(),
             _ => false,
         }
@@ -169,8 +171,9 @@ impl FactsAt<'_, '_> {
     fn has_no_size(&self) -> bool
         ensures { result ≡ has_no_size self.now }
     {
-        (self.kind().reads_own() && self.constant(DW_AT_byte_size).is_negative())
-            || (self.wants_own() && !self.constant(DW_AT_byte_size).is_present())
+        let kind = self.kind();
+        let size = self.constant(DW_AT_byte_size);
+        (kind.reads_own() && size.is_negative()) || (!size.is_present() && self.wants_own(kind))
     }
 
     /// Whether it is an enumeration with neither a byte size nor a type, or with one that is not its type's.

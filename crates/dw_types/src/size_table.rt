@@ -9,7 +9,7 @@ ghost use Rattle.dw_types.specs.Sizes.{size_to, array_size, size_line, IsSizeTab
 ghost use Rattle.dw_types.specs.SizeTables.{Size, size_at, cap_size, HasSizePlaces, OnlyTypesAreSized};
 ghost use Rattle.dw_types.specs.StoredSizes.{size_in, sizes_in};
 ghost use Rattle.dw_types.specs.Entries.{entry_of};
-ghost use Rattle.dw_types.specs.Kinds.{has_members};
+ghost use Rattle.dw_types.specs.Kinds.{has_members, kind_of};
 ghost use Rattle.dw_types.specs.Held.{all_facts, entries_held};
 ghost use Rattle.dw_types.specs.Noted.{asked_at, IsNoted};
 ghost use Rattle.dw_types.specs.Orders.{IsOrderOf};
@@ -145,21 +145,23 @@ fn capped_array(
     capped_times(storage, elements)
 }
 
-/// The capped size of an entry, by those of others.
+/// The capped size of an entry of this kind, by those of others.
 #[inline(always)]
 fn capped_size(
     entries: &mut FactsList<'_, '_>,
     sizes: &SizeTable,
     node: usize,
     entry: &FactsAt<'_, '_>,
+    kind: Kind,
 ) -> Option<u64>
     requires places { HasSizePlaces entries.old sizes.now node }
     requires entry { entry.now ≡ entry_of entries.old node }
+    requires kind { kind ≡ kind_of entry.now }
     ensures same { entries.new ≡ entries.old }
     ensures value { result ≡ cap_size (2 ^ 63) (size_line entries.old (size_at sizes.now) node) }
     ensures small { IfSome result (λ n. n ≤ 2 ^ 63) }
 {
-    match entry.kind() {
+    match kind {
         Kind::Declared => capped(sizes.get_to(entry.signature_target())),
         Kind::OwnSized => capped(entry.constant(DW_AT_byte_size).natural()),
         Kind::Pointer => {
@@ -225,10 +227,11 @@ fn measure_type(
         (λ k. (seen k ≡ true) ⊎ (asked_at entries.old k ≡ node)) least.new) }
 {
     let entry = entries.at(node);
-    let size = capped_size(entries, sizes, node, &entry);
+    let kind = entry.kind();
+    let size = capped_size(entries, sizes, node, &entry, kind);
     sizes.set(alloc, node, size)?;
     note(least, node, entry.broken_size(size, sizes));
-    if !entry.has_members() {
+    if !entry.holds_members(kind) {
         return Ok(());
     }
     note_members(entries, sizes, least, node, size);

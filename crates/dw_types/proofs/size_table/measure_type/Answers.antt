@@ -23,14 +23,14 @@ broken_size-requires-clause-type_in c =
     rw (c.at-entry.ensures.found, c.in_ok-set.ensures)
     (type-in c.args.entries.now (set c.args.sizes.now c.args.node c.capped_size-size.result) c.args.node c.requires.places.targets (length-set c.args.sizes.now c.args.node c.capped_size-size.result ∙ c.requires.places.long))
 
-pub returns-then-not-has_members-clause-noted : goal.returns-then-not-has_members-clause-noted
-returns-then-not-has_members-clause-noted c =
+pub returns-then-not-holds_members-clause-noted : goal.returns-then-not-holds_members-clause-noted
+returns-then-not-holds_members-clause-noted c =
     let entries = c.args.entries.now in
     let node = c.args.node in
     let size = c.capped_size-size.result in
     let inside : node < length c.args.sizes.now = let p = c.requires.places in omega arith in
     let is = c.requires.typed in
-    let not = rw c.at-entry.ensures.found at (sym c.has_members.ensures ∙ c.if-not-has_members.true) in
+    let not = rw c.at-entry.ensures.found at (sym c.holds_members.ensures ∙ c.if-not-holds_members.true) in
     let least = rw c.at-entry.ensures.found at c.broken_size.ensures in
     let typed : OnlyTypesAreSized entries (size_at c.set.new.self) = rw c.in_ok-set.ensures (typed-set entries c.args.sizes.now node size inside is c.requires.untyped) in
     let sized : size_at c.set.new.self node ≡ size = rw c.in_ok-set.ensures (get_or-set_same c.args.sizes.now node size None inside) in

@@ -7,3 +7,11 @@ id-id-requires c = facts-below (units_held c.self.inside.links.now) c.args.self.
 
 pub at-requires : goal.at-requires
 at-requires c = rw (c.id-id.ensures, c.self.invariant.0) (facts-below (units_held c.self.inside.links.now) c.args.self.now c.self.view_is c.args.node c.requires)
+
+pub invariant_of-result : goal.invariant_of-result
+invariant_of-result c = (
+  rw c.id-id.ensures
+      (facts-below (units_held c.self.inside.links.now) c.args.self.now c.self.view_is c.args.node c.requires),
+  rw (← c.self.invariant.0) c.at.ensures.found,
+  c.self.invariant.1,
+)
