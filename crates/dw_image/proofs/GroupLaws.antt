@@ -1,6 +1,8 @@
 -- Which rules a group of failures has, and that one of them is named at a place.
-use Rattle.std.proofs.Common.{rules, ◌≡◌, ℕ, List, refl, arith, ◌+◌, ◌<◌, ◌≤◌}
+use Rattle.std.proofs.Common.{rules, ◌≡◌, ℕ, List, refl, ap, ◌∙◌, arith, ◌+◌, ◌≤◌}
 use Rattle.dw_elf.specs.declared.sections.Sections.{Sections}
+use Rattle.dw_entries.specs.declared.fault.Broken.{Broken}
+use Rattle.dw_entries.specs.declared.fault.Fault.{Fault}
 use Rattle.dw_entries.specs.Units.{DebugUnit, AreUnits}
 use Rattle.dw_entries.specs.Entries.{entries_of}
 use Rattle.dw_entries.specs.Places.{at_header, at_attribute}
@@ -9,6 +11,8 @@ use Rattle.dw_entries.specs.Failures.{Failure, HasNone}
 use Rattle.dw_entries.proofs.EntryFacts.{entries_rise}
 use Rattle.dw_links.proofs.RuleGroups.{string_failures, reference_failures}
 use Rattle.dw_image.specs.First.{Group, classes, strings, references, shapes, cycles, sizes, turn_of, failures_of}
+use Rattle.dw_image.specs.First.{IsFirstIn}
+use Rattle.dw_image.specs.Before.{HoldBefore}
 use Rattle.dw_image.proofs.RuleLaws.{one_rule}
 use Rattle.dw_entries.proofs.NumberOrder.{three_ways}
 use Rattle.dw_image.proofs.OneFirst.{AreOneAtPlace, one_attribute}
@@ -23,6 +27,21 @@ pub has_group : (s : Sections) (us : List DebugUnit) (group : Group) → HasGrou
 has_group s us strings f fails = string_failures s us f fails
 has_group s us references f fails = reference_failures us f fails
 has_group s us _ f fails = search rules
+
+-- a fault that is the first of a group has the group's rank
+pub rank_of : (s : Sections) (us : List DebugUnit) (group : Group) (fault : Fault) → IsFirstIn s us group fault
+    → group_of fault.rule ≡ turn_of group
+rank_of s us cycles fault first = ap (λ (b : Broken). group_of b.rule) first.named
+rank_of s us classes fault first = ap group_of first.holds.named.rule
+    ∙ has_group s us classes first.holds.failure first.holds.fails
+rank_of s us strings fault first = ap group_of first.holds.named.rule
+    ∙ has_group s us strings first.holds.failure first.holds.fails
+rank_of s us references fault first = ap group_of first.holds.named.rule
+    ∙ has_group s us references first.holds.failure first.holds.fails
+rank_of s us shapes fault first = ap group_of first.holds.named.rule
+    ∙ has_group s us shapes first.holds.failure first.holds.fails
+rank_of s us sizes fault first = ap group_of first.holds.named.rule
+    ∙ has_group s us sizes first.holds.failure first.holds.fails
 
 second_or_later : (group : Group) → 2 ≤ turn_of group
 second_or_later classes = omega arith
@@ -57,10 +76,6 @@ one_group shapes shapes same = refl
 one_group cycles cycles same = refl
 one_group sizes sizes same = refl
 one_group _ _ same = absurd (omega (arith, same))
-
--- no rule of the groups before a turn fails
-abbrev pub HoldBefore : Sections → List DebugUnit → ℕ → Type 0
-HoldBefore s us turn = (earlier : Group) → turn_of earlier < turn → HasNone (failures_of s us earlier)
 
 pub none_before : (s : Sections) (us : List DebugUnit) → HoldBefore s us 2
 none_before s us earlier less = absurd (let p = second_or_later earlier in omega (arith, p, less))

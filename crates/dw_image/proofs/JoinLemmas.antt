@@ -1,6 +1,6 @@
 -- The groups of rules join: valid sections have no fault, and others have one; and the groups in their order, as they
 -- are asked.
-use Rattle.std.proofs.Common.{rules, ◌≡◌, ◌<◌, List, sym, ap, ◌∙◌, subst, inl, inr}
+use Rattle.std.proofs.Common.{rules, ◌≡◌, ℕ, ◌<◌, ◌≤◌, List, sym, ap, ◌∙◌, subst, arith, inl, inr}
 use Rattle.dw_elf.specs.declared.sections.Sections.{Sections}
 use Rattle.dw_entries.specs.declared.fault.Fault.{Fault}
 use Rattle.dw_entries.specs.declared.fault.Broken.{Broken}
@@ -26,10 +26,11 @@ use Rattle.dw_image.specs.Valid.{SpellsInfo, HasSizes, IsValidBy, IsValid}
 use Rattle.dw_image.specs.First.{Group, classes, strings, references, cycles, sizes, turn_of, failures_of, FailsInTrees, IsFirstIn, FailsInGroup, IsFirstFault, in_trees, in_group, IsOneFault}
 use Rattle.dw_image.specs.Headline.{IsSpelled, IsSoundBy, IsImageOf, IsFaultOf}
 use Rattle.dw_image.proofs.OneFirst.{one_first}
-use Rattle.dw_image.proofs.GroupLaws.{one_group, one_at_place, HoldBefore, none_before, one_more}
+use Rattle.dw_image.specs.Before.{HoldBefore, PassBefore, FailsBefore}
+use Rattle.dw_image.proofs.GroupLaws.{one_group, one_at_place, rank_of, none_before, one_more}
 use Rattle.dw_image.proofs.MeasureLemmas.{none_by_size, no_cycle_holds, cycle_failure, cycle_fails, contained_of}
 use Rattle.dw_image.proofs.Promises.{classes_of, texts_of, references_of}
-use Rattle.dw_image.specs.Measures.{FailsInTypes}
+use Rattle.dw_image.specs.Measures.{PassInTypes, FailsInTypes}
 
 -- two lists of units that spell the sections are one
 pub one_list_of : (s : Sections) (units others : List DebugUnit) → SpellsInfo s units → SpellsInfo s others → units ≡ others
@@ -127,13 +128,23 @@ image_of s image same = subst (λ t. IsImageOf t image) same (sound_image image)
 pub fault_of : (s : Sections) (fault : Fault) → IsFirstFault s fault → IsFaultOf s fault
 fault_of s fault first = record { first = first; invalid = λ valid. no_fault_of s fault valid first }
 
--- the first failure of a group, over the entries that a scan found
-faulty : (s : Sections) (entries : Entries) (group : Group) (fault : Fault) → entries.sections ≡ s
+-- the first failure of a group before a turn, over the entries that a scan found
+faulty : (s : Sections) (entries : Entries) (turn : ℕ) (group : Group) (fault : Fault) → turn_of group < turn
+    → entries.sections ≡ s
     → HoldBefore (sections_of entries) (units_of entries) (turn_of group)
-    → IsFirstIn (sections_of entries) (units_of entries) group fault → IsFaultOf s fault
-faulty s entries group fault same before first =
-    fault_of s fault (subst (λ t. IsFirstFault t fault) same
-    (in_group group (record { units = entries.scanned.0; spelled = entries.scanned.1.spells; before = before; first = first })))
+    → IsFirstIn (sections_of entries) (units_of entries) group fault → FailsBefore s turn fault
+faulty s entries turn group fault less same before first =
+    let rank = rank_of (sections_of entries) (units_of entries) group fault first in
+    record {
+      is_fault = fault_of s fault (subst (λ t. IsFirstFault t fault) same
+          (in_group group (record {
+            units = entries.scanned.0;
+            spelled = entries.scanned.1.spells;
+            before = before;
+            first = first;
+          })));
+      early = omega (arith, rank, less);
+    }
 
 -- classes hold
 abbrev ClassesHold : Entries → Type 0
@@ -152,19 +163,66 @@ before_references entries none nor = one_more (sections_of entries) (units_of en
 before_types : (entries : Entries) → ClassesHold entries → StringsHold entries → HasNone (ReferenceFailures (units_of entries)) → HoldBefore (sections_of entries) (units_of entries) 5
 before_types entries none nor neither = one_more (sections_of entries) (units_of entries) references (before_references entries none nor) neither
 
+-- the first value whose class is wrong
+pub wrong_class : (s : Sections) (entries : Entries) (turn : ℕ) (fault : Fault) → 2 < turn → entries.sections ≡ s
+    → IsPlainFault (IsFirst (ClassFailures (units_of entries))) fault → FailsBefore s turn fault
+wrong_class s entries turn fault more same first =
+    faulty s entries turn classes fault more same (none_before (sections_of entries) (units_of entries)) first
+
+-- the first string or address that is not there
+pub wrong_string : (s : Sections) (entries : Entries) (turn : ℕ) (fault : Fault) → 3 < turn → entries.sections ≡ s
+    → ClassesHold entries
+    → IsPlainFault (IsFirst (StringFailures (sections_of entries) (units_of entries))) fault → FailsBefore s turn fault
+wrong_string s entries turn fault more same none first =
+    faulty s entries turn strings fault more same (before_strings entries none) first
+
 -- of the groups on the values of attributes the first that fails
-pub wrong_link : (s : Sections) (entries : Entries) (fault : Fault) → entries.sections ≡ s → IsPlainFault (IsFirstOfLinks (sections_of entries) (units_of entries)) fault → IsFaultOf s fault
-wrong_link s entries fault same first =
+pub wrong_link : (s : Sections) (entries : Entries) (turn : ℕ) (fault : Fault) → 4 < turn → entries.sections ≡ s
+    → IsPlainFault (IsFirstOfLinks (sections_of entries) (units_of entries)) fault → FailsBefore s turn fault
+wrong_link s entries turn fault more same first =
     elim first.holds [
-      | inl class ↦ faulty s entries classes fault same (none_before (sections_of entries) (units_of entries)) (record { holds = class; cycle = first.cycle })
+      | inl class ↦ wrong_class s entries turn fault (omega (arith, more)) same
+          (record { holds = class; cycle = first.cycle })
       | inr targets ↦ elim targets.1 [
-        | inl string ↦ faulty s entries strings fault same (before_strings entries targets.0) (record { holds = string; cycle = first.cycle })
-        | inr reference ↦ faulty s entries references fault same (before_references entries targets.0 reference.0) (record { holds = reference.1; cycle = first.cycle })
+        | inl string ↦ wrong_string s entries turn fault (omega (arith, more)) same targets.0
+            (record { holds = string; cycle = first.cycle })
+        | inr reference ↦ faulty s entries turn references fault more same
+            (before_references entries targets.0 reference.0) (record { holds = reference.1; cycle = first.cycle })
       ]
     ]
 
-pub wrong_type : (s : Sections) (entries : Entries) (fault : Fault) → entries.sections ≡ s → ClassesHold entries → StringsHold entries → HasNone (ReferenceFailures (units_of entries))
-    → FailsInTypes (sections_of entries) (units_of entries) fault → IsFaultOf s fault
-wrong_type s entries fault same none nor neither fails =
+pub wrong_type : (s : Sections) (entries : Entries) (turn : ℕ) (fault : Fault) → entries.sections ≡ s
+    → ClassesHold entries → StringsHold entries
+    → HasNone (ReferenceFailures (units_of entries))
+    → FailsInTypes (sections_of entries) (units_of entries) turn fault → FailsBefore s turn fault
+wrong_type s entries turn fault same none nor neither fails =
     let before = before_types entries none nor neither in
-    faulty s entries fails.group fault same (λ earlier less. search (rules, three_ways, before)) fails.first
+    faulty s entries turn fails.group fault fails.early same
+    (λ earlier less. search (rules, three_ways, before)) fails.first
+
+-- ---- no rule of the groups before a turn fails
+
+pass_early : (s : Sections) (us : List DebugUnit) (turn bound : ℕ) → turn ≤ bound → bound ≤ 6 → HoldBefore s us bound
+    → PassBefore s us turn
+pass_early s us turn bound le few hold = record {
+  hold = λ earlier less. hold earlier (omega (arith, less, le));
+  measured = λ late. absurd (omega (arith, late, le, few));
+}
+
+pub pass_classes : (entries : Entries) (turn : ℕ) → turn ≤ 3 → ClassesHold entries
+    → PassBefore (sections_of entries) (units_of entries) turn
+pass_classes entries turn le none = pass_early (sections_of entries) (units_of entries) turn 3 le (omega arith)
+    (before_strings entries none)
+
+pub pass_strings : (entries : Entries) (turn : ℕ) → turn ≤ 4 → ClassesHold entries → StringsHold entries
+    → PassBefore (sections_of entries) (units_of entries) turn
+pass_strings entries turn le none nor =
+    pass_early (sections_of entries) (units_of entries) turn 4 le (omega arith) (before_references entries none nor)
+
+pub pass_types : (entries : Entries) (turn : ℕ) → ClassesHold entries → StringsHold entries
+    → HasNone (ReferenceFailures (units_of entries))
+    → PassInTypes (sections_of entries) (units_of entries) turn
+    → PassBefore (sections_of entries) (units_of entries) turn
+pass_types entries turn none nor neither passes =
+    let before = before_types entries none nor neither in
+    record { hold = λ earlier less. search (rules, three_ways, before, passes); measured = passes.measured }

@@ -27,7 +27,9 @@ use Rattle.dw_types.specs.Sizes.{IsSizeTable, size_to}
 use Rattle.dw_types.specs.SizeFaults.{fails_size, SizeFailures, IsFirstSizeFault}
 use Rattle.dw_image.specs.First.{offset_at, ContainsItselfAt, FailsBySize, Group, shapes, cycles, sizes, turn_of, failures_of, NamesCycle}
 use Rattle.dw_image.specs.Headline.{HoldsNoneOfItself}
-use Rattle.dw_image.specs.Measures.{FailsInTypes}
+use Rattle.dw_types.specs.Orders.{Ranking}
+use Rattle.dw_types.proofs.SizeFaultLemmas.{sizes_by_rank, is-size_table, exact-lines}
+use Rattle.dw_image.specs.Measures.{AreOrdered, PassInTypes, FailsInTypes}
 
 -- without a closed list of steps no entry contains itself
 pub no_cycle_holds : (facts : List Facts) → HasNoCycle (by_value facts) → HasNone (ContainsItselfAt facts)
@@ -114,16 +116,60 @@ cycles_late s us none nor shapes late less = none
 cycles_late s us none nor cycles late less = no_cycle_holds (facts_in us) nor
 cycles_late s us none nor _ late less = absurd (omega (arith, late, less))
 
-pub wrong_shape : (s : Sections) (us : List DebugUnit) (fault : Fault) → IsPlainFault (IsFirst (ShapeFailures (facts_in us))) fault → FailsInTypes s us fault
-wrong_shape s us fault first = record { group = shapes; late = omega arith; before = none_late s us; first = first }
+-- ---- the first failure of the groups on types
 
-pub contains_itself : (s : Sections) (us : List DebugUnit) (fault : Fault) → HasNone (ShapeFailures (facts_in us)) → NamesCycle (facts_in us) fault → FailsInTypes s us fault
-contains_itself s us fault none names = record { group = cycles; late = omega arith; before = shapes_late s us none; first = names }
+pub wrong_shape : (s : Sections) (us : List DebugUnit) (turn : ℕ) → 5 < turn → (fault : Fault)
+    → IsPlainFault (IsFirst (ShapeFailures (facts_in us))) fault
+    → FailsInTypes s us turn fault
+wrong_shape s us turn more fault first =
+    record { group = shapes; late = omega arith; early = more; before = none_late s us; first = first }
 
-pub wrong_size : (s : Sections) (us : List DebugUnit) (fault : Fault) → HasNone (ShapeFailures (facts_in us)) → HasNoCycle (by_value (facts_in us)) → IsPlainFault (IsFirstSizeFault (facts_in us)) fault → FailsInTypes s us fault
+pub contains_itself : (s : Sections) (us : List DebugUnit) (fault : Fault) → HasNone (ShapeFailures (facts_in us))
+    → NamesCycle (facts_in us) fault
+    → FailsInTypes s us 7 fault
+contains_itself s us fault none names =
+    record { group = cycles; late = omega arith; early = omega arith; before = shapes_late s us none; first = names }
+
+pub wrong_size : (s : Sections) (us : List DebugUnit) (fault : Fault) → HasNone (ShapeFailures (facts_in us))
+    → HasNoCycle (by_value (facts_in us))
+    → IsPlainFault (IsFirstSizeFault (facts_in us)) fault → FailsInTypes s us 8 fault
 wrong_size s us fault none nor first = record {
   group = sizes;
   late = omega arith;
+  early = omega arith;
   before = cycles_late s us none nor;
   first = record { holds = first_by_size (facts_in us) (facts-parents_first us) (facts-targets us) _ first.holds; cycle = first.cycle };
 }
+
+pub wrong_before : (s : Sections) (us : List DebugUnit) (fault : Fault) → FailsInTypes s us 7 fault
+    → FailsInTypes s us 8 fault
+wrong_before s us fault fails =
+    record {
+      group = fails.group;
+      late = fails.late;
+      early = (let less = fails.early in omega (arith, less));
+      before = fails.before;
+      first = fails.first;
+    }
+
+-- ---- none of them before a turn
+
+pub pass_shapes : (s : Sections) (us : List DebugUnit) (turn : ℕ) → turn ≡ 6 → HasNone (ShapeFailures (facts_in us))
+    → PassInTypes s us turn
+pass_shapes s us turn is none =
+    subst (PassInTypes s us) (sym is)
+    (record { hold = shapes_late s us none; measured = λ late. absurd (omega (arith, late)) })
+
+pub pass_ordered : (s : Sections) (us : List DebugUnit) (turn : ℕ) (order : Ranking) → turn ≡ 7
+    → AreOrdered (facts_in us) order → PassInTypes s us turn
+pass_ordered s us turn order is ordered =
+    let falls = ordered.ordered.falls in
+    subst (PassInTypes s us) (sym is) (record {
+      hold = cycles_late s us ordered.shapes ordered.contained;
+      measured = λ late. (
+        sizes_by_rank (facts_in us) (facts-targets us) order.ranks falls,
+        is-size_table (facts_in us) (facts-targets us) order.ranks falls
+            (sizes_by_rank (facts_in us) (facts-targets us) order.ranks falls)
+            (exact-lines (facts_in us) (facts-targets us) order.ranks falls),
+      );
+    })

@@ -1,6 +1,6 @@
 -- Where no rule on classes, strings, addresses and references fails, each value has one of its attribute's classes,
 -- each string and address is there, and each reference has its target.
-use Rattle.std.proofs.Common.{rules, ◌≡◌, List, refl, ℕ, ◌-◌, ◌<◌, ◌≤◌, Option, None, Some, arith, inl, inr}
+use Rattle.std.proofs.Common.{rules, ◌≡◌, List, refl, ℕ, ◌<◌, ◌≤◌, Option, None, Some, arith, inl, inr}
 use Rattle.std.specs.Prelude.{slice_get}
 use Rattle.dw_elf.specs.declared.sections.Sections.{Sections}
 use Rattle.dw_forms.specs.Codes.{DW_AT_str_offsets_base, DW_AT_addr_base}

@@ -2,6 +2,7 @@
 pub mod Headline
 pub mod Valid
 pub mod First
+pub mod Before
 pub mod Lookups
 pub mod Images
 -- What dw_links says of strings, for the crates above.

@@ -1,16 +1,19 @@
 -- State: the steps by value and the sizes, if no rule on types fails, or the first fault of these rules.
-use Rattle.std.specs.Prelude.{◌≡◌, ◌<◌, List, length}
+use Rattle.std.specs.Prelude.{◌≡◌, ℕ, ◌<◌, List, length}
 use Rattle.dw_elf.specs.declared.sections.Sections.{Sections}
 use Rattle.dw_entries.specs.declared.fault.Fault.{Fault}
 use Rattle.dw_entries.specs.Failures.{HasNone}
 use Rattle.dw_entries.specs.Units.{DebugUnit}
 use Rattle.dw_types.specs.declared.by_value.ByValue.{ByValue}
+use Rattle.dw_types.specs.FactsOf.{facts_in}
 use Rattle.dw_types.specs.Graphs.{HasNoCycle}
 use Rattle.dw_types.specs.Kinds.{type_count}
+use Rattle.dw_types.specs.Orders.{Ranking, IsOrderOf}
 use Rattle.dw_types.specs.Packing.{cut}
 use Rattle.dw_types.specs.Shapes.{ShapeFailures}
 use Rattle.dw_types.specs.Steps.{by_value}
 use Rattle.dw_types.specs.SizeTables.{Size, size_at}
+use Rattle.dw_types.specs.Sizes.{IsSizeTable}
 use Rattle.dw_image.specs.First.{Group, turn_of, failures_of, IsFirstIn}
 use Rattle.dw_image.specs.Valid.{HasSizes}
 use Rattle.dw_types.specs.Entries.{Facts}
@@ -27,10 +30,22 @@ pub record AreMeasures (facts : List Facts) (table : List Size) : Type 0 where
   pub long : length table ≡ length facts
   pub sizes : HasSizes facts (size_at table)
 
--- the first failure of the groups on types: no rule of an earlier one of them fails
-pub record FailsInTypes (s : Sections) (units : List DebugUnit) (fault : Fault) : Type 0 where
+-- each step by value goes to a smaller rank, and the shapes of types are right
+pub record AreOrdered (facts : List Facts) (order : Ranking) : Type 0 where
+  pub shapes : HasNone (ShapeFailures facts)
+  pub contained : HasNoCycle (by_value facts)
+  pub ordered : IsOrderOf (by_value facts) order
+
+-- no rule fails of the groups on types before a turn, and where only sizes are left, they have their one table
+pub record PassInTypes (s : Sections) (units : List DebugUnit) (turn : ℕ) : Type 0 where
+  pub hold : (earlier : Group) → 4 < turn_of earlier → turn_of earlier < turn → HasNone (failures_of s units earlier)
+  pub measured : 6 < turn → (table : ℕ → Size) × IsSizeTable (facts_in units) table
+
+-- the first failure of the groups on types before a turn: no rule of an earlier one of them fails
+pub record FailsInTypes (s : Sections) (units : List DebugUnit) (turn : ℕ) (fault : Fault) : Type 0 where
   pub group : Group
   pub late : 4 < turn_of group
+  pub early : turn_of group < turn
   pub before : (earlier : Group) → 4 < turn_of earlier → turn_of earlier < turn_of group
       → HasNone (failures_of s units earlier)
   pub first : IsFirstIn s units group fault

@@ -3,6 +3,7 @@
 
 mod image;
 mod laws;
+mod reaching;
 mod types;
 mod verifying;
 
@@ -12,4 +13,4 @@ pub use dw_types::NoMemory;
 pub use image::{Children, Image};
 pub use laws::{images_are_sound, one_first_fault, one_list, valid_has_no_fault};
 pub use types::TypeId;
-pub use verifying::{Verdict, verify, verify_scanned};
+pub use verifying::{Verdict, verify, verify_before, verify_scanned};

@@ -1,22 +1,24 @@
 //! The verdict on six sections: the groups of rules in their order, the last of them on types: shapes, containment and
 //! sizes.
 
-ghost use Rattle.std.specs.Prelude.{◌≡◌, ◌<◌, length, map, IfOk, IfErr};
+ghost use Rattle.std.specs.Prelude.{◌≡◌, ◌<◌, ◌≤◌, length, map, IfOk, IfErr, OnOk};
 ghost use Rattle.dw_forms.specs.Stops.{IfFault};
+ghost use Rattle.dw_entries.specs.Rules.{group_of};
 ghost use Rattle.dw_entries.specs.Views.{sections_of, all_entries, units_of};
 ghost use Rattle.dw_types.specs.FactsOf.{facts_in};
 ghost use Rattle.dw_types.specs.Graphs.{IsCycle};
 ghost use Rattle.dw_types.specs.Held.{all_facts, units_held};
 ghost use Rattle.dw_types.specs.Steps.{by_value};
+ghost use Rattle.dw_image.specs.Before.{PassBefore, FailsBefore, IsVerdictBefore};
 ghost use Rattle.dw_image.specs.First.{offset_at, NamesCycle};
 ghost use Rattle.dw_image.specs.Headline.{IsImageOf, IsFaultOf, IsVerdictOf};
-ghost use Rattle.dw_image.specs.Measures.{AreMeasures, AreSteps, FailsInTypes};
+ghost use Rattle.dw_image.specs.Measures.{AreMeasures, AreOrdered, AreSteps, FailsInTypes, PassInTypes};
 
 use crate::image::Image;
 use dw_elf::Sections;
 use dw_entries::{Entries, Fault, Rule, Section, Stop, scan};
-use dw_links::{Links, link};
-use dw_types::{ByValue, NoMemory, OrderFault, SizeTable, languages_of, order, sizes};
+use dw_links::{Links, check_classes, check_strings, link};
+use dw_types::{ByValue, NoMemory, Order, OrderFault, SizeTable, languages_of, order, sizes};
 use std::alloc::{AllocError, Global};
 
 /// What sections are found to be.
@@ -70,22 +72,115 @@ fn cycle_fault(alloc: Global, entries: &Entries<'_>, numbers: &[usize]) -> Resul
     })
 }
 
-/// The steps by value of entries and their sizes, or the first fault of the rules on types.
-fn measure(alloc: Global, links: &Links<'_, '_>) -> Result<(ByValue, SizeTable), Stop<Fault>>
+/// The steps by value of entries and their order, or the first fault of shapes and containment.
+fn order_types(alloc: Global, links: &Links<'_, '_>) -> Result<(ByValue, Order), Stop<Fault>>
     ensures steps { IfOk result (λ found. AreSteps (all_facts links.now) found.0) }
-    ensures sizes { IfOk result (λ found. AreMeasures (all_facts links.now) found.1) }
-    ensures fault { IfErr result (IfFault (FailsInTypes (sections_of links.now.entries.now) (units_held links.now))) }
+    ensures order { IfOk result (λ found. AreOrdered (all_facts links.now) found.1) }
+    ensures fault { IfErr result (IfFault (FailsInTypes (sections_of links.now.entries.now) (units_held links.now) 7)) }
 {
     let steps = ByValue::new(alloc, links.entries, links)?;
     match order(alloc, &steps) {
-        Ok(order) => {
-            let sizes = sizes(alloc, links.entries, links, &order)?;
-            Ok((steps, sizes))
-        }
+        Ok(order) => Ok((steps, order)),
         Err(OrderFault::Cycle(nodes)) => {
             Err(Stop::Fault(cycle_fault(alloc, links.entries, nodes.as_slice())?))
         }
         Err(OrderFault::Memory) => Err(Stop::Memory),
+    }
+}
+
+/// The steps by value of entries and their sizes, or the first fault of the rules on types.
+fn measure(alloc: Global, links: &Links<'_, '_>) -> Result<(ByValue, SizeTable), Stop<Fault>>
+    ensures steps { IfOk result (λ found. AreSteps (all_facts links.now) found.0) }
+    ensures sizes { IfOk result (λ found. AreMeasures (all_facts links.now) found.1) }
+    ensures fault { IfErr result (IfFault (FailsInTypes (sections_of links.now.entries.now) (units_held links.now) 8)) }
+{
+    let (steps, order) = order_types(alloc, links)?;
+    let sizes = sizes(alloc, links.entries, links, &order)?;
+    Ok((steps, sizes))
+}
+
+/// The number of a rule's group, in the order of the groups.
+fn group_of(rule: Rule) -> u8
+    ensures { result ≡ group_of rule }
+{
+    match rule {
+        Rule::WrongClass => 2,
+        Rule::BadStrBase | Rule::StrIndex | Rule::StringEnd | Rule::BadAddrBase | Rule::AddrIndex =>
+            3,
+        Rule::NoEntry
+        | Rule::WrongKind
+        | Rule::NotNextSibling
+        | Rule::NoSignature
+        | Rule::SignatureTwice
+        | Rule::BadTypeOffset => 4,
+        Rule::MissingType | Rule::BadCount => 5,
+        Rule::ContainsItself => 6,
+        Rule::NoSize | Rule::SizeTooGreat | Rule::MemberOutside | Rule::EnumSize => 7,
+        _ => 1,
+    }
+}
+
+/// Checks the groups of rules before a group, which is the one on references or an earlier one.
+fn check_values(alloc: Global, entries: &Entries<'_>, group: u8) -> Result<(), Stop<Fault>>
+    requires { group ≤ 4 }
+    ensures ok { OnOk result (PassBefore (sections_of entries.now) (units_of entries.now) group) }
+    ensures fault { IfErr result (IfFault (FailsBefore (sections_of entries.now) group)) }
+{
+    if group <= 2 {
+        return Ok(());
+    }
+    check_classes(alloc, entries)?;
+    if group == 3 {
+        return Ok(());
+    }
+    check_strings(alloc, entries)?;
+    Ok(())
+}
+
+/// Checks the groups of rules on types before a group.
+fn check_types(alloc: Global, links: &Links<'_, '_>, group: u8) -> Result<(), Stop<Fault>>
+    requires { group ≤ 7 }
+    ensures ok { OnOk result (PassInTypes (sections_of links.now.entries.now) (units_held links.now) group) }
+    ensures fault { IfErr result
+        (IfFault (FailsInTypes (sections_of links.now.entries.now) (units_held links.now) group)) }
+{
+    if group <= 5 {
+        return Ok(());
+    }
+    if group == 6 {
+        let _steps = ByValue::new(alloc, links.entries, links)?;
+        return Ok(());
+    }
+    let _ordered = order_types(alloc, links)?;
+    Ok(())
+}
+
+/// Checks the groups of rules before a group, in their order.
+fn check_before(alloc: Global, entries: &Entries<'_>, group: u8) -> Result<(), Stop<Fault>>
+    requires { group ≤ 7 }
+    ensures ok { OnOk result (PassBefore (sections_of entries.now) (units_of entries.now) group) }
+    ensures fault { IfErr result (IfFault (FailsBefore (sections_of entries.now) group)) }
+{
+    if group <= 4 {
+        return check_values(alloc, entries, group);
+    }
+    let links = link(alloc, entries)?;
+    check_types(alloc, &links, group)
+}
+
+/// The first fault of scanned entries, if it is of a group of rules before the rule's own. None if no rule of these
+/// groups fails; the others are not checked.
+pub fn verify_before(
+    alloc: Global,
+    entries: &Entries<'_>,
+    rule: Rule,
+) -> Result<Option<Fault>, NoMemory>
+    ensures { IfOk result (IsVerdictBefore (sections_of entries.now) (units_of entries.now) (group_of rule)) }
+{
+    match check_before(alloc, entries, group_of(rule)) {
+        Ok(()) => Ok(None),
+        Err(Stop::Fault(fault)) => Ok(Some(fault)),
+        Err(Stop::Memory) => Err(NoMemory),
     }
 }
 

@@ -16,27 +16,26 @@ use Rattle.dw_links.specs.Bases.{base_in}
 use Rattle.dw_entries.specs.Lookups.{entry_head}
 use Rattle.dw_links.specs.Strings.{StringIndexFails, AddressIndexFails, BaseFails, StringFailsIn, StringFailures}
 use Rattle.dw_units.specs.declared.counting.Counts.{Counts}
-use Rattle.dw_image.specs.declared.image.Image.{Image}
 use Rattle.dw_image.specs.Lookups.{is_type_entry}
 use Rattle.dw_entries.specs.Views.{all_entries, units_of}
 use Rattle.dw_entries.specs.declared.entries.Entries.{Entries}
-use Rattle.dw_image.specs.Images.{sections_in}
-use Rattle.dw_image.specs.Headline.{IsImageOf}
 use Rattle.dw_image.specs.Valid.{IsValidBy}
 use Rattle.dw_entries.specs.Asked.{EachEntry}
 use Rattle.dw_links.specs.Signatures.{type_in}
 use Rattle.dw_entries.specs.Units.{Spells}
 use Rattle.dw_entries.specs.Rules.{group_of}
 use Rattle.dw_entries.specs.declared.fault.Fault.{Fault}
-use Rattle.dw_entries.specs.declared.fault.Broken.{Broken}
 use Rattle.dw_entries.specs.Views.{sections_of}
 use Rattle.dw_entries.proofs.FaultLaws.{no_list}
 use Rattle.dw_image.specs.Valid.{SpellsInfo}
 use Rattle.dw_image.specs.First.{Group, classes, strings, references, shapes, cycles, sizes, turn_of, failures_of, IsFirstIn, IsFirstFault, in_trees, in_group}
 use Rattle.dw_image.specs.Headline.{IsFaultOf}
-use Rattle.dw_image.proofs.GroupLaws.{has_group}
-use Rattle.dw_units.specs.ByUnit.{IsMeasured}
-use Rattle.dw_units.specs.Parts.{IsFaultAlone}
+use Rattle.dw_image.proofs.GroupLaws.{rank_of}
+use Rattle.dw_image.specs.Before.{PassBefore}
+use Rattle.dw_units.specs.ByUnit.{IsMeasured, StaysAlone}
+use Rattle.dw_units.specs.declared.alone.Verified.{Verified}
+use Rattle.dw_units.specs.declared.alone.Verified.TheVariants.{Sound, Passed, Fault as Fails_by}
+use Rattle.dw_units.specs.Parts.{IsFaultAlone, IsPassed, PassLess, IsVerdictOn, IsFoundAlone}
 use Rattle.dw_units.specs.Alone.{StaysInside}
 use Rattle.dw_units.specs.Parts.{IsOneAlone, IsAlone}
 use Rattle.dw_units.specs.Counted.{AreCounts}
@@ -121,15 +120,6 @@ shares_back s own shares = record {
   addr_same = sym shares.addr_same;
 }
 
--- a group that fails at a unit has its rank by the rule that is named
-rank_of : (s : Sections) (us : List DebugUnit) (group : Group) (fault : Fault) → IsFirstIn s us group fault → group_of fault.rule ≡ turn_of group
-rank_of s us cycles fault first = ap (λ (b : Broken). group_of b.rule) first.named
-rank_of s us classes fault first = ap group_of first.holds.named.rule ∙ has_group s us classes first.holds.failure first.holds.fails
-rank_of s us strings fault first = ap group_of first.holds.named.rule ∙ has_group s us strings first.holds.failure first.holds.fails
-rank_of s us references fault first = ap group_of first.holds.named.rule ∙ has_group s us references first.holds.failure first.holds.fails
-rank_of s us shapes fault first = ap group_of first.holds.named.rule ∙ has_group s us shapes first.holds.failure first.holds.fails
-rank_of s us sizes fault first = ap group_of first.holds.named.rule ∙ has_group s us sizes first.holds.failure first.holds.fails
-
 module _ (s own : Sections) (shares : Shares s own) where
   measured_by : (group : Group) (fault : Fault) (u : DebugUnit) → IsFirstIn s (u ∷ []) group fault → IsMeasured group u
   measured_by sizes fault u first = (first.holds.fails.table, first.holds.fails.one)
@@ -164,36 +154,6 @@ module _ (s own : Sections) (shares : Shares s own) where
   first_own us cycles fault first = first
   first_own us sizes fault first = first
 
-  -- the image of one unit as sections of its own
-  pub alone_of : (entries : Entries) (image : Image) (part : List ℕ) (c : Counts) → own.info.now ≡ part → sections_of entries ≡ own
-      → ((units : List DebugUnit) → Spells own.«abbrev».now units own.info.now → units ≡ units_of entries)
-      → IsImageOf (sections_of entries) image → IsOneAlone entries → AreCounts (sections_in image) c → IsAlone s part c
-  alone_of entries image part c info of_own only is_scanned one of_image =
-      let is = subst (λ (t : Sections). IsImageOf t image) of_own is_scanned in
-      let sound = is.sound in
-      let units_same : sound.valid.0 ≡ one.unit ∷ [] = only sound.valid.0 sound.valid.1.trees ∙ one.one in
-      let valid = subst (IsValidBy own) units_same sound.valid.1 in
-      let counts = subst (λ (t : Sections). AreCounts t c) is.sections of_image in
-      let units_are : counts.units ≡ one.unit ∷ [] = only counts.units counts.sound.trees.spelled ∙ one.one in
-      record {
-        unit = one.unit;
-        alone = record {
-          is_unit = subst (λ (a : List ℕ). IsUnit a one.unit) shares.abbrev_same valid.trees.are.0;
-          classes = valid.classes;
-          strings = none_own (one.unit ∷ []) strings valid.strings;
-          references = valid.references;
-          shapes = valid.shapes;
-          contained = valid.contained;
-          sizes = valid.sizes;
-          no_type_unit = one.no_type_unit;
-          stays = subst (λ (us : List DebugUnit). EachEntry StaysInside (entries_of us)) one.one one.stays;
-        };
-        bytes = sym info ∙ valid.trees.parts ∙ append-nil (unit_bytes one.unit);
-        unit_count = counts.unit_count ∙ ap length units_are;
-        entry_count = counts.entry_count ∙ ap (λ (us : List DebugUnit). length (entries_of us)) units_are;
-        type_count = counts.type_count ∙ ap (λ (us : List DebugUnit). count_by is_type_entry (entries_of us)) units_are;
-      }
-
   -- the fault of trees in sections of their own
   pub trees_own : (part : List ℕ) (stop : Stop Fault) → own.info.now ≡ part → IfPlainFault (Fails own.«abbrev».now own.info.now) stop
       → IfPlainFault (Fails s.«abbrev».now part) stop
@@ -201,35 +161,98 @@ module _ (s own : Sections) (shares : Shares s own) where
       subst (λ (xs : List ℕ). IfPlainFault (Fails xs part) stop) shares.abbrev_same
       (subst (λ (xs : List ℕ). IfPlainFault (Fails own.«abbrev».now xs) stop) info fails)
 
-  -- the fault of one unit as sections of its own
-  pub fault_alone_of : (entries : Entries) (part : List ℕ) (fault : Fault) → own.info.now ≡ part → sections_of entries ≡ own
-      → ((units : List DebugUnit) → Spells own.«abbrev».now units own.info.now → units ≡ units_of entries)
-      → IsOneAlone entries → IsFaultOf (sections_of entries) fault → IsFaultAlone s part fault
-  fault_alone_of entries part fault info of_own only one is =
-      let spells = subst (λ (t : Sections). SpellsInfo t (units_of entries)) of_own entries.scanned.1.spells in
-      let spelled = subst (λ (us : List DebugUnit). SpellsInfo own us) one.one spells in
-      let first = subst (λ (t : Sections). IsFirstFault t fault) of_own is.first in
-      go spelled first
-    where
-      go : SpellsInfo own (one.unit ∷ []) → IsFirstFault own fault → IsFaultAlone s part fault
-      go spelled (in_trees fails cycle) = absurd (no_list own.«abbrev».now own.info.now (one.unit ∷ []) (broken_of fault) spelled fails)
-      go spelled (in_group group fails) =
-          let same : fails.units ≡ one.unit ∷ [] = only fails.units fails.spelled ∙ one.one in
-          let before = subst (λ (us : List DebugUnit). (earlier : Group) → turn_of earlier < turn_of group → HasNone (failures_of own us earlier)) same fails.before in
-          let first = subst (λ (us : List DebugUnit). IsFirstIn own us group fault) same fails.first in
-          record {
-            unit = one.unit;
-            stays = record {
-              is_unit = subst (λ (a : List ℕ). IsUnit a one.unit) shares.abbrev_same spelled.are.0;
-              no_type_unit = one.no_type_unit;
-              stays = subst (λ (us : List DebugUnit). EachEntry StaysInside (entries_of us)) one.one one.stays;
-            };
-            bytes = sym info ∙ spelled.parts ∙ append-nil (unit_bytes one.unit);
-            group = group;
-            fails = record {
-              below = λ earlier less. none_own (one.unit ∷ []) earlier (before earlier less);
-              first = first_own (one.unit ∷ []) group fault first;
-            };
-            measured = measured_by group fault one.unit (first_own (one.unit ∷ []) group fault first);
-            rank = rank_of s (one.unit ∷ []) group fault (first_own (one.unit ∷ []) group fault first);
-          }
+  -- one unit as sections of its own, of which something is found
+  module _ (entries : Entries) (part : List ℕ) (info : own.info.now ≡ part) (of_own : sections_of entries ≡ own)
+      (only : (units : List DebugUnit) → Spells own.«abbrev».now units own.info.now → units ≡ units_of entries)
+      (one : IsOneAlone entries) where
+    spelled : SpellsInfo own (one.unit ∷ [])
+    spelled =
+        subst (λ (us : List DebugUnit). SpellsInfo own us) one.one
+        (subst (λ (t : Sections). SpellsInfo t (units_of entries)) of_own entries.scanned.1.spells)
+
+    stays_one : StaysAlone s one.unit
+    stays_one = record {
+      is_unit = subst (λ (a : List ℕ). IsUnit a one.unit) shares.abbrev_same spelled.are.0;
+      no_type_unit = one.no_type_unit;
+      stays = subst (λ (us : List DebugUnit). EachEntry StaysInside (entries_of us)) one.one one.stays;
+    }
+
+    bytes_one : part ≡ unit_bytes one.unit
+    bytes_one = sym info ∙ spelled.parts ∙ append-nil (unit_bytes one.unit)
+
+    -- they are sound, with these counts
+    alone_of : (c : Counts) → AreCounts (sections_of entries) c → IsAlone s part c
+    alone_of c of_entries =
+        let counts = subst (λ (t : Sections). AreCounts t c) of_own of_entries in
+        let whole = counts.sound.valid in
+        let valid = subst (IsValidBy own) (only whole.0 whole.1.trees ∙ one.one) whole.1 in
+        let units_are : counts.units ≡ one.unit ∷ [] = only counts.units counts.sound.trees.spelled ∙ one.one in
+        record {
+          unit = one.unit;
+          alone = record {
+            is_unit = stays_one.is_unit;
+            classes = valid.classes;
+            strings = none_own (one.unit ∷ []) strings valid.strings;
+            references = valid.references;
+            shapes = valid.shapes;
+            contained = valid.contained;
+            sizes = valid.sizes;
+            no_type_unit = one.no_type_unit;
+            stays = stays_one.stays;
+          };
+          bytes = bytes_one;
+          unit_count = counts.unit_count ∙ ap length units_are;
+          entry_count = counts.entry_count ∙ ap (λ (us : List DebugUnit). length (entries_of us)) units_are;
+          type_count = counts.type_count
+              ∙ ap (λ (us : List DebugUnit). count_by is_type_entry (entries_of us)) units_are;
+        }
+
+    -- no rule of the groups before the least fault's fails
+    passed_alone_of : (least : Option Rule) → PassLess (sections_of entries) (units_of entries) least
+        → IsPassed s least part
+    passed_alone_of None pass = absurd pass
+    passed_alone_of (Some rule) pass =
+        let at_own = subst (λ (t : Sections). PassBefore t (units_of entries) (group_of rule)) of_own pass in
+        let own_pass = subst (λ (us : List DebugUnit). PassBefore own us (group_of rule)) one.one at_own in
+        record {
+          unit = one.unit;
+          stays = stays_one;
+          bytes = bytes_one;
+          passes = record {
+            hold = λ earlier less. none_own (one.unit ∷ []) earlier (own_pass.hold earlier less);
+            measured = own_pass.measured;
+          };
+        }
+
+    -- a rule fails
+    fault_alone_of : (fault : Fault) → IsFaultOf (sections_of entries) fault → IsFaultAlone s part fault
+    fault_alone_of fault is = go (subst (λ (t : Sections). IsFirstFault t fault) of_own is.first)
+      where
+        go : IsFirstFault own fault → IsFaultAlone s part fault
+        go (in_trees fails cycle) = absurd
+            (no_list own.«abbrev».now own.info.now (one.unit ∷ []) (broken_of fault) spelled fails)
+        go (in_group group fails) =
+            let same : fails.units ≡ one.unit ∷ [] = only fails.units fails.spelled ∙ one.one in
+            let before = subst (λ (us : List DebugUnit). (earlier : Group) → turn_of earlier < turn_of group
+            → HasNone (failures_of own us earlier)) same fails.before in
+            let first = first_own (one.unit ∷ []) group fault
+            (subst (λ (us : List DebugUnit). IsFirstIn own us group fault) same fails.first) in
+            record {
+              unit = one.unit;
+              stays = stays_one;
+              bytes = bytes_one;
+              group = group;
+              fails = record {
+                below = λ earlier less. none_own (one.unit ∷ []) earlier (before earlier less);
+                first = first;
+              };
+              measured = measured_by group fault one.unit first;
+              rank = rank_of s (one.unit ∷ []) group fault first;
+            }
+
+    pub found_alone_of : (least : Option Rule) (found : Verified)
+        → IsVerdictOn (sections_of entries) (units_of entries) least found
+        → IsFoundAlone s least part found
+    found_alone_of least (Sound c) (none, counts) = (none, alone_of c counts)
+    found_alone_of least Passed pass = passed_alone_of least pass
+    found_alone_of least (Fails_by fault) (is, less) = (fault_alone_of fault is, less)

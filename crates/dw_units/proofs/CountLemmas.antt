@@ -1,11 +1,12 @@
 -- One more unit after those so far: what is known of them then, and after the last one.
-use Rattle.std.proofs.Common.{rules, ◌≡◌, ℕ, ◌+◌, suc, ◌<◌, ◌≤◌, true, false, List, [], ◌∷◌, ◌++◌, length, map, take, drop, Option, Some, None, Result, Ok, Err, IfOk, IfSome, refl, sym, ap, subst, ◌∙◌, arith, append_assoc, append-nil, length-append, take-append-drop}
+use Rattle.std.proofs.Common.{rules, ◌≡◌, ℕ, ◌+◌, suc, ◌<◌, ◌≤◌, List, [], ◌∷◌, ◌++◌, length, map, take, drop, Option}
+use Rattle.std.proofs.Common.{Some, None, Result, Ok, Err, IfOk, IfSome, refl, sym, ap, subst, ◌∙◌, arith, append_assoc}
+use Rattle.std.proofs.Common.{append-nil, length-append, take-append-drop}
 use Rattle.std.specs.Prelude.{cond}
 use Rattle.std.specs.List.{AllByRecursion, count_by}
 use Rattle.std.proofs.lemmas.List.Sums.{sum_by-append, sum_by-cons}
 use Rattle.std.proofs.lemmas.Grind.{flat_map-append}
 use Rattle.std.proofs.lemmas.List.{length-map, length-take-le}
-use Rattle.std.proofs.lemmas.Bool.{ltb-true, ltb-false}
 use Rattle.dw_elf.specs.declared.sections.Sections.{Sections}
 use Rattle.dw_entries.specs.Units.{DebugUnit, IsUnit, unit_bytes, units_bytes}
 use Rattle.dw_entries.specs.Header.{header_size}
@@ -21,12 +22,14 @@ use Rattle.dw_entries.specs.declared.fault.Fault.{Fault}
 use Rattle.dw_entries.specs.declared.fault.Broken.{Broken}
 use Rattle.dw_types.specs.FactsOf.{facts_in}
 use Rattle.dw_image.specs.First.{Group, classes, strings, references, shapes, cycles, sizes, turn_of, failures_of, FailsInTrees, in_trees}
+use Rattle.dw_image.specs.Before.{PassBefore}
 use Rattle.dw_image.specs.Headline.{IsFaultOf}
 use Rattle.dw_image.proofs.MeasureLemmas.{no_cycle_holds}
 use Rattle.dw_image.proofs.JoinLemmas.{fault_of}
 use Rattle.dw_units.specs.declared.counting.SoFar.{SoFar}
 use Rattle.dw_units.specs.ByUnit.{StaysAlone, IsMoved, moved_broken, PassesBelow, PassesThrough, IsMeasured}
-use Rattle.dw_units.specs.Parts.{IsWhole, IsFoundAt, IsFaultAlone, HasLeast, AreCounted, AreVerified, AreSoFar, is_less}
+use Rattle.dw_units.specs.Parts.{IsWhole, IsFoundAt, IsFaultAlone, IsPassed, PassLess, IsLess, HasLeast, AreCounted}
+use Rattle.dw_units.specs.Parts.{AreVerified, AreSoFar, least_rule}
 use Rattle.dw_units.proofs.TreeLemmas.{trees_first, fails_with_more}
 use Rattle.dw_units.proofs.TextLemmas.{each_of}
 use Rattle.dw_units.proofs.GroupLemmas.{first_by_unit}
@@ -96,18 +99,14 @@ measured_below shapes later less u = tt
 measured_below cycles later less u = tt
 measured_below sizes later less u = absurd (let no : turn_of later < 8 = last_group later in omega (arith, less, no))
 
-same_measured : (group other : Group) (u : DebugUnit) → turn_of group ≤ turn_of other → IsMeasured other u → IsMeasured group u
-same_measured sizes sizes u le measured = measured
-same_measured sizes classes u le measured = absurd (omega (arith, le))
-same_measured sizes strings u le measured = absurd (omega (arith, le))
-same_measured sizes references u le measured = absurd (omega (arith, le))
-same_measured sizes shapes u le measured = absurd (omega (arith, le))
-same_measured sizes cycles u le measured = absurd (omega (arith, le))
-same_measured classes other u le measured = tt
-same_measured strings other u le measured = tt
-same_measured references other u le measured = tt
-same_measured shapes other u le measured = tt
-same_measured cycles other u le measured = tt
+measured_by : (s : Sections) (group : Group) (turn : ℕ) (u : DebugUnit) → turn ≡ turn_of group
+    → PassBefore s (u ∷ []) turn → IsMeasured group u
+measured_by s sizes turn u is passes = passes.measured (omega (arith, is))
+measured_by s classes turn u is passes = tt
+measured_by s strings turn u is passes = tt
+measured_by s references turn u is passes = tt
+measured_by s shapes turn u is passes = tt
+measured_by s cycles turn u is passes = tt
 
 all_of : (P : DebugUnit → Type 0) (us : List DebugUnit) → ((u : DebugUnit) → P u) → AllByRecursion P us
 all_of P [] holds = tt
@@ -177,19 +176,36 @@ module _ (s : Sections) (rest : List ℕ) (size : ℕ) (st : SoFar) (so : AreSoF
       }
 
   pub next_sound : (a c : Counts) (at : ℕ) → at ≡ st.at + size → c.units ≡ st.counts.units + a.units → c.entries ≡ st.counts.entries + a.entries
-      → c.types ≡ st.counts.types + a.types → IsAlone s (take size rest) a → AreSoFar s (drop size rest) (record { at = at; counts = c; least = st.least })
-  next_sound a c at is p q r one =
+      → c.types ≡ st.counts.types + a.types → least_rule st.least ≡ None → IsAlone s (take size rest) a
+      → AreSoFar s (drop size rest) (record { at = at; counts = c; least = st.least })
+  next_sound a c at is p q r none one =
       next one.unit c st.least at is one.bytes
       (record { is_unit = one.alone.is_unit; no_type_unit = one.alone.no_type_unit; stays = one.alone.stays })
-      (go st.least so.verified)
+      (go st.least none so.verified)
     where
-      go : (least : Option Fault) → AreVerified s so.units st.counts least → AreVerified s (so.units ++ one.unit ∷ []) c least
-      go None are = counted one.unit a c one.alone are p q r one.unit_count one.entry_count one.type_count
-      go (Some fault) least =
-          keeps fault one.unit least (λ earlier less. passes_all s earlier one.unit one.alone) (measured_all s least.group one.unit one.alone)
+      go : (least : Option Fault) → least_rule least ≡ None → AreVerified s so.units st.counts least
+          → AreVerified s (so.units ++ one.unit ∷ []) c least
+      go None none are = counted one.unit a c one.alone are p q r one.unit_count one.entry_count one.type_count
+      go (Some fault) none least = absurd cc
+
+  -- the unit has no less fault
+  pub next_passed : (at : ℕ) → at ≡ st.at + size → IsPassed s (least_rule st.least) (take size rest)
+      → AreSoFar s (drop size rest) (record { at = at; counts = st.counts; least = st.least })
+  next_passed at is one = next one.unit st.counts st.least at is one.bytes one.stays
+      (go st.least so.verified one.passes)
+    where
+      go : (least : Option Fault) → AreVerified s so.units st.counts least
+          → PassLess s (one.unit ∷ []) (least_rule least)
+          → AreVerified s (so.units ++ one.unit ∷ []) st.counts least
+      go None are passes = absurd passes
+      go (Some fault) least passes =
+          let rank = least.rank in
+          keeps fault one.unit least (λ earlier less. passes.hold earlier (omega (arith, less, rank)))
+          (measured_by s least.group (group_of fault.rule) one.unit rank passes)
 
   -- the unit's fault is less
-  pub next_less : (alone fault : Fault) (at : ℕ) → at ≡ st.at + size → is_less st.least alone.rule ≡ true → IsMoved st.at alone fault
+  pub next_less : (alone fault : Fault) (at : ℕ) → at ≡ st.at + size → IsLess (least_rule st.least) alone.rule
+      → IsMoved st.at alone fault
       → IsFaultAlone s (take size rest) alone → AreSoFar s (drop size rest) (record { at = at; counts = st.counts; least = Some fault })
   next_less alone fault at is less place one =
       next one.unit st.counts (Some fault) at is one.bytes one.stays (record {
@@ -207,7 +223,7 @@ module _ (s : Sections) (rest : List ℕ) (size : ℕ) (st : SoFar) (so : AreSoF
         rank = ap (λ (b : Broken). group_of b.rule) place.broken ∙ one.rank;
       })
     where
-      go : (least : Option Fault) → AreVerified s so.units st.counts least → is_less least alone.rule ≡ true
+      go : (least : Option Fault) → AreVerified s so.units st.counts least → IsLess (least_rule least) alone.rule
           → AllByRecursion (PassesThrough s one.group) so.units × AllByRecursion (IsMeasured one.group) so.units
       go None are less = (
         each_of (StandsAlone s) (PassesThrough s one.group) so.units
@@ -217,8 +233,7 @@ module _ (s : Sections) (rest : List ℕ) (size : ℕ) (st : SoFar) (so : AreSoF
       go (Some old) least less =
           let rank = one.rank in
           let old_rank = least.rank in
-          let below = ltb-true (group_of alone.rule) (group_of old.rule) less in
-          let turns : turn_of one.group < turn_of least.group = omega (arith, rank, old_rank, below) in
+          let turns : turn_of one.group < turn_of least.group = omega (arith, rank, old_rank, less) in
           let through : (u : DebugUnit) → PassesBelow s least.group u → PassesThrough s one.group u =
           λ u passes. (λ earlier before. passes earlier (omega (arith, before, turns)), passes one.group turns) in (
             subst (AllByRecursion (PassesThrough s one.group)) (sym least.are)
@@ -227,21 +242,6 @@ module _ (s : Sections) (rest : List ℕ) (size : ℕ) (st : SoFar) (so : AreSoF
                 (through least.unit least.fails.below, each_of (PassesBelow s least.group) (PassesThrough s one.group) least.behind through least.below)),
             all_of (IsMeasured one.group) so.units (measured_below one.group least.group turns),
           )
-
-  -- it is not
-  pub next_kept : (alone : Fault) (at : ℕ) → at ≡ st.at + size → is_less st.least alone.rule ≡ false
-      → IsFaultAlone s (take size rest) alone → AreSoFar s (drop size rest) (record { at = at; counts = st.counts; least = st.least })
-  next_kept alone at is not_less one = next one.unit st.counts st.least at is one.bytes one.stays (go st.least so.verified not_less)
-    where
-      go : (least : Option Fault) → AreVerified s so.units st.counts least → is_less least alone.rule ≡ false
-          → AreVerified s (so.units ++ one.unit ∷ []) st.counts least
-      go None are above_it = absurd cc
-      go (Some old) least above_it =
-          let rank = one.rank in
-          let old_rank = least.rank in
-          let above : turn_of least.group ≤ turn_of one.group = omega (arith, rank, old_rank, ltb-false (group_of alone.rule) (group_of old.rule) above_it) in
-          keeps old one.unit least (λ earlier less. one.fails.below earlier (omega (arith, less, above)))
-          (same_measured least.group one.group one.unit above one.measured)
 
 pub found_sound : (s : Sections) (st : SoFar) (so : AreSoFar s [] st) → AreCounted s so.units st.counts → AreCounts s st.counts
 found_sound s st so are = record {

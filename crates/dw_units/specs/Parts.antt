@@ -1,6 +1,5 @@
 -- State: one unit of .debug_info, as sections of its own.
-use Rattle.std.specs.Prelude.{◌≡◌, ℕ, ◌+◌, ◌≤◌, Bool, true, List, [], ◌∷◌, ◌++◌, length, take, Option, Some, None}
-use Rattle.std.specs.Prelude.{nat_lt}
+use Rattle.std.specs.Prelude.{◌≡◌, ℕ, ◌+◌, ◌<◌, ◌≤◌, List, [], ◌∷◌, ◌++◌, length, take, Option, Some, None}
 use Rattle.byteorder.specs.Endian.{little_number}
 use Rattle.std.specs.List.{AllByRecursion, count_by}
 use Rattle.dw_elf.specs.declared.sections.Sections.{Sections}
@@ -14,7 +13,9 @@ use Rattle.dw_image.specs.Lookups.{is_type_entry}
 use Rattle.dw_entries.specs.declared.fault.Fault.{Fault}
 use Rattle.dw_entries.specs.declared.fault.Rule.{Rule}
 use Rattle.dw_entries.specs.Rules.{group_of}
+use Rattle.dw_image.specs.Before.{PassBefore}
 use Rattle.dw_image.specs.First.{Group, turn_of}
+use Rattle.dw_image.specs.Headline.{IsFaultOf}
 use Rattle.dw_units.specs.declared.counting.Counts.{Counts}
 use Rattle.dw_units.specs.declared.counting.Found.{Found}
 use Rattle.dw_units.specs.declared.counting.Found.TheVariants as found
@@ -23,6 +24,7 @@ use Rattle.dw_units.specs.declared.alone.Verified.{Verified}
 use Rattle.dw_units.specs.declared.alone.Verified.TheVariants as verified
 use Rattle.dw_units.specs.ByUnit.{StaysAlone, IsMoved, PassesBelow, PassesThrough, IsMeasured, FailsAlone}
 use Rattle.dw_units.specs.Alone.{StaysInside, StandsAlone}
+use Rattle.dw_units.specs.Counted.{AreCounts}
 
 -- as many bytes as the unit_length at their front counts (DWARF 5, 7.5.1)
 pub record IsWhole (part : List ℕ) : Type 0 where
@@ -55,10 +57,34 @@ pub record IsFaultAlone (s : Sections) (part : List ℕ) (fault : Fault) : Type 
   pub measured : IsMeasured group unit
   pub rank : group_of fault.rule ≡ turn_of group
 
+-- no rule fails of the groups before the one of the least fault so far, which there is
+abbrev pub PassLess : Sections → List DebugUnit → (least : Option Rule) → Type 0
+PassLess s units None = ⊥
+PassLess s units (Some rule) = PassBefore s units (group_of rule)
+
+-- a rule is less than the one of the least fault so far: of an earlier group
+abbrev pub IsLess : (least : Option Rule) → Rule → Type 0
+IsLess None rule = Unit {0}
+IsLess (Some least) rule = group_of rule < group_of least
+
+-- the bytes are one unit that stays alone, and it has no less fault
+pub record IsPassed (s : Sections) (least : Option Rule) (part : List ℕ) : Type 0 where
+  pub unit : DebugUnit
+  pub stays : StaysAlone s unit
+  pub bytes : part ≡ unit_bytes unit
+  pub passes : PassLess s (unit ∷ []) least
+
+-- what is found of sections that these units spell: the counts are asked only if there is no fault so far
+abbrev pub IsVerdictOn : Sections → List DebugUnit → (least : Option Rule) → Verified → Type 0
+IsVerdictOn s units least (verified.Sound c) = (least ≡ None) × AreCounts s c
+IsVerdictOn s units least verified.Passed = PassLess s units least
+IsVerdictOn s units least (verified.Fault fault) = IsFaultOf s fault × IsLess least fault.rule
+
 -- what one unit alone is found to be
-abbrev pub IsFoundAlone : Sections → List ℕ → Verified → Type 0
-IsFoundAlone s part (verified.Sound c) = IsAlone s part c
-IsFoundAlone s part (verified.Fault fault) = IsFaultAlone s part fault
+abbrev pub IsFoundAlone : Sections → (least : Option Rule) → List ℕ → Verified → Type 0
+IsFoundAlone s least part (verified.Sound c) = (least ≡ None) × IsAlone s part c
+IsFoundAlone s least part verified.Passed = IsPassed s least part
+IsFoundAlone s least part (verified.Fault fault) = IsFaultAlone s part fault × IsLess least fault.rule
 
 -- what is found is this fault of a unit alone, in the unit's place
 abbrev pub IsFoundAt : ℕ → Fault → Found → Type 0
@@ -100,7 +126,7 @@ pub record AreSoFar (s : Sections) (rest : List ℕ) (so_far : SoFar) : Type 0 w
   pub at : so_far.at ≡ length (units_bytes units)
   pub verified : AreVerified s units so_far.counts so_far.least
 
--- a fault of the rule is less than the one so far: of an earlier group
-abbrev pub is_less : Option Fault → Rule → Bool
-is_less None rule = true
-is_less (Some fault) rule = nat_lt (group_of rule) (group_of fault.rule)
+-- the rule of the least fault
+abbrev pub least_rule : Option Fault → Option Rule
+least_rule None = None
+least_rule (Some fault) = Some fault.rule

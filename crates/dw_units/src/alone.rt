@@ -6,16 +6,16 @@ ghost use Rattle.dw_entries.specs.Asked.{EachEntry};
 ghost use Rattle.dw_links.specs.Signatures.{type_in};
 ghost use Rattle.dw_entries.specs.Faults.{Fails};
 ghost use Rattle.dw_entries.specs.Stopped.{IfPlainFault};
-ghost use Rattle.dw_entries.specs.Views.{all_entries};
+ghost use Rattle.dw_entries.specs.Views.{sections_of, all_entries, units_of};
 ghost use Rattle.dw_units.specs.Alone.{may_leave, StaysInside};
-ghost use Rattle.dw_units.specs.Parts.{IsWhole, IsOneAlone, IsFoundAlone};
+ghost use Rattle.dw_units.specs.Parts.{IsWhole, IsOneAlone, IsVerdictOn, IsFoundAlone};
 
 use crate::counting::Counts;
 use byteorder::{ByteOrder, LittleEndian};
 use dw_elf::Sections;
-use dw_entries::{Entries, Fault, HeaderKind, Stop, UnitType, scan};
+use dw_entries::{Entries, Fault, HeaderKind, Rule, Stop, UnitType, scan};
 use dw_forms::{Form, read_sleb, read_uleb};
-use dw_image::{NoMemory, Verdict, verify_scanned};
+use dw_image::{NoMemory, Verdict, verify_before, verify_scanned};
 use std::alloc::Global;
 
 /// The size of the unit at the front, by its unit_length. None if the bytes end before.
@@ -195,18 +195,43 @@ fn is_one_alone(entries: &Entries<'_>) -> bool
 pub enum Verified {
     /// It is valid, and these are its counts.
     Sound(Counts),
+    /// No rule fails of the groups before the one of the least fault. The others were not checked.
+    Passed,
     /// A rule fails on its entries: its first fault, as if it were the whole .debug_info.
     Fault(Fault),
 }
 
-/// Verifies the bytes of one unit as the whole .debug_info. An error is the fault of a rule of trees, placed as if they
-/// were the whole. None if they are not one unit, and if the unit is a type unit or may refer to another unit.
+/// Verifies the entries of one unit. If there is a least fault so far, of this rule, only by the groups before the
+/// rule's.
+fn verify_one(
+    alloc: Global,
+    entries: Entries<'_>,
+    least: Option<Rule>,
+) -> Result<Verified, NoMemory>
+    ensures { IfOk result (IsVerdictOn (sections_of entries.entry) (units_of entries.entry) least) }
+{
+    match least {
+        Some(rule) => match verify_before(alloc, &entries, rule)? {
+            Some(fault) => Ok(Verified::Fault(fault)),
+            None => Ok(Verified::Passed),
+        },
+        None => match verify_scanned(alloc, entries)? {
+            Verdict::Sound(image) => Ok(Verified::Sound(Counts::of(&image))),
+            Verdict::Fault(fault) => Ok(Verified::Fault(fault)),
+        },
+    }
+}
+
+/// Verifies the bytes of one unit as the whole .debug_info; if there is a least fault so far, of this rule, only by the
+/// groups before the rule's. An error is the fault of a rule of trees, placed as if they were the whole. None if they
+/// are not one unit, and if the unit is a type unit or may refer to another unit.
 pub fn verify_alone<'a>(
     alloc: Global,
     sections: &Sections<'a>,
     part: &'a [u8],
+    least: Option<Rule>,
 ) -> Result<Option<Verified>, Stop<Fault>>
-    ensures found { IfOk result (λ found. IfSome found (IsFoundAlone sections.now part.now)) }
+    ensures found { IfOk result (λ found. IfSome found (IsFoundAlone sections.now least part.now)) }
     ensures fault { IfErr result (IfPlainFault (Fails sections.now.«abbrev».now part.now)) }
 {
     let own = match Sections::new(
@@ -224,9 +249,8 @@ pub fn verify_alone<'a>(
     if !is_one_alone(&entries) {
         return Ok(None);
     }
-    match verify_scanned(alloc, entries) {
-        Ok(Verdict::Fault(fault)) => Ok(Some(Verified::Fault(fault))),
-        Ok(Verdict::Sound(image)) => Ok(Some(Verified::Sound(Counts::of(&image)))),
+    match verify_one(alloc, entries, least) {
+        Ok(found) => Ok(Some(found)),
         Err(NoMemory) => Err(Stop::Memory),
     }
 }

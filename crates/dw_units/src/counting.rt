@@ -2,12 +2,11 @@
 
 ghost use Rattle.std.specs.Prelude.{◌≡◌, ℕ, ◌+◌, ◌≤◌, List, [], length, map, take, drop, IfOk, IfSome};
 ghost use Rattle.dw_elf.specs.declared.sections.Sections.{Sections};
-ghost use Rattle.dw_entries.specs.Rules.{group_of};
 ghost use Rattle.dw_image.specs.Images.{sections_in};
 ghost use Rattle.dw_units.specs.Alone.{JoinsUnits};
 ghost use Rattle.dw_units.specs.ByUnit.{FirstOfUnits, TreesOfUnits, IsMoved, moved_offset};
 ghost use Rattle.dw_units.specs.Counted.{AreCounts, IsFound, counts_of};
-ghost use Rattle.dw_units.specs.Parts.{AreSoFar, IsFoundAlone, IsFoundAt, is_less};
+ghost use Rattle.dw_units.specs.Parts.{AreSoFar, IsFoundAlone, IsFoundAt, least_rule};
 
 use crate::alone::{Verified, are_apart, unit_size, verify_alone};
 use dw_elf::Sections;
@@ -84,34 +83,13 @@ pub(crate) struct SoFar {
     least: Option<Fault>,
 }
 
-/// The number of a rule's group.
-fn group_of(rule: Rule) -> u8
-    ensures { result ≡ group_of rule }
+/// The rule of the least fault, if there is one.
+fn least_rule(so_far: &SoFar) -> Option<Rule>
+    ensures { result ≡ least_rule so_far.now.least }
 {
-    match rule {
-        Rule::WrongClass => 2,
-        Rule::BadStrBase | Rule::StrIndex | Rule::StringEnd | Rule::BadAddrBase | Rule::AddrIndex =>
-            3,
-        Rule::NoEntry
-        | Rule::WrongKind
-        | Rule::NotNextSibling
-        | Rule::NoSignature
-        | Rule::SignatureTwice
-        | Rule::BadTypeOffset => 4,
-        Rule::MissingType | Rule::BadCount => 5,
-        Rule::ContainsItself => 6,
-        Rule::NoSize | Rule::SizeTooGreat | Rule::MemberOutside | Rule::EnumSize => 7,
-        _ => 1,
-    }
-}
-
-/// Whether a fault of the rule is less than the least so far.
-fn is_less(least: &Option<Fault>, rule: Rule) -> bool
-    ensures { result ≡ is_less least.now rule }
-{
-    match least {
-        None => true,
-        Some(fault) => group_of(rule) < group_of(fault.rule),
+    match &so_far.least {
+        Some(fault) => Some(fault.rule),
+        None => None,
     }
 }
 
@@ -184,7 +162,8 @@ fn one_more(
     found: Verified,
 ) -> Result<Option<SoFar>, NoMemory>
     ensures { IfOk result (λ after. IfSome after (λ more. (s : Sections) (rest : List ℕ) → AreSoFar s rest so_far
-        → size ≤ length rest → IsFoundAlone s (take size rest) found → AreSoFar s (drop size rest) more)) }
+        → size ≤ length rest → IsFoundAlone s (least_rule so_far.least) (take size rest) found
+        → AreSoFar s (drop size rest) more)) }
 {
     let at = match so_far.at.checked_add(size) {
         Some(at) => at,
@@ -199,23 +178,19 @@ fn one_more(
             })),
             None => Ok(None),
         },
-        Verified::Fault(fault) => {
-            if !is_less(&so_far.least, fault.rule) {
-                return Ok(Some(SoFar {
-                    at,
-                    counts: so_far.counts,
-                    least: so_far.least,
-                }));
-            }
-            match moved_fault(alloc, &fault, so_far.at)? {
-                Some(least) => Ok(Some(SoFar {
-                    at,
-                    counts: so_far.counts,
-                    least: Some(least),
-                })),
-                None => Ok(None),
-            }
-        }
+        Verified::Passed => Ok(Some(SoFar {
+            at,
+            counts: so_far.counts,
+            least: so_far.least,
+        })),
+        Verified::Fault(fault) => match moved_fault(alloc, &fault, so_far.at)? {
+            Some(least) => Ok(Some(SoFar {
+                at,
+                counts: so_far.counts,
+                least: Some(least),
+            })),
+            None => Ok(None),
+        },
     }
 }
 
@@ -254,7 +229,7 @@ pub fn verify_by_unit<'a>(alloc: Global, sections: &Sections<'a>) -> Result<Opti
             Some(size) => size,
             None => return Ok(None),
         };
-        let found = match verify_alone(alloc, sections, &rest[..size]) {
+        let found = match verify_alone(alloc, sections, &rest[..size], least_rule(&so_far)) {
             Ok(Some(found)) => found,
             Ok(None) => return Ok(None),
             Err(Stop::Fault(fault)) => return found_at(alloc, fault, so_far.at),

@@ -1,4 +1,4 @@
-use Rattle.std.proofs.Common.{refl}
+use Rattle.std.proofs.Common.{arith, refl}
 use Rattle.dw_entries.specs.Views.{sections_of}
 use Rattle.std.proofs.lemmas.Result.{err_from_is_err_and}
 use Rattle.dw_entries.proofs.StopLaws.{faulty_weaker}
@@ -8,7 +8,9 @@ use Rattle.dw_image.proofs.verifying.image_of.Goals as goal
 pub returns-in_err-links-clause-fault : goal.returns-in_err-links-clause-fault
 returns-in_err-links-clause-fault c =
     let p = err_from_is_err_and c.from_residual.result c.from_residual.ensures.1 in
-    rw (p.1, p.2) (faulty_weaker c.in_err-links.field-0.0 (λ fault. wrong_link (sections_of c.args.entries) c.args.entries fault refl) c.in_err-links.ensures.fault)
+    rw (p.1, p.2) (faulty_weaker c.in_err-links.field-0.0
+    (λ fault first. (wrong_link (sections_of c.args.entries) c.args.entries 8 fault
+    (omega arith) refl first).is_fault) c.in_err-links.ensures.fault)
 
 pub returns-in_err-steps-clause-fault : goal.returns-in_err-steps-clause-fault
 returns-in_err-steps-clause-fault c =
@@ -16,7 +18,11 @@ returns-in_err-steps-clause-fault c =
     let links = c.in_ok-links in
     let fault = rw links.ensures.entries at c.in_err-steps.ensures.fault in
     rw (p.1, p.2) (faulty_weaker c.in_err-steps.field-0.0
-    (λ fault. wrong_type (sections_of c.args.entries) c.args.entries fault refl (rw links.ensures.entries at links.links.classes) (rw links.ensures.entries at links.links.strings) (rw links.ensures.entries at links.links.references))
+    (λ fault fails.
+    (wrong_type (sections_of c.args.entries) c.args.entries 8 fault refl
+    (rw links.ensures.entries at links.links.classes)
+    (rw links.ensures.entries at links.links.strings)
+    (rw links.ensures.entries at links.links.references) fails).is_fault)
     fault)
 
 pub returns-clause-sound : goal.returns-clause-sound
