@@ -103,7 +103,7 @@ module _ (shapes : ℕ → ShapeOf) where
       ]
 
   -- a path to an entry goes on to those that it leads to
-  depth-entry : (first m n : ℕ) → n ≡ min (m + 1) 4294967295 → IsDepth shapes (steps_reached shapes first) m → IsDepth shapes (first ∷ []) n
+  depth-entry : (first m n : ℕ) → n ≡ min (m + 1) 255 → IsDepth shapes (steps_reached shapes first) m → IsDepth shapes (first ∷ []) n
   depth-entry first m n is under zero few = (λ _. omega arith, λ _. tt)
   depth-entry first m n is under (suc k) few =
       let there = under k (omega arith) in (
@@ -148,7 +148,7 @@ module _ (shapes : ℕ → ShapeOf) where
   -- of an entry, by its own shape and by what is known of the types that it names
   pub found-shape : (known : Survey) (first : ℕ) (own under all : Findings) → All (Knows shapes known) (types_reached (shapes first))
       → IsOwn (has_bad_name (kind_known known) (shapes first)) (is_foreign (shapes first)) (is_unspeakable known (shapes first)) own
-      → AreFound shapes (types_reached (shapes first)) under → IsEither own under all → all.depth ≡ min (under.depth + 1) 4294967295
+      → AreFound shapes (types_reached (shapes first)) under → IsEither own under all → all.depth ≡ min (under.depth + 1) 255
       → AreFound shapes (Some first ∷ []) all
   found-shape known first own under all knows mine rest both depth = record {
     bad_name = either own.bad_name under.bad_name all.bad_name (test-itself own.bad_name _ (mine.bad_name ∙ names-known shapes known (shapes first) knows)) rest.bad_name both.bad_name (one-entry (HasBadName shapes) shapes first);

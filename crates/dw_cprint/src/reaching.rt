@@ -52,7 +52,7 @@ fn push_row(
 {
     for at in types {
         if let Some(entry) = *at {
-            steps.push(place_of(places, found, entry)?)?;
+            steps.push(place_of(places, found, entry as usize)?)?;
         }
     }
     Ok(())

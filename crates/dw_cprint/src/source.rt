@@ -182,7 +182,8 @@ pub fn type_at(image: &Image<'_>, id: EntryId) -> TypeAt
     requires { id < length (entries_in image.now) }
     ensures { result ≡ type_at image.now id }
 {
-    image.type_of(id).map(|it| it.entry().number())
+    let to = image.type_of(id)?;
+    Some(to.entry().number() as u32)
 }
 
 /// Whether a flag of an entry is there and true.

@@ -22,7 +22,7 @@ use dw_types::Order;
 use std::alloc::{AllocError, Global};
 
 /// The most spelling steps of a path that is printed.
-const STEP_LIMIT: u32 = 64;
+const STEP_LIMIT: u8 = 64;
 
 /// What is found of an entry and of those that it reaches.
 #[derive(Clone, Copy, Debug, PartialEq, Eq)]
@@ -31,8 +31,8 @@ pub struct Findings {
     pub bad_name: bool,
     pub foreign: bool,
     pub unspeakable: bool,
-    /// How many steps the longest path has that begins with one to it.
-    pub depth: u32,
+    /// How many steps the longest path has that begins with one to it, at most 255.
+    pub depth: u8,
 }
 
 /// What is found where there is no entry.

@@ -72,7 +72,7 @@ impl<'a> Survey<'a> {
         let Some(entry) = at else {
             return Some(VOID);
         };
-        let place = self.places.get(entry)?;
+        let place = self.places.get(entry as usize)?;
         *self.summaries.get(*place as usize)?
     }
 

@@ -51,7 +51,7 @@ impl<'a> Survey<'a> {
         let Some(entry) = at else {
             return false;
         };
-        match self.kept_shape(entry) {
+        match self.kept_shape(entry as usize) {
             Some(shape) => kind_of(shape).is_bracketed(),
             None => false,
         }
@@ -223,7 +223,7 @@ impl<'a> Survey<'a> {
             out.put(b"void")?;
             return put_gap(out, inside);
         };
-        let Some((shape, below)) = self.shape_within(entry, depth) else {
+        let Some((shape, below)) = self.shape_within(entry as usize, depth) else {
             return Ok(());
         };
         match shape {
@@ -268,7 +268,7 @@ impl<'a> Survey<'a> {
         let Some(entry) = at else {
             return Ok(());
         };
-        let Some((shape, below)) = self.shape_within(entry, depth) else {
+        let Some((shape, below)) = self.shape_within(entry as usize, depth) else {
             return Ok(());
         };
         match shape {
