@@ -20,8 +20,7 @@ MACROS = re.compile(r"\b(?:linux|unix)\b")
 
 
 class Text(collections.namedtuple("Text", "line needs")):
-    """A text of a node: its line, and what it needs. The declaration is read anew each time, since it takes more memory
-    than the line."""
+    """A text of a node: its line, and what it needs."""
 
     __slots__ = ()
 

@@ -1,6 +1,7 @@
-"""C declarations as `dwv types` prints them, read into types (docs/C-TEXT.md has their grammar)."""
+"""C declarations as `dwv types` prints them, read into types (docs/REPORTS.md has their grammar)."""
 import collections
 import re
+import string
 import sys
 
 # A type is one of these, and `Void()`. `of` is the type that a pointer, an array, a function or a qualifier is of, and
@@ -22,9 +23,12 @@ Member = collections.namedtuple("Member", "name type bits")
 Declaration = collections.namedtuple("Declaration", "kind name type")
 
 TOKEN = re.compile(r"[A-Za-z_]\w*|\d+|\.\.\.|[-*(){}\[\];:,=]")
+LETTERS = {*string.ascii_letters, "_"}
 QUALIFIERS = {"const", "volatile", "restrict", "_Atomic"}
 WORDS = {"__int128", "char", "short", "int", "long", "signed", "unsigned", "float", "double", "_Bool", "_Complex"}
 TAGS = {"struct", "union", "enum"}
+# The first declarations that were read, by their lines, and how many are kept.
+DECLARATIONS, KEPT = {}, 2**16
 
 
 class Malformed(Exception):
@@ -75,21 +79,24 @@ class Reader:
         self.at += 1
         return token
 
-    def has(self, *tokens):
+    def has(self, token, *more):
         """Takes these tokens, if they are next."""
-        is_next = tuple(self.tokens[self.at : self.at + len(tokens)]) == tokens
-        self.at += len(tokens) if is_next else 0
-        return is_next
+        if self.tokens[self.at] != token or more and self.tokens[self.at + 1 : self.at + 1 + len(more)] != [*more]:
+            return False
+        self.at += 1 + len(more)
+        return True
 
     def run(self, words):
         """Takes all words of a set that are next."""
+        if self.tokens[self.at] not in words:
+            return ()
         start = self.at
         while self.tokens[self.at] in words:
             self.at += 1
         return tuple(self.tokens[start : self.at])
 
     def is_identifier(self):
-        return bool(re.match(r"[A-Za-z_]", self.tokens[self.at]))
+        return self.tokens[self.at][:1] in LETTERS
 
     def identifier(self):
         if not self.is_identifier():
@@ -190,6 +197,15 @@ class Reader:
 
 def read(line):
     """The declaration of a line."""
+    found = DECLARATIONS.get(line)
+    if found is None:
+        found = read_anew(line)
+        if len(DECLARATIONS) < KEPT:
+            DECLARATIONS[line] = found
+    return found
+
+
+def read_anew(line):
     reader = Reader(line)
     if reader.has("typedef"):
         declaration = Declaration("typedef", *reader.declared())
