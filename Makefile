@@ -37,7 +37,6 @@ checks = $(if $(filter-out 0,$(fits)),$(fits),1)
 test:
 	tests/dead-names.py
 	tests/reading-order.py
-	tests/indexes.py
 	tests/made.py
 	tests/calling.py
 	$(MAKE) --no-print-directory pytest TESTS=tests/versions.py
@@ -187,10 +186,12 @@ bench-library:
 compare:
 	bench/compare.py
 
-# Writes what pages and code say of each rule, from docs/rules.tsv, and draws docs/verdict.svg.
+# Writes what pages and code say of each rule, from docs/rules.tsv, the definitions and the tables of proofs on pages,
+# from specs/, the code, the proofs and the edits, and draws docs/verdict.svg.
 .PHONY: docs
 docs:
 	docs/make-rules.py
+	docs/make-indexes.py
 	docs/make-picture.py
 
 # Lays out every source file.

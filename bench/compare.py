@@ -81,16 +81,22 @@ def files():
             yield row, padded if [it.split(" at ")[0] for it in found] == wanted else file_of(row, parts, 0)
 
 
+def plain(report):
+    """A report in a cell of a table, without the words that dwarfdump has around most."""
+    report = re.sub(r"ERROR: Failure reading CU header or DIE, corrupt DWARF:|\.* Attempting to continue\.", "", report)
+    return " ".join(re.sub(r"\bdwarf_init_path_dl fails exit dwarfdump:", "", report).replace("|", "/").split())
+
+
 def compared(tools):
-    """The tables: which tool reports which rule, and the first report of each."""
-    marks, lines, counts = [], [], dict.fromkeys(tools, 0)
+    """The tables: which peer reports which rule, and the first report of each. Rules with the same report share a row."""
+    marks, said, counts = [], {}, dict.fromkeys(tools[1:], 0)
     usual_of = {tool: ({0}, set()) for tool in tools}
     with common.empty_folder() as folder:
         path = folder / "file"
         for row, file in files():
             path.write_bytes(file)
             rule, _, name = row.name.partition(" ")
-            marks.append(f"| {rule} | {name} |")
+            marks.append(f"|{rule}|{name}|")
             for tool in tools:
                 status, found = reports(tool, path)
                 statuses, usual = usual_of[tool]
@@ -102,22 +108,25 @@ def compared(tools):
                 if not new and status not in statuses:
                     new = [f"exit status {status}"] if isinstance(status, int) else []
                 mark = status if isinstance(status, str) else "yes" if new else "no"
+                if tool == "dwv check":
+                    assert mark == "yes", row.name
+                    continue
                 counts[tool] += mark == "yes"
-                marks[-1] += f" {mark} |"
-                if new and tool != "dwv check":
-                    lines.append(f"| {rule} | `{tool.split(' ')[0]}` | {new[0].replace('|', '/')} |")
-    marks = [mark for mark in marks if not mark.startswith("| sound")]
+                marks[-1] += f"{mark}|"
+                if new:
+                    said.setdefault((tool.split(" ")[0], plain(new[0])), []).append(rule)
+    marks = [mark for mark in marks if not mark.startswith("|sound")]
     return [
-        f"| Rule | Name | {' | '.join(f'`{tool}`' for tool in tools)} |",
-        "|---|---|" + "---|" * len(tools),
+        f"|Rule|Name|{'|'.join(f'`{tool}`' for tool in tools[1:])}|",
+        "|---|---|" + "---|" * len(tools[1:]),
         *marks,
-        f"| | yes, of {len(marks)} files | {' | '.join(map(str, counts.values()))} |",
+        f"||yes, of {len(marks)} files|{'|'.join(map(str, counts.values()))}|",
         "",
         "The first report of each:",
         "",
-        "| Rule | Tool | What it prints |",
+        "|Tool|What it prints|Rules|",
         "|---|---|---|",
-        *lines,
+        *(f"|`{tool}`|{text}|{', '.join(dict.fromkeys(rules))}|" for (tool, text), rules in said.items()),
     ]
 
 

@@ -227,9 +227,42 @@ def shared(dwv, folder):
         yield row(dwv, "C, two programs", "dwz -m shared one two", paths[0])
 
 
+# A row with a reason: the cells before it, the command among them, and the reason.
+REASONED = re.compile(r"(\| [^|]* \| (`[^`]*`) \| [^|]* \| \|) ([^|]+) \|")
+
+
+def once(table):
+    """The rows, in which a reason that a row above has is named by the command of that row."""
+    said = {}
+    for line in table:
+        found = REASONED.fullmatch(line)
+        above = said.setdefault(found[3], found[2]) if found else None
+        yield f"{found[1]} as of {above} |" if found and above != found[2] else line
+
+
+def whole(table):
+    """The rows, in which a reason that is named by a command is that of the command's row."""
+    said = {found[2]: found[3] for line in table if (found := REASONED.fullmatch(line))}
+    for line in table:
+        found = REASONED.fullmatch(line)
+        named = found and re.fullmatch(r"as of (`[^`]*`)", found[3])
+        yield f"{found[1]} {said[named[1]]} |" if named else line
+
+
+def narrow(line):
+    """A row without the spaces around its cells, as the page has it."""
+    return "|".join(cell.strip() for cell in line.split("|"))
+
+
+def wide(line):
+    """A row of the page with spaces around its cells."""
+    return "|".join(["", *(f" {cell} " if cell else " " for cell in line.split("|")[1:-1]), ""])
+
+
 def known(text):
     """The rows of the table as it was, by their first two cells, and the versions of the tools above it."""
-    kept = {tuple(line.split(" | ")[:2]): line for line in text.splitlines() if line.startswith("| ")}
+    rows = [wide(line) for line in text.splitlines() if line.startswith("|") and not line.startswith("|---")]
+    kept = {tuple(line.split(" | ")[:2]): line for line in whole(rows)}
     return kept, dict(re.findall(r"(\S+)\s(\d+(?:\.\d+)+)", text.partition("|")[0]))
 
 
@@ -271,7 +304,7 @@ def main():
         about += f" Not installed, or not able to: {', '.join(sorted(absent))}."
     head = ["| Language | Command | `dwv check` | `dwv types` | Why, and what to do |", "|---|---|---|---|---|"]
     lines = textwrap.wrap(about, 120, break_on_hyphens=False)
-    common.rewrite(PAGE, [*lines, "", *head, *table])
+    common.rewrite(PAGE, [*lines, "", *map(narrow, [*head, *once(table)])])
 
 
 if __name__ == "__main__":

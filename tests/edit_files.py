@@ -2,13 +2,11 @@
 import collections
 import re
 
-from common import TOP
-
 FOLDERS = ("must-fail", "more-edits", "controls")
 AT_MOST = 70  # edits in must-fail/, of all crates
 IMPL = r"impl(?:<.*?>)? (?:(?P<trait>[\w:]+)(?:<.*?>)? for )?(?P<type>[\w:]+)"
 BLOCK = re.compile(rf"(?:pub )?(?:{IMPL}|trait (?P<name>\w+))")
-FUNCTION = re.compile(r"( *)(?:pub )?(?:pub\(crate\) )?(?:const )?fn (\w+)")
+FUNCTION = re.compile(r'( *)(?:pub )?(?:pub\(crate\) )?(?:const )?(?:extern "C" )?fn (\w+)')
 Function = collections.namedtuple("Function", "path first last")
 
 
@@ -91,7 +89,7 @@ def short(path):
 
 
 def misplaced(edits):
-    """Lists what is wrong with the edits without a proof: texts, names, counts, and what PROOFS.md lists."""
+    """Lists what is wrong with the edits without a proof: texts, names and counts."""
     for edit in edits:
         if edit.why:
             yield f"{edit.label}: it can't be applied: {edit.why}"
@@ -103,11 +101,6 @@ def misplaced(edits):
         yield f"must-fail/ has {len(kept)} edits, and should have at most {AT_MOST}: move some to more-edits/"
     with_none = {it.crate.name for it in edits} - {it.crate.name for it in kept}
     yield from (f"{name}: no edit in must-fail/" for name in sorted(with_none))
-    sections = re.split(r"(?m)^## ", (TOP / "docs/PROOFS.md").read_text())
-    listed = {it.partition("\n")[0]: set(re.findall(r"\w+", it)) for it in sections}
-    for edit in edits:
-        if not edit.is_control and edit.crate.name in listed and edit.name not in listed[edit.crate.name]:
-            yield f"{edit.label}: docs/PROOFS.md does not name it"
 
 
 def count(edits):

@@ -42,9 +42,8 @@ def files():
 
 
 def rules():
-    """The codes and names of the rules in the tables of the page, in its order. P1 to P6 are no rules of a file."""
-    found = re.findall(r"^\| ([A-Z]\d+) \| (\w+) \|", RULES.read_text(), re.MULTILINE)
-    return [rule for rule in dict.fromkeys(found) if rule[0][0] != "P"]
+    """The codes and names of the rules in the tables of the page, in its order."""
+    return list(dict.fromkeys(re.findall(r"(?m)^\| ([A-Z]\d+) \| (\w+) \|", RULES.read_text())))
 
 
 def rule_of(row):

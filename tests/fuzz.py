@@ -3,11 +3,13 @@
 
 It compiles the programs of tests/programs with gcc and clang in versions 4 and 5, and changes each copy in one to
 three steps, inside the six sections: 1 to 8 bytes are changed, or a range is cut, copied over another or swapped with
-another. Of each file:
+another. Every fifth file has many small units, most of them sound, some with a fault of any group of rules. Of each
+file:
 
 - `dwv check` ends within the time limit, with a line of docs/REPORTS.md and the exit status that belongs to it;
 - a second run writes the same bytes, and `check --json` has the same exit status;
-- the second reader (crates/slow_reader) finds the same fault of the rules E, A, U and G, or none.
+- the second reader (crates/slow_reader) finds the same fault of the rules E, A, U and G, or none;
+- of small units the answer is the same when they are verified one after another and all at once.
 
 It prints how often each rule was found, and ends with 'N files agreed, M did not'. A file that does not agree is kept
 in the folder of temporary files, with its name printed.
@@ -40,6 +42,16 @@ FAULT = re.compile(
     r"fault ([A-Z]\d+ \w+) at (section \d+|\.debug_(abbrev|info)\+0x[0-9a-f]{8} attribute 0x[0-9a-f]+)\n"
     r"(cycle( 0x[0-9a-f]{8})+\n)?"
 )
+# A table for small units, and one that has a code twice.
+TABLE = bytes.fromhex(
+    "0111010000 0224000b0b0000 03160049130000 0424000b080000 053400030e0000 0601010000 0724000000 00")
+TWICE = bytes.fromhex("0111010000 0224000b0b0000 0216000000 00")
+# Items that are sound: base types, a typedef and a variable. And items with a fault: a class, a string, a reference, an
+# array without a type, a typedef of itself, a base type without a size, and an undeclared code.
+SOUND_ITEMS = (b"\2\4", b"\2\4\2\10", b"\5\0\0\0\0")
+FAULTS = (b"\4a\0", b"\5\xff\0\0\0", b"\3\x0e\0\0\0", b"\6\0", b"\3\x0d\0\0\0", b"\7", b"\x09")
+# Zero bytes after the tables. With them there is room for the tables of all units, which are then verified alone.
+ROOM = bytes(8192)
 # The rules that the second reader knows.
 READ = ("E", "A", "U", "G")
 
@@ -99,6 +111,25 @@ def changed(program, chance):
     return bytes(file)
 
 
+def small_units(chance):
+    """Tables, and many small units, of which some have a fault: at most one of trees, and any of the later groups."""
+    units = bytearray()
+    rare = chance.choice([0, 0.02, 0.1, 0.5])
+    for _ in range(chance.randint(2, 60)):
+        items = FAULTS[:-1] if chance.random() < rare else SOUND_ITEMS
+        units += common.unit(b"\1" + chance.choice(items) + b"\0")
+    if chance.random() < 0.2:
+        units += common.unit(b"\1" + FAULTS[-1] + b"\0")
+    elif chance.random() < 0.2:
+        units += common.unit(b"\1\2\4\0", table=len(TABLE)) * 2
+    return TABLE + TWICE, bytes(units)
+
+
+def small_file(table, units):
+    """A file with these units, whose strings are one empty string."""
+    return common.elf([(".debug_abbrev", 1, table), (".debug_info", 1, units), (".debug_str", 1, b"\0")])
+
+
 def ran(words, file, program=DWV):
     """The exit status and the text of a run of dwv, or the reason why there is none."""
     try:
@@ -120,6 +151,18 @@ def judged(file):
     if ran(["check", "--json"], file)[0] != status:
         return text, "another status with --json"
     return text, None
+
+
+def judged_both_ways(file, chance):
+    """The line of a new file with small units, and what is wrong with how it is answered, if anything is."""
+    table, units = small_units(chance)
+    file.write_bytes(small_file(table, units))
+    once = ran(["check"], file)
+    file.write_bytes(small_file(table + ROOM, units))
+    text, bad = judged(file)
+    if bad is None and once[1] != text:
+        return text, f"{text!r} unit after unit, and {once[1]!r} at once"
+    return text, bad
 
 
 def rule_of(text):
@@ -158,8 +201,11 @@ def main():
             files = []
             for k in range(BATCH):
                 file = folder / f"{k}"
-                file.write_bytes(changed(chance.choice(programs), chance))
-                text, bad = judged(file)
+                if k % 5 == 0:
+                    text, bad = judged_both_ways(file, chance)
+                else:
+                    file.write_bytes(changed(chance.choice(programs), chance))
+                    text, bad = judged(file)
                 met[rule_of(text) if bad is None else "no line"] += 1
                 if bad is not None:
                     wrong.append((kept(file), bad))

@@ -7,9 +7,11 @@ usage: hostile_files.py [--list]
 For each the program must print the stated line, or `types` its whole text, within limits of time and memory, and no run
 may crash. The lines of `show` of a deep tree are far more bytes than the memory that it may have: it must say so, and
 write nothing. The script prints one line a run with the seconds it took, and ends with 'N passed, N failed, N skipped'.
-With --list it runs nothing, and prints each file with its limits.
+With --list it runs nothing, and prints each file with its limits, and what must not be slow, or large, in it.
 """
 import os
+import random
+import re
 import struct
 import subprocess
 import sys
@@ -49,6 +51,18 @@ SOON_MEMORY = 1 << 29
 # Entries of one byte with a flag for each code of DWARF 5 that may be one, and the codes that may not (rule K1).
 FLAGGED = 500_000
 NO_FLAGS = bytes.fromhex("01030b0d18222e2f3137383e474951696b7273")
+# Contributions that have nothing: the length, the version 5, and of addresses their size.
+NO_OFFSETS, NO_ADDRESSES = bytes.fromhex("0400000005000000"), bytes.fromhex("0400000005000800")
+# What the rules ask of dimensions, lower bound, bit stride, upper bound, count and byte stride; and of members, bit
+# size, abstract origin, location, specification and data bit offset.
+OF_DIMENSIONS, OF_MEMBERS = bytes.fromhex("222e2f3751"), bytes.fromhex("0d3138476b")
+# Entries without any of these, and the declarations that some of them have in turns.
+SEARCHED, SEARCHED_IN_TURNS = 2_000_000, 4_000
+# Entries whose values come after others in the form indirect, how many others each has, and units whose first entry is
+# such a one.
+BEHIND, BEHIND_VALUES, BEHIND_UNITS = 400_000, 8, 200_000
+# Seconds of processor time that each of these files may take.
+ASKED_TIME = 2
 # Type units, the declared structures that each has by its signature, and the seconds of such a file.
 SIGNED = 120_000
 DECLARED = 5
@@ -58,6 +72,15 @@ SIGNED_TIME = 5
 CODES = 300_000
 CODES_MEMORY = 60
 PROGRAM_MEMORY = 16 << 20
+# Declarations of one table, of which the last has the code of the first, and the seconds of such a file.
+TWICE = 578_000
+TWICE_TIME = 1.5
+# Groups of codes of ten bytes that agree in so many of their lowest bits, the entries with the code of each group that
+# is found last, and the seconds of such a file.
+GROUPS = 5_700
+LOW_BITS = 14
+DEEP_ENTRIES = 400_000
+DEEP_TIME = 12
 # Units before one with a fault, the typedefs in each of them, and the bytes of memory that such a file may take.
 BEFORE_FAULT = 500
 BEFORE_TYPEDEFS = 1_000
@@ -67,6 +90,11 @@ WIDE = 50_000
 SECTIONS = 65_000
 # Bytes of the name of each of them.
 LONG = 16 << 20
+# Bytes of .debug_info whose small units refer to one another, and the seconds and the bytes of memory for each byte of
+# the file that `check` may take.
+REFERRING = 8 << 20
+REFERRING_TIME = 1.5
+REFERRING_MEMORY = 60
 
 
 def elf(sections):
@@ -284,6 +312,23 @@ def apart():
            f"sound: {TABLES} units, {2 * TABLES} entries, {TABLES} types")
 
 
+def elsewhere():
+    """Small units whose entries refer to other units, far away and in mixed order."""
+    # 1 compile unit, 2 base type with a size, 3 variable with a type in any unit, 4 imported unit
+    table = bytes.fromhex("0111010000" "0224000b0b0000" "0334004910" "0000" "043d001810" "0000" "00")
+    for what, before, item, target in (("types of variables", INT, b"\x03", FIRST),
+                                       ("imported units", b"", b"\x04", FIRST - 1)):
+        size = len(unit(b"\x01" + before + (item + bytes(4)) * 3 + b"\0"))
+        count = REFERRING // size
+        units = (unit(b"\x01" + before + b"".join(
+            item + struct.pack("<I", (3 * n + k) * 40_503 % count * size + target) for k in range(3)) + b"\0")
+            for n in range(count))
+        entries, types = (5, 1) if before else (4, 0)
+        yield (f"{count:,} units of three {what}, which are in other units",
+               [(".debug_abbrev", table), (".debug_info", b"".join(units))],
+               f"sound: {count} units, {count * entries} entries, {count * types} types")
+
+
 def tiny():
     """Units of one entry, each with a table of its own, among bytes of .debug_abbrev that no unit names."""
     own = bytes.fromhex("0111000000" "00") + bytes(UNNAMED)
@@ -330,7 +375,7 @@ def inside_codes():
     flags = b"".join(uleb(1 + n) + b"\x19" for n in range(LONG_CODES_ATTRIBUTES)) + b"\0\0"
     row, starts = bytearray(), []
     for n in range(LONG_CODES):
-        code = uleb(n * 0x9e3779b97f4a7c15 % 2**63 + 2**63)
+        code = uleb(mixed(n))
         starts += [len(row) + k for k in range(len(code))]
         row += code + b"\x34\0" + flags
     row += b"\x03\x11\0\0\0" + b"\0"
@@ -353,6 +398,60 @@ def flagged():
            f"fault R1 NoEntry at .debug_info+0x{FIRST + FLAGGED:08x} attribute 0x49")
 
 
+def beside(asked):
+    """Flags without bytes. Each code differs in one bit from one that is asked, so that a search by bits is long."""
+    codes = {code ^ 1 << bit for code in asked for bit in range(5, 16)} - set(NO_FLAGS)
+    return b"".join(uleb(code) + b"\x19" for code in sorted(codes))
+
+
+def searched():
+    """Dimensions and members without the attributes that rules ask, but with others whose codes are alike."""
+    def sections(holder, row, items):
+        return [(".debug_abbrev", TABLE[:-1] + row + b"\0"),
+                (".debug_info", unit(b"\x01" + INT + holder + items + b"\0\0"))]
+
+    array, structure = b"\x06" + struct.pack("<I", FIRST), b"\x04\x04"
+    dimension = b"\x21\0" + beside(OF_DIMENSIONS) + b"\0\0"
+    member = b"\x0d\0" + beside(OF_MEMBERS) + b"\x49\x13\0\0"
+    yield (f"{SEARCHED:,} dimensions without bounds", sections(array, b"\x0b" + dimension, b"\x0b" * SEARCHED),
+           f"sound: 1 units, {SEARCHED + 3} entries, {SEARCHED + 2} types")
+
+    codes = [uleb(0x0b + n) for n in range(SEARCHED_IN_TURNS)]
+    turns = b"".join(codes[n * 1597 % SEARCHED_IN_TURNS] for n in range(SEARCHED_IN_TURNS))
+    count = SEARCHED // 2
+    yield (f"{count:,} dimensions of {SEARCHED_IN_TURNS:,} declarations in turns, without bounds",
+           sections(array, b"".join(code + dimension for code in codes), turns * (count // SEARCHED_IN_TURNS)),
+           f"sound: 1 units, {count + 3} entries, {count + 2} types")
+
+    count = SEARCHED // 4
+    yield (f"{count:,} members without places",
+           sections(structure, b"\x0b" + member, (b"\x0b" + struct.pack("<I", FIRST)) * count),
+           f"sound: 1 units, {count + 3} entries, 2 types")
+
+
+def behind_values():
+    """Entries in which all that is asked comes after values in the form indirect."""
+    others = b"".join(uleb(0x2000 + n) + b"\x16" for n in range(BEHIND_VALUES))
+    values = b"\x19" * BEHIND_VALUES
+    table = (TABLE[:-1] + b"\x0b\x13\0" + others + bytes.fromhex("3c0c0b0b0000")
+             + b"\x0c\x21\0" + others + bytes.fromhex("2f0b220b0000")
+             + b"\x0d\x11\0" + others + bytes.fromhex("721773171305") + b"\0\0" + b"\0")
+
+    def sections(info):
+        return [(".debug_abbrev", table), (".debug_info", info), (".debug_str_offsets", NO_OFFSETS),
+                (".debug_addr", NO_ADDRESSES)]
+
+    structures = (b"\x0b" + values + b"\0\4") * BEHIND
+    yield (f"{BEHIND:,} structures behind {BEHIND_VALUES} values", sections(unit(b"\x01" + structures + b"\0")),
+           f"sound: 1 units, {BEHIND + 1} entries, {BEHIND} types")
+    array = b"\x06" + struct.pack("<I", FIRST) + (b"\x0c" + values + b"\0\0") * BEHIND
+    yield (f"{BEHIND:,} dimensions behind {BEHIND_VALUES} values", sections(unit(b"\x01" + INT + array + b"\0\0")),
+           f"sound: 1 units, {BEHIND + 3} entries, {BEHIND + 2} types")
+    first = unit(b"\x0d" + values + struct.pack("<IIH", 8, 8, 12))
+    yield (f"{BEHIND_UNITS:,} units whose bases come after {BEHIND_VALUES} values", sections(first * BEHIND_UNITS),
+           f"sound: {BEHIND_UNITS} units, {BEHIND_UNITS} entries, 0 types")
+
+
 def signed():
     """Type units, and declared structures that refer to each by its signature, far from the one before."""
     table = TABLE[:-1] + bytes.fromhex("0b13003c1969200000" "0c13000b0b0000" "00")
@@ -365,12 +464,35 @@ def signed():
 def coded():
     """Tables whose codes do not count up from 1: numbers of 63 bits in no order, and those from 2 on; falling ones."""
     numbers = range(1, CODES)
-    orders = (("of ten bytes in no order", [n * 0x9e3779b97f4a7c15 % 2**63 + 2**63 for n in numbers]),
+    orders = (("of ten bytes in no order", [mixed(n) for n in numbers]),
               ("from 2 on", [n + 1 for n in numbers]), ("falling", [CODES + 1 - n for n in numbers]))
     for name, codes in orders:
         row = b"".join(uleb(code) + b"\x34\0\x03\x08\0\0" for code in codes) + uleb(1) + b"\x11\0\0\0" + b"\0"
         sections = [(".debug_abbrev", row), (".debug_info", unit(b"\x01"))]
         yield f"a table of {CODES:,} declarations, codes {name}", sections, len(row) * CODES_MEMORY + PROGRAM_MEMORY
+
+
+def mixed(number):
+    """A number that takes ten bytes. Those of numbers in a row are in no order."""
+    return number * 0x9e3779b97f4a7c15 % 2**63 + 2**63
+
+
+def twice():
+    """A table whose last declaration has the code of the first, and the line that it gets."""
+    row = b"".join(uleb(mixed(n + 1)) + b"\x34\0\0\0" for n in range(TWICE))
+    table = row + uleb(mixed(1)) + b"\x11\0\0\0" + b"\0"
+    return table, f"fault A3 CodeTwice at .debug_abbrev+0x{len(row):08x} attribute 0x0\n"
+
+
+def deep_codes():
+    """Entries whose codes are found bit by bit: in each group, each code agrees with the next one up to a bit more."""
+    rows, codes = [], [mixed(n + 1) >> LOW_BITS << LOW_BITS | n for n in range(GROUPS)]
+    for bit in range(LOW_BITS, 64):
+        rows += [uleb(codes[n * 7919 % GROUPS]) + b"\x34\0\0\0" for n in range(GROUPS)]
+        codes = [code ^ (1 << bit) for code in codes] if bit < 63 else codes
+    table = b"".join(rows) + b"\x01\x11\1\0\0" + b"\0"
+    entries = b"".join(uleb(codes[n * 3571 % GROUPS]) for n in range(DEEP_ENTRIES))
+    return table, unit(b"\x01" + entries + b"\0")
 
 
 # 1 compile unit, 2 base type with a name and a size, 3 typedef with a name and a type, 4 structure with a size,
@@ -703,6 +825,115 @@ def shared_names():
         yield name, elf(sections), "".join(f"/* 0x{FIRST + 5 * n:08x} {rule} */\n" for n, rule in enumerate(rules))
 
 
+# 1 compile unit, 2 typedef with a name and a type at an offset of two bytes, 3 typedef with a name
+MIXED = bytes.fromhex("0111010000" "02160003084912" "0000" "0316000308" "0000" "00")
+# Units, and the typedefs in each of them, each of five bytes.
+MIXED_UNITS, MIXED_TYPEDEFS = 10_000, 37
+# 1 compile unit with a base of string offsets, 2 typedef with a name by index
+INDEXED = bytes.fromhex("01110172170000" "0216000325" "0000" "00")
+INDEXED_TYPEDEFS = 1_000_000
+
+
+def shuffled(count, seed):
+    """Numbers below a count in no order."""
+    numbers = list(range(count))
+    random.Random(seed).shuffle(numbers)
+    return numbers
+
+
+def leveled():
+    """Typedefs of one another in mixed order, so that the lines of `types` go to and fro in the file: the name of each
+    file, the file, and what `types` prints of it."""
+    for bad in (False, True):
+        info, lines = bytearray(), [[] for _ in range(MIXED_TYPEDEFS)]
+        for number in range(MIXED_UNITS):
+            start, row = len(info), shuffled(MIXED_TYPEDEFS, number)
+            items = [b""] * MIXED_TYPEDEFS
+            items[row[0]] = b"\x03-\0" if bad else b"\x03t\0"
+            places, at = {}, FIRST
+            for k in range(MIXED_TYPEDEFS):
+                places[k], at = at, at + (3 if k == row[0] else 5)
+            for to, k in zip(row, row[1:]):
+                items[k] = b"\x02t\0" + struct.pack("<H", places[to])
+            for level, k in enumerate(row):
+                lines[level].append((start + places[k], "typedef void t;\n" if level == 0 else "typedef t t;\n"))
+            info += unit(b"\x01" + b"".join(items) + b"\0")
+        name = f"{MIXED_UNITS:,} units of {MIXED_TYPEDEFS} typedefs of one another in mixed order"
+        if bad:
+            refused = sorted(lines[0] + lines[1])
+            text = "".join(line for some in lines[2:] for _, line in some)
+            text += "".join(f"/* 0x{at:08x} P2 BadName */\n" for at, _ in refused)
+            name += ", of which the first has a bad name"
+        else:
+            text = "".join(line for some in lines for _, line in some)
+        yield name, elf([(".debug_abbrev", MIXED), (".debug_info", bytes(info))]), text
+
+    row = shuffled(2 * MANY, 0)
+    places, at = {}, FIRST
+    for k in range(2 * MANY):
+        places[k], at = at, at + (3 if k == row[0] else 7)
+    items = [b""] * 2 * MANY
+    items[row[0]] = b"\x03t\0"
+    for to, k in zip(row, row[1:]):
+        items[k] = b"\x02t\0" + struct.pack("<I", places[to])
+    table = MIXED.replace(b"\x49\x12", b"\x49\x13")
+    yield (f"a chain of {2 * MANY:,} typedefs in mixed order",
+           elf([(".debug_abbrev", table), (".debug_info", unit(b"\x01" + b"".join(items) + b"\0"))]),
+           "typedef void t;\n" + "typedef t t;\n" * (2 * MANY - 1))
+
+    names = [b"a" * 62 + b"-\0"] * 256
+    offsets = struct.pack("<IHH", 4 + 4 * len(names), 5, 0)
+    offsets += b"".join(struct.pack("<I", n * len(names[0])) for n in range(len(names)))
+    items = b"".join(bytes([2, n % 256]) for n in range(INDEXED_TYPEDEFS))
+    info = unit(b"\x01" + struct.pack("<I", 8) + items + b"\0")
+    yield (f"{INDEXED_TYPEDEFS:,} typedefs of two bytes with names of 63 bytes", elf([
+        (".debug_abbrev", INDEXED), (".debug_info", info), (".debug_str", b"".join(names)),
+        (".debug_str_offsets", offsets)]),
+        "".join(f"/* 0x{FIRST + 4 + 2 * n:08x} P2 BadName */\n" for n in range(INDEXED_TYPEDEFS)))
+
+
+# Entries of the types below, and the bytes of memory that `types` may have for each byte of them, besides its own.
+SMALL_TYPES = 4_000_000
+NODE_MEMORY, PARAMETER_MEMORY = 50, 56
+
+
+def nodes():
+    """Types of one or two bytes that others use: the name of each file, its sections, the beginning of what `types`
+    prints, and the bytes of memory for each byte of the file."""
+    def sections(table, items):
+        return [(".debug_abbrev", bytes.fromhex("0111010000") + table + b"\0"), (".debug_info", items)]
+
+    # 2 prototyped subroutine, 3 parameter, 4 typedef with a name and a type
+    table = bytes.fromhex("02150127190000" "03050000" "00" "04160003084913" "0000")
+    at = FIRST + 2 + SMALL_TYPES
+    items = b"\x01\x02" + b"\x03" * SMALL_TYPES + b"\0\x04t\0" + struct.pack("<I", FIRST) + b"\0"
+    yield (f"a function of {SMALL_TYPES:,} parameters without a type", sections(table, unit(items)),
+           f"/* 0x{at:08x} P4 Unspeakable */\n", PARAMETER_MEMORY)
+
+    # 2 const with a type, 3 typedef with a name and a type, 4 const
+    table = bytes.fromhex("0226004911" "0000" "0316000308491100" "00" "04260000" "00")
+    items = bytearray(b"\x01\x04")
+    for _ in range(55):
+        items += bytes([2, len(items) + 12 - (2 if len(items) > 2 else 1)])
+    items += b"\x03t\0" + bytes([len(items) + 12 - 2]) + b"\0"
+    one = unit(bytes(items))
+    yield ("chains of consts of two bytes each", sections(table, one * (SMALL_TYPES // len(one))),
+           f"typedef {'const ' * 56}void t;\n", NODE_MEMORY)
+
+    # 2 pointer, 3 parameter with a type, 4 prototyped subroutine, 5 typedef with a name and a type
+    table = bytes.fromhex("020f0000" "00" "030500491100" "00" "04150127190000" "0516000308491100" "00")
+    items = b"\x01" + b"\x02" * 70 + b"\x04" + b"".join(bytes([3, FIRST + k]) for k in range(70)) + b"\0"
+    one = unit(items + b"\x05t\0" + bytes([FIRST + 70]) + b"\0")
+    yield ("pointers of one byte each, and parameters of them", sections(table, one * (SMALL_TYPES // len(one))),
+           f"typedef void t({', '.join(['void *'] * 70)});\n", NODE_MEMORY)
+
+    # 2 structure with the size 0, 3 member with a type, 4 structure with a name and the size 0
+    table = bytes.fromhex("0213000b2100" "0000" "030d00491100" "00" "04130103080b2100" "0000")
+    one = unit(b"\x01" + b"\x02" * 70 + b"\x04s\0" + b"".join(bytes([3, FIRST + k]) for k in range(70)) + b"\0\0")
+    yield ("structures of one byte each, and members of them", sections(table, one * (SMALL_TYPES // len(one))),
+           f"struct s {{ {'struct { }; ' * 70}}};\n", NODE_MEMORY)
+
+
 def limits_of(seconds=LIMIT, memory=None):
     """The limits of a run as text."""
     return f"{seconds} s" + (f" and {memory / 2**20:.0f} MiB" if memory else "")
@@ -718,11 +949,11 @@ def asking(command, *words, **limits):
     return ask
 
 
-def kept_within(memory, seconds=LIMIT):
-    """What returns what `check` says of a file, or what it took: its bytes of memory or its seconds of processor time,
-    if it took more than these."""
+def kept_within(memory, seconds=LIMIT, command="check"):
+    """What returns what a command says of a file, or what it took if that is more than these: its bytes of memory or
+    its seconds of processor time."""
     def ask(path):
-        with subprocess.Popen([DWV, "check", path], stdout=subprocess.PIPE, text=True) as run:
+        with subprocess.Popen([DWV, command, path], stdout=subprocess.PIPE, text=True) as run:
             text = run.stdout.read()
             _, run.returncode, used = os.wait4(run.pid, 0)
         had, took = used.ru_maxrss << 10, used.ru_utime + used.ru_stime
@@ -787,10 +1018,30 @@ def runs():
     for some in (inside(), flagged(), tiny()):
         for name, sections, want in some:
             yield name, elf(sections), check_soon, want
+    check_asked = kept_within(SOON_MEMORY, ASKED_TIME)
+    for some in (searched(), behind_values()):
+        for name, sections, want in some:
+            yield name, elf(sections), check_asked, want
+    for name, sections, want in elsewhere():
+        file = elf(sections)
+        yield name, file, kept_within(len(file) * REFERRING_MEMORY, REFERRING_TIME), want
     yield (f"{MANY:,} arrays of two units in turns, whose DW_AT_language comes after a name of 4 MB", elf(turns()),
            check_soon, f"sound: 2 units, {2 * MANY + 3} entries, {2 * MANY + 1} types")
     for name, sections, memory in coded():
         yield name, elf(sections), kept_within(memory), "sound: 1 units, 1 entries, 0 types"
+    row, want = twice()
+    yield (f"a table of {TWICE:,} declarations with codes of ten bytes in no order, and the first code again",
+           elf([(".debug_abbrev", row), (".debug_info", unit(b"\x01"))]),
+           kept_within(len(row) * CODES_MEMORY + PROGRAM_MEMORY, TWICE_TIME), want)
+    row, entries = deep_codes()
+    yield (f"{DEEP_ENTRIES:,} entries with codes of ten bytes, each found after {64 - LOW_BITS} others",
+           elf([(".debug_abbrev", row), (".debug_info", entries)]),
+           kept_within(len(row) * CODES_MEMORY + PROGRAM_MEMORY, DEEP_TIME),
+           f"sound: 1 units, {DEEP_ENTRIES + 1} entries, 0 types")
+    for name, sections, want, memory in nodes():
+        file = elf(sections)
+        yield (f"types of {name}", file,
+               kept_within(len(file) * memory + PROGRAM_MEMORY, TYPEDEFS_TIME, "types"), want)
     for name, sections, want in late_faults():
         yield name, elf(sections), asking("check", memory=LATE_MEMORY), want
     name, row, units, count = inside_attributes()
@@ -813,8 +1064,9 @@ def runs():
         yield f"types of {name}", made.file(), types, f"{made.text()}status 0\n"
     file, want = collisions()
     yield f"types of {COLLISIONS:,} typedefs whose numbers collide", file, types_soon, f"{want}status 0\n"
-    for name, file, want in shared_names():
-        yield f"types of {name}", file, types_soon, f"{want}status 0\n"
+    for some in (shared_names(), leveled()):
+        for name, file, want in some:
+            yield f"types of {name}", file, types_soon, f"{want}status 0\n"
     for name, made, at, size in ends():
         yield f"size of the last in {name}", made.file(), asking("size", f"0x{at:x}"), f"size {size}\n"
     file, want = nested()
@@ -825,16 +1077,54 @@ def runs():
     yield f"{SECTIONS:,} sections with one name of 16 MB", alike(), check, "sound: 0 units, 0 entries, 0 types"
 
 
+# What each file is for, by words of its name: the first that occur decide.
+REASONS = (
+    ("^show of", "The text of a deep tree is far longer than the file. If it does not fit, nothing is written."),
+    ("^size of", "A size is measured by the order of the types, and no chain is followed for one type."),
+    ("dimensions in a unit|two units in turns", "The language of a unit is read once, and not for each dimension."),
+    ("a chain of .* (typedefs|consts)|a ring of", "A chain of types is followed once, in little of the call stack."),
+    ("to a cycle|cycles|a cycle of", "A cycle is found once for all types that reach it."),
+    ("without (bounds|places)", "An attribute that is absent takes no search."),
+    ("(behind|after) [0-9,]* values", "The values before those that rules read are not passed for each rule."),
+    ("in other units", "An entry of another unit is found as fast as one of the same unit."),
+    ("of (one|two) bytes? each|without a type", "Types that take a byte or two of the file take little memory each."),
+    ("2\\^40", "The product of the counts passes 2^64 on the way to 0."),
+    ("another in mixed order", "The lines of `types` go to and fro in the file as fast as in its order."),
+    ("collide", "No key of a hash table is one that a file can choose."),
+    ("of one name of|suffixes of|one string of|names of 63", "A string is not read to its end for each name in it."),
+    ("specifications of an entry", "What comes before DW_AT_declaration is not read for each specification."),
+    ("type units", "The type of a signature is found by a search."),
+    ("attributes of the form|flags without bytes", "Attributes whose values take no bytes are passed at once."),
+    ("inside|overlapping", "What tables have in common is read once and kept once."),
+    ("codes", "A code is found by its bits, whatever the order of the codes, in little memory for each."),
+    ("units of one table|refers to the first|a zero byte", "What all units share is not read again for each of them."),
+    ("no unit names", "Bytes of tables that no unit names are not read."),
+    ("in the next one$", "A fault near the end takes no second look at what is before it, and no memory for it."),
+    ("65,53[67] bytes$", "The limit of a declaration is exact, for each form of type."),
+    ("structures, each|members?, and|itself|55,000|qualifiers", "A text that is too long is not begun."),
+    ("30 deep", "A type is written in one walk, and not one for each level."),
+    ("typedefs$", "What a type needs of others is kept for each, in little memory."),
+    ("nested structures|dimensions|members|no members", "Entries that are deep or many are passed one after another."),
+    ("sections", "A name is compared no further than the names of the six sections go."),
+)
+
+
+def reason(name):
+    """What must not be slow or large in a file, by its name; None if nothing says so."""
+    return next((text for words, text in REASONS if re.search(words, name)), None)
+
+
 def main():
     if sys.argv[1:] == ["--list"]:
         for name, _, ask, _ in runs():
-            print(f"{name} (within {ask.limits})")
+            print(f"{name} (within {ask.limits}). {reason(name)}")
         return 0
-    tally = common.Tally(85)
+    tally = common.Tally(106)
     with common.empty_folder() as folder:
-        path = folder / "file"
+        path, unsaid = folder / "file", []
         for name, file, ask, want in runs():
             path.write_bytes(file)
+            unsaid += [] if reason(name) else [name]
             before = time.monotonic()
             try:
                 text = ask(path)
@@ -842,6 +1132,7 @@ def main():
                 text = f"no answer within {LIMIT} seconds"
             seconds = f"{time.monotonic() - before:.3f} s"
             tally.add(name, None if text.startswith(want) else f"{text[:200]!r}, {seconds}", seconds)
+    tally.same("files of which the list says nothing", unsaid, [])
     return tally.end()
 
 

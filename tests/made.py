@@ -1,6 +1,6 @@
 #!/usr/bin/env python3
-"""Tests that `make docs` would change nothing, that docs/rules.tsv has the rules of the code, and that each rule has
-one wording.
+"""Tests that `make docs` would change nothing, that docs/rules.tsv has the rules of the code, that each rule has one
+wording, that a crate has the names in what PROOFS.md claims of it, and that each link between pages has a place.
 
 It prints one line a test and ends with 'N passed, N failed, N skipped'.
 """
@@ -12,7 +12,9 @@ sys.dont_write_bytecode = True
 import common
 from common import TOP
 
-tally = common.Tally(64)
+tally = common.Tally(78)
+COMMANDS = ("check", "show", "types", "size")
+PAGES = [*TOP.glob("*.md"), *TOP.glob("docs/*.md"), *TOP.glob("crates/*/CALLING.md")]
 
 
 def codes():
@@ -21,6 +23,35 @@ def codes():
     found = {what: dict(re.findall(rf'(?m)^{what}_text (\w+) = codes "(\w+)"$', "\n".join(texts)))
              for what in ("code", "name")}
     return sorted((code, found["name"].get(variant)) for variant, code in found["code"].items())
+
+
+def unknown_names():
+    """The names in backticks in what PROOFS.md claims of a crate that neither its code nor its specs/ has."""
+    claims = (TOP / "docs/PROOFS.md").read_text().partition("## What is only tested")[0]
+    parts = re.split(r"(?m)^\*\*`(\w+)`\.\*\*", claims)
+    for crate, text in zip(parts[1::2], parts[2::2]):
+        sources = [*(TOP / "crates" / crate).glob("src/**/*.rt"), *(TOP / "crates" / crate).glob("specs/*.antt")]
+        known = set(re.findall(r"\w+", "\n".join(path.read_text() for path in sources))) | {crate, *COMMANDS}
+        words = re.findall(r"`([\w:]+)`", text)
+        yield from sorted({f"{crate}: {name}" for word in words for name in word.split("::") if name not in known})
+
+
+def places(path):
+    """The places of a page that a link can have: its headings, as their words are written in an address."""
+    lines = re.sub(r"(?ms)^```.*?^```$", "", path.read_text())
+    titles = re.findall(r"(?m)^#+ (.*)$", re.sub(r"\[([^]]*)\]\([^)]*\)", r"\1", lines))
+    return {re.sub(r"[^\w\- ]", "", it).lower().replace(" ", "-") for it in titles}
+
+
+def broken_links(path):
+    """The links of a page to other pages of this repository that lead nowhere."""
+    text = re.sub(r"(?ms)^```.*?^```$", "", path.read_text())
+    for file, place in re.findall(r"\]\((?!https?:)([^)#\s]*)(?:#([^)]*))?\)", text):
+        target = path.parent / file if file else path
+        if not target.exists():
+            yield file
+        elif place and target.suffix == ".md" and place not in places(target):
+            yield f"{file}#{place}"
 
 
 def main():
@@ -33,6 +64,9 @@ def main():
     for path, make in (it for script in scripts for it in script["made"]()):
         text = (TOP / path).read_text()
         tally.add(path, None if make(text) == text else "it is not as `make docs` writes it")
+    tally.same("names in what PROOFS.md claims", list(unknown_names()), [])
+    for path in sorted(PAGES):
+        tally.same(f"links of {path.relative_to(TOP)}", list(broken_links(path)), [])
     return tally.end()
 
 

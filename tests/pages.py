@@ -2,7 +2,7 @@
 
 Each example is run in an empty folder with the files that it names: sources are taken from the page, and other files
 are made here. Where a compiler makes the file, its offsets, counts and versions are not compared. The edit that
-CHANGING shows must be the one of its file.
+CONTRIBUTING shows must be the one of its file.
 """
 import doctest
 import os
@@ -153,8 +153,8 @@ def test_python(tmp_path, monkeypatch):
 
 
 def test_edit():
-    """The edit and the control that CHANGING shows."""
-    page = (TOP / "docs/CHANGING.md").read_text()
+    """The edit and the control that CONTRIBUTING shows."""
+    page = (TOP / "CONTRIBUTING.md").read_text()
     shown = re.search(r"(?ms)^```text\n(file: .*?)^```$", page)[1]
     assert shown == (TOP / EDIT.format("must-fail")).read_text()
     right = re.search(r"has the same shape and is right,\s+here `([^`]+)`", page)[1]

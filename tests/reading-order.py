@@ -1,10 +1,10 @@
 #!/usr/bin/env python3
-"""Tests that the files in specs/ can be read in the order that docs/ARCHITECTURE.md gives.
+"""Tests that the files in specs/ can be read in the order that docs/DEFINITIONS.md gives.
 
 The first line of a file says whether it is a chapter, laws or state. specs/Lib.antt lists the files by kind, and a
 chapter after those that it uses, except that Headline comes first. Each definition has a sentence above it, except the
-constants DW_*. The table of docs/ARCHITECTURE.md has the chapters. The script prints a line for each place where this
-fails, and ends with 'N passed, N failed, N skipped', where a file is counted once.
+constants DW_*. `make docs` writes the chapters in that order. The script prints a line for each place where this fails,
+and ends with 'N passed, N failed, N skipped', where a file is counted once.
 """
 import re
 import sys
@@ -51,16 +51,13 @@ def wrong(path, kinds, crate):
 
 
 def main():
-    found, tried, architecture = [], 0, (TOP / "docs/ARCHITECTURE.md").read_text()
+    found, tried = [], 0
     for specs in sorted(TOP.glob("crates/*/specs")):
         crate, kinds = specs.parent.name, listed(specs)
         for path in sorted(specs.glob("*.antt")):
             if path.stem != "Lib":
                 tried += 1
                 found += [f"{path.relative_to(TOP)}:{it}" for it in wrong(path, kinds, crate)]
-        chapters = [name for name, kind in kinds.items() if kind == "Chapter"]
-        if chapters and f"| `{crate}` | {', '.join(chapters)} |" not in architecture:
-            found.append(f"docs/ARCHITECTURE.md: the row of {crate} must have the chapters {', '.join(chapters)}")
     return tell(found, tried, 160)
 
 
