@@ -67,7 +67,7 @@ def purposes():
     cells = [line.split(" | ") for line in lines if line.startswith("| `dw")]
     found = {}
     for name, purpose, *_ in cells:
-        found.setdefault(name.strip("| `"), purpose.replace("`", ""))
+        found.setdefault(name.strip("| `"), purpose.replace("`", "").rstrip("| "))
     return found
 
 

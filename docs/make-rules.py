@@ -4,7 +4,7 @@
 usage: make-rules.py [--count]
 
 The table has a line for each rule: its code, its name, the sentence that says what violates it, which place a fault of
-it names, whether it names an attribute, and how a valid file has it. From it come the tables of RULES.md and C-TEXT.md,
+it names, whether it names an attribute, and how a valid file has it. From it come the tables of RULES.md and REPORTS.md,
 the lists of dwv.1, the texts of `explain` and of SARIF (contrib/dwv_tools/rules.txt), those of the Rust crate, and the
 comments of the code and of specs/ that say what a rule is. In a comment the sentence is the first paragraph.
 
@@ -129,7 +129,7 @@ def made():
     faults = [rule for rule in rules if rule.group != "P"]
     yield "docs/RULES.md", lambda text: put(text, "<!-- made by docs/make-rules.py:", "<!-- end -->",
                                             lambda groups: page_table(of(rules, groups)))
-    yield "docs/C-TEXT.md", lambda text: with_cells(text, of(rules, "P"))
+    yield "docs/REPORTS.md", lambda text: with_cells(text, of(rules, "P"))
     yield "docs/dwv.1", lambda text: put(text, r'\.\\" made by docs/make-rules.py:', '.\\" end',
                                          lambda groups: manual_list(of(rules, groups)))
     yield "contrib/dwv_tools/rules.txt", lambda text: "\n".join([*list_text(faults), ""])
