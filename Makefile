@@ -37,6 +37,7 @@ checks = $(if $(filter-out 0,$(fits)),$(fits),1)
 test:
 	tests/dead-names.py
 	tests/reading-order.py
+	tests/format-proofs.py --check
 	tests/made.py
 	tests/calling.py
 	$(MAKE) --no-print-directory pytest TESTS=tests/versions.py
@@ -185,6 +186,11 @@ bench-library:
 .PHONY: compare
 compare:
 	bench/compare.py
+
+# Breaks the lines of proofs that are longer than 120 columns. Once more after `rt fmt`, which may make some longer.
+.PHONY: format-proofs
+format-proofs:
+	for turn in 1 2; do tests/format-proofs.py; for it in crates/*/; do (cd $$it && rt fmt); done; done
 
 # Writes what pages and code say of each rule, from docs/rules.tsv, the definitions and the tables of proofs on pages,
 # from specs/, the code, the proofs and the edits, and draws docs/verdict.svg.

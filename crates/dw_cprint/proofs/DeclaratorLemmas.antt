@@ -61,7 +61,8 @@ parts-body front begin core close d = rw (spaced-gap d) (simp (append_assoc, app
 pointed : (t : Term) (qs : List Qualifier) (d : List Token) (b : Bool → List Token) (a : List Token)
     → b (has_elements (enclosed t (Star ∷ joined qs d))) ++ (enclosed t (Star ∷ joined qs d) ++ a)
     ≡ (b true ++ (opened t ++ Star ∷ pointer_row qs (has_elements d))) ++ (d ++ (closed t ++ a))
-pointed t qs d b a = rw (there-enclosed t Star (joined qs d), enclosed-open t (Star ∷ joined qs d), joined-row qs d) (simp append_assoc)
+pointed t qs d b a =
+    rw (there-enclosed t Star (joined qs d), enclosed-open t (Star ∷ joined qs d), joined-row qs d) (simp append_assoc)
 
 counted : (n : Option ℕ) (b : Bool → List Token) (a d : List Token)
     → b (has_elements (d ++ count_tokens n)) ++ ((d ++ count_tokens n) ++ a) ≡ b true ++ (d ++ (count_tokens n ++ a))
@@ -79,8 +80,12 @@ in_parts qs Void d = parts-many (qualifying qs) (VoidWord ∷ []) d
 in_parts qs (Named name) d = parts-many (qualifying qs) (Identifier name ∷ []) d
 in_parts qs (Basic words) d = parts-many (qualifying qs) (basic words) d
 in_parts qs (Tagged tag name) d = parts-many (qualifying qs) (TagWord tag ∷ Blank ∷ Identifier name ∷ []) d
-in_parts qs (Body tag members) d = parts-body (qualifying qs) (TagWord tag ∷ Blank ∷ LeftBrace ∷ Blank ∷ []) (members_tokens members) (RightBrace ∷ []) d
-in_parts qs (Enumeration cs) d = parts-body (qualifying qs) (TagWord Enum ∷ Blank ∷ LeftBrace ∷ Blank ∷ []) (constants cs) (Blank ∷ RightBrace ∷ []) d
+in_parts qs (Body tag members) d =
+    parts-body (qualifying qs) (TagWord tag ∷ Blank ∷ LeftBrace ∷ Blank ∷ []) (members_tokens members) (RightBrace ∷ [])
+    d
+in_parts qs (Enumeration cs) d =
+    parts-body (qualifying qs) (TagWord Enum ∷ Blank ∷ LeftBrace ∷ Blank ∷ []) (constants cs) (Blank ∷ RightBrace ∷ [])
+    d
 in_parts qs (Qualified q t) d = in_parts (qs ++ q ∷ []) t d
 in_parts qs (Pointer t) d =
     let inner = in_parts [] t (enclosed t (Star ∷ joined qs d)) in

@@ -67,7 +67,8 @@ goes_on_nothing q p place false r = refl
 
 ends_name : (name : List ℕ) → IsIdentifier name → Ends (Identifier name ∷ []) (Some name) same
 ends_name name h q p place end r =
-    checked-name name h (Inside q p place) (end_tokens end ++ r) ∙ closed_end true (Some name) (λ t. q (p t)) same place end r
+    checked-name name h (Inside q p place) (end_tokens end ++ r)
+    ∙ closed_end true (Some name) (λ t. q (p t)) same place end r
 
 goes_on_name : (name : List ℕ) → IsIdentifier name → GoesOn (Identifier name ∷ []) (Some name) same
 goes_on_name name h q p place true r = checked-name name h (Inside q p place) (LeftBracket ∷ r)
@@ -96,7 +97,8 @@ stands_nothing t = stands_both t [] None same ends_nothing goes_on_nothing
 
 pub stands_name : (t : Term) (name : Option (List ℕ)) → IsName name → Stands t (name_tokens name) name same
 stands_name t None h = stands_nothing t
-stands_name t (Some name) h = stands_both t (Identifier name ∷ []) (Some name) same (ends_name name h) (goes_on_name name h)
+stands_name t (Some name) h =
+    stands_both t (Identifier name ∷ []) (Some name) same (ends_name name h) (goes_on_name name h)
 
 -- what is qualified is no array and no function
 pub stands_qualifiable : (t : Term) (d : List Token) (name : Option (List ℕ)) (shape : Shape) → IsQualifiable t
@@ -133,9 +135,11 @@ pub closed_signature : (signature : Signature) (d : List Token) (name : Option (
     → ReadsSignature signature → GoesOn d name shape
     → Closed (d ++ Open ∷ (signature_tokens signature ++ Close ∷ [])) name (λ t. shape (Function t signature))
 closed_signature signature d name shape reads h q p place r =
-    ap (λ (ts : List Token). checked false (Inside q p place) ts) (append_assoc d (Open ∷ (signature_tokens signature ++ Close ∷ [])) r)
+    ap (λ (ts : List Token). checked false (Inside q p place) ts)
+    (append_assoc d (Open ∷ (signature_tokens signature ++ Close ∷ [])) r)
     ∙ h q p place false ((signature_tokens signature ++ Close ∷ []) ++ r)
-    ∙ ap (λ (ts : List Token). checked false (Before same (OfFirst name (λ t. q (p t)) shape place)) ts) (append_assoc (signature_tokens signature) (Close ∷ []) r)
+    ∙ ap (λ (ts : List Token). checked false (Before same (OfFirst name (λ t. q (p t)) shape place)) ts)
+    (append_assoc (signature_tokens signature) (Close ∷ []) r)
     ∙ reads name (λ t. q (p t)) shape place r
 
 -- SPACES AND QUALIFIERS
@@ -171,8 +175,10 @@ ends_pointer qs d name shape h q p place end r = joined_end qs d name shape h sa
 
 pub stands_enclosed : (t : Term) (d : List Token) (name : Option (List ℕ)) (shape : Shape) → Ends (Star ∷ d) name shape
     → Stands t (enclosed t (Star ∷ d)) name shape
-stands_enclosed (Array n t) d name shape h = goes_on_closed (Open ∷ (Star ∷ d ++ Close ∷ [])) name shape (closed_group d name shape h)
-stands_enclosed (Function t signature) d name shape h = goes_on_closed (Open ∷ (Star ∷ d ++ Close ∷ [])) name shape (closed_group d name shape h)
+stands_enclosed (Array n t) d name shape h =
+    goes_on_closed (Open ∷ (Star ∷ d ++ Close ∷ [])) name shape (closed_group d name shape h)
+stands_enclosed (Function t signature) d name shape h =
+    goes_on_closed (Open ∷ (Star ∷ d ++ Close ∷ [])) name shape (closed_group d name shape h)
 stands_enclosed _ d name shape h = h
 
 qualifying_read : (qs : List Qualifier) (q : Shape) (place : Place) (r : List Token)
@@ -195,9 +201,11 @@ qualified-snoc (q ∷ qs) x t = ap (Qualified q) (qualified-snoc qs x t)
 pub words_read : (words : List TypeWord) (before : List TypeWord) (q : Shape) (place : Place) (d : List Token)
     (name : Option (List ℕ)) (shape : Shape)
     → Ends d name shape → (end : End) (r : List Token)
-    → checked true (Inside same same (After q (Basic before) place)) (spaced (basic words) ++ (spaced d ++ (end_tokens end ++ r)))
+    → checked true (Inside same same (After q (Basic before) place))
+    (spaced (basic words) ++ (spaced d ++ (end_tokens end ++ r)))
     ≡ checked false (ended end name (shape (q (Basic (before ++ words)))) place) r
 words_read [] before q place d name shape h end r = search (rules, core_end, checked, append-nil)
 words_read (w ∷ words) before q place d name shape h end r =
     words_read words (before ++ w ∷ []) q place d name shape h end r
-    ∙ ap (λ (ws : List TypeWord). checked false (ended end name (shape (q (Basic ws))) place) r) (append_assoc before (w ∷ []) words)
+    ∙ ap (λ (ws : List TypeWord). checked false (ended end name (shape (q (Basic ws))) place) r)
+    (append_assoc before (w ∷ []) words)

@@ -5,7 +5,8 @@ use Rattle.std.proofs.lemmas.Bool.{le-ltb, lt-ltb}
 use Rattle.dw_cprint.specs.Drafts.{appended}
 
 -- there is room, and there is none
-pub appended-fits : (text more : List ℕ) → length more ≤ 65536 - length text → appended (Some text) more ≡ Some (text ++ more)
+pub appended-fits : (text more : List ℕ) → length more ≤ 65536 - length text
+    → appended (Some text) more ≡ Some (text ++ more)
 appended-fits text more fits = rw (le-ltb (65536 - length text) (length more) fits) refl
 
 pub appended-over : (text more : List ℕ) → 65536 - length text < length more → appended (Some text) more ≡ None
@@ -25,7 +26,8 @@ pub over-stays : (old new : Option (List ℕ)) (more : List ℕ) → old ≡ Non
 over-stays old new more is same = same ∙ is ∙ ap (λ (o : Option (List ℕ)). appended o more) (sym is)
 
 -- if a text is too long before all of it is written, so is all of it
-pub over-before : (old out : Option (List ℕ)) (rest all : List ℕ) → out ≡ None → appended out rest ≡ appended old all → out ≡ appended old all
+pub over-before : (old out : Option (List ℕ)) (rest all : List ℕ) → out ≡ None → appended out rest ≡ appended old all
+    → out ≡ appended old all
 over-before old out rest all is so_far = is ∙ ap (λ (o : Option (List ℕ)). appended o rest) (sym is) ∙ so_far
 
 -- what a test of a draft tells

@@ -23,24 +23,30 @@ pub test-itself : (b c : Bool) → b ≡ c → IsTrue b ↔ (c ≡ true)
 test-itself b c same = (λ h. sym same ∙ h, λ h. same ∙ h)
 
 -- one of two tests
-pub either : {A B C : Type 0} (a b all : Bool) → IsTrue a ↔ A → IsTrue b ↔ B → all ≡ (a || b) → (A ⊎ B) ↔ C → IsTrue all ↔ C
+pub either : {A B C : Type 0} (a b all : Bool) → IsTrue a ↔ A → IsTrue b ↔ B → all ≡ (a || b) → (A ⊎ B) ↔ C
+    → IsTrue all ↔ C
 either a b all one other is joins = search (rules, or_cases, or_left, or_right)
 
 -- a test of each element, that says whether a fact holds of it
-any-iff : {X : Type 0} (P : X → Type 0) (p : X → Bool) (xs : List X) → All (λ x. IsTrue (p x) ↔ P x) xs → IsTrue (list_any p xs) ↔ Any P xs
+any-iff : {X : Type 0} (P : X → Type 0) (p : X → Bool) (xs : List X) → All (λ x. IsTrue (p x) ↔ P x) xs
+    → IsTrue (list_any p xs) ↔ Any P xs
 any-iff P p xs same = search (rules, Any-from_list_any, list_any-from_Any)
 
 -- a test of what is seen of each element
-pub any_seen : {X Y : Type 0} (p : Y → Bool) (f : X → Y) (xs : List X) → list_any p (map f xs) ≡ list_any (λ x. p (f x)) xs
+pub any_seen : {X Y : Type 0} (p : Y → Bool) (f : X → Y) (xs : List X)
+    → list_any p (map f xs) ≡ list_any (λ x. p (f x)) xs
 any_seen p f [] = refl
 any_seen p f (x ∷ xs) = ap (λ (b : Bool). p (f x) || b) (any_seen p f xs)
 
-pub seen_any : {X Y : Type 0} (p : Y → Bool) (f : X → Y) (xs ys : List X) (r : Bool) → r ≡ list_any (λ x. p (f x)) xs → xs ≡ ys → r ≡ list_any p (map f ys)
-seen_any {X = X} p f xs ys r is same = is ∙ ap (λ (zs : List X). list_any (λ x. p (f x)) zs) same ∙ sym (any_seen p f ys)
+pub seen_any : {X Y : Type 0} (p : Y → Bool) (f : X → Y) (xs ys : List X) (r : Bool) → r ≡ list_any (λ x. p (f x)) xs
+    → xs ≡ ys → r ≡ list_any p (map f ys)
+seen_any {X = X} p f xs ys r is same = is ∙ ap (λ (zs : List X). list_any (λ x. p (f x)) zs) same
+    ∙ sym (any_seen p f ys)
 
 -- ---- what stands under a row of qualifiers
 
-one-base : {shapes : ℕ → ShapeOf} {at one other : TypeAt} → StandsUnder shapes at one → StandsUnder shapes at other → one ≡ other
+one-base : {shapes : ℕ → ShapeOf} {at one other : TypeAt} → StandsUnder shapes at one → StandsUnder shapes at other
+    → one ≡ other
 one-base nothing nothing = refl
 one-base (itself plain) (itself other_plain) = refl
 one-base (itself plain) (below q at is under) = absurd (plain q at is)
@@ -67,31 +73,41 @@ objects-of P (body word odd ms) all = all
 objects-of P _ all = All-nil P
 
 module _ (shapes : ℕ → ShapeOf) (s : Survey) where
-  kinds-known : (types : List TypeAt) → All (Knows shapes s) types → All (λ at. kind_known s at ≡ kind_at shapes at) types
-  kinds-known types all = All-weaker (Knows shapes s) (λ at. kind_known s at ≡ kind_at shapes at) (λ at known. known.is_kind) types all
+  kinds-known : (types : List TypeAt) → All (Knows shapes s) types
+      → All (λ at. kind_known s at ≡ kind_at shapes at) types
+  kinds-known types all =
+      All-weaker (Knows shapes s) (λ at. kind_known s at ≡ kind_at shapes at) (λ at known. known.is_kind) types all
 
-  pub names-known : (shape : ShapeOf) → All (Knows shapes s) (types_reached shape) → has_bad_name (kind_known s) shape ≡ has_bad_name (kind_at shapes) shape
+  pub names-known : (shape : ShapeOf) → All (Knows shapes s) (types_reached shape)
+      → has_bad_name (kind_known s) shape ≡ has_bad_name (kind_at shapes) shape
   names-known shape all = names-alike (kind_known s) (kind_at shapes) shape (kinds-known (types_reached shape) all)
 
-  pub own-names-known : (subject : SubjectOf) → All (Knows shapes s) (types_declared subject) → has_own_bad_name (kind_known s) subject ≡ has_own_bad_name (kind_at shapes) subject
-  own-names-known subject all = own-names-alike (kind_known s) (kind_at shapes) subject (kinds-known (types_declared subject) all)
+  pub own-names-known : (subject : SubjectOf) → All (Knows shapes s) (types_declared subject)
+      → has_own_bad_name (kind_known s) subject ≡ has_own_bad_name (kind_at shapes) subject
+  own-names-known subject all =
+      own-names-alike (kind_known s) (kind_at shapes) subject (kinds-known (types_declared subject) all)
 
   void-known : (at : TypeAt) → Knows shapes s at → IsTrue (is_void (base_known s at)) ↔ IsVoidLike shapes at
   void-known at known = void-like shapes at (base_known s at) known.is_base
 
-  voids-known : (shape : ShapeOf) → All (Knows shapes s) (types_reached shape) → IsTrue (list_any (λ at. is_void (base_known s at)) (object_types shape)) ↔ Any (IsVoidLike shapes) (object_types shape)
+  voids-known : (shape : ShapeOf) → All (Knows shapes s) (types_reached shape)
+      → IsTrue (list_any (λ at. is_void (base_known s at)) (object_types shape))
+      ↔ Any (IsVoidLike shapes) (object_types shape)
   voids-known shape all = search (rules, any-iff, void-known, objects-of)
 
-  wrong-known : (shape : ShapeOf) → All (Knows shapes s) (types_reached shape) → is_wrong (kind_known s) shape ≡ is_wrong (kind_at shapes) shape
+  wrong-known : (shape : ShapeOf) → All (Knows shapes s) (types_reached shape)
+      → is_wrong (kind_known s) shape ≡ is_wrong (kind_at shapes) shape
   wrong-known shape all = wrong-alike (kind_known s) (kind_at shapes) shape (kinds-known (types_reached shape) all)
 
-  row-told : (shape : ShapeOf) → All (Knows shapes s) (types_reached shape) → is_wrong_base (base_known s) shape ≡ true → IsUnspeakable shapes shape
+  row-told : (shape : ShapeOf) → All (Knows shapes s) (types_reached shape) → is_wrong_base (base_known s) shape ≡ true
+      → IsUnspeakable shapes shape
   row-told (qualified q at) all h =
       let base = (first-of (Knows shapes s) at [] all).is_base in
       row base.0 base.1 (ap (is_wrong_row q) (sym base.2) ∙ h)
   row-told _ all h = absurd (cc)
 
-  unspeakable-told : (shape : ShapeOf) → All (Knows shapes s) (types_reached shape) → is_unspeakable s shape ≡ true → IsUnspeakable shapes shape
+  unspeakable-told : (shape : ShapeOf) → All (Knows shapes s) (types_reached shape) → is_unspeakable s shape ≡ true
+      → IsUnspeakable shapes shape
   unspeakable-told shape all t = elim (or_cases (is_wrong (kind_known s) shape) _ t) [
     | inl h ↦ wrong (sym (wrong-known shape all) ∙ h)
     | inr rest ↦ elim (or_cases (list_any (λ at. is_void (base_known s at)) (object_types shape)) _ rest) [
@@ -100,23 +116,31 @@ module _ (shapes : ℕ → ShapeOf) (s : Survey) where
     ]
   ]
 
-  unspeakable-tells : (shape : ShapeOf) → All (Knows shapes s) (types_reached shape) → IsUnspeakable shapes shape → is_unspeakable s shape ≡ true
+  unspeakable-tells : (shape : ShapeOf) → All (Knows shapes s) (types_reached shape) → IsUnspeakable shapes shape
+      → is_unspeakable s shape ≡ true
   unspeakable-tells shape all (wrong h) = or_left _ _ (wrong-known shape all ∙ h)
   unspeakable-tells shape all (void_object some) = or_right _ _ (or_left _ _ ((voids-known shape all).1 some))
   unspeakable-tells (qualified q at) all (row under stands h) =
       let base = (first-of (Knows shapes s) at [] all).is_base in
       ap (is_wrong_row q) (base-kind shapes at (base_known s at) base under stands) ∙ h
 
-  pub unspeakable-known : (shape : ShapeOf) → All (Knows shapes s) (types_reached shape) → IsTrue (is_unspeakable s shape) ↔ IsUnspeakable shapes shape
+  pub unspeakable-known : (shape : ShapeOf) → All (Knows shapes s) (types_reached shape)
+      → IsTrue (is_unspeakable s shape) ↔ IsUnspeakable shapes shape
   unspeakable-known shape all = (unspeakable-told shape all, unspeakable-tells shape all)
 
-  pub own-unspeakable-known : (subject : SubjectOf) → All (Knows shapes s) (types_declared subject) → IsTrue (is_own_unspeakable s subject) ↔ IsOwnUnspeakable shapes subject
+  pub own-unspeakable-known : (subject : SubjectOf) → All (Knows shapes s) (types_declared subject)
+      → IsTrue (is_own_unspeakable s subject) ↔ IsOwnUnspeakable shapes subject
   own-unspeakable-known (typedef_subject name at) all = (λ h. absurd (cc), λ h. elim h [ ])
   own-unspeakable-known (variable_subject name at) all =
-      let void = void-known at (first-of (Knows shapes s) at [] all) in (λ h. void_variable (void.0 h), λ h. elim h [ void_variable v ↦ void.1 v ])
+      let void = void-known at (first-of (Knows shapes s) at [] all) in
+      (λ h. void_variable (void.0 h), λ h. elim h [ void_variable v ↦ void.1 v ])
   own-unspeakable-known (tag_subject name shape) all = (
-    λ h. elim (or_cases (is_unspeakable s shape) _ h) [ inl t ↦ unspeakable (unspeakable-told shape all t) | inr t ↦ declared_enumeration t ],
-    λ h. elim h [ unspeakable t ↦ or_left _ _ (unspeakable-tells shape all t) | declared_enumeration t ↦ or_right _ _ t ],
+    λ h. elim (or_cases (is_unspeakable s shape) _ h)
+        [ inl t ↦ unspeakable (unspeakable-told shape all t) | inr t ↦ declared_enumeration t ],
+    λ h. elim h [
+      | unspeakable t ↦ or_left _ _ (unspeakable-tells shape all t)
+      | declared_enumeration t ↦ or_right _ _ t
+    ],
   )
 
 -- ---- parameters, counts and enumerators
@@ -126,12 +150,16 @@ abbrev pub has_spare : (typed : Bool) → List Parameter → Bool
 has_spare true ps = is_cut_short ps
 has_spare false ps = is_misplaced ps
 
-pub miscounted : (one : Option ℕ) (counts all : List (Option ℕ)) (r : Bool) → all ≡ one ∷ counts → r ≡ list_any (λ c. is_none c) counts → r ≡ is_miscounted all
+pub miscounted : (one : Option ℕ) (counts all : List (Option ℕ)) (r : Bool) → all ≡ one ∷ counts
+    → r ≡ list_any (λ c. is_none c) counts → r ≡ is_miscounted all
 miscounted one counts all r is any = any ∙ ap is_miscounted (sym is)
 
-pub wrong-enumeration : (es all : List Enumerator) (n : ℕ) (empty r : Bool) → es ≡ all → length es ≡ n → empty ≡ (n == 0) → empty ≡ false → r ≡ list_any (λ e. is_none e.value) es
+pub wrong-enumeration : (es all : List Enumerator) (n : ℕ) (empty r : Bool) → es ≡ all → length es ≡ n
+    → empty ≡ (n == 0) → empty ≡ false → r ≡ list_any (λ e. is_none e.value) es
     → r ≡ is_wrong_enumeration (map view_enumerator all)
 wrong-enumeration [] all n empty r same long is some any =
-    absurd (let none : empty ≡ true = is ∙ ap (λ (k : ℕ). k == 0) (sym long) in let e : true ≡ false = sym none ∙ some in cc)
+    absurd (let none : empty ≡ true = is ∙ ap (λ (k : ℕ). k == 0) (sym long) in
+    let e : true ≡ false = sym none ∙ some in cc)
 wrong-enumeration (e ∷ es) all n empty r same long is some any =
-    any ∙ sym (any_seen lacks_value view_enumerator (e ∷ es)) ∙ ap (λ (xs : List Enumerator). is_wrong_enumeration (map view_enumerator xs)) same
+    any ∙ sym (any_seen lacks_value view_enumerator (e ∷ es))
+    ∙ ap (λ (xs : List Enumerator). is_wrong_enumeration (map view_enumerator xs)) same

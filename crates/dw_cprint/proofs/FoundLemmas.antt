@@ -16,8 +16,10 @@ use Rattle.dw_cprint.proofs.FaultLemmas.{either, test-itself, test-same, names-k
 
 reached-cases : {shapes : ℕ → ShapeOf} (us bs : List ℕ) {entry : ℕ} → IsReachedFrom shapes (us ++ bs) entry
     → IsReachedFrom shapes us entry ⊎ IsReachedFrom shapes bs entry
-reached-cases us bs (root {to} c) = elim (Contains-append_cases us bs to c) [ inl x ↦ inl (root x) | inr y ↦ inr (root y) ]
-reached-cases us bs (further r c) = elim (reached-cases us bs r) [ inl x ↦ inl (further x c) | inr y ↦ inr (further y c) ]
+reached-cases us bs (root {to} c) =
+    elim (Contains-append_cases us bs to c) [ inl x ↦ inl (root x) | inr y ↦ inr (root y) ]
+reached-cases us bs (further r c) =
+    elim (reached-cases us bs r) [ inl x ↦ inl (further x c) | inr y ↦ inr (further y c) ]
 
 pub reached-wider : {shapes : ℕ → ShapeOf} {us bs : List ℕ} {entry : ℕ} → ((x : ℕ) → Contains us x → Contains bs x)
     → IsReachedFrom shapes us entry → IsReachedFrom shapes bs entry
@@ -57,11 +59,23 @@ module _ (P : ShapeOf → Type 0) (shapes : ℕ → ShapeOf) where
       R entry es = IsReachedFrom shapes es entry
 
       forth : ReachesOne P shapes us ⊎ ReachesOne P shapes bs → ReachesOne P shapes (us ++ bs)
-      forth (inl (entry, r, p)) = (entry, subst (R entry) (sym (entries-append us bs)) (reached-wider (Contains-append_left (entries_of us) (entries_of bs)) r), p)
-      forth (inr (entry, r, p)) = (entry, subst (R entry) (sym (entries-append us bs)) (reached-wider (Contains-append_right (entries_of us) (entries_of bs)) r), p)
+      forth (inl (entry, r, p)) = (
+        entry,
+        subst (R entry) (sym (entries-append us bs))
+            (reached-wider (Contains-append_left (entries_of us) (entries_of bs)) r),
+        p,
+      )
+      forth (inr (entry, r, p)) = (
+        entry,
+        subst (R entry) (sym (entries-append us bs))
+            (reached-wider (Contains-append_right (entries_of us) (entries_of bs)) r),
+        p,
+      )
 
       back : ReachesOne P shapes (us ++ bs) → ReachesOne P shapes us ⊎ ReachesOne P shapes bs
-      back (entry, r, p) = elim (reached-cases (entries_of us) (entries_of bs) (subst (R entry) (entries-append us bs) r)) [ inl x ↦ inl (entry, x, p) | inr y ↦ inr (entry, y, p) ]
+      back (entry, r, p) =
+          elim (reached-cases (entries_of us) (entries_of bs) (subst (R entry) (entries-append us bs) r))
+          [ inl x ↦ inl (entry, x, p) | inr y ↦ inr (entry, y, p) ]
 
   pub one-entry : (first : ℕ)
       → (P (shapes first) ⊎ ReachesOne P shapes (types_reached (shapes first))) ↔ ReachesOne P shapes (Some first ∷ [])
@@ -86,7 +100,8 @@ module _ (shapes : ℕ → ShapeOf) where
   depth-none zero few = (λ _. omega arith, λ _. tt)
   depth-none (suc k) few = (λ path. absurd (let c = path.2 in omega (arith, c.1)), λ more. absurd (omega arith))
 
-  depth-join : (us bs : List ℕ) (m n : ℕ) → IsDepth shapes us m → IsDepth shapes bs n → IsDepth shapes (us ++ bs) (max m n)
+  depth-join : (us bs : List ℕ) (m n : ℕ) → IsDepth shapes us m → IsDepth shapes bs n
+      → IsDepth shapes (us ++ bs) (max m n)
   depth-join us bs m n one two zero few = (λ _. omega arith, λ _. tt)
   depth-join us bs m n one two (suc k) few = (forth, back)
     where
@@ -98,12 +113,15 @@ module _ (shapes : ℕ → ShapeOf) where
 
       back : suc k ≤ max m n → HasPathFrom shapes (us ++ bs) (suc k)
       back most = elim (cases_lt k m) [
-        | inl fits ↦ (let (next, to, c, led) = (one (suc k) few).1 (omega arith) in (next, to, Contains-append_left us bs next c, led))
-        | inr over ↦ (let (next, to, c, led) = (two (suc k) few).1 (omega arith) in (next, to, Contains-append_right us bs next c, led))
+        | inl fits ↦ (let (next, to, c, led) = (one (suc k) few).1 (omega arith) in
+            (next, to, Contains-append_left us bs next c, led))
+        | inr over ↦ (let (next, to, c, led) = (two (suc k) few).1 (omega arith) in
+            (next, to, Contains-append_right us bs next c, led))
       ]
 
   -- a path to an entry goes on to those that it leads to
-  depth-entry : (first m n : ℕ) → n ≡ min (m + 1) 255 → IsDepth shapes (steps_reached shapes first) m → IsDepth shapes (first ∷ []) n
+  depth-entry : (first m n : ℕ) → n ≡ min (m + 1) 255 → IsDepth shapes (steps_reached shapes first) m
+      → IsDepth shapes (first ∷ []) n
   depth-entry first m n is under zero few = (λ _. omega arith, λ _. tt)
   depth-entry first m n is under (suc k) few =
       let there = under k (omega arith) in (
@@ -137,43 +155,83 @@ module _ (shapes : ℕ → ShapeOf) where
   pub found-join : (us bs : List TypeAt) (f g all : Findings) → AreFound shapes us f → AreFound shapes bs g
       → IsEither f g all → all.depth ≡ max f.depth g.depth → AreFound shapes (us ++ bs) all
   found-join us bs f g all one two is depth = record {
-    bad_name = either f.bad_name g.bad_name all.bad_name one.bad_name two.bad_name is.bad_name (one-join (HasBadName shapes) shapes us bs);
-    foreign_type = either f.foreign g.foreign all.foreign one.foreign_type two.foreign_type is.foreign_type (one-join IsForeign shapes us bs);
-    unspeakable = either f.unspeakable g.unspeakable all.unspeakable one.unspeakable two.unspeakable is.unspeakable (one-join (IsUnspeakable shapes) shapes us bs);
+    bad_name =
+        either f.bad_name g.bad_name all.bad_name one.bad_name two.bad_name is.bad_name
+        (one-join (HasBadName shapes) shapes us bs);
+    foreign_type =
+        either f.foreign g.foreign all.foreign one.foreign_type two.foreign_type is.foreign_type
+        (one-join IsForeign shapes us bs);
+    unspeakable =
+        either f.unspeakable g.unspeakable all.unspeakable one.unspeakable two.unspeakable is.unspeakable
+        (one-join (IsUnspeakable shapes) shapes us bs);
     deep =
         let joined = depth-join shapes (entries_of us) (entries_of bs) f.depth g.depth one.deep two.deep in
         rw (depth, entries-append us bs) joined;
   }
 
   -- of an entry, by its own shape and by what is known of the types that it names
-  pub found-shape : (known : Survey) (first : ℕ) (own under all : Findings) → All (Knows shapes known) (types_reached (shapes first))
-      → IsOwn (has_bad_name (kind_known known) (shapes first)) (is_foreign (shapes first)) (is_unspeakable known (shapes first)) own
-      → AreFound shapes (types_reached (shapes first)) under → IsEither own under all → all.depth ≡ min (under.depth + 1) 255
+  pub found-shape : (known : Survey) (first : ℕ) (own under all : Findings)
+      → All (Knows shapes known) (types_reached (shapes first))
+      → IsOwn (has_bad_name (kind_known known) (shapes first)) (is_foreign (shapes first))
+      (is_unspeakable known (shapes first)) own
+      → AreFound shapes (types_reached (shapes first)) under → IsEither own under all
+      → all.depth ≡ min (under.depth + 1) 255
       → AreFound shapes (Some first ∷ []) all
   found-shape known first own under all knows mine rest both depth = record {
-    bad_name = either own.bad_name under.bad_name all.bad_name (test-itself own.bad_name _ (mine.bad_name ∙ names-known shapes known (shapes first) knows)) rest.bad_name both.bad_name (one-entry (HasBadName shapes) shapes first);
-    foreign_type = either own.foreign under.foreign all.foreign (test-itself own.foreign _ mine.foreign_type) rest.foreign_type both.foreign_type (one-entry IsForeign shapes first);
-    unspeakable = either own.unspeakable under.unspeakable all.unspeakable (test-same own.unspeakable _ mine.unspeakable (unspeakable-known shapes known (shapes first) knows)) rest.unspeakable both.unspeakable (one-entry (IsUnspeakable shapes) shapes first);
+    bad_name =
+        either own.bad_name under.bad_name all.bad_name
+        (test-itself own.bad_name _ (mine.bad_name ∙ names-known shapes known (shapes first) knows)) rest.bad_name
+        both.bad_name (one-entry (HasBadName shapes) shapes first);
+    foreign_type =
+        either own.foreign under.foreign all.foreign (test-itself own.foreign _ mine.foreign_type) rest.foreign_type
+        both.foreign_type (one-entry IsForeign shapes first);
+    unspeakable =
+        either own.unspeakable under.unspeakable all.unspeakable
+        (test-same own.unspeakable _ mine.unspeakable (unspeakable-known shapes known (shapes first) knows))
+        rest.unspeakable both.unspeakable (one-entry (IsUnspeakable shapes) shapes first);
     deep = depth-entry shapes first under.depth all.depth depth rest.deep;
   }
 
   pub found-subject : (known : Survey) (subject : SubjectOf) (own under all : Findings)
       → All (Knows shapes known) (types_declared subject)
-      → IsOwn (has_own_bad_name (kind_known known) subject) (is_own_foreign subject) (is_own_unspeakable known subject) own
-      → AreFound shapes (types_declared subject) under → IsEither own under all → all.depth ≡ under.depth → AreFoundOf shapes subject all
+      → IsOwn (has_own_bad_name (kind_known known) subject) (is_own_foreign subject) (is_own_unspeakable known subject)
+      own
+      → AreFound shapes (types_declared subject) under → IsEither own under all → all.depth ≡ under.depth
+      → AreFoundOf shapes subject all
   found-subject known subject own under all knows mine rest is depth = record {
-    bad_name = either own.bad_name under.bad_name all.bad_name (test-itself own.bad_name _ (mine.bad_name ∙ own-names-known shapes known subject knows)) rest.bad_name is.bad_name
-        (λ s. elim s [ inl h ↦ own_name h | inr h ↦ name_reached h.0 h.1 h.2 ], λ h. elim h [ own_name x ↦ inl x | name_reached e r x ↦ inr (e, r, x) ]);
-    foreign_type = either own.foreign under.foreign all.foreign (test-itself own.foreign _ mine.foreign_type) rest.foreign_type is.foreign_type
-        (λ s. elim s [ inl h ↦ own_child h | inr h ↦ foreign_reached h.0 h.1 h.2 ], λ h. elim h [ own_child x ↦ inl x | foreign_reached e r x ↦ inr (e, r, x) ]);
-    unspeakable = either own.unspeakable under.unspeakable all.unspeakable (test-same own.unspeakable _ mine.unspeakable (own-unspeakable-known shapes known subject knows)) rest.unspeakable is.unspeakable
-        (λ s. elim s [ inl h ↦ own_shape h | inr h ↦ shape_reached h.0 h.1 h.2 ], λ h. elim h [ own_shape x ↦ inl x | shape_reached e r x ↦ inr (e, r, x) ]);
+    bad_name =
+        either own.bad_name under.bad_name all.bad_name
+        (test-itself own.bad_name _ (mine.bad_name ∙ own-names-known shapes known subject knows)) rest.bad_name
+        is.bad_name (
+          λ s. elim s [ inl h ↦ own_name h | inr h ↦ name_reached h.0 h.1 h.2 ],
+          λ h. elim h
+              [ own_name x ↦ inl x | name_reached e r x ↦ inr (e, r, x) ],
+        );
+    foreign_type =
+        either own.foreign under.foreign all.foreign (test-itself own.foreign _ mine.foreign_type) rest.foreign_type
+        is.foreign_type (
+          λ s. elim s [ inl h ↦ own_child h | inr h ↦ foreign_reached h.0 h.1 h.2 ],
+          λ h. elim h
+              [ own_child x ↦ inl x | foreign_reached e r x ↦ inr (e, r, x) ],
+        );
+    unspeakable =
+        either own.unspeakable under.unspeakable all.unspeakable
+        (test-same own.unspeakable _ mine.unspeakable (own-unspeakable-known shapes known subject knows))
+        rest.unspeakable is.unspeakable (
+          λ s. elim s [ inl h ↦ own_shape h | inr h ↦ shape_reached h.0 h.1 h.2 ],
+          λ h. elim h
+              [ own_shape x ↦ inl x | shape_reached e r x ↦ inr (e, r, x) ],
+        );
     deep =
         let few : 65 ≤ 65 = omega arith in
-        let far = rest.deep 65 few in
-        (λ over. deep (far.1 (omega (arith, depth, over))), λ h. elim h [ deep path ↦ omega (arith, depth, far.0 path) ]);
+        let far = rest.deep 65 few in (
+          λ over. deep (far.1 (omega (arith, depth, over))),
+          λ h. elim h
+              [ deep path ↦ omega (arith, depth, far.0 path) ],
+        );
   }
 
 pub same-summary : {shapes : ℕ → ShapeOf} {at : TypeAt} {s known : Summary} → s ≡ known → IsSummary shapes at known
     → IsSummary shapes at s
-same-summary {shapes = shapes} {at = at} same is = let P : Summary → Type 0 = λ x. IsSummary shapes at x in subst P (sym same) is
+same-summary {shapes = shapes} {at = at} same is = let P : Summary → Type 0 = λ x. IsSummary shapes at x in
+    subst P (sym same) is

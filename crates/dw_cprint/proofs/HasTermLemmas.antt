@@ -54,7 +54,8 @@ pub record IsBaseTerm (t : Term) : Type 0 where
   pub present : IsPresent t
   pub qualifiable : IsQualifiable t
 
-base_some : (name : Name) (term : TypeAt → Option Term) → (lacks_base_name name ≡ true → ⊥) → IsSome (term_by term (base name))
+base_some : (name : Name) (term : TypeAt → Option Term) → (lacks_base_name name ≡ true → ⊥)
+    → IsSome (term_by term (base name))
 base_some None term h = absurd (h refl)
 base_some (Some n) term h = search (rules, not_refuted)
 
@@ -93,16 +94,19 @@ unvalued (e ∷ es) w = w
 value_some : (e : EnumeratorOf) → (lacks_value e ≡ true → ⊥) → IsSome e.value
 value_some e h = search (rules)
 
-pub constants_some : (es : List EnumeratorOf) → (list_any nameless_at es ≡ true → ⊥) → (list_any lacks_value es ≡ true → ⊥)
+pub constants_some : (es : List EnumeratorOf) → (list_any nameless_at es ≡ true → ⊥)
+    → (list_any lacks_value es ≡ true → ⊥)
     → IsSome (constants_of es)
 constants_some [] named valued = refl
 constants_some (e ∷ es) named valued =
     let rest = constants_some es
     (λ w. named (or_right (nameless_at e) (list_any nameless_at es) w))
     (λ w. valued (or_right (lacks_value e) (list_any lacks_value es) w)) in
-    then_some (λ (name : List ℕ). option_and_then (λ (value : ℤ). option_map (λ (cs : List Constant). Valued name value ∷ cs) (constants_of es)) e.value) e.name
+    then_some (λ (name : List ℕ). option_and_then
+    (λ (value : ℤ). option_map (λ (cs : List Constant). Valued name value ∷ cs) (constants_of es)) e.value) e.name
     (name_some e.name (λ w. named (or_left (nameless_at e) (list_any nameless_at es) w)))
-    (λ name. then_some (λ (value : ℤ). option_map (λ (cs : List Constant). Valued name value ∷ cs) (constants_of es)) e.value
+    (λ name. then_some (λ (value : ℤ). option_map (λ (cs : List Constant). Valued name value ∷ cs) (constants_of es))
+    e.value
     (value_some e (λ w. valued (or_left (lacks_value e) (list_any lacks_value es) w)))
     (λ value. map_some (λ (cs : List Constant). Valued name value ∷ cs) (constants_of es) rest))
 
@@ -114,14 +118,28 @@ module _ (term : TypeAt → Option Term) (void : IsSome (term None)) where
       → IsSome (parameters_by term ps)
   parameters_some [] h = refl
   parameters_some (Typed at ∷ ps) h =
-      search (rules, then_some, head_of, map_some, rest_of, (parameters_some ps (rest_of HasTerm void at (parameter_types ps) h)))
+      search (
+        rules,
+        then_some,
+        head_of,
+        map_some,
+        rest_of,
+        (parameters_some ps (rest_of HasTerm void at (parameter_types ps) h)),
+      )
   parameters_some (More ∷ ps) h = parameters_some ps h
 
   pub members_some : (ms : List MemberOf) → ((n : ℕ) → Contains (entries_of (member_types ms)) n → HasTerm (Some n))
       → IsSome (members_by term ms)
   members_some [] h = refl
   members_some (m ∷ ms) h =
-      search (rules, then_some, head_of, map_some, rest_of, (members_some ms (rest_of HasTerm void m.type_at (member_types ms) h)))
+      search (
+        rules,
+        then_some,
+        head_of,
+        map_some,
+        rest_of,
+        (members_some ms (rest_of HasTerm void m.type_at (member_types ms) h)),
+      )
 
   shape_some : (shapes : ℕ → ShapeOf) (s : ShapeOf) → IsFine shapes s
       → ((n : ℕ) → Contains (entries_of (types_reached s)) n → HasTerm (Some n)) → IsSome (term_by term s)
@@ -131,17 +149,24 @@ module _ (term : TypeAt → Option Term) (void : IsSome (term None)) where
   shape_some shapes (qualified q at) fine h = map_some (Qualified q) (term at) (head_of HasTerm void at [] h)
   shape_some shapes (pointer at) fine h = map_some Pointer (term at) (head_of HasTerm void at [] h)
   shape_some shapes (array counts strange at) fine h =
-      unless_some (is_miscounted counts) (option_map (arrays counts) (term at)) (λ w. fine.speakable (wrong (or_right strange _ (or_left (is_miscounted counts) _ w)))) (map_some (arrays counts) (term at) (head_of HasTerm void at [] h))
-  shape_some shapes (function at None) fine h = map_some (λ (t : Term). Function t Unprototyped) (term at) (head_of HasTerm void at [] h)
+      unless_some (is_miscounted counts) (option_map (arrays counts) (term at))
+      (λ w. fine.speakable (wrong (or_right strange _ (or_left (is_miscounted counts) _ w))))
+      (map_some (arrays counts) (term at) (head_of HasTerm void at [] h))
+  shape_some shapes (function at None) fine h =
+      map_some (λ (t : Term). Function t Unprototyped) (term at) (head_of HasTerm void at [] h)
   shape_some shapes (function at (Some ps)) fine h =
-      let called : Term → Option Term = λ (t : Term). option_map (λ (us : Parameters). Function t (Prototyped us (has_more ps))) (parameters_by term ps) in
+      let called : Term → Option Term = λ (t : Term). option_map
+      (λ (us : Parameters). Function t (Prototyped us (has_more ps))) (parameters_by term ps) in
       unless_some (is_misplaced ps) (option_and_then called (term at)) (λ w. fine.speakable (wrong (or_right _ _ w)))
       (then_some called (term at) (head_of HasTerm void at (parameter_types ps) h)
-      (λ t. map_some (λ (us : Parameters). Function t (Prototyped us (has_more ps))) (parameters_by term ps) (parameters_some ps (rest_of HasTerm void at (parameter_types ps) h))))
+      (λ t. map_some (λ (us : Parameters). Function t (Prototyped us (has_more ps))) (parameters_by term ps)
+      (parameters_some ps (rest_of HasTerm void at (parameter_types ps) h))))
   shape_some shapes (tagged word name) fine h = refl
   shape_some shapes (nameless word) fine h = absurd (fine.named refl)
   shape_some shapes (body word odd ms) fine h = map_some (Body word) (members_by term ms) (members_some ms h)
-  shape_some shapes (enumeration odd es) fine h = map_some Enumeration (constants_of es) (constants_some es fine.named (λ w. fine.speakable (wrong (unvalued es w))))
+  shape_some shapes (enumeration odd es) fine h =
+      map_some Enumeration (constants_of es)
+      (constants_some es fine.named (λ w. fine.speakable (wrong (unvalued es w))))
   shape_some shapes foreign fine h = absurd (fine.ours refl)
   shape_some shapes other fine h = absurd (fine.ours refl)
 

@@ -23,32 +23,39 @@ pub next-of : {X Y : Type 0} (f : X → Y) (xs : List X) (i : ℕ) (one : X) →
 next-of f xs i one is within = ap (map f) (drop_more xs i one within) ∙ ap (λ z. f z ∷ map f (drop (i + 1) xs)) (sym is)
 
 -- what is written is followed by the same rest
-pub moved : (a rest whole : List Token) (old out out' : Option (List ℕ)) (all : List ℕ) → Writes a out out' → a ++ rest ≡ whole
+pub moved : (a rest whole : List Token) (old out out' : Option (List ℕ)) (all : List ℕ) → Writes a out out'
+    → a ++ rest ≡ whole
     → appended out (text_of whole) ≡ appended old all → appended out' (text_of rest) ≡ appended old all
 moved a rest whole old out out' all h parts so_far = search (rules, appended-twice, text-append)
 
 -- ---- items of any kind, by the tokens of some of them, if all of these have terms
 
 -- the items that are left are still to be written
-pub record IsLeft {X : Type 0} (tokens : List X → Option (List Token)) (all : List X) (old : Option (List ℕ)) (left : List X)
+pub record IsLeft {X : Type 0} (tokens : List X → Option (List Token)) (all : List X) (old : Option (List ℕ))
+    (left : List X)
     (out : Option (List ℕ)) : Type 0 where
   pub rest : (us : List Token) → tokens all ≡ Some us
       → (vs : List Token) × (tokens left ≡ Some vs) × (appended out (text_of vs) ≡ appended old (text_of us))
 
 -- the tokens of an item, which is written, and those of the others
-abbrev IsSplit : {X : Type 0} → (List X → Option (List Token)) → List X → List Token → Option (List ℕ) → Option (List ℕ) → Type 0
-IsSplit tokens left us out out' = (one others : List Token) × (tokens left ≡ Some others) × (one ++ others ≡ us) × Writes one out out'
+abbrev IsSplit : {X : Type 0} → (List X → Option (List Token)) → List X → List Token → Option (List ℕ) → Option (List ℕ)
+    → Type 0
+IsSplit tokens left us out out' =
+    (one others : List Token) × (tokens left ≡ Some others) × (one ++ others ≡ us) × Writes one out out'
 
 module _ {X : Type 0} (tokens : List X → Option (List Token)) (all : List X) (old : Option (List ℕ)) where
   left-next : (x : X) (left : List X) (out out' : Option (List ℕ)) → IsLeft tokens all old (x ∷ left) out
-      → ((us : List Token) → tokens (x ∷ left) ≡ Some us → IsSplit tokens left us out out') → IsLeft tokens all old left out'
+      → ((us : List Token) → tokens (x ∷ left) ≡ Some us → IsSplit tokens left us out out')
+      → IsLeft tokens all old left out'
   left-next x left out out' so_far split = grind (arith, common_steps, moved)
 
   -- none is left to be written where the text is too long
-  pub left-over : (left : List X) (out : Option (List ℕ)) → tokens [] ≡ Some [] → out ≡ None → IsLeft tokens all old left out → IsLeft tokens all old [] out
+  pub left-over : (left : List X) (out : Option (List ℕ)) → tokens [] ≡ Some [] → out ≡ None
+      → IsLeft tokens all old left out → IsLeft tokens all old [] out
   left-over left out none is so_far = search (rules, appended-nil, over-before)
 
-  left-done : (out : Option (List ℕ)) (us : List Token) → tokens [] ≡ Some [] → IsLeft tokens all old [] out → tokens all ≡ Some us → Writes us old out
+  left-done : (out : Option (List ℕ)) (us : List Token) → tokens [] ≡ Some [] → IsLeft tokens all old [] out
+      → tokens all ≡ Some us → Writes us old out
   left-done out us none so_far e = search (rules, same_Some, appended-nil)
 
 -- ---- members
@@ -63,19 +70,33 @@ member-tokens name t bits us = search (rules, append_assoc)
 
 pub members_next : (term : TypeAt → Option Term) (all : List MemberOf) (m : MemberOf) (left : List MemberOf)
     (old out out' : Option (List ℕ)) → IsLeft (members_left term) all old (m ∷ left) out
-    → ((t : Term) → term m.type_at ≡ Some t → Writes (spell [] t (name_tokens m.name) ++ (bits_tokens m.bits ++ Semicolon ∷ Blank ∷ [])) out out')
+    → ((t : Term) → term m.type_at ≡ Some t
+    → Writes (spell [] t (name_tokens m.name) ++ (bits_tokens m.bits ++ Semicolon ∷ Blank ∷ [])) out out')
     → IsLeft (members_left term) all old left out'
 members_next term all m left old out out' so_far written = left-next (members_left term) all old m left out out' so_far
-    (map_holds (λ (us : List Token). IsSplit (members_left term) left us out out') members_tokens (members_by term (m ∷ left))
-    (both_hold (λ (ms : Members). IsSplit (members_left term) left (members_tokens ms) out out') (λ (t : Term). MemberTerm m.name t m.bits) (term m.type_at) (members_by term left)
-    (λ t is us are. (_, members_tokens us, ap (option_map members_tokens) are, member-tokens m.name t m.bits us, written t is))))
+    (map_holds (λ (us : List Token). IsSplit (members_left term) left us out out') members_tokens
+    (members_by term (m ∷ left))
+    (both_hold (λ (ms : Members). IsSplit (members_left term) left (members_tokens ms) out out')
+    (λ (t : Term). MemberTerm m.name t m.bits) (term m.type_at) (members_by term left)
+    (λ t is us are. (
+      _,
+      members_tokens us,
+      ap (option_map members_tokens) are,
+      member-tokens m.name t m.bits us,
+      written
+          t is,
+    ))))
 
 -- the members, in braces
-pub members_done : (term : TypeAt → Option Term) (all : List MemberOf) (begin old out new : Option (List ℕ)) → Writes (LeftBrace ∷ Blank ∷ []) begin old
-    → IsLeft (members_left term) all old [] out → Writes (RightBrace ∷ []) out new → (us : Members) → members_by term all ≡ Some us → Writes (body_tokens us) begin new
+pub members_done : (term : TypeAt → Option Term) (all : List MemberOf) (begin old out new : Option (List ℕ))
+    → Writes (LeftBrace ∷ Blank ∷ []) begin old
+    → IsLeft (members_left term) all old [] out → Writes (RightBrace ∷ []) out new → (us : Members)
+    → members_by term all ≡ Some us → Writes (body_tokens us) begin new
 members_done term all begin old out new opens left closes us e =
-    let inner = left-done (members_left term) all old out (members_tokens us) refl left (ap (option_map members_tokens) e) in
-    both (LeftBrace ∷ Blank ∷ []) (members_tokens us ++ RightBrace ∷ []) begin old new opens (both (members_tokens us) (RightBrace ∷ []) old out new inner closes)
+    let inner = left-done (members_left term) all old out (members_tokens us) refl left
+    (ap (option_map members_tokens) e) in
+    both (LeftBrace ∷ Blank ∷ []) (members_tokens us ++ RightBrace ∷ []) begin old new opens
+    (both (members_tokens us) (RightBrace ∷ []) old out new inner closes)
 
 -- ---- enumerators
 
@@ -97,13 +118,21 @@ pub more-constants : (x : EnumeratorOf) (es : List EnumeratorOf) (cs : List Cons
 more-constants x es cs e = search (rules, then_inverted, map_inverted)
 
 pub enumerators_next : (all : List EnumeratorOf) (x : EnumeratorOf) (left : List EnumeratorOf)
-    (old out mid out' : Option (List ℕ)) → IsLeft enumerators_left all old (x ∷ left) out → Writes (Comma ∷ Blank ∷ []) out mid
+    (old out mid out' : Option (List ℕ)) → IsLeft enumerators_left all old (x ∷ left) out
+    → Writes (Comma ∷ Blank ∷ []) out mid
     → WritesEnumerator x mid out' → IsLeft enumerators_left all old left out'
-enumerators_next all x left old out mid out' so_far comma written = left-next enumerators_left all old x left out out' so_far
-    (map_holds (λ (us : List Token). IsSplit enumerators_left left us out out') more_constants (constants_of (x ∷ left)) (λ cs e.
+enumerators_next all x left old out mid out' so_far comma written =
+    left-next enumerators_left all old x left out out' so_far
+    (map_holds (λ (us : List Token). IsSplit enumerators_left left us out out') more_constants (constants_of (x ∷ left))
+    (λ cs e.
     let m = more-constants x left cs e in
-    let c = constant (Valued m.name m.value) in
-    (Comma ∷ Blank ∷ c, more_constants m.others, ap (option_map more_constants) m.are_others, ap more_constants m.is, both (Comma ∷ Blank ∷ []) c out mid out' comma (written m.name m.value m.is_name m.is_value))))
+    let c = constant (Valued m.name m.value) in (
+      Comma ∷ Blank ∷ c,
+      more_constants m.others,
+      ap (option_map more_constants) m.are_others,
+      ap more_constants m.is,
+      both (Comma ∷ Blank ∷ []) c out mid out' comma (written m.name m.value m.is_name m.is_value),
+    )))
 
 pub enumerators_done : (x : EnumeratorOf) (others : List EnumeratorOf) (begin mid old out new : Option (List ℕ))
     → Writes (LeftBrace ∷ Blank ∷ []) begin mid → WritesEnumerator x mid old → IsLeft enumerators_left others old [] out
@@ -111,11 +140,13 @@ pub enumerators_done : (x : EnumeratorOf) (others : List EnumeratorOf) (begin mi
 enumerators_done x others begin mid old out new opens first left closes cs e =
     let m = more-constants x others cs e in
     let c = constant (Valued m.name m.value) in
-    let inner = left-done enumerators_left others old out (more_constants m.others) refl left (ap (option_map more_constants) m.are_others) in
+    let inner = left-done enumerators_left others old out (more_constants m.others) refl left
+    (ap (option_map more_constants) m.are_others) in
     let P : List Constant → Type 0 = λ u. Writes (enumeration_tokens u) begin new in
     subst P m.is
     (both (LeftBrace ∷ Blank ∷ []) ((c ++ more_constants m.others) ++ Blank ∷ RightBrace ∷ []) begin mid new opens
-    (both (c ++ more_constants m.others) (Blank ∷ RightBrace ∷ []) mid out new (both c (more_constants m.others) mid old out (first m.name m.value m.is_name m.is_value) inner) closes))
+    (both (c ++ more_constants m.others) (Blank ∷ RightBrace ∷ []) mid out new
+    (both c (more_constants m.others) mid old out (first m.name m.value m.is_name m.is_value) inner) closes))
 
 -- ---- parameters
 
@@ -124,35 +155,51 @@ abbrev following : Parameters → List Parameter → List Token
 following us ps = more_parameters us ++ ellipsis (has_more ps)
 
 abbrev pub parameters_left : (TypeAt → Option Term) → List Parameter → Option (List Token)
-parameters_left term ps = if is_cut_short ps then None else option_map (λ (us : Parameters). following us ps) (parameters_by term ps)
+parameters_left term ps =
+    if is_cut_short ps then None else option_map (λ (us : Parameters). following us ps) (parameters_by term ps)
 
-parameters-are : (term : TypeAt → Option Term) (ps : List Parameter) (us : Parameters) → is_cut_short ps ≡ false → parameters_by term ps ≡ Some us → parameters_left term ps ≡ Some (following us ps)
+parameters-are : (term : TypeAt → Option Term) (ps : List Parameter) (us : Parameters) → is_cut_short ps ≡ false
+    → parameters_by term ps ≡ Some us → parameters_left term ps ≡ Some (following us ps)
 parameters-are term ps us placed e = rw (placed, e) refl
 
 pub parameters_next : (s : Survey) (k : ℕ) (all : List Parameter) (p : Parameter) (left : List Parameter)
-    (old out mid out' : Option (List ℕ)) → IsLeft (parameters_left (kept_term s k)) all old (p ∷ left) out → Writes (Comma ∷ Blank ∷ []) out mid
+    (old out mid out' : Option (List ℕ)) → IsLeft (parameters_left (kept_term s k)) all old (p ∷ left) out
+    → Writes (Comma ∷ Blank ∷ []) out mid
     → WritesParameter s k p mid out' → IsLeft (parameters_left (kept_term s k)) all old left out'
-parameters_next s k all p left old out mid out' so_far comma written = left-next (parameters_left term) all old p left out out' so_far (split p left written)
+parameters_next s k all p left old out mid out' so_far comma written =
+    left-next (parameters_left term) all old p left out out' so_far (split p left written)
   where
     term : TypeAt → Option Term
     term = kept_term s k
 
-    split : (p : Parameter) (left : List Parameter) → WritesParameter s k p mid out' → (us : List Token) → parameters_left term (p ∷ left) ≡ Some us → IsSplit (parameters_left term) left us out out'
+    split : (p : Parameter) (left : List Parameter) → WritesParameter s k p mid out' → (us : List Token)
+        → parameters_left term (p ∷ left) ≡ Some us → IsSplit (parameters_left term) left us out out'
     split (Typed at) left writes us e =
         let Split : List Token → Type 0 = λ us. IsSplit (parameters_left term) left us out out' in
-        unless_holds Split (is_cut_short left) _ (λ placed. map_holds Split (λ (ps : Parameters). following ps left) (parameters_by term (Typed at ∷ left))
-        (both_hold (λ (ps : Parameters). Split (following ps left)) ParameterTerm (term at) (parameters_by term left) (λ t is ps are. (
+        unless_holds Split (is_cut_short left) _
+        (λ placed. map_holds Split (λ (ps : Parameters). following ps left) (parameters_by term (Typed at ∷ left))
+        (both_hold (λ (ps : Parameters). Split (following ps left)) ParameterTerm (term at) (parameters_by term left)
+        (λ t is ps are. (
           Comma ∷ Blank ∷ spell [] t [],
           following ps left,
           parameters-are term left ps placed are,
-          ap (λ (u : List Token). Comma ∷ Blank ∷ u) (sym (append_assoc (spell [] t []) (more_parameters ps) (ellipsis (has_more left)))),
+          ap (λ (u : List Token). Comma ∷ Blank ∷ u)
+              (sym (append_assoc (spell [] t []) (more_parameters ps) (ellipsis (has_more left)))),
           both (Comma ∷ Blank ∷ []) (spell [] t []) out mid out' comma (writes t is),
         )))) us e
-    split More [] writes us e = (Comma ∷ Blank ∷ Dot ∷ Dot ∷ Dot ∷ [], [], refl, same_Some _ us e, both (Comma ∷ Blank ∷ []) (Dot ∷ Dot ∷ Dot ∷ []) out mid out' comma writes)
+    split More [] writes us e = (
+      Comma ∷ Blank ∷ Dot ∷ Dot ∷ Dot
+          ∷ [],
+      [],
+      refl,
+      same_Some _ us e,
+      both (Comma ∷ Blank ∷ []) (Dot ∷ Dot ∷ Dot ∷ []) out mid out' comma writes,
+    )
     split More (another ∷ left) writes us e = absurd (cc)
 
 pub parameters_done : (s : Survey) (k : ℕ) (p : Parameter) (others : List Parameter) (begin old new : Option (List ℕ))
-    → WritesParameter s k p begin old → IsLeft (parameters_left (kept_term s k)) others old [] new → WritesParameters s k (p ∷ others) begin new
+    → WritesParameter s k p begin old → IsLeft (parameters_left (kept_term s k)) others old [] new
+    → WritesParameters s k (p ∷ others) begin new
 parameters_done s k More others begin old new first left placed us e = absurd (cc)
 parameters_done s k (Typed at) others begin old new first left placed us e =
     search (rules, then_inverted, map_inverted, left-done, parameters-are, both)

@@ -37,7 +37,8 @@ module _ (f g : TypeAt → TypeKind) where
 
   pub wrong-alike : (shape : ShapeOf) → All Same (types_reached shape) → is_wrong f shape ≡ is_wrong g shape
   wrong-alike (array counts strange at) same =
-      ap (λ (k : TypeKind). strange || (is_miscounted counts || (is_function k || is_open k))) (first-of Same at [] same)
+      ap (λ (k : TypeKind). strange || (is_miscounted counts || (is_function k || is_open k)))
+      (first-of Same at [] same)
   wrong-alike (function at None) same = ap is_bracketed (first-of Same at [] same)
   wrong-alike (function at (Some ps)) same =
       ap (λ (k : TypeKind). is_bracketed k || is_misplaced ps) (first-of Same at (parameter_types ps) same)

@@ -18,7 +18,8 @@ use Rattle.dw_cprint.proofs.HasTermLemmas.{AreKept, IsBaseTerm, IsFine, among_he
 
 -- ---- an entry that is not wrong is legible
 
-member_legible : (k : TypeKind) (bits : Option ℕ) (name : Name) → (lacks_member_name k bits name ≡ true → ⊥) → IsName name
+member_legible : (k : TypeKind) (bits : Option ℕ) (name : Name) → (lacks_member_name k bits name ≡ true → ⊥)
+    → IsName name
 member_legible k bits None h = tt
 member_legible k bits (Some n) h = not_refuted (is_identifier n) h
 
@@ -49,7 +50,11 @@ module _ (term : TypeAt → Option Term) where
     parameters_legible [] h us e = let same : NoParameter ≡ us = cc in subst AreParameters same tt
     parameters_legible (Typed at ∷ ps) h us e =
         both_hold AreParameters ParameterTerm (term at) (parameters_by term ps)
-        (λ t is vs are. (head_of ReadsAt void at (parameter_types ps) h t is, parameters_legible ps (rest_of ReadsAt void at (parameter_types ps) h) vs are)) us e
+        (λ t is vs are. (
+          head_of ReadsAt void at (parameter_types ps) h t is,
+          parameters_legible ps
+              (rest_of ReadsAt void at (parameter_types ps) h) vs are,
+        )) us e
     parameters_legible (More ∷ ps) h us e = parameters_legible ps h us e
 
     signature_legible : (shapes : ℕ → ShapeOf) (ps : List Parameter)
@@ -61,21 +66,33 @@ module _ (term : TypeAt → Option Term) where
         let same : NoParameter ≡ us = cc in
         let P : Parameters → Type 0 = λ ps. IsSignature (Prototyped ps false) in subst P same refl
     signature_legible shapes (More ∷ ps) voids placed there h us e = absurd (cc)
-    signature_legible shapes (Typed None ∷ ps) voids placed there h us e = absurd (voids (any_here (IsVoidLike shapes) None (parameter_types ps) nothing))
+    signature_legible shapes (Typed None ∷ ps) voids placed there h us e =
+        absurd (voids (any_here (IsVoidLike shapes) None (parameter_types ps) nothing))
     signature_legible shapes (Typed (Some n) ∷ ps) voids placed there h us e =
         let here = among_here n (entries_of (parameter_types ps)) in
-        both_hold (λ (vs : Parameters). IsSignature (Prototyped vs (has_more ps))) ParameterTerm (term (Some n)) (parameters_by term ps)
-        (λ t is vs are. (there n here t is, h n here t is, parameters_legible ps (rest_of ReadsAt void (Some n) (parameter_types ps) h) vs are)) us e
+        both_hold (λ (vs : Parameters). IsSignature (Prototyped vs (has_more ps))) ParameterTerm (term (Some n))
+        (parameters_by term ps)
+        (λ t is vs are. (
+          there n here t is,
+          h n here t is,
+          parameters_legible ps
+              (rest_of ReadsAt void (Some n) (parameter_types ps) h) vs are,
+        )) us e
 
-    pub members_legible : (shapes : ℕ → ShapeOf) (ms : List MemberOf) → (list_any (nameless_member shapes) ms ≡ true → ⊥)
+    pub members_legible : (shapes : ℕ → ShapeOf) (ms : List MemberOf)
+        → (list_any (nameless_member shapes) ms ≡ true → ⊥)
         → ((n : ℕ) → Contains (entries_of (member_types ms)) n → ReadsAt (Some n)) → (us : Members)
         → members_by term ms ≡ Some us → AreMembers us
     members_legible shapes [] named h us e = let same : NoMember ≡ us = cc in subst AreMembers same tt
     members_legible shapes (m ∷ ms) named h us e =
-        both_hold AreMembers (λ (t : Term). MemberTerm m.name t m.bits) (term m.type_at) (members_by term ms) (λ t is vs are. (
-          member_legible (kind_at shapes m.type_at) m.bits m.name (λ w. named (or_left (nameless_member shapes m) (list_any (nameless_member shapes) ms) w)),
+        both_hold AreMembers (λ (t : Term). MemberTerm m.name t m.bits) (term m.type_at) (members_by term ms)
+        (λ t is vs are. (
+          member_legible (kind_at shapes m.type_at) m.bits m.name
+              (λ w. named (or_left (nameless_member shapes m) (list_any (nameless_member shapes) ms) w)),
           head_of ReadsAt void m.type_at (member_types ms) h t is,
-          members_legible shapes ms (λ w. named (or_right (nameless_member shapes m) (list_any (nameless_member shapes) ms) w)) (rest_of ReadsAt void m.type_at (member_types ms) h) vs are,
+          members_legible shapes ms (λ w. named
+              (or_right (nameless_member shapes m) (list_any (nameless_member shapes) ms) w))
+              (rest_of ReadsAt void m.type_at (member_types ms) h) vs are,
         )) us e
 
 arrays_legible : (counts : List (Option ℕ)) (t : Term) → IsLegible t → IsLegible (arrays counts t)
@@ -89,15 +106,22 @@ IsHead s t = IsPresent t × ((is_bracketed (kind_in (Some s)) ≡ true → ⊥) 
 -- the type of an entry
 head_is : (term : TypeAt → Option Term) (s : ShapeOf) (t : Term) → term_by term s ≡ Some t → IsHead s t
 head_is term (base (Some n)) t e = (IsBaseTerm.present (base_is n t e), λ a. IsBaseTerm.qualifiable (base_is n t e))
-head_is term (typedef (Some n)) t e = let same : Named n ≡ t = cc in subst (IsHead (typedef (Some n))) same (tt, λ a. tt)
-head_is term (qualified q at) t e = map_holds (IsHead (qualified q at)) (Qualified q) (term at) (λ u is. (tt, λ a. tt)) t e
+head_is term (typedef (Some n)) t e =
+    let same : Named n ≡ t = cc in subst (IsHead (typedef (Some n))) same (tt, λ a. tt)
+head_is term (qualified q at) t e =
+    map_holds (IsHead (qualified q at)) (Qualified q) (term at) (λ u is. (tt, λ a. tt)) t e
 head_is term (pointer at) t e = map_holds (IsHead (pointer at)) Pointer (term at) (λ u is. (tt, λ a. tt)) t e
 head_is term (array (c ∷ cs) strange at) t e = search (rules, unless_inverted, map_inverted)
-head_is term (function at None) t e = map_holds (IsHead (function at None)) (λ (t : Term). Function t Unprototyped) (term at) (λ u is. (tt, λ a. absurd (a refl))) t e
+head_is term (function at None) t e =
+    map_holds (IsHead (function at None)) (λ (t : Term). Function t Unprototyped) (term at)
+    (λ u is. (tt, λ a. absurd (a refl))) t e
 head_is term (function at (Some ps)) t e = search (rules, unless_inverted, then_inverted, map_inverted)
-head_is term (tagged word name) t e = let same : Tagged word name ≡ t = cc in subst (IsHead (tagged word name)) same (tt, λ a. tt)
-head_is term (body word odd ms) t e = map_holds (IsHead (body word odd ms)) (Body word) (members_by term ms) (λ us are. (tt, λ a. tt)) t e
-head_is term (enumeration odd es) t e = map_holds (IsHead (enumeration odd es)) Enumeration (constants_of es) (λ cs are. (tt, λ a. tt)) t e
+head_is term (tagged word name) t e =
+    let same : Tagged word name ≡ t = cc in subst (IsHead (tagged word name)) same (tt, λ a. tt)
+head_is term (body word odd ms) t e =
+    map_holds (IsHead (body word odd ms)) (Body word) (members_by term ms) (λ us are. (tt, λ a. tt)) t e
+head_is term (enumeration odd es) t e =
+    map_holds (IsHead (enumeration odd es)) Enumeration (constants_of es) (λ cs are. (tt, λ a. tt)) t e
 head_is term _ t e = absurd (cc)
 
 -- what a qualifier stands over is no array and no function
@@ -111,7 +135,9 @@ module _ (shapes : ℕ → ShapeOf) where
   qualifiable (suc k) (Some n) free t e = (head_is (term_at k shapes) (shapes n) t e).1 (λ w. free (Some n) (alone w) w)
     where
       alone : is_bracketed (kind_in (Some (shapes n))) ≡ true → StandsUnder shapes (Some n) (Some n)
-      alone w = itself (λ q to same. (let clash : true ≡ false = sym w ∙ ap (λ (s : ShapeOf). is_bracketed (kind_in (Some s))) same in absurd (cc)))
+      alone w =
+          itself (λ q to same. (let clash : true
+          ≡ false = sym w ∙ ap (λ (s : ShapeOf). is_bracketed (kind_in (Some s))) same in absurd (cc)))
 
 -- no row of qualifiers is over an array or a function
 bracketed_row : (q : Qualifier) (k : TypeKind) → is_bracketed k ≡ true → is_wrong_row q k ≡ true
@@ -126,27 +152,35 @@ void_legible (suc k) shapes t e = let same : Void ≡ t = cc in subst IsLegible 
 
 module _ (shapes : ℕ → ShapeOf) (k : ℕ) where
   shape_legible : (s : ShapeOf) → IsFine shapes s → IsRegular s
-      → ((n : ℕ) → Contains (entries_of (types_reached s)) n → (t : Term) → term_at k shapes (Some n) ≡ Some t → IsPresent t)
+      → ((n : ℕ) → Contains (entries_of (types_reached s)) n → (t : Term) → term_at k shapes (Some n) ≡ Some t
+      → IsPresent t)
       → ((n : ℕ) → Contains (entries_of (types_reached s)) n → ReadsAt (term_at k shapes) (Some n)) → (t : Term)
       → term_by (term_at k shapes) s ≡ Some t → IsLegible t
   shape_legible (base (Some n)) fine fit there h t e = IsBaseTerm.legible (base_is n t e)
-  shape_legible (typedef (Some n)) fine fit there h t e = let same : Named n ≡ t = cc in subst IsLegible same (not_refuted (is_identifier n) fine.named)
+  shape_legible (typedef (Some n)) fine fit there h t e =
+      let same : Named n ≡ t = cc in subst IsLegible same (not_refuted (is_identifier n) fine.named)
   shape_legible (qualified q at) fine fit there h t e =
       map_holds IsLegible (Qualified q) (term_at k shapes at) (λ u is. (
-        qualifiable shapes k at (λ under stands w. fine.speakable (row under stands (bracketed_row q (kind_at shapes under) w))) u is,
+        qualifiable shapes k at (λ under stands w. fine.speakable
+            (row under stands (bracketed_row q (kind_at shapes under) w))) u is,
         head_of (ReadsAt (term_at k shapes)) (void_legible k shapes) at [] h u is,
       )) t e
   shape_legible (pointer at) fine fit there h t e =
-      map_holds IsLegible Pointer (term_at k shapes at) (λ u is. head_of (ReadsAt (term_at k shapes)) (void_legible k shapes) at [] h u is) t e
+      map_holds IsLegible Pointer (term_at k shapes at)
+      (λ u is. head_of (ReadsAt (term_at k shapes)) (void_legible k shapes) at [] h u is) t e
   shape_legible (array counts strange at) fine fit there h t e =
-      unless_holds IsLegible (is_miscounted counts) (option_map (arrays counts) (term_at k shapes at)) (λ placed. map_holds IsLegible (arrays counts) (term_at k shapes at)
+      unless_holds IsLegible (is_miscounted counts) (option_map (arrays counts) (term_at k shapes at))
+      (λ placed. map_holds IsLegible (arrays counts) (term_at k shapes at)
       (λ u is. arrays_legible counts u (head_of (ReadsAt (term_at k shapes)) (void_legible k shapes) at [] h u is))) t e
   shape_legible (function at None) fine fit there h t e =
-      map_holds IsLegible (λ (t : Term). Function t Unprototyped) (term_at k shapes at) (λ u is. (head_of (ReadsAt (term_at k shapes)) (void_legible k shapes) at [] h u is, tt)) t e
+      map_holds IsLegible (λ (t : Term). Function t Unprototyped) (term_at k shapes at)
+      (λ u is. (head_of (ReadsAt (term_at k shapes)) (void_legible k shapes) at [] h u is, tt)) t e
   shape_legible (function at (Some ps)) fine fit there h t e =
       let term = term_at k shapes in
       let called : Term → Parameters → Term = λ t us. Function t (Prototyped us (has_more ps)) in
-      unless_holds IsLegible (is_misplaced ps) (option_and_then (λ (t : Term). option_map (called t) (parameters_by term ps)) (term at)) (λ placed. both_hold IsLegible called (term at) (parameters_by term ps) (λ r is us are. (
+      unless_holds IsLegible (is_misplaced ps)
+      (option_and_then (λ (t : Term). option_map (called t) (parameters_by term ps)) (term at))
+      (λ placed. both_hold IsLegible called (term at) (parameters_by term ps) (λ r is us are. (
         head_of (ReadsAt term) (void_legible k shapes) at (parameter_types ps) h r is,
         signature_legible term (void_legible k shapes) shapes ps (λ w. fine.speakable (void_object w)) placed
             (λ n among. there n (further_in at (parameter_types ps) n among))
@@ -157,10 +191,14 @@ module _ (shapes : ℕ → ShapeOf) (k : ℕ) where
           → Contains (entries_of (at ∷ ats)) n
       further_in None ats n c = c
       further_in (Some m) ats n c = among_there m n (entries_of ats) c
-  shape_legible (tagged word name) fine fit there h t e = let same : Tagged word name ≡ t = cc in subst IsLegible same (not_refuted (is_identifier name) fine.named)
+  shape_legible (tagged word name) fine fit there h t e =
+      let same : Tagged word name ≡ t = cc in subst IsLegible same (not_refuted (is_identifier name) fine.named)
   shape_legible (body word odd ms) fine fit there h t e =
-      map_holds IsLegible (Body word) (members_by (term_at k shapes) ms) (λ us are. (fit, members_legible (term_at k shapes) (void_legible k shapes) shapes ms fine.named h us are)) t e
-  shape_legible (enumeration odd es) fine fit there h t e = map_holds IsLegible Enumeration (constants_of es) (λ cs are. constants_legible es fine.named cs are) t e
+      map_holds IsLegible (Body word) (members_by (term_at k shapes) ms)
+      (λ us are. (fit, members_legible (term_at k shapes) (void_legible k shapes) shapes ms fine.named h us are)) t
+      e
+  shape_legible (enumeration odd es) fine fit there h t e =
+      map_holds IsLegible Enumeration (constants_of es) (λ cs are. constants_legible es fine.named cs are) t e
   shape_legible _ fine fit there h t e = absurd (cc)
 
 entry_present : (shapes : ℕ → ShapeOf) (k n : ℕ) (t : Term) → term_at k shapes (Some n) ≡ Some t → IsPresent t
@@ -190,7 +228,8 @@ module _ (shapes : ℕ → ShapeOf) (subject : SubjectOf) where
   }
 
 -- nothing is wrong with the body of the declared entry
-own_fine : (shapes : ℕ → ShapeOf) (name : Name) (shape : ShapeOf) → HoldsNoneBelow 5 shapes (tag_subject name shape) → IsFine shapes shape
+own_fine : (shapes : ℕ → ShapeOf) (name : Name) (shape : ShapeOf) → HoldsNoneBelow 5 shapes (tag_subject name shape)
+    → IsFine shapes shape
 own_fine shapes name shape none = record {
   named = λ w. none BadName (omega arith) (own_name (or_right (lacks_name name) _ w));
   ours = λ w. none Foreign (omega arith) (own_child w);
@@ -198,44 +237,69 @@ own_fine shapes name shape none = record {
 }
 
 -- where nothing is wrong and no row of steps is too long, there is a declaration
-pub subject_some : (k : ℕ) (shapes : ℕ → ShapeOf) (subject : SubjectOf) → HoldsNoneBelow 5 shapes subject → (HasPath shapes subject (suc k) → ⊥) → IsSome (declaration_by (term_at (suc k) shapes) subject)
-subject_some k shapes subject none short = by_subject subject none (λ n leads. entry_some shapes (IsReached shapes subject) (kept_reached shapes subject none) k n (root leads) (λ to path. short (n, to, leads, path)))
+pub subject_some : (k : ℕ) (shapes : ℕ → ShapeOf) (subject : SubjectOf) → HoldsNoneBelow 5 shapes subject
+    → (HasPath shapes subject (suc k) → ⊥) → IsSome (declaration_by (term_at (suc k) shapes) subject)
+subject_some k shapes subject none short =
+    by_subject subject none (λ n leads. entry_some shapes (IsReached shapes subject) (kept_reached shapes subject none)
+    k n (root leads) (λ to path. short (n, to, leads, path)))
   where
-    by_subject : (s : SubjectOf) → HoldsNoneBelow 5 shapes s → ((n : ℕ) → Contains (first_steps s) n → IsSome (term_at (suc k) shapes (Some n))) → IsSome (declaration_by (term_at (suc k) shapes) s)
+    by_subject : (s : SubjectOf) → HoldsNoneBelow 5 shapes s
+        → ((n : ℕ) → Contains (first_steps s) n → IsSome (term_at (suc k) shapes (Some n)))
+        → IsSome (declaration_by (term_at (suc k) shapes) s)
     by_subject (typedef_subject None at) none h = absurd (none BadName (omega arith) (own_name refl))
-    by_subject (typedef_subject (Some n) at) none h = map_some (Typedef n) (term_at (suc k) shapes at) (head_of (HasTerm (term_at (suc k) shapes) refl) refl at [] h)
+    by_subject (typedef_subject (Some n) at) none h =
+        map_some (Typedef n) (term_at (suc k) shapes at) (head_of (HasTerm (term_at (suc k) shapes) refl) refl at [] h)
     by_subject (variable_subject None at) none h = absurd (none BadName (omega arith) (own_name refl))
-    by_subject (variable_subject (Some n) at) none h = map_some (Variable n) (term_at (suc k) shapes at) (head_of (HasTerm (term_at (suc k) shapes) refl) refl at [] h)
+    by_subject (variable_subject (Some n) at) none h =
+        map_some (Variable n) (term_at (suc k) shapes at) (head_of (HasTerm (term_at (suc k) shapes) refl) refl at [] h)
     by_subject (tag_subject None shape) none h = absurd (none BadName (omega arith) (own_name refl))
     by_subject (tag_subject (Some n) (tagged word tag)) none h = refl
-    by_subject (tag_subject (Some n) (nameless word)) none h = absurd ((own_fine shapes (Some n) (nameless word) none).named refl)
-    by_subject (tag_subject (Some n) (body word odd ms)) none h = map_some (Aggregate word n) (members_by (term_at (suc k) shapes) ms) (members_some (term_at (suc k) shapes) refl ms h)
+    by_subject (tag_subject (Some n) (nameless word)) none h =
+        absurd ((own_fine shapes (Some n) (nameless word) none).named refl)
+    by_subject (tag_subject (Some n) (body word odd ms)) none h =
+        map_some (Aggregate word n) (members_by (term_at (suc k) shapes) ms)
+        (members_some (term_at (suc k) shapes) refl ms h)
     by_subject (tag_subject (Some n) (enumeration odd es)) none h =
         let fine = own_fine shapes (Some n) (enumeration odd es) none in
-        map_some (Constants n) (constants_of es) (constants_some es fine.named (λ w. fine.speakable (wrong (unvalued es w))))
+        map_some (Constants n) (constants_of es)
+        (constants_some es fine.named (λ w. fine.speakable (wrong (unvalued es w))))
     by_subject (tag_subject (Some n) _) none h = absurd (none NotPrintable (omega arith) (other_kind refl))
 
 -- where nothing is wrong, the declaration can be read back
-pub subject_legible : (k : ℕ) (shapes : ℕ → ShapeOf) (subject : SubjectOf) → HoldsNoneBelow 5 shapes subject → IsRegularSubject subject → ((entry : ℕ) → IsReached shapes subject entry → IsRegular (shapes entry))
+pub subject_legible : (k : ℕ) (shapes : ℕ → ShapeOf) (subject : SubjectOf) → HoldsNoneBelow 5 shapes subject
+    → IsRegularSubject subject → ((entry : ℕ) → IsReached shapes subject entry → IsRegular (shapes entry))
     → (d : Declaration) → declaration_by (term_at k shapes) subject ≡ Some d → IsDeclaration d
 subject_legible k shapes subject none own fit d e =
-    by_subject subject none own (λ n leads. entry_legible shapes (IsReached shapes subject) (kept_reached shapes subject none) fit k n (root leads)) e
+    by_subject subject none own (λ n leads. entry_legible shapes (IsReached shapes subject)
+    (kept_reached shapes subject none) fit k n (root leads)) e
   where
-    identifier : (s : SubjectOf) (n : List ℕ) → HoldsNoneBelow 5 shapes s → (not (is_identifier n) ≡ true → has_own_bad_name (kind_at shapes) s ≡ true) → IsIdentifier n
+    identifier : (s : SubjectOf) (n : List ℕ) → HoldsNoneBelow 5 shapes s
+        → (not (is_identifier n) ≡ true → has_own_bad_name (kind_at shapes) s ≡ true) → IsIdentifier n
     identifier s n none bad = not_refuted (is_identifier n) (λ w. none BadName (omega arith) (own_name (bad w)))
 
-    by_subject : (s : SubjectOf) → HoldsNoneBelow 5 shapes s → IsRegularSubject s → ((n : ℕ) → Contains (first_steps s) n → ReadsAt (term_at k shapes) (Some n)) → declaration_by (term_at k shapes) s ≡ Some d → IsDeclaration d
+    by_subject : (s : SubjectOf) → HoldsNoneBelow 5 shapes s → IsRegularSubject s
+        → ((n : ℕ) → Contains (first_steps s) n → ReadsAt (term_at k shapes) (Some n))
+        → declaration_by (term_at k shapes) s ≡ Some d → IsDeclaration d
     by_subject (typedef_subject (Some n) at) none own h e =
         map_holds IsDeclaration (Typedef n) (term_at k shapes at)
-        (λ u is. (identifier (typedef_subject (Some n) at) n none (λ w. w), head_of (ReadsAt (term_at k shapes)) (void_legible k shapes) at [] h u is)) d e
+        (λ u is. (
+          identifier (typedef_subject (Some n) at) n none (λ w. w),
+          head_of (ReadsAt (term_at k shapes))
+              (void_legible k shapes) at [] h u is,
+        )) d e
     by_subject (variable_subject (Some n) at) none own h e =
         map_holds IsDeclaration (Variable n) (term_at k shapes at)
-        (λ u is. (identifier (variable_subject (Some n) at) n none (λ w. w), head_of (ReadsAt (term_at k shapes)) (void_legible k shapes) at [] h u is)) d e
+        (λ u is. (
+          identifier (variable_subject (Some n) at) n none (λ w. w),
+          head_of (ReadsAt (term_at k shapes))
+              (void_legible k shapes) at [] h u is,
+        )) d e
     by_subject (tag_subject (Some n) (body word odd ms)) none own h e =
         map_holds IsDeclaration (Aggregate word n) (members_by (term_at k shapes) ms) (λ us are. (
           own,
           identifier (tag_subject (Some n) (body word odd ms)) n none (λ w. or_left _ _ w),
-          members_legible (term_at k shapes) (void_legible k shapes) shapes ms (own_fine shapes (Some n) (body word odd ms) none).named h us are,
+          members_legible (term_at k shapes) (void_legible k shapes) shapes ms
+              (own_fine shapes (Some n) (body word odd ms) none).named h us are,
         )) d e
     by_subject (tag_subject (Some n) (enumeration odd es)) none own h e =
         map_holds IsDeclaration (Constants n) (constants_of es) (λ cs are. (
@@ -244,5 +308,6 @@ subject_legible k shapes subject none own fit d e =
         )) d e
     by_subject (tag_subject (Some n) (tagged word tag)) none own h e =
         let same : Declared word tag ≡ d = cc in
-        subst IsDeclaration same (not_refuted (is_identifier tag) (own_fine shapes (Some n) (tagged word tag) none).named)
+        subst IsDeclaration same (not_refuted (is_identifier tag)
+        (own_fine shapes (Some n) (tagged word tag) none).named)
     by_subject _ none own h e = absurd (cc)

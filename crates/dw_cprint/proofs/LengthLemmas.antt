@@ -44,7 +44,8 @@ Tells term known at = (t : Term) → term at ≡ Some t → IsLength t (known at
 
 -- a type without a declarator, by what is before and after one
 bare-bytes : (t : Term) → byte_count (spell [] t []) ≡ type_bytes t false
-bare-bytes t = omega (arith, ap (λ (u : List Token). byte_count u) (in_parts [] t []), count-append (before [] t false) (after t))
+bare-bytes t =
+    omega (arith, ap (λ (u : List Token). byte_count u) (in_parts [] t []), count-append (before [] t false) (after t))
 
 bare-length : (t : Term) (n : ℕ) → n ≡ capped (type_bytes t false) → n ≡ capped (byte_count (spell [] t []))
 bare-length t n is = is ∙ ap (λ (m : ℕ). capped m) (sym (bare-bytes t))
@@ -53,7 +54,8 @@ bare-known : (t : Term) (k b : TypeKind) (n : ℕ) → IsLength t k b n → n �
 bare-known t k b n is = is.bare ∙ ap (λ (m : ℕ). capped m) (bare-bytes t)
 
 -- a type with a declarator
-around-length : (t : Term) (k b : TypeKind) (n : ℕ) → IsLength t k b n → capped (n + space (has_gap k b)) ≡ capped (type_bytes t true)
+around-length : (t : Term) (k b : TypeKind) (n : ℕ) → IsLength t k b n
+    → capped (n + space (has_gap k b)) ≡ capped (type_bytes t true)
 around-length t k b n is = omega (arith, bare-known t k b n is, is.around)
 
 module _ (term : TypeAt → Option Term) (known : TypeAt → Summary) where
@@ -63,61 +65,107 @@ module _ (term : TypeAt → Option Term) (known : TypeAt → Summary) where
   named-length t at None is = omega (arith, is.bare)
   named-length t at (Some name) is =
       let parts = ap (λ (u : List Token). byte_count u) (in_parts [] t (Identifier name ∷ [])) in
-      omega (arith, parts, count-append (before [] t true) (Identifier name ∷ after t), count-cons (Identifier name) (after t), bare-known t (known at).kind (known at).base (known at).length is, is.around)
+      omega (
+        arith,
+        parts,
+        count-append (before [] t true) (Identifier name ∷ after t),
+        count-cons (Identifier name)
+            (after t),
+        bare-known t (known at).kind (known at).base (known at).length is,
+        is.around,
+      )
 
-  members-length : (ms : List MemberOf) (us : Members) → All (Tells term known) (member_types ms) → members_by term ms ≡ Some us
+  members-length : (ms : List MemberOf) (us : Members) → All (Tells term known) (member_types ms)
+      → members_by term ms ≡ Some us
       → capped (sum_by (member_bytes known) ms) ≡ capped (byte_count (members_tokens us))
-  members-length [] us all e = (let same : NoMember ≡ us = cc in ap (λ (u : Members). capped (byte_count (members_tokens u))) same)
+  members-length [] us all e =
+      (let same : NoMember ≡ us = cc in ap (λ (u : Members). capped (byte_count (members_tokens u))) same)
   members-length (m ∷ ms) us all e =
-      both_hold (λ (us : Members). capped (sum_by (member_bytes known) (m ∷ ms)) ≡ capped (byte_count (members_tokens us)))
+      both_hold (λ (us : Members). capped (sum_by (member_bytes known) (m ∷ ms))
+      ≡ capped (byte_count (members_tokens us)))
       (λ (t : Term). MemberTerm m.name t m.bits) (term m.type_at) (members_by term ms) (λ t is vs are.
       let inner = members-length ms vs (others-of (Tells term known) m.type_at (member_types ms) all) are in
       let here = named-length t m.type_at m.name (first-of (Tells term known) m.type_at (member_types ms) all t is) in
       let name = spell [] t (name_tokens m.name) in
       let bits = byte_count (bits_tokens m.bits) in
       let one = capped-plus (named_bytes known m.type_at m.name) (bits + 2) (byte_count name) (bits + 2) here refl in
-      let both = capped-plus (named_bytes known m.type_at m.name + (bits + 2)) (sum_by (member_bytes known) ms) (byte_count name + (bits + 2)) (byte_count (members_tokens vs)) one inner in
+      let both = capped-plus (named_bytes known m.type_at m.name + (bits + 2)) (sum_by (member_bytes known) ms)
+      (byte_count name + (bits + 2)) (byte_count (members_tokens vs)) one inner in
       let a = count-append name (bits_tokens m.bits ++ Semicolon ∷ Blank ∷ members_tokens vs) in
       let b = count-append (bits_tokens m.bits) (Semicolon ∷ Blank ∷ members_tokens vs) in
-      let left : sum_by (member_bytes known) (m ∷ ms) ≡ named_bytes known m.type_at m.name + (bits + 2) + sum_by (member_bytes known) ms =
+      let left : sum_by (member_bytes known) (m ∷ ms)
+      ≡ named_bytes known m.type_at m.name + (bits + 2) + sum_by (member_bytes known) ms =
       omega (arith, sum_by-cons (member_bytes known) m ms) in
-      let right : byte_count name + (bits + 2) + byte_count (members_tokens vs) ≡ byte_count (members_tokens (MemberTerm m.name t m.bits vs)) =
+      let right : byte_count name + (bits + 2) + byte_count (members_tokens vs)
+      ≡ byte_count (members_tokens (MemberTerm m.name t m.bits vs)) =
       omega (arith, a, b, count-cons Semicolon (Blank ∷ members_tokens vs), count-cons Blank (members_tokens vs)) in
       ap (λ (n : ℕ). capped n) left ∙ both ∙ ap (λ (n : ℕ). capped n) right) us e
 
   -- those after the first, and the dots
-  parameters-length : (ps : List Parameter) (us : Parameters) → is_cut_short ps ≡ false → All (Tells term known) (parameter_types ps) → parameters_by term ps ≡ Some us
+  parameters-length : (ps : List Parameter) (us : Parameters) → is_cut_short ps ≡ false
+      → All (Tells term known) (parameter_types ps) → parameters_by term ps ≡ Some us
       → capped (sum_by (parameter_bytes known) ps) ≡ capped (byte_count (more_parameters us ++ ellipsis (has_more ps)))
-  parameters-length [] us placed all e = (let same : NoParameter ≡ us = cc in ap (λ (u : Parameters). capped (byte_count (more_parameters u ++ []))) same)
+  parameters-length [] us placed all e =
+      (let same : NoParameter ≡ us = cc in ap (λ (u : Parameters). capped (byte_count (more_parameters u ++ []))) same)
   parameters-length (Typed at ∷ ps) us placed all e =
-      both_hold (λ (us : Parameters). capped (sum_by (parameter_bytes known) (Typed at ∷ ps)) ≡ capped (byte_count (more_parameters us ++ ellipsis (has_more ps)))) ParameterTerm (term at) (parameters_by term ps) (λ t is vs are.
+      both_hold (λ (us : Parameters). capped (sum_by (parameter_bytes known) (Typed at ∷ ps))
+      ≡ capped (byte_count (more_parameters us ++ ellipsis (has_more ps)))) ParameterTerm (term at)
+      (parameters_by term ps) (λ t is vs are.
       let inner = parameters-length ps vs placed (others-of (Tells term known) at (parameter_types ps) all) are in
       let here = named-length t at None (first-of (Tells term known) at (parameter_types ps) all t is) in
       let rest = more_parameters vs ++ ellipsis (has_more ps) in
       let one = capped-plus (known at).length 2 (byte_count (spell [] t [])) 2 here refl in
-      let both = capped-plus ((known at).length + 2) (sum_by (parameter_bytes known) ps) (byte_count (spell [] t []) + 2) (byte_count rest) one inner in
-      let left : sum_by (parameter_bytes known) (Typed at ∷ ps) ≡ (known at).length + 2 + sum_by (parameter_bytes known) ps = sum_by-cons (parameter_bytes known) (Typed at) ps in
+      let both = capped-plus ((known at).length + 2) (sum_by (parameter_bytes known) ps)
+      (byte_count (spell [] t []) + 2) (byte_count rest) one inner in
+      let left : sum_by (parameter_bytes known) (Typed at ∷ ps)
+      ≡ (known at).length + 2 + sum_by (parameter_bytes known) ps = sum_by-cons (parameter_bytes known) (Typed at)
+      ps in
       let a = count-append (Comma ∷ Blank ∷ (spell [] t [] ++ more_parameters vs)) (ellipsis (has_more ps)) in
       let b = count-append (spell [] t []) (more_parameters vs) in
       let c = count-append (more_parameters vs) (ellipsis (has_more ps)) in
-      let right : byte_count (spell [] t []) + 2 + byte_count rest ≡ byte_count (more_parameters (ParameterTerm t vs) ++ ellipsis (has_more ps)) =
-      omega (arith, a, b, c, count-cons Comma (Blank ∷ (spell [] t [] ++ more_parameters vs)), count-cons Blank (spell [] t [] ++ more_parameters vs)) in
+      let right : byte_count (spell [] t []) + 2 + byte_count rest
+      ≡ byte_count (more_parameters (ParameterTerm t vs) ++ ellipsis (has_more ps)) =
+      omega (
+        arith,
+        a,
+        b,
+        c,
+        count-cons Comma (Blank ∷ (spell [] t [] ++ more_parameters vs)),
+        count-cons Blank
+            (spell [] t [] ++ more_parameters vs),
+      ) in
       ap (λ (n : ℕ). capped n) left ∙ both ∙ ap (λ (n : ℕ). capped n) right) us e
-  parameters-length (More ∷ []) us placed all e = (let same : NoParameter ≡ us = cc in ap (λ (u : Parameters). capped (byte_count (more_parameters u ++ ellipsis true))) same)
+  parameters-length (More ∷ []) us placed all e =
+      (let same : NoParameter ≡ us = cc in
+      ap (λ (u : Parameters). capped (byte_count (more_parameters u ++ ellipsis true))) same)
   parameters-length (More ∷ p ∷ ps) us placed all e = absurd (cc)
 
   -- the parentheses make up for the comma and the space that are not before the first parameter
-  signature-length : (ps : List Parameter) (us : Parameters) → is_misplaced ps ≡ false → All (Tells term known) (parameter_types ps) → parameters_by term ps ≡ Some us
+  signature-length : (ps : List Parameter) (us : Parameters) → is_misplaced ps ≡ false
+      → All (Tells term known) (parameter_types ps) → parameters_by term ps ≡ Some us
       → capped (parameters_bytes known ps) ≡ capped (byte_count (signature_tokens (Prototyped us (has_more ps))) + 2)
-  signature-length [] us placed all e = (let same : NoParameter ≡ us = cc in ap (λ (u : Parameters). capped (byte_count (signature_tokens (Prototyped u false)) + 2)) same)
+  signature-length [] us placed all e =
+      (let same : NoParameter ≡ us = cc in
+      ap (λ (u : Parameters). capped (byte_count (signature_tokens (Prototyped u false)) + 2)) same)
   signature-length (Typed at ∷ ps) us placed all e =
       parameters-length (Typed at ∷ ps) us placed all e
-      ∙ both_hold (λ (us : Parameters). capped (byte_count (more_parameters us ++ ellipsis (has_more ps))) ≡ capped (byte_count (signature_tokens (Prototyped us (has_more ps))) + 2)) ParameterTerm (term at) (parameters_by term ps) (λ t is vs are.
+      ∙ both_hold (λ (us : Parameters). capped (byte_count (more_parameters us ++ ellipsis (has_more ps)))
+      ≡ capped (byte_count (signature_tokens (Prototyped us (has_more ps))) + 2)) ParameterTerm (term at)
+      (parameters_by term ps) (λ t is vs are.
       let a = count-append (Comma ∷ Blank ∷ (spell [] t [] ++ more_parameters vs)) (ellipsis (has_more ps)) in
       let b = count-append (spell [] t []) (more_parameters vs) in
       let c = count-append (more_parameters vs) (ellipsis (has_more ps)) in
       let d = count-append (spell [] t []) (more_parameters vs ++ ellipsis (has_more ps)) in
-      ap (λ (n : ℕ). capped n) (omega (arith, a, b, c, d, count-cons Comma (Blank ∷ (spell [] t [] ++ more_parameters vs)), count-cons Blank (spell [] t [] ++ more_parameters vs)))) us e
+      ap (λ (n : ℕ). capped n) (omega (
+        arith,
+        a,
+        b,
+        c,
+        d,
+        count-cons Comma (Blank ∷ (spell [] t [] ++ more_parameters vs)),
+        count-cons Blank
+            (spell [] t [] ++ more_parameters vs),
+      ))) us e
   signature-length (More ∷ ps) us placed all e = absurd (cc)
 
 constants-length : (es : List EnumeratorOf) (cs : List Constant) → constants_of es ≡ Some cs
@@ -132,28 +180,57 @@ constants-length (x ∷ es) cs e =
     let valued = ap value_bytes m.is_value in
     let a = count-cons (Identifier m.name) (Blank ∷ Equals ∷ Blank ∷ value_tokens m.value) in
     let b = count-append (Blank ∷ Equals ∷ Blank ∷ []) (value_tokens m.value) in
-    omega (arith, sum_by-cons enumerator_bytes x es, count-cons Comma (Blank ∷ (one ++ more_constants m.others)), count-cons Blank (one ++ more_constants m.others), count-append one (more_constants m.others))
+    omega (
+      arith,
+      sum_by-cons enumerator_bytes x es,
+      count-cons Comma (Blank ∷ (one ++ more_constants m.others)),
+      count-cons Blank (one ++ more_constants m.others),
+      count-append one (more_constants m.others),
+    )
 
 -- the braces make up for the comma and the space that are not before the first enumerator
-more-length : (c : Constant) (cs : List Constant) → byte_count (more_constants (c ∷ cs)) ≡ byte_count (constants (c ∷ cs)) + 2
+more-length : (c : Constant) (cs : List Constant)
+    → byte_count (more_constants (c ∷ cs)) ≡ byte_count (constants (c ∷ cs)) + 2
 more-length c cs =
-    omega (arith, count-cons Comma (Blank ∷ (constant c ++ more_constants cs)), count-cons Blank (constant c ++ more_constants cs))
+    omega (
+      arith,
+      count-cons Comma (Blank ∷ (constant c ++ more_constants cs)),
+      count-cons Blank
+          (constant c ++ more_constants cs),
+    )
 
-enumerators-length : (es : List EnumeratorOf) (cs : List Constant) → constants_of es ≡ Some cs → enumerators_bytes es ≡ byte_count (constants cs) + 4
+enumerators-length : (es : List EnumeratorOf) (cs : List Constant) → constants_of es ≡ Some cs
+    → enumerators_bytes es ≡ byte_count (constants cs) + 4
 enumerators-length [] cs e = (let same : [] ≡ cs = cc in ap (λ (u : List Constant). byte_count (constants u) + 4) same)
 enumerators-length (x ∷ es) cs e =
     let m = more-constants x es cs e in
     let P : List Constant → Type 0 = λ u. sum_by enumerator_bytes (x ∷ es) ≡ byte_count (more_constants u) in
     let Q : List Constant → Type 0 = λ u. enumerators_bytes (x ∷ es) ≡ byte_count (constants u) + 4 in
-    subst Q m.is (omega (arith, subst P (sym m.is) (constants-length (x ∷ es) cs e), more-length (Valued m.name m.value) m.others))
+    subst Q m.is (omega (
+      arith,
+      subst P (sym m.is) (constants-length (x ∷ es) cs e),
+      more-length (Valued m.name m.value)
+          m.others,
+    ))
 
 -- ---- types
 
 -- a specifier
-core-length : (t : Term) (k : TypeKind) (n : ℕ) → IsSpecifier t → byte_count (core t) ≡ n → is_bracketed k ≡ false → is_pointer k ≡ false → IsLength t k k (capped n)
+core-length : (t : Term) (k : TypeKind) (n : ℕ) → IsSpecifier t → byte_count (core t) ≡ n → is_bracketed k ≡ false
+    → is_pointer k ≡ false → IsLength t k k (capped n)
 core-length t k n spec counted plain other = record {
-  bare = bare-length t (capped n) (ap (λ (m : ℕ). capped m) (omega (arith, front [] false, count-append (core t) (gap false), back, counted)));
-  around = rw (plain, other) (omega (arith, front [] false, front [] true, count-append (core t) (gap false), count-append (core t) (gap true)));
+  bare =
+      bare-length t (capped n) (ap (λ (m : ℕ). capped m)
+      (omega (arith, front [] false, count-append (core t) (gap false), back, counted)));
+  around =
+      rw (plain, other) (omega (
+        arith,
+        front [] false,
+        front [] true,
+        count-append (core t) (gap false),
+        count-append
+            (core t) (gap true),
+      ));
   qualifier = λ q qs inside.
       rw (plain, other) (omega (
         arith,
@@ -165,30 +242,43 @@ core-length t k n spec counted plain other = record {
   parentheses = rw (plain, spec.not_opened, spec.not_closed) refl;
 }
   where
-    front : (qs : List Qualifier) (inside : Bool) → byte_count (qualifying qs ++ (core t ++ gap inside)) ≡ byte_count (before qs t inside)
+    front : (qs : List Qualifier) (inside : Bool)
+        → byte_count (qualifying qs ++ (core t ++ gap inside)) ≡ byte_count (before qs t inside)
     front qs inside = ap (λ (u : List Token). byte_count u) (spec.front qs inside)
 
     back : byte_count (after t) ≡ 0
     back = ap (λ (u : List Token). byte_count u) spec.back
 
 pub void-length : IsLength Void kind.Void kind.Void 4
-void-length = core-length Void kind.Void 4 (record { front = λ qs inside. refl; back = refl; not_opened = refl; not_closed = refl }) refl refl refl
+void-length =
+    core-length Void kind.Void 4 (record {
+      front = λ qs inside. refl;
+      back = refl;
+      not_opened = refl;
+      not_closed = refl;
+    }) refl refl refl
 
-qualified-length : (q : Qualifier) (u : Term) (k b : TypeKind) (n : ℕ) → IsLength u k b n → IsLength (Qualified q u) kind.Qualified b (capped (n + qualifier_bytes k b q false))
+qualified-length : (q : Qualifier) (u : Term) (k b : TypeKind) (n : ℕ) → IsLength u k b n
+    → IsLength (Qualified q u) kind.Qualified b (capped (n + qualifier_bytes k b q false))
 qualified-length q u k b n is = record {
   bare = bare-length (Qualified q u) _
-      (capped-plus n (qualifier_bytes k b q false) (type_bytes u false) (qualifier_bytes k b q false) (ap (λ (m : ℕ). capped m) (bare-known u k b n is) ∙ capped-twice (type_bytes u false)) refl
+      (capped-plus n (qualifier_bytes k b q false) (type_bytes u false) (qualifier_bytes k b q false)
+      (ap (λ (m : ℕ). capped m) (bare-known u k b n is) ∙ capped-twice (type_bytes u false)) refl
       ∙ ap (λ (m : ℕ). capped m) (omega (arith, is.qualifier q [] false)));
   around = by (is_bracketed b) (is_pointer k) refl refl;
-  qualifier = λ r qs inside. is.qualifier r (qs ++ q ∷ []) inside ∙ ap (λ (m : ℕ). byte_count (before (qs ++ q ∷ []) u inside) + m) (alike r qs inside);
+  qualifier =
+      λ r qs inside. is.qualifier r (qs ++ q ∷ []) inside
+      ∙ ap (λ (m : ℕ). byte_count (before (qs ++ q ∷ []) u inside) + m) (alike r qs inside);
   parentheses = refl;
 }
   where
-    by : (x y : Bool) → is_bracketed b ≡ x → is_pointer k ≡ y → type_bytes (Qualified q u) true ≡ type_bytes (Qualified q u) false + space (has_gap kind.Qualified b)
+    by : (x y : Bool) → is_bracketed b ≡ x → is_pointer k ≡ y
+        → type_bytes (Qualified q u) true ≡ type_bytes (Qualified q u) false + space (has_gap kind.Qualified b)
     by x y ex ey = omega (arith, is.qualifier q [] false, is.qualifier q [] true, is.around, sum x y ex ey)
       where
         sum : (x y : Bool) → is_bracketed b ≡ x → is_pointer k ≡ y
-            → space (has_gap k b) + qualifier_bytes k b q true ≡ qualifier_bytes k b q false + space (has_gap kind.Qualified b)
+            → space (has_gap k b) + qualifier_bytes k b q true
+            ≡ qualifier_bytes k b q false + space (has_gap kind.Qualified b)
         sum true y ex ey = rw ex refl
         sum false true ex ey = rw (ex, ey) (omega arith)
         sum false false ex ey = rw (ex, ey) (omega arith)
@@ -197,18 +287,23 @@ qualified-length q u k b n is = record {
     there [] inside = refl
     there (r ∷ qs) inside = refl
 
-    alike : (r : Qualifier) (qs : List Qualifier) (inside : Bool) → qualifier_bytes k b r (has_elements (qs ++ q ∷ []) || inside) ≡ qualifier_bytes kind.Qualified b r (has_elements qs || inside)
+    alike : (r : Qualifier) (qs : List Qualifier) (inside : Bool)
+        → qualifier_bytes k b r (has_elements (qs ++ q ∷ []) || inside)
+        ≡ qualifier_bytes kind.Qualified b r (has_elements qs || inside)
     alike r qs inside = rw (there qs inside) (last (is_pointer k))
       where
-        last : (y : Bool) → (if is_bracketed b then 0 else length (qualifier_spelling r) + space (not y || true)) ≡ (if is_bracketed b then 0 else length (qualifier_spelling r) + 1)
+        last : (y : Bool) → (if is_bracketed b then 0 else length (qualifier_spelling r) + space (not y || true))
+            ≡ (if is_bracketed b then 0 else length (qualifier_spelling r) + 1)
         last true = refl
         last false = refl
 
 pointer-length : (u : Term) (k b : TypeKind) (n : ℕ) → IsLength u k b n
-    → IsLength (Pointer u) kind.Pointer kind.Pointer (capped (n + space (has_gap k b) + (if is_bracketed k then 3 else 1)))
+    → IsLength (Pointer u) kind.Pointer kind.Pointer
+    (capped (n + space (has_gap k b) + (if is_bracketed k then 3 else 1)))
 pointer-length u k b n is = record {
   bare = bare-length (Pointer u) _
-      (capped-plus (n + space (has_gap k b)) (if is_bracketed k then 3 else 1) (type_bytes u true) (if is_bracketed k then 3 else 1) (around-length u k b n is) refl
+      (capped-plus (n + space (has_gap k b)) (if is_bracketed k then 3 else 1) (type_bytes u true)
+      (if is_bracketed k then 3 else 1) (around-length u k b n is) refl
       ∙ ap (λ (m : ℕ). capped m) (sym (whole false)));
   around = omega (arith, whole true, whole false);
   qualifier = row;
@@ -219,16 +314,26 @@ pointer-length u k b n is = record {
     star true = refl
     star false = refl
 
-    front : (qs : List Qualifier) (inside : Bool) → byte_count (before qs (Pointer u) inside) ≡ byte_count (before [] u true) + (byte_count (opened u) + (1 + byte_count (pointer_row qs inside)))
+    front : (qs : List Qualifier) (inside : Bool)
+        → byte_count (before qs (Pointer u) inside)
+        ≡ byte_count (before [] u true) + (byte_count (opened u) + (1 + byte_count (pointer_row qs inside)))
     front qs inside =
-        omega (arith, count-append (before [] u true) (opened u ++ Star ∷ pointer_row qs inside), count-append (opened u) (Star ∷ pointer_row qs inside), count-cons Star (pointer_row qs inside))
+        omega (
+          arith,
+          count-append (before [] u true) (opened u ++ Star ∷ pointer_row qs inside),
+          count-append
+              (opened u) (Star ∷ pointer_row qs inside),
+          count-cons Star (pointer_row qs inside),
+        )
 
     whole : (inside : Bool) → type_bytes (Pointer u) inside ≡ type_bytes u true + (if is_bracketed k then 3 else 1)
     whole inside =
         omega (arith, front [] inside, count-append (closed u) (after u), is.parentheses, star (is_bracketed k))
 
     row : (q : Qualifier) (qs : List Qualifier) (inside : Bool)
-        → byte_count (before (q ∷ qs) (Pointer u) inside) ≡ byte_count (before qs (Pointer u) inside) + qualifier_bytes kind.Pointer kind.Pointer q (has_elements qs || inside)
+        → byte_count (before (q ∷ qs) (Pointer u) inside)
+        ≡ byte_count (before qs (Pointer u) inside)
+        + qualifier_bytes kind.Pointer kind.Pointer q (has_elements qs || inside)
     row q qs inside =
         omega (
           arith,
@@ -245,8 +350,10 @@ pointer-length u k b n is = record {
 
 -- what comes before its declarator does not change with qualifiers, and there is no gap
 bracketed-length : (t u : Term) (k b m : TypeKind) (n more : ℕ) → IsLength u k b n → is_bracketed m ≡ true
-    → ((qs : List Qualifier) (inside : Bool) → before qs t inside ≡ before [] u true) → byte_count (after t) ≡ byte_count (after u) + more
-    → byte_count (opened t) + byte_count (closed t) ≡ 2 → (bytes : ℕ) → capped bytes ≡ capped (n + space (has_gap k b) + more) → IsLength t m m (capped bytes)
+    → ((qs : List Qualifier) (inside : Bool) → before qs t inside ≡ before [] u true)
+    → byte_count (after t) ≡ byte_count (after u) + more
+    → byte_count (opened t) + byte_count (closed t) ≡ 2 → (bytes : ℕ)
+    → capped bytes ≡ capped (n + space (has_gap k b) + more) → IsLength t m m (capped bytes)
 bracketed-length t u k b m n more is is_bracket same behind parens bytes counted = record {
   bare = bare-length t _
       (counted ∙ capped-plus (n + space (has_gap k b)) more (type_bytes u true) more (around-length u k b n is) refl
@@ -259,7 +366,8 @@ bracketed-length t u k b m n more is is_bracket same behind parens bytes counted
     front : (qs : List Qualifier) (inside : Bool) → byte_count (before qs t inside) ≡ byte_count (before [] u true)
     front qs inside = ap (λ (x : List Token). byte_count x) (same qs inside)
 
-pub same-length : (t : Term) (k k' b b' : TypeKind) (n n' : ℕ) → k' ≡ k → b' ≡ b → n' ≡ n → IsLength t k b n → IsLength t k' b' n'
+pub same-length : (t : Term) (k k' b b' : TypeKind) (n n' : ℕ) → k' ≡ k → b' ≡ b → n' ≡ n → IsLength t k b n
+    → IsLength t k' b' n'
 same-length t k k' b b' n n' kinds bases numbers is = rw (kinds, bases, numbers) is
 
 abbrev core-count : Option Term → ℕ
@@ -270,51 +378,89 @@ abbrev written-count : Option Declaration → ℕ
 written-count None = 0
 written-count (Some d) = length (written d)
 
-counts-length : (counts : List (Option ℕ)) → byte_count (flat_map count_tokens counts) ≡ sum_by (λ (n : Option ℕ). byte_count (count_tokens n)) counts
+counts-length : (counts : List (Option ℕ))
+    → byte_count (flat_map count_tokens counts) ≡ sum_by (λ (n : Option ℕ). byte_count (count_tokens n)) counts
 counts-length [] = refl
 counts-length (c ∷ cs) =
-    count-append (count_tokens c) (flat_map count_tokens cs) ∙ ap (λ (m : ℕ). byte_count (count_tokens c) + m) (counts-length cs) ∙ sym (sum_by-cons (λ (n : Option ℕ). byte_count (count_tokens n)) c cs)
+    count-append (count_tokens c) (flat_map count_tokens cs)
+    ∙ ap (λ (m : ℕ). byte_count (count_tokens c) + m) (counts-length cs)
+    ∙ sym (sum_by-cons (λ (n : Option ℕ). byte_count (count_tokens n)) c cs)
 
 module _ (term : TypeAt → Option Term) (known : TypeAt → Summary) where
   -- what is counted for a shape is right
   pub shape-length : (s : ShapeOf) (t : Term) → All (Tells term known) (types_reached s) → term_by term s ≡ Some t
       → IsLength t (kind_in (Some s)) (base_in known s) (capped (shape_bytes known s))
   shape-length (base (Some name)) t all e =
-      core-length t kind.Other (length name) (specifier-of term (base (Some name)) t refl e) (sym (ap (λ (u : List ℕ). length u) (base-core name t e)) ∙ omega (arith, count-cons (Identifier name) [])) refl refl
+      core-length t kind.Other (length name) (specifier-of term (base (Some name)) t refl e)
+      (sym (ap (λ (u : List ℕ). length u) (base-core name t e)) ∙ omega (arith, count-cons (Identifier name) []))
+      refl refl
   shape-length (typedef (Some name)) t all e =
-      core-length t kind.Typedef (length name) (specifier-of term (typedef (Some name)) t refl e) (ap (λ (o : Option Term). core-count o) (sym e) ∙ omega (arith, count-cons (Identifier name) [])) refl refl
+      core-length t kind.Typedef (length name) (specifier-of term (typedef (Some name)) t refl e)
+      (ap (λ (o : Option Term). core-count o) (sym e) ∙ omega (arith, count-cons (Identifier name) [])) refl refl
   shape-length (qualified q at) t all e =
-      map_holds (λ (x : Term). IsLength x kind.Qualified (known at).base (capped (shape_bytes known (qualified q at)))) (Qualified q) (term at)
-      (λ u is. qualified-length q u (known at).kind (known at).base (known at).length (first-of (Tells term known) at [] all u is)) t e
+      map_holds (λ (x : Term). IsLength x kind.Qualified (known at).base (capped (shape_bytes known (qualified q at))))
+      (Qualified q) (term at)
+      (λ u is. qualified-length q u (known at).kind (known at).base (known at).length
+      (first-of (Tells term known) at [] all u is)) t e
   shape-length (pointer at) t all e =
-      map_holds (λ (x : Term). IsLength x kind.Pointer kind.Pointer (capped (shape_bytes known (pointer at)))) Pointer (term at)
-      (λ u is. pointer-length u (known at).kind (known at).base (known at).length (first-of (Tells term known) at [] all u is)) t e
+      map_holds (λ (x : Term). IsLength x kind.Pointer kind.Pointer (capped (shape_bytes known (pointer at)))) Pointer
+      (term at)
+      (λ u is. pointer-length u (known at).kind (known at).base (known at).length
+      (first-of (Tells term known) at [] all u is)) t e
   shape-length (array (c ∷ cs) strange at) t all e =
       let m = kind_in (Some (array (c ∷ cs) strange at)) in
       let P : Term → Type 0 = λ x. IsLength x m m (capped (shape_bytes known (array (c ∷ cs) strange at))) in
       unless_holds P (is_miscounted (c ∷ cs)) _ (λ placed. map_holds P (arrays (c ∷ cs)) (term at) (λ u is.
-      bracketed-length (arrays (c ∷ cs) u) u (known at).kind (known at).base m (known at).length (sum_by (λ (n : Option ℕ). byte_count (count_tokens n)) (c ∷ cs))
+      bracketed-length (arrays (c ∷ cs) u) u (known at).kind (known at).base m (known at).length
+      (sum_by (λ (n : Option ℕ). byte_count (count_tokens n)) (c ∷ cs))
       (first-of (Tells term known) at [] all u is) refl (λ qs inside. before-arrays cs u)
-      (omega (arith, ap (λ (x : List Token). byte_count x) (after-arrays (c ∷ cs) u), count-append (flat_map count_tokens (c ∷ cs)) (after u), counts-length (c ∷ cs)))
+      (omega (
+        arith,
+        ap (λ (x : List Token). byte_count x) (after-arrays (c ∷ cs) u),
+        count-append
+            (flat_map count_tokens (c ∷ cs)) (after u),
+        counts-length (c ∷ cs),
+      ))
       refl (shape_bytes known (array (c ∷ cs) strange at)) refl)) t e
   shape-length (function at None) t all e =
-      map_holds (λ (x : Term). IsLength x kind.Function kind.Function (capped (shape_bytes known (function at None)))) (λ (u : Term). Function u Unprototyped) (term at)
-      (λ u is. bracketed-length (Function u Unprototyped) u (known at).kind (known at).base kind.Function (known at).length 2
-      (first-of (Tells term known) at [] all u is) refl (λ qs inside. refl) (omega (arith, count-cons Open (Close ∷ after u), count-cons Close (after u)))
+      map_holds (λ (x : Term). IsLength x kind.Function kind.Function (capped (shape_bytes known (function at None))))
+      (λ (u : Term). Function u Unprototyped) (term at)
+      (λ u is. bracketed-length (Function u Unprototyped) u (known at).kind (known at).base kind.Function
+      (known at).length 2
+      (first-of (Tells term known) at [] all u is) refl (λ qs inside. refl)
+      (omega (arith, count-cons Open (Close ∷ after u), count-cons Close (after u)))
       refl (shape_bytes known (function at None)) refl) t e
   shape-length (function at (Some ps)) t all e =
       let f = function-parts term at ps t e in
       let signature = signature_tokens (Prototyped f.parameters (has_more ps)) in
-      let P : Term → Type 0 = λ x. IsLength x kind.Function kind.Function (capped (shape_bytes known (function at (Some ps)))) in
-      let counted = signature-length term known ps f.parameters f.placed (others-of (Tells term known) at (parameter_types ps) all) f.are_parameters in
+      let P : Term → Type 0 = λ x. IsLength x kind.Function kind.Function
+      (capped (shape_bytes known (function at (Some ps)))) in
+      let counted = signature-length term known ps f.parameters f.placed
+      (others-of (Tells term known) at (parameter_types ps) all) f.are_parameters in
       subst P f.is
-      (bracketed-length (Function f.result (Prototyped f.parameters (has_more ps))) f.result (known at).kind (known at).base kind.Function (known at).length (byte_count signature + 2)
+      (bracketed-length (Function f.result (Prototyped f.parameters (has_more ps))) f.result (known at).kind
+      (known at).base kind.Function (known at).length (byte_count signature + 2)
       (first-of (Tells term known) at (parameter_types ps) all f.result f.is_result) refl (λ qs inside. refl)
-      (omega (arith, count-cons Open (signature ++ Close ∷ after f.result), count-append signature (Close ∷ after f.result), count-cons Close (after f.result)))
-      refl (shape_bytes known (function at (Some ps))) (capped-plus (bytes_around known at) (parameters_bytes known ps) (bytes_around known at) (byte_count signature + 2) refl counted))
+      (omega (
+        arith,
+        count-cons Open (signature ++ Close ∷ after f.result),
+        count-append signature
+            (Close ∷ after f.result),
+        count-cons Close (after f.result),
+      ))
+      refl (shape_bytes known (function at (Some ps)))
+      (capped-plus (bytes_around known at) (parameters_bytes known ps) (bytes_around known at)
+      (byte_count signature + 2) refl counted))
   shape-length (tagged word name) t all e =
       core-length t kind.Other (tag_bytes word (Some name)) (specifier-of term (tagged word name) t refl e)
-      (ap (λ (o : Option Term). core-count o) (sym e) ∙ omega (arith, count-cons (TagWord word) (Blank ∷ Identifier name ∷ []), count-cons Blank (Identifier name ∷ []), count-cons (Identifier name) [])) refl refl
+      (ap (λ (o : Option Term). core-count o) (sym e)
+      ∙ omega (
+        arith,
+        count-cons (TagWord word) (Blank ∷ Identifier name ∷ []),
+        count-cons Blank
+            (Identifier name ∷ []),
+        count-cons (Identifier name) [],
+      )) refl refl
   shape-length (body word odd ms) t all e =
       let f = map_inverted (Body word) (members_by term ms) t e in
       let own = byte_count (core t) in
@@ -323,50 +469,80 @@ module _ (term : TypeAt → Option Term) (known : TypeAt → Summary) where
       let a = count-cons (TagWord word) (Blank ∷ LeftBrace ∷ Blank ∷ (members_tokens f.0 ++ RightBrace ∷ [])) in
       let b = count-append (Blank ∷ LeftBrace ∷ Blank ∷ []) (members_tokens f.0 ++ RightBrace ∷ []) in
       let c = count-append (members_tokens f.0) (RightBrace ∷ []) in
-      let counted = capped-plus (tag_bytes word None + 3) (sum_by (member_bytes known) ms) (tag_bytes word None + 3) (byte_count (members_tokens f.0)) refl inner in
+      let counted = capped-plus (tag_bytes word None + 3) (sum_by (member_bytes known) ms) (tag_bytes word None + 3)
+      (byte_count (members_tokens f.0)) refl inner in
       let same : capped (shape_bytes known (body word odd ms)) ≡ capped own =
       ap (λ (n : ℕ). capped n) (omega arith) ∙ counted ∙ ap (λ (n : ℕ). capped n) (omega (arith, a, b, c, long)) in
-      subst (λ (n : ℕ). IsLength t kind.UnnamedAggregate kind.UnnamedAggregate n) (sym same) (core-length t kind.UnnamedAggregate own (specifier-of term (body word odd ms) t refl e) refl refl refl)
+      subst (λ (n : ℕ). IsLength t kind.UnnamedAggregate kind.UnnamedAggregate n) (sym same)
+      (core-length t kind.UnnamedAggregate own (specifier-of term (body word odd ms) t refl e) refl refl refl)
   shape-length (enumeration odd es) t all e =
       let f = map_inverted Enumeration (constants_of es) t e in
       let long = ap (λ (u : Term). byte_count (core u)) f.2 in
       let inner = enumerators-length es f.0 f.1 in
       let front = TagWord Enum ∷ Blank ∷ LeftBrace ∷ Blank ∷ [] in
       let a = count-append front (constants f.0 ++ Blank ∷ RightBrace ∷ []) in
-      core-length t kind.Other (shape_bytes known (enumeration odd es)) (specifier-of term (enumeration odd es) t refl e)
+      core-length t kind.Other (shape_bytes known (enumeration odd es))
+      (specifier-of term (enumeration odd es) t refl e)
       (omega (arith, a, long, inner, count-append (constants f.0) (Blank ∷ RightBrace ∷ []))) refl refl
   shape-length _ t all e = absurd (cc)
 
   -- and for a declaration
-  pub declared-length : (subject : SubjectOf) (d : Declaration) → All (Tells term known) (types_declared subject) → declaration_by term subject ≡ Some d
+  pub declared-length : (subject : SubjectOf) (d : Declaration) → All (Tells term known) (types_declared subject)
+      → declaration_by term subject ≡ Some d
       → capped (declared_bytes known subject) ≡ capped (length (written d))
   declared-length (typedef_subject (Some name) at) d all e =
-      map_holds (λ (d : Declaration). capped (declared_bytes known (typedef_subject (Some name) at)) ≡ capped (length (written d))) (Typedef name) (term at) (λ t is.
+      map_holds (λ (d : Declaration). capped (declared_bytes known (typedef_subject (Some name) at))
+      ≡ capped (length (written d))) (Typedef name) (term at) (λ t is.
       let text = spell [] t (Identifier name ∷ []) in
       let own = named-length term known t at (Some name) (first-of (Tells term known) at [] all t is) in
       let a = count-append (TypedefWord ∷ Blank ∷ []) (text ++ Semicolon ∷ []) in
-      capped-plus (named_bytes known at (Some name)) 9 (byte_count text) 9 own refl ∙ ap (λ (n : ℕ). capped n) (omega (arith, a, count-append text (Semicolon ∷ [])))) d e
+      capped-plus (named_bytes known at (Some name)) 9 (byte_count text) 9 own refl
+      ∙ ap (λ (n : ℕ). capped n) (omega (arith, a, count-append text (Semicolon ∷ [])))) d e
   declared-length (variable_subject (Some name) at) d all e =
-      map_holds (λ (d : Declaration). capped (declared_bytes known (variable_subject (Some name) at)) ≡ capped (length (written d))) (Variable name) (term at) (λ t is.
+      map_holds (λ (d : Declaration). capped (declared_bytes known (variable_subject (Some name) at))
+      ≡ capped (length (written d))) (Variable name) (term at) (λ t is.
       let text = spell [] t (Identifier name ∷ []) in
       let own = named-length term known t at (Some name) (first-of (Tells term known) at [] all t is) in
-      capped-plus (named_bytes known at (Some name)) 1 (byte_count text) 1 own refl ∙ ap (λ (n : ℕ). capped n) (omega (arith, count-append text (Semicolon ∷ [])))) d e
+      capped-plus (named_bytes known at (Some name)) 1 (byte_count text) 1 own refl
+      ∙ ap (λ (n : ℕ). capped n) (omega (arith, count-append text (Semicolon ∷ [])))) d e
   declared-length (tag_subject (Some name) (body word odd ms)) d all e =
-      map_holds (λ (d : Declaration). capped (declared_bytes known (tag_subject (Some name) (body word odd ms))) ≡ capped (length (written d))) (Aggregate word name) (members_by term ms) (λ us are.
+      map_holds (λ (d : Declaration). capped (declared_bytes known (tag_subject (Some name) (body word odd ms)))
+      ≡ capped (length (written d))) (Aggregate word name) (members_by term ms) (λ us are.
       let rest = Blank ∷ LeftBrace ∷ Blank ∷ (members_tokens us ++ RightBrace ∷ Semicolon ∷ []) in
       let a = count-cons (TagWord word) (Blank ∷ Identifier name ∷ rest) in
       let b = count-append (Blank ∷ LeftBrace ∷ Blank ∷ []) (members_tokens us ++ RightBrace ∷ Semicolon ∷ []) in
-      let counted = capped-plus (tag_bytes word (Some name) + 5) (sum_by (member_bytes known) ms) (tag_bytes word (Some name) + 5) (byte_count (members_tokens us)) refl (members-length term known ms us all are) in
+      let counted = capped-plus (tag_bytes word (Some name) + 5) (sum_by (member_bytes known) ms)
+      (tag_bytes word (Some name) + 5) (byte_count (members_tokens us)) refl
+      (members-length term known ms us all are) in
       ap (λ (n : ℕ). capped n) (omega arith) ∙ counted
-      ∙ ap (λ (n : ℕ). capped n) (omega (arith, a, b, count-cons Blank (Identifier name ∷ rest), count-cons (Identifier name) rest, count-append (members_tokens us) (RightBrace ∷ Semicolon ∷ [])))) d e
+      ∙ ap (λ (n : ℕ). capped n) (omega (
+        arith,
+        a,
+        b,
+        count-cons Blank (Identifier name ∷ rest),
+        count-cons (Identifier name) rest,
+        count-append
+            (members_tokens us) (RightBrace ∷ Semicolon ∷ []),
+      ))) d e
   declared-length (tag_subject (Some name) (enumeration odd es)) d all e =
-      map_holds (λ (d : Declaration). capped (declared_bytes known (tag_subject (Some name) (enumeration odd es))) ≡ capped (length (written d))) (Constants name) (constants_of es) (λ cs are.
+      map_holds (λ (d : Declaration). capped (declared_bytes known (tag_subject (Some name) (enumeration odd es)))
+      ≡ capped (length (written d))) (Constants name) (constants_of es) (λ cs are.
       let rest = Blank ∷ LeftBrace ∷ Blank ∷ (constants cs ++ Blank ∷ RightBrace ∷ Semicolon ∷ []) in
       let a = count-cons (TagWord Enum) (Blank ∷ Identifier name ∷ rest) in
       let b = count-append (Blank ∷ LeftBrace ∷ Blank ∷ []) (constants cs ++ Blank ∷ RightBrace ∷ Semicolon ∷ []) in
-      ap (λ (n : ℕ). capped n) (omega (arith, enumerators-length es cs are, a, b, count-cons Blank (Identifier name ∷ rest), count-cons (Identifier name) rest, count-append (constants cs) (Blank ∷ RightBrace ∷ Semicolon ∷ [])))) d e
+      ap (λ (n : ℕ). capped n) (omega (
+        arith,
+        enumerators-length es cs are,
+        a,
+        b,
+        count-cons Blank (Identifier name ∷ rest),
+        count-cons
+            (Identifier name) rest,
+        count-append (constants cs) (Blank ∷ RightBrace ∷ Semicolon ∷ []),
+      ))) d e
   declared-length (tag_subject (Some name) (tagged word tag)) d all e =
       let a = count-cons (TagWord word) (Blank ∷ Identifier tag ∷ Semicolon ∷ []) in
-      ap (λ (n : ℕ). capped n) (omega (arith, a, count-cons Blank (Identifier tag ∷ Semicolon ∷ []), count-cons (Identifier tag) (Semicolon ∷ [])))
+      ap (λ (n : ℕ). capped n) (omega
+      (arith, a, count-cons Blank (Identifier tag ∷ Semicolon ∷ []), count-cons (Identifier tag) (Semicolon ∷ [])))
       ∙ ap (λ (o : Option Declaration). capped (written-count o)) e
   declared-length _ d all e = absurd (cc)

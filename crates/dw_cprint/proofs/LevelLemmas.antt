@@ -23,7 +23,8 @@ use Rattle.dw_cprint.specs.Refusals.{PrintFault}
 pub has-or-not : (xs : List ℕ) (x : ℕ) → Contains xs x ⊎ (Contains xs x → ⊥)
 has-or-not xs x = elim (cases_Bool (list_any (eqb x) xs)) [
   | inl t ↦ inl (Contains-from_any {eq = eqb} eqb-true x xs t)
-  | inr f ↦ inr (λ (k, w, e). (let t : true ≡ false = sym (list_any-from_Any (eqb x) xs (k, x, w, e, eq-eqb x x refl)) ∙ f in absurd (cc)))
+  | inr f ↦ inr (λ (k, w, e). (let t : true
+      ≡ false = sym (list_any-from_Any (eqb x) xs (k, x, w, e, eq-eqb x x refl)) ∙ f in absurd (cc)))
 ]
 
 -- ---- one row for each entry
@@ -46,14 +47,16 @@ unfolding units_in steps_in
 no-cycle image = image.measured.contained
 
 -- a step in front of a list of steps
-follows-more : (graph : Graph) (from next : ℕ) (nodes : List ℕ) → IsStep graph from next → FollowsSteps graph (next ∷ nodes) → FollowsSteps graph (from ∷ next ∷ nodes)
+follows-more : (graph : Graph) (from next : ℕ) (nodes : List ℕ) → IsStep graph from next
+    → FollowsSteps graph (next ∷ nodes) → FollowsSteps graph (from ∷ next ∷ nodes)
 follows-more graph from next nodes step follows zero within = step
 follows-more graph from next nodes step follows (suc k) within =
     let e : suc k + 1 ≡ suc (k + 1) = omega arith in
     rw e (follows k (omega arith))
 
 -- the nodes that steps lead through
-passed : (graph : Graph) (k from to : ℕ) → Leads graph k from to → (nodes : List ℕ) × (length nodes ≡ k) × FollowsSteps graph (from ∷ nodes) × (get_or (from ∷ nodes) k 0 ≡ to)
+passed : (graph : Graph) (k from to : ℕ) → Leads graph k from to
+    → (nodes : List ℕ) × (length nodes ≡ k) × FollowsSteps graph (from ∷ nodes) × (get_or (from ∷ nodes) k 0 ≡ to)
 passed graph zero from to same = ([], refl, λ j within. absurd (omega arith), same)
 passed graph (suc k) from to (next, step, led) =
     let (nodes, long, follows, ends) = passed graph k next to led in
@@ -67,7 +70,8 @@ none-on_cycle graph node none (k, led) =
     none (node ∷ nodes) (record { two = omega (arith, long); steps = follows; closed = rw last (sym ends) })
 
 -- so all entries are clear
-pub all-clear : (image : Image) (clear : List ℕ) → AreClear (steps_in image) clear → (entry : ℕ) → entry < length (entries_in image) → Contains clear entry
+pub all-clear : (image : Image) (clear : List ℕ) → AreClear (steps_in image) clear → (entry : ℕ)
+    → entry < length (entries_in image) → Contains clear entry
 all-clear image clear h entry within = elim (has-or-not clear entry) [
   | inl has ↦ has
   | inr missing ↦
@@ -79,7 +83,8 @@ all-clear image clear h entry within = elim (has-or-not clear entry) [
 -- ---- in a listing, no type comes before one that it contains by value
 
 -- no listed type holds one that is listed after it
-pub held-first : (image : Image) (order : List ℕ) (refused : List (ℕ × PrintFault)) → IsListing image order refused → AllPairs (λ a b. HoldsByValue (steps_in image) a b → ⊥) order
+pub held-first : (image : Image) (order : List ℕ) (refused : List (ℕ × PrintFault)) → IsListing image order refused
+    → AllPairs (λ a b. HoldsByValue (steps_in image) a b → ⊥) order
 held-first image order refused h i j d before within (k, led) =
     let a = get_or order i d in
     let b = get_or order j d in

@@ -14,16 +14,20 @@ none_past : (es : List Entry) (i : ℕ) → slice_get es i ≡ None → length e
 none_past es i gone = search (rules, slice_get_cases)
 
 -- what is said of the entry with a number holds of what is read of it, and of d if there is none
-pub read_or : {X : Type 0} (es : List Entry) (id : ℕ) (f : Entry → X) (r d : X) → id < length es → IfSome (slice_get es id) (λ e. r ≡ f e) → r ≡ option_map_or f (slice_get es id) d
+pub read_or : {X : Type 0} (es : List Entry) (id : ℕ) (f : Entry → X) (r d : X) → id < length es
+    → IfSome (slice_get es id) (λ e. r ≡ f e) → r ≡ option_map_or f (slice_get es id) d
 read_or {X = X} es id f r d within says = search (rules, none_past)
 
-within_one : (b : Bool) (k n : ℕ) (ids : List ℕ) → k < n → All (λ child. child < n) ids → All (λ child. child < n) (if b then k ∷ ids else ids)
+within_one : (b : Bool) (k n : ℕ) (ids : List ℕ) → k < n → All (λ child. child < n) ids
+    → All (λ child. child < n) (if b then k ∷ ids else ids)
 within_one true k n ids below all = All-cons (λ child. child < n) k ids below all
 within_one false k n ids below all = all
 
 within_from : (es : List Entry) (id k n : ℕ) → k + length es ≤ n → All (λ child. child < n) (children_from es id k)
 within_from [] id k n fits = All-nil (λ child. child < n)
-within_from (e ∷ es) id k n fits = within_one (is_parent e.parent id) k n (children_from es id (suc k)) (omega arith) (within_from es id (suc k) n (omega arith))
+within_from (e ∷ es) id k n fits =
+    within_one (is_parent e.parent id) k n (children_from es id (suc k)) (omega arith)
+    (within_from es id (suc k) n (omega arith))
 
 -- the children of an entry are entries
 pub children_within : (es : List Entry) (id : ℕ) → All (λ child. child < length es) (children_of es id)
@@ -37,18 +41,29 @@ abbrev pub KeepsSoFar : {T : Type 0} → (ℕ → Option T → Type 0) → (all 
 KeepsSoFar {T = T} read all left kept = (rest : List T) → AreKept read left rest → AreKept read all (kept ++ rest)
 
 -- none is left
-pub kept-all : {T : Type 0} (read : ℕ → Option T → Type 0) (all left : List ℕ) (kept : List T) → KeepsSoFar read all left kept → left ≡ [] → AreKept read all kept
-kept-all {T = T} read all [] kept so_far is = subst (λ (ts : List T). AreKept read all ts) (append-nil kept) (so_far [] refl)
+pub kept-all : {T : Type 0} (read : ℕ → Option T → Type 0) (all left : List ℕ) (kept : List T)
+    → KeepsSoFar read all left kept → left ≡ [] → AreKept read all kept
+kept-all {T = T} read all [] kept so_far is = subst (λ (ts : List T). AreKept read all ts) (append-nil kept)
+    (so_far [] refl)
 kept-all read all (x ∷ xs) kept so_far is = absurd cc
 
 -- what is kept of the children of an entry, if a function gives the value of what each call returns
-pub kept-are : {T V : Type 0} (view : T → V) (f : ℕ → Option V) (es : List Entry) (id : ℕ) (read : ℕ → Option T → Type 0) (kept : List T) → AreKept read (children_of es id) kept
-    → ((child : ℕ) (one : Option T) → child < length es → read child one → option_map view one ≡ f child) → map view kept ≡ filter_map f (children_of es id)
+pub kept-are : {T V : Type 0} (view : T → V) (f : ℕ → Option V) (es : List Entry) (id : ℕ)
+    (read : ℕ → Option T → Type 0) (kept : List T) → AreKept read (children_of es id) kept
+    → ((child : ℕ) (one : Option T) → child < length es → read child one → option_map view one ≡ f child)
+    → map view kept ≡ filter_map f (children_of es id)
 kept-are {T} view f es id read kept keeps says = go (children_of es id) kept keeps (children_within es id)
   where
-    go : (all : List ℕ) (kept : List T) → AreKept read all kept → All (λ child. child < length es) all → map view kept ≡ filter_map f all
+    go : (all : List ℕ) (kept : List T) → AreKept read all kept → All (λ child. child < length es) all
+        → map view kept ≡ filter_map f all
     go [] kept keeps within = ap (map view) keeps
     go (child ∷ all) kept (None, rest, is, same, keeps) within =
-        rw (same, sym (says child None (All-head (λ child. child < length es) child all within) is)) (go all rest keeps (All-tail (λ child. child < length es) child all within))
+        rw (same, sym (says child None (All-head (λ child. child < length es) child all within) is))
+        (go all rest keeps (All-tail (λ child. child < length es) child all within))
     go (child ∷ all) kept (Some one, rest, is, same, keeps) within =
-        rw (same, sym (says child (Some one) (All-head (λ child. child < length es) child all within) is), go all rest keeps (All-tail (λ child. child < length es) child all within)) refl
+        rw (
+          same,
+          sym (says child (Some one) (All-head (λ child. child < length es) child all within) is),
+          go all rest
+              keeps (All-tail (λ child. child < length es) child all within),
+        ) refl

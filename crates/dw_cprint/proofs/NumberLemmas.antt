@@ -22,15 +22,19 @@ kept-split : {X : Type 0} (p : X → Bool) (ys : List X) (k : ℕ) (d : X) → k
     → filter p ys ≡ filter p (take k ys) ++ get_or ys k d ∷ filter p (drop (k + 1) ys)
 kept-split {X = X} p ys k d w is =
     let rest : filter p (drop k ys) ≡ get_or ys k d ∷ filter p (drop (k + 1) ys) = rw (drop_more ys k d w, is) refl in
-    ap (filter p) (sym (take-append-drop k ys)) ∙ filter-append p (take k ys) (drop k ys) ∙ ap (λ (zs : List X). filter p (take k ys) ++ zs) rest
+    ap (filter p) (sym (take-append-drop k ys)) ∙ filter-append p (take k ys) (drop k ys)
+    ∙ ap (λ (zs : List X). filter p (take k ys) ++ zs) rest
 
 -- an element that passes a test is one of those that do
-pub kept-there : {X : Type 0} (p : X → Bool) (ys : List X) (k : ℕ) (d : X) → k < length ys → p (get_or ys k d) ≡ true → Contains (filter p ys) (get_or ys k d)
+pub kept-there : {X : Type 0} (p : X → Bool) (ys : List X) (k : ℕ) (d : X) → k < length ys → p (get_or ys k d) ≡ true
+    → Contains (filter p ys) (get_or ys k d)
 kept-there p ys k d w is =
-    rw (kept-split p ys k d w is) (Contains-append_right (filter p (take k ys)) (get_or ys k d ∷ filter p (drop (k + 1) ys)) (get_or ys k d) (0, omega arith, refl))
+    rw (kept-split p ys k d w is) (Contains-append_right (filter p (take k ys))
+    (get_or ys k d ∷ filter p (drop (k + 1) ys)) (get_or ys k d) (0, omega arith, refl))
 
 -- what holds of each two of those that pass a test
-pairs-kept : {X : Type 0} (R : X → X → Type 0) (p : X → Bool) (ys : List X) → AllPairs R (filter p ys) → (i j : ℕ) (d : X) → i < j → j < length ys
+pairs-kept : {X : Type 0} (R : X → X → Type 0) (p : X → Bool) (ys : List X) → AllPairs R (filter p ys)
+    → (i j : ℕ) (d : X) → i < j → j < length ys
     → p (get_or ys i d) ≡ true → p (get_or ys j d) ≡ true → R (get_or ys i d) (get_or ys j d)
 pairs-kept {X = X} R p ys all i j d less w a b =
     let front = filter p (take j ys) in
@@ -47,12 +51,14 @@ tie-same : (a b : ℕ) → a ≡ b → (not (is_lt (nat_cmp a b)) && not (is_lt 
 tie-same a b same = grind (arith, nat_tests)
 
 -- a stable sort keeps what holds of each two of the same key
-still-pairs : {X : Type 0} (key : X → ℕ) (R : X → X → Type 0) (xs ys : List X) → AllPairs R xs → IsStableByKey key nat_cmp xs ys → (i j : ℕ) (d : X) → i < j → j < length ys
+still-pairs : {X : Type 0} (key : X → ℕ) (R : X → X → Type 0) (xs ys : List X) → AllPairs R xs
+    → IsStableByKey key nat_cmp xs ys → (i j : ℕ) (d : X) → i < j → j < length ys
     → key (get_or ys i d) ≡ key (get_or ys j d) → R (get_or ys i d) (get_or ys j d)
 still-pairs {X = X} key R xs ys all stable i j d less w same =
     let x = get_or ys i d in
     let tied : X → Bool = ties (λ a b. is_lt (nat_cmp (key a) (key b))) x in
-    pairs-kept R tied ys (rw (stable x) (AllPairs-filter R tied xs all)) i j d less w (tie-same (key x) (key x) refl) (tie-same (key x) (key (get_or ys j d)) same)
+    pairs-kept R tied ys (rw (stable x) (AllPairs-filter R tied xs all)) i j d less w (tie-same (key x) (key x) refl)
+    (tie-same (key x) (key (get_or ys j d)) same)
 
 -- entries in rising offset, sorted by level
 pub by-level : (level : ℕ → ℕ) (named sorted : List ℕ) → AllPairs (λ a b. a < b) named → IsNonDecreasingBy level sorted
@@ -83,17 +89,20 @@ key-at (e ∷ es) zero d = refl
 key-at (e ∷ es) (suc i) d = key-at es i d
 
 -- what is picked is picked of one
-pub picked-of : {X Y : Type 0} (f : X → Option Y) (xs : List X) (y : Y) → Contains (filter_map f xs) y → (x : X) × Contains xs x × (f x ≡ Some y)
+pub picked-of : {X Y : Type 0} (f : X → Option Y) (xs : List X) (y : Y) → Contains (filter_map f xs) y
+    → (x : X) × Contains xs x × (f x ≡ Some y)
 picked-of f [] y (k, w, e) = absurd (omega arith)
 picked-of {X = X} {Y = Y} f (x ∷ xs) y has = by (λ there. picked-of f xs y there) (f x) refl
   where
-    by : (Contains (filter_map f xs) y → (x : X) × Contains xs x × (f x ≡ Some y)) → (o : Option Y) → f x ≡ o → (z : X) × Contains (x ∷ xs) z × (f z ≡ Some y)
+    by : (Contains (filter_map f xs) y → (x : X) × Contains xs x × (f x ≡ Some y)) → (o : Option Y) → f x ≡ o
+        → (z : X) × Contains (x ∷ xs) z × (f z ≡ Some y)
     by deeper o e = at o e
       where
         later : Contains (filter_map f xs) y → (z : X) × Contains (x ∷ xs) z × (f z ≡ Some y)
         later there = (let (z, c, e) = deeper there in (z, Contains-append_right (x ∷ []) xs z c, e))
 
-        first : (v : Y) → f x ≡ Some v → Contains (v ∷ filter_map f xs) y → (z : X) × Contains (x ∷ xs) z × (f z ≡ Some y)
+        first : (v : Y) → f x ≡ Some v → Contains (v ∷ filter_map f xs) y
+            → (z : X) × Contains (x ∷ xs) z × (f z ≡ Some y)
         first v e (zero, w, same) = (x, Contains-append_left (x ∷ []) xs x (0, omega arith, refl), e ∙ ap Some same)
         first v e (suc k, w, same) = later (k, omega arith, same)
 
@@ -102,26 +111,32 @@ picked-of {X = X} {Y = Y} f (x ∷ xs) y has = by (λ there. picked-of f xs y th
         at (Some v) e = first v e (subst (λ (o : Option Y). Contains (cons_option o (filter_map f xs)) y) e has)
 
 -- and each is picked
-pub picked-there : {X Y : Type 0} (f : X → Option Y) (xs : List X) (x : X) (y : Y) → Contains xs x → f x ≡ Some y → Contains (filter_map f xs) y
+pub picked-there : {X Y : Type 0} (f : X → Option Y) (xs : List X) (x : X) (y : Y) → Contains xs x → f x ≡ Some y
+    → Contains (filter_map f xs) y
 picked-there f [] x y (k, w, e) is = absurd (omega arith)
 picked-there {X = X} {Y = Y} f (z ∷ xs) x y (zero, w, e) is =
     subst (λ (o : Option Y). Contains (cons_option o (filter_map f xs)) y) (sym (ap f e ∙ is)) (0, omega arith, refl)
-picked-there {X = X} {Y = Y} f (z ∷ xs) x y (suc k, w, e) is = by (picked-there f xs x y (k, omega arith, e) is) (f z) refl
+picked-there {X = X} {Y = Y} f (z ∷ xs) x y (suc k, w, e) is = by (picked-there f xs x y (k, omega arith, e) is) (f z)
+    refl
   where
     by : Contains (filter_map f xs) y → (o : Option Y) → f z ≡ o → Contains (filter_map f (z ∷ xs)) y
     by there None e = subst (λ (o : Option Y). Contains (cons_option o (filter_map f xs)) y) (sym e) there
-    by there (Some v) e = subst (λ (o : Option Y). Contains (cons_option o (filter_map f xs)) y) (sym e) (Contains-append_right (v ∷ []) (filter_map f xs) y there)
+    by there (Some v) e =
+        subst (λ (o : Option Y). Contains (cons_option o (filter_map f xs)) y) (sym e)
+        (Contains-append_right (v ∷ []) (filter_map f xs) y there)
 
 -- what holds of each two of some holds of each two that are picked
 pub picked-pairs : {X Y : Type 0} (R : X → X → Type 0) (S : Y → Y → Type 0) (f : X → Option Y) (xs : List X)
     → ((a b : X) (y z : Y) → R a b → f a ≡ Some y → f b ≡ Some z → S y z) → AllPairs R xs → AllPairs S (filter_map f xs)
 picked-pairs R S f [] says all = λ i j d less w. absurd (omega arith)
-picked-pairs {X = X} {Y = Y} R S f (x ∷ xs) says all = by (picked-pairs R S f xs says (λ i j d less w. all (suc i) (suc j) d (omega arith) (omega arith))) (f x) refl
+picked-pairs {X = X} {Y = Y} R S f (x ∷ xs) says all =
+    by (picked-pairs R S f xs says (λ i j d less w. all (suc i) (suc j) d (omega arith) (omega arith))) (f x) refl
   where
     by : AllPairs S (filter_map f xs) → (o : Option Y) → f x ≡ o → AllPairs S (filter_map f (x ∷ xs))
     by rest None e = subst (λ (o : Option Y). AllPairs S (cons_option o (filter_map f xs))) (sym e) rest
     by rest (Some v) e = subst (λ (o : Option Y). AllPairs S (cons_option o (filter_map f xs))) (sym e)
-        (AllPairs-cons S v (filter_map f xs) (λ k d w. after (get_or (filter_map f xs) k d) (Contains-get_or (filter_map f xs) k d w)) rest)
+        (AllPairs-cons S v (filter_map f xs)
+        (λ k d w. after (get_or (filter_map f xs) k d) (Contains-get_or (filter_map f xs) k d w)) rest)
       where
         after : (y : Y) → Contains (filter_map f xs) y → S v y
         after y has =
@@ -131,13 +146,19 @@ picked-pairs {X = X} {Y = Y} R S f (x ∷ xs) says all = by (picked-pairs R S f 
 
 pub range-rising : (n : ℕ) → AllPairs (λ a b. a < b) (range_with_len 0 n)
 range-rising n i j d less w =
-    (let long = length-range_with_len 0 n in omega (arith, get_or-range_with_len 0 n i d (omega arith), get_or-range_with_len 0 n j d (omega arith)))
+    (let long = length-range_with_len 0 n in
+    omega (arith, get_or-range_with_len 0 n i d (omega arith), get_or-range_with_len 0 n j d (omega arith)))
 
 range-below : (n k : ℕ) → Contains (range_with_len 0 n) k → k < n
-range-below n k (i, w, e) = (let long = length-range_with_len 0 n in omega (arith, get_or-range_with_len 0 n i k (omega arith), e))
+range-below n k (i, w, e) =
+    (let long = length-range_with_len 0 n in omega (arith, get_or-range_with_len 0 n i k (omega arith), e))
 
 pub range-there : (n k : ℕ) → k < n → Contains (range_with_len 0 n) k
-range-there n k w = (k, (let long = length-range_with_len 0 n in omega arith), (let at = get_or-range_with_len 0 n k k w in omega arith))
+range-there n k w = (
+  k,
+  (let long = length-range_with_len 0 n in omega arith),
+  (let at = get_or-range_with_len 0 n k k w in omega arith),
+)
 
 get-mapped : (f : ℕ → ℕ) (xs : List ℕ) (k : ℕ) → k < length xs → get_or (map f xs) k 0 ≡ f (get_or xs k 0)
 get-mapped f [] k w = absurd (omega arith)
@@ -145,18 +166,26 @@ get-mapped f (x ∷ xs) zero w = refl
 get-mapped f (x ∷ xs) (suc k) w = get-mapped f xs k (omega arith)
 
 -- each number is that of a named type
-pub numbers-within : (n : ℕ) (numbers : List ℕ) → IsPermutation (range_with_len 0 n) numbers → (i d : ℕ) → i < length numbers → get_or numbers i d < n
+pub numbers-within : (n : ℕ) (numbers : List ℕ) → IsPermutation (range_with_len 0 n) numbers → (i d : ℕ)
+    → i < length numbers → get_or numbers i d < n
 numbers-within n numbers permuted i d w =
-    range-below n (get_or numbers i d) (Contains-permutation numbers (range_with_len 0 n) (get_or numbers i d) (IsPermutation-sym (range_with_len 0 n) numbers permuted) (Contains-get_or numbers i d w))
+    range-below n (get_or numbers i d)
+    (Contains-permutation numbers (range_with_len 0 n) (get_or numbers i d)
+    (IsPermutation-sym (range_with_len 0 n) numbers permuted) (Contains-get_or numbers i d w))
 
 -- numbers sorted by level
-pub numbers-by-level : (level : ℕ → ℕ) (n : ℕ) (numbers : List ℕ) → IsNonDecreasingBy level numbers → IsStableByKey level nat_cmp (range_with_len 0 n) numbers
+pub numbers-by-level : (level : ℕ → ℕ) (n : ℕ) (numbers : List ℕ) → IsNonDecreasingBy level numbers
+    → IsStableByKey level nat_cmp (range_with_len 0 n) numbers
     → AllPairs (λ j k. StandsBefore level j k) numbers
-numbers-by-level level n numbers rises stable = by-level level (range_with_len 0 n) numbers (range-rising n) rises stable
+numbers-by-level level n numbers rises stable =
+    by-level level (range_with_len 0 n) numbers (range-rising n) rises stable
 
 -- named types in rising offset, by their numbers that are sorted by level
-pub numbers-ranked : (level : ℕ → ℕ) (named own numbers : List ℕ) → AllPairs (λ a b. a < b) named → own ≡ map level named → IsPermutation (range_with_len 0 (length own)) numbers
-    → AllPairs (λ j k. StandsBefore (λ n. get_or own n 0) j k) numbers → IsPermutation (range_with_len 0 (length named)) numbers × AllPairs (λ j k. StandsBefore level (get_or named j 0) (get_or named k 0)) numbers
+pub numbers-ranked : (level : ℕ → ℕ) (named own numbers : List ℕ) → AllPairs (λ a b. a < b) named
+    → own ≡ map level named → IsPermutation (range_with_len 0 (length own)) numbers
+    → AllPairs (λ j k. StandsBefore (λ n. get_or own n 0) j k) numbers
+    → IsPermutation (range_with_len 0 (length named)) numbers
+    × AllPairs (λ j k. StandsBefore level (get_or named j 0) (get_or named k 0)) numbers
 numbers-ranked level named own numbers rising is permuted sorted = (all, λ i j d less w. pair i j d less w)
   where
     long : length own ≡ length named
@@ -168,12 +197,14 @@ numbers-ranked level named own numbers rising is permuted sorted = (all, λ i j 
     same : (k : ℕ) → k < length named → get_or own k 0 ≡ level (get_or named k 0)
     same k w = ap (λ (xs : List ℕ). get_or xs k 0) is ∙ get-mapped level named k w
 
-    pair : (i j d : ℕ) → i < j → j < length numbers → StandsBefore level (get_or named (get_or numbers i d) 0) (get_or named (get_or numbers j d) 0)
+    pair : (i j d : ℕ) → i < j → j < length numbers
+        → StandsBefore level (get_or named (get_or numbers i d) 0) (get_or named (get_or numbers j d) 0)
     pair i j d less w =
         let first = same (get_or numbers i d) (numbers-within (length named) numbers all i d (omega arith)) in
         let inside = numbers-within (length named) numbers all j d w in
         let second = same (get_or numbers j d) inside in
         elim (sorted i j d less w) [
           | inl below ↦ inl (rw (← first, ← second) below)
-          | inr (level_same, before) ↦ inr (sym first ∙ level_same ∙ second, rising (get_or numbers i d) (get_or numbers j d) 0 before inside)
+          | inr (level_same, before) ↦ inr
+              (sym first ∙ level_same ∙ second, rising (get_or numbers i d) (get_or numbers j d) 0 before inside)
         ]

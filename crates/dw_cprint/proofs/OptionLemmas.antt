@@ -4,25 +4,30 @@ use Rattle.std.proofs.lemmas.Option.{same_Some}
 use Rattle.std.specs.Prelude.{IsSome, OnOk, option_map, option_and_then, not, if◌then◌else◌}
 pub use Rattle.std.proofs.lemmas.Bool.{or_left, or_right}
 
-pub map_inverted : {A B : Type 0} → (f : A → B) (o : Option A) (y : B) → option_map f o ≡ Some y → (x : A) × (o ≡ Some x) × (f x ≡ y)
+pub map_inverted : {A B : Type 0} → (f : A → B) (o : Option A) (y : B) → option_map f o ≡ Some y
+    → (x : A) × (o ≡ Some x) × (f x ≡ y)
 map_inverted f None y h = absurd (cc)
 map_inverted f (Some x) y h = (x, refl, cc)
 
-pub then_inverted : {A B : Type 0} → (f : A → Option B) (o : Option A) (y : B) → option_and_then f o ≡ Some y → (x : A) × (o ≡ Some x) × (f x ≡ Some y)
+pub then_inverted : {A B : Type 0} → (f : A → Option B) (o : Option A) (y : B) → option_and_then f o ≡ Some y
+    → (x : A) × (o ≡ Some x) × (f x ≡ Some y)
 then_inverted f None y h = absurd (cc)
 then_inverted f (Some x) y h = (x, refl, h)
 
 -- what holds of each value that a step can give holds of the one that it gives
-pub map_holds : {A B : Type 0} → (P : B → Type 0) (f : A → B) (o : Option A) → ((x : A) → o ≡ Some x → P (f x)) → (y : B) → option_map f o ≡ Some y → P y
+pub map_holds : {A B : Type 0} → (P : B → Type 0) (f : A → B) (o : Option A) → ((x : A) → o ≡ Some x → P (f x))
+    → (y : B) → option_map f o ≡ Some y → P y
 map_holds P f None h y e = absurd (cc)
 map_holds P f (Some x) h y e = subst P (same_Some (f x) y e) (h x refl)
 
-pub both_hold : {A B C : Type 0} → (P : C → Type 0) (f : A → B → C) (o : Option A) (p : Option B) → ((x : A) → o ≡ Some x → (z : B) → p ≡ Some z → P (f x z))
+pub both_hold : {A B C : Type 0} → (P : C → Type 0) (f : A → B → C) (o : Option A) (p : Option B)
+    → ((x : A) → o ≡ Some x → (z : B) → p ≡ Some z → P (f x z))
     → (y : C) → option_and_then (λ x. option_map (f x) p) o ≡ Some y → P y
 both_hold P f None p h y e = absurd (cc)
 both_hold P f (Some x) p h y e = map_holds P (f x) p (h x refl) y e
 
-pub unless_holds : {A : Type 0} → (P : A → Type 0) (b : Bool) (o : Option A) → (b ≡ false → (y : A) → o ≡ Some y → P y) → (y : A) → (if b then None else o) ≡ Some y → P y
+pub unless_holds : {A : Type 0} → (P : A → Type 0) (b : Bool) (o : Option A) → (b ≡ false → (y : A) → o ≡ Some y → P y)
+    → (y : A) → (if b then None else o) ≡ Some y → P y
 unless_holds P true o h y e = absurd (cc)
 unless_holds P false o h y e = h refl y e
 
@@ -34,7 +39,8 @@ pub map_some : {A B : Type 0} → (f : A → B) (o : Option A) → IsSome o → 
 map_some f None h = h
 map_some f (Some x) h = refl
 
-pub then_some : {A B : Type 0} → (f : A → Option B) (o : Option A) → IsSome o → ((x : A) → IsSome (f x)) → IsSome (option_and_then f o)
+pub then_some : {A B : Type 0} → (f : A → Option B) (o : Option A) → IsSome o → ((x : A) → IsSome (f x))
+    → IsSome (option_and_then f o)
 then_some f None h g = absurd (cc)
 then_some f (Some x) h g = g x
 
@@ -43,7 +49,8 @@ not_refuted true h = refl
 not_refuted false h = absurd (h refl)
 
 -- nothing, where a test passes
-pub unless_inverted : {A : Type 0} → (b : Bool) (o : Option A) (y : A) → (if b then None else o) ≡ Some y → (b ≡ false) × (o ≡ Some y)
+pub unless_inverted : {A : Type 0} → (b : Bool) (o : Option A) (y : A) → (if b then None else o) ≡ Some y
+    → (b ≡ false) × (o ≡ Some y)
 unless_inverted true o y h = absurd (cc)
 unless_inverted false o y h = (refl, h)
 

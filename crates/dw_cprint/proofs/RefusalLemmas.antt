@@ -55,44 +55,60 @@ module _ (shapes : ℕ → ShapeOf) (subject : SubjectOf) where
   none-more rule none not other less holds = search (rules, cases_lt, one-number)
 
   -- neither another kind of entry nor a cycle that is reached
-  pub printable : (is_other_kind subject ≡ true → ⊥) → (ReachACycle shapes (first_steps subject) → ⊥) → HoldsNoneBelow 2 shapes subject
-  printable kind none = none-more NotPrintable none-first (λ h. elim h [ other_kind e ↦ kind e | cycle entry r round ↦ none (entry, r, round) ])
+  pub printable : (is_other_kind subject ≡ true → ⊥) → (ReachACycle shapes (first_steps subject) → ⊥)
+      → HoldsNoneBelow 2 shapes subject
+  printable kind none =
+      none-more NotPrintable none-first
+      (λ h. elim h [ other_kind e ↦ kind e | cycle entry r round ↦ none (entry, r, round) ])
 
   -- there is a declaration, where none of the first five refusals holds
   there-declared : HoldsNoneBelow 6 shapes subject → (d : Declaration) × (declaration_of shapes subject ≡ Some d)
   unfolding declaration_of
   there-declared none =
-      let there = subject_some 64 shapes subject (λ rule below holds. none rule (omega arith) holds) (λ path. none TooDeep (omega arith) (deep path)) in
+      let there = subject_some 64 shapes subject (λ rule below holds. none rule (omega arith) holds)
+      (λ path. none TooDeep (omega arith) (deep path)) in
       some_value (declaration_by (term_at 65 shapes) subject) there
 
   -- ---- the length of its text
 
   -- the text has as many bytes as are counted, up to the limit
   counted : (s : Survey) → All (Knows shapes s) (types_declared subject) → HoldsNoneBelow 6 shapes subject
-      → (d : Declaration) × (declaration_of shapes subject ≡ Some d) × (capped (declared_bytes (known_of s) subject) ≡ capped (length (written d)))
+      → (d : Declaration) × (declaration_of shapes subject ≡ Some d)
+      × (capped (declared_bytes (known_of s) subject) ≡ capped (length (written d)))
   unfolding declaration_of
   counted s known none =
-      let (d, is) = there-declared none in
-      (d, is, declared-length (term_at 65 shapes) (known_of s) subject d (knows-lengths shapes s 65 (types_declared subject) known) is)
+      let (d, is) = there-declared none in (
+        d,
+        is,
+        declared-length (term_at 65 shapes) (known_of s) subject d
+            (knows-lengths shapes s 65 (types_declared subject) known) is,
+      )
 
   -- it is too long, if a number of bytes above the limit is counted
-  pub too-long : (s : Survey) (n : ℕ) → All (Knows shapes s) (types_declared subject) → n ≡ capped (declared_bytes (known_of s) subject) → 65536 < n
+  pub too-long : (s : Survey) (n : ℕ) → All (Knows shapes s) (types_declared subject)
+      → n ≡ capped (declared_bytes (known_of s) subject) → 65536 < n
       → HoldsNoneBelow 6 shapes subject → Refuses shapes subject TooLong
   too-long s n known same over none =
       let (d, is, count) = counted s known none in
       record { holds = long (d, is, omega (arith, same, count, over)); least = none }
 
   -- and else it is written
-  pub not-too-long : (roots : List ℕ) (s : Survey) (n : ℕ) (old new : Option (List ℕ)) → IsSurveyOf shapes roots s → AreAmong (first_steps subject) roots
-      → All (Knows shapes s) (types_declared subject) → n ≡ capped (declared_bytes (known_of s) subject) → n ≤ 65536 → HoldsNoneBelow 6 shapes subject
+  pub not-too-long : (roots : List ℕ) (s : Survey) (n : ℕ) (old new : Option (List ℕ)) → IsSurveyOf shapes roots s
+      → AreAmong (first_steps subject) roots
+      → All (Knows shapes s) (types_declared subject) → n ≡ capped (declared_bytes (known_of s) subject) → n ≤ 65536
+      → HoldsNoneBelow 6 shapes subject
       → old ≡ Some [] → WritesDeclaration s subject old new → IsPrinted shapes subject × IsDrafted shapes subject new
   not-too-long roots s n old new survey among known same under none empty writes =
       let (d, is, count) = counted s known none in
       let short : length (written d) ≤ 65536 = omega (arith, same, count, under) in
-      let text = writes d (declaration-kept shapes roots s subject survey among ∙ is) ∙ ap (λ (o : Option (List ℕ)). appended o (written d)) empty in
-      (none-more TooLong none (λ h. elim h [ long far ↦ fits d is short far ]), (d, is, text ∙ appended-fits [] (written d) (omega arith)))
+      let text = writes d (declaration-kept shapes roots s subject survey among ∙ is)
+      ∙ ap (λ (o : Option (List ℕ)). appended o (written d)) empty in (
+        none-more TooLong none (λ h. elim h [ long far ↦ fits d is short far ]),
+        (d, is, text ∙ appended-fits [] (written d) (omega arith)),
+      )
     where
-      fits : (d : Declaration) → declaration_of shapes subject ≡ Some d → length (written d) ≤ 65536 → IsLonger 65536 shapes subject → ⊥
+      fits : (d : Declaration) → declaration_of shapes subject ≡ Some d → length (written d) ≤ 65536
+          → IsLonger 65536 shapes subject → ⊥
       fits d is short (e, is_e, over) =
           let same : d ≡ e = cc in
           omega (arith, short, over, ap (λ (x : Declaration). length (written x)) same)

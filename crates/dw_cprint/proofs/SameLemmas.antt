@@ -46,7 +46,8 @@ module _ (shapes others : ℕ → ShapeOf) (subject : SubjectOf) (same : AreSame
   shape-same None good = refl
   shape-same (Some entry) good = ap Some (same entry good)
 
-  stands-same : {at under : TypeAt} → StandsUnder shapes at under → GoodAt at → StandsUnder others at under × GoodAt under
+  stands-same : {at under : TypeAt} → StandsUnder shapes at under → GoodAt at
+      → StandsUnder others at under × GoodAt under
   stands-same nothing good = (nothing, tt)
   stands-same (itself {entry} free) good = (itself (λ q at e. free q at (same entry good ∙ e)), good)
   stands-same (below {entry} q at e rest) good =
@@ -55,19 +56,25 @@ module _ (shapes others : ℕ → ShapeOf) (subject : SubjectOf) (same : AreSame
       let inner = stands-same rest (good-first at [] goods) in
       (below q at (sym (same entry good) ∙ e) inner.0, inner.1)
 
-  any-types : (P Q : TypeAt → Type 0) (ats : List TypeAt) → GoodAmong ats → ((at : TypeAt) → GoodAt at → P at → Q at) → Any P ats → Any Q ats
+  any-types : (P Q : TypeAt → Type 0) (ats : List TypeAt) → GoodAmong ats → ((at : TypeAt) → GoodAt at → P at → Q at)
+      → Any P ats → Any Q ats
   any-types P Q [] goods f (k, x, w, e, p) = absurd (omega arith)
-  any-types P Q (at ∷ ats) goods f (zero, x, w, e, p) = any_here Q at ats (f at (good-first at ats goods) (subst P (sym e) p))
-  any-types P Q (at ∷ ats) goods f (suc k, x, w, e, p) = any_there Q at ats (any-types P Q ats (good-rest at ats goods) f (k, x, omega arith, e, p))
+  any-types P Q (at ∷ ats) goods f (zero, x, w, e, p) =
+      any_here Q at ats (f at (good-first at ats goods) (subst P (sym e) p))
+  any-types P Q (at ∷ ats) goods f (suc k, x, w, e, p) =
+      any_there Q at ats (any-types P Q ats (good-rest at ats goods) f (k, x, omega arith, e, p))
 
   -- ---- what is wrong
 
   kinds-same : (ats : List TypeAt) → GoodAmong ats → All (λ at. kind_at shapes at ≡ kind_at others at) ats
   kinds-same [] goods = All-nil (λ at. kind_at shapes at ≡ kind_at others at)
-  kinds-same (at ∷ ats) goods = All-cons (λ at. kind_at shapes at ≡ kind_at others at) at ats (ap kind_in (shape-same at (good-first at ats goods))) (kinds-same ats (good-rest at ats goods))
+  kinds-same (at ∷ ats) goods =
+      All-cons (λ at. kind_at shapes at ≡ kind_at others at) at ats
+      (ap kind_in (shape-same at (good-first at ats goods))) (kinds-same ats (good-rest at ats goods))
 
   bad-same : (shape : ShapeOf) → GoodAmong (types_reached shape) → HasBadName shapes shape → HasBadName others shape
-  bad-same shape goods h = sym (names-alike (kind_at shapes) (kind_at others) shape (kinds-same (types_reached shape) goods)) ∙ h
+  bad-same shape goods h =
+      sym (names-alike (kind_at shapes) (kind_at others) shape (kinds-same (types_reached shape) goods)) ∙ h
 
   void-same : (at : TypeAt) → GoodAt at → IsVoidLike shapes at → IsVoidLike others at
   void-same at good h = (stands-same h good).0
@@ -78,9 +85,13 @@ module _ (shapes others : ℕ → ShapeOf) (subject : SubjectOf) (same : AreSame
   objects-good (body word odd ms) goods = goods
   objects-good _ goods = λ n c. absurd (omega (arith, c.1))
 
-  unspeakable-same : (shape : ShapeOf) → GoodAmong (types_reached shape) → IsUnspeakable shapes shape → IsUnspeakable others shape
-  unspeakable-same shape goods (wrong h) = wrong (sym (wrong-alike (kind_at shapes) (kind_at others) shape (kinds-same (types_reached shape) goods)) ∙ h)
-  unspeakable-same shape goods (void_object some) = void_object (any-types (IsVoidLike shapes) (IsVoidLike others) (object_types shape) (objects-good shape goods) void-same some)
+  unspeakable-same : (shape : ShapeOf) → GoodAmong (types_reached shape) → IsUnspeakable shapes shape
+      → IsUnspeakable others shape
+  unspeakable-same shape goods (wrong h) =
+      wrong (sym (wrong-alike (kind_at shapes) (kind_at others) shape (kinds-same (types_reached shape) goods)) ∙ h)
+  unspeakable-same shape goods (void_object some) =
+      void_object (any-types (IsVoidLike shapes) (IsVoidLike others) (object_types shape) (objects-good shape goods)
+      void-same some)
   unspeakable-same (qualified q at) goods (row under stands h) =
       let u = stands-same stands (good-first at [] goods) in
       row under u.0 (ap (λ (o : Option ShapeOf). is_wrong_row q (kind_in o)) (sym (shape-same under u.1)) ∙ h)
@@ -91,7 +102,9 @@ module _ (shapes others : ℕ → ShapeOf) (subject : SubjectOf) (same : AreSame
     abbrev SameTerm : TypeAt → Type 0
     SameTerm at = one at ≡ two at
 
-    parameters-same : (ps : List Parameter) → ((n : ℕ) → Contains (entries_of (parameter_types ps)) n → SameTerm (Some n)) → parameters_by one ps ≡ parameters_by two ps
+    parameters-same : (ps : List Parameter)
+        → ((n : ℕ) → Contains (entries_of (parameter_types ps)) n → SameTerm (Some n))
+        → parameters_by one ps ≡ parameters_by two ps
     parameters-same [] h = refl
     parameters-same (Typed at ∷ ps) h =
         let first = head_of SameTerm void at (parameter_types ps) h in
@@ -99,20 +112,25 @@ module _ (shapes others : ℕ → ShapeOf) (subject : SubjectOf) (same : AreSame
         rw (first, rest) refl
     parameters-same (More ∷ ps) h = parameters-same ps h
 
-    members-same : (ms : List MemberOf) → ((n : ℕ) → Contains (entries_of (member_types ms)) n → SameTerm (Some n)) → members_by one ms ≡ members_by two ms
+    members-same : (ms : List MemberOf) → ((n : ℕ) → Contains (entries_of (member_types ms)) n → SameTerm (Some n))
+        → members_by one ms ≡ members_by two ms
     members-same [] h = refl
     members-same (m ∷ ms) h =
         let first = head_of SameTerm void m.type_at (member_types ms) h in
         let rest = members-same ms (rest_of SameTerm void m.type_at (member_types ms) h) in
         rw (first, rest) refl
 
-    by-shape-same : (shape : ShapeOf) → ((n : ℕ) → Contains (entries_of (types_reached shape)) n → SameTerm (Some n)) → term_by one shape ≡ term_by two shape
+    by-shape-same : (shape : ShapeOf) → ((n : ℕ) → Contains (entries_of (types_reached shape)) n → SameTerm (Some n))
+        → term_by one shape ≡ term_by two shape
     by-shape-same (base None) h = refl
     by-shape-same (typedef None) h = refl
     by-shape-same (qualified q at) h = ap (option_map (Qualified q)) (head_of SameTerm void at [] h)
     by-shape-same (pointer at) h = ap (option_map Pointer) (head_of SameTerm void at [] h)
-    by-shape-same (array counts strange at) h = ap (λ (o : Option Term). if is_miscounted counts then None else option_map (arrays counts) o) (head_of SameTerm void at [] h)
-    by-shape-same (function at None) h = ap (option_map (λ (t : Term). Function t Unprototyped)) (head_of SameTerm void at [] h)
+    by-shape-same (array counts strange at) h =
+        ap (λ (o : Option Term). if is_miscounted counts then None else option_map (arrays counts) o)
+        (head_of SameTerm void at [] h)
+    by-shape-same (function at None) h =
+        ap (option_map (λ (t : Term). Function t Unprototyped)) (head_of SameTerm void at [] h)
     by-shape-same (function at (Some ps)) h =
         let first = head_of SameTerm void at (parameter_types ps) h in
         let rest = parameters-same ps (rest_of SameTerm void at (parameter_types ps) h) in
@@ -120,10 +138,13 @@ module _ (shapes others : ℕ → ShapeOf) (subject : SubjectOf) (same : AreSame
     by-shape-same (body word odd ms) h = ap (option_map (Body word)) (members-same ms h)
     by-shape-same _ h = refl
 
-    by-subject-same : (subject : SubjectOf) → ((n : ℕ) → Contains (first_steps subject) n → SameTerm (Some n)) → declaration_by one subject ≡ declaration_by two subject
+    by-subject-same : (subject : SubjectOf) → ((n : ℕ) → Contains (first_steps subject) n → SameTerm (Some n))
+        → declaration_by one subject ≡ declaration_by two subject
     by-subject-same (typedef_subject (Some name) at) h = ap (option_map (Typedef name)) (head_of SameTerm void at [] h)
-    by-subject-same (variable_subject (Some name) at) h = ap (option_map (Variable name)) (head_of SameTerm void at [] h)
-    by-subject-same (tag_subject (Some name) (body word odd ms)) h = ap (option_map (Aggregate word name)) (members-same ms h)
+    by-subject-same (variable_subject (Some name) at) h =
+        ap (option_map (Variable name)) (head_of SameTerm void at [] h)
+    by-subject-same (tag_subject (Some name) (body word odd ms)) h =
+        ap (option_map (Aggregate word name)) (members-same ms h)
     by-subject-same _ h = refl
 
   void-term : (k : ℕ) → term_at k shapes None ≡ term_at k others None
@@ -133,7 +154,8 @@ module _ (shapes others : ℕ → ShapeOf) (subject : SubjectOf) (same : AreSame
   entry-same : (k entry : ℕ) → Good entry → term_at k shapes (Some entry) ≡ term_at k others (Some entry)
   entry-same zero entry good = refl
   entry-same (suc k) entry good =
-      by-shape-same (term_at k shapes) (term_at k others) (void-term k) (shapes entry) (λ n leads. entry-same k n (further good leads))
+      by-shape-same (term_at k shapes) (term_at k others) (void-term k) (shapes entry)
+      (λ n leads. entry-same k n (further good leads))
       ∙ ap (term_by (term_at k others)) (same entry good)
 
   -- ---- the declared entry
@@ -151,11 +173,14 @@ module _ (shapes others : ℕ → ShapeOf) (subject : SubjectOf) (same : AreSame
 
   pub declaration-same : declaration_of shapes subject ≡ declaration_of others subject
   unfolding declaration_of
-  declaration-same = by-subject-same (term_at 65 shapes) (term_at 65 others) refl subject (λ n leads. entry-same 65 n (root leads))
+  declaration-same =
+      by-subject-same (term_at 65 shapes) (term_at 65 others) refl subject (λ n leads. entry-same 65 n (root leads))
 
-  own-unspeakable-same : (s : SubjectOf) → GoodAmong (types_declared s) → IsOwnUnspeakable shapes s → IsOwnUnspeakable others s
+  own-unspeakable-same : (s : SubjectOf) → GoodAmong (types_declared s) → IsOwnUnspeakable shapes s
+      → IsOwnUnspeakable others s
   own-unspeakable-same (typedef_subject name at) goods h = elim h [ ]
-  own-unspeakable-same (variable_subject name at) goods (void_variable h) = void_variable (void-same at (good-first at [] goods) h)
+  own-unspeakable-same (variable_subject name at) goods (void_variable h) =
+      void_variable (void-same at (good-first at [] goods) h)
   own-unspeakable-same (tag_subject name shape) goods (unspeakable h) = unspeakable (unspeakable-same shape goods h)
   own-unspeakable-same (tag_subject name shape) goods (declared_enumeration h) = declared_enumeration h
 
@@ -163,15 +188,18 @@ module _ (shapes others : ℕ → ShapeOf) (subject : SubjectOf) (same : AreSame
   holds-same rule (other_kind e) = other_kind e
   holds-same rule (cycle entry r (k, path)) = cycle entry (reached-there r) (k, leads-same (suc k) entry entry r path)
   holds-same rule (own_name h) =
-      own_name (sym (own-names-alike (kind_at shapes) (kind_at others) subject (kinds-same (types_declared subject) (λ n c. root c))) ∙ h)
+      own_name (sym (own-names-alike (kind_at shapes) (kind_at others) subject
+      (kinds-same (types_declared subject) (λ n c. root c))) ∙ h)
   holds-same rule (name_reached entry r h) =
-      name_reached entry (reached-there r) (subst (HasBadName others) (same entry r) (bad-same (shapes entry) (λ n c. further r c) h))
+      name_reached entry (reached-there r)
+      (subst (HasBadName others) (same entry r) (bad-same (shapes entry) (λ n c. further r c) h))
   holds-same rule (own_child h) = own_child h
   holds-same rule (foreign_reached entry r h) =
       foreign_reached entry (reached-there r) (rw (same entry r) at h)
   holds-same rule (own_shape h) = own_shape (own-unspeakable-same subject (λ n c. root c) h)
   holds-same rule (shape_reached entry r h) =
-      shape_reached entry (reached-there r) (subst (IsUnspeakable others) (same entry r) (unspeakable-same (shapes entry) (λ n c. further r c) h))
+      shape_reached entry (reached-there r)
+      (subst (IsUnspeakable others) (same entry r) (unspeakable-same (shapes entry) (λ n c. further r c) h))
   holds-same rule (deep (next, to, c, path)) = deep (next, to, c, leads-same 64 next to (root c) path)
   holds-same rule (long (d, e, more)) = long (d, sym declaration-same ∙ e, more)
 
@@ -179,10 +207,12 @@ module _ (shapes others : ℕ → ShapeOf) (subject : SubjectOf) (same : AreSame
 
 module _ (shapes others : ℕ → ShapeOf) (subject : SubjectOf) (same : AreSameFor shapes others subject) where
   pub none-same : (number : ℕ) → HoldsNoneBelow number shapes subject → HoldsNoneBelow number others subject
-  none-same number none rule less holds = none rule less (holds-same others shapes subject (same-back shapes others subject same) rule holds)
+  none-same number none rule less holds =
+      none rule less (holds-same others shapes subject (same-back shapes others subject same) rule holds)
 
   pub refuses-same : (rule : PrintFault) → Refuses shapes subject rule → Refuses others subject rule
-  refuses-same rule r = record { holds = holds-same shapes others subject same rule r.holds; least = none-same (number_of rule) r.least }
+  refuses-same rule r =
+      record { holds = holds-same shapes others subject same rule r.holds; least = none-same (number_of rule) r.least }
 
   pub one-same : HasOneReading shapes subject → HasOneReading others subject
   one-same one d another e legible text = one d another (declaration-same shapes others subject same ∙ e) legible text
@@ -190,15 +220,21 @@ module _ (shapes others : ℕ → ShapeOf) (subject : SubjectOf) (same : AreSame
 -- ---- what holds by the shapes of an image holds by the shapes that a survey of it keeps
 
 -- the kept shapes are the same for each declaration that was surveyed
-pub kept-same : (shapes : ℕ → ShapeOf) (roots : List ℕ) (s : Survey) (subject : SubjectOf) → IsSurveyOf shapes roots s → AreAmong (first_steps subject) roots → AreSameFor shapes (kept s) subject
+pub kept-same : (shapes : ℕ → ShapeOf) (roots : List ℕ) (s : Survey) (subject : SubjectOf) → IsSurveyOf shapes roots s
+    → AreAmong (first_steps subject) roots → AreSameFor shapes (kept s) subject
 kept-same shapes roots s subject survey among entry r = sym (survey.keeps entry (reached-wider among r))
 
 -- so its declaration is the same
-pub declaration-kept : (shapes : ℕ → ShapeOf) (roots : List ℕ) (s : Survey) (subject : SubjectOf) → IsSurveyOf shapes roots s → AreAmong (first_steps subject) roots → declaration_of (kept s) subject ≡ declaration_of shapes subject
-declaration-kept shapes roots s subject survey among = sym (declaration-same shapes (kept s) subject (kept-same shapes roots s subject survey among))
+pub declaration-kept : (shapes : ℕ → ShapeOf) (roots : List ℕ) (s : Survey) (subject : SubjectOf)
+    → IsSurveyOf shapes roots s → AreAmong (first_steps subject) roots
+    → declaration_of (kept s) subject ≡ declaration_of shapes subject
+declaration-kept shapes roots s subject survey among =
+    sym (declaration-same shapes (kept s) subject (kept-same shapes roots s subject survey among))
 
 -- no other declaration has the text of one that is printed
-pub printed-one : (shapes : ℕ → ShapeOf) (subject : SubjectOf) → IsPrinted shapes subject → AreRegular shapes subject → HasOneReading shapes subject
+pub printed-one : (shapes : ℕ → ShapeOf) (subject : SubjectOf) → IsPrinted shapes subject → AreRegular shapes subject
+    → HasOneReading shapes subject
 unfolding declaration_of
 printed-one shapes subject printed regular d another e legible text =
-    one_text another d legible (subject_legible 65 shapes subject (λ rule below holds. printed rule (omega arith) holds) regular.own regular.reached d e) text
+    one_text another d legible (subject_legible 65 shapes subject (λ rule below holds. printed rule (omega arith) holds)
+    regular.own regular.reached d e) text

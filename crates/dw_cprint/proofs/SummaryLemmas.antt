@@ -27,7 +27,13 @@ void_summary shapes =
     record {
       is_kind = refl;
       is_base = (None, nothing, refl);
-      are_found = record { bad_name = none.bad_name; foreign_type = none.foreign_type; unspeakable = none.unspeakable; deep = none.deep };
+      are_found =
+          record {
+            bad_name = none.bad_name;
+            foreign_type = none.foreign_type;
+            unspeakable = none.unspeakable;
+            deep = none.deep;
+          };
       is_length = λ k t e. of_term k t e;
     }
   where
@@ -39,50 +45,74 @@ void_summary shapes =
         subst P same void-length
 
 -- a fact of types holds of void, and of each entry among them
-pub all-types : (P : TypeAt → Type 0) → P None → (types : List TypeAt) → ((to : ℕ) → Contains (entries_of types) to → P (Some to)) → All P types
+pub all-types : (P : TypeAt → Type 0) → P None → (types : List TypeAt)
+    → ((to : ℕ) → Contains (entries_of types) to → P (Some to)) → All P types
 all-types P void [] each k d w = absurd (omega arith)
 all-types P void (None ∷ types) each zero d w = void
 all-types P void (None ∷ types) each (suc k) d w = all-types P void types each k d (omega arith)
 all-types P void (Some to ∷ types) each zero d w = each to (0, omega arith, refl)
-all-types P void (Some to ∷ types) each (suc k) d w = all-types P void types (λ x c. each x (suc c.0, omega (arith, c.1), c.2)) k d (omega arith)
+all-types P void (Some to ∷ types) each (suc k) d w =
+    all-types P void types (λ x c. each x (suc c.0, omega (arith, c.1), c.2)) k d (omega arith)
 
 -- ---- what stands under a row
 
-pub base_qualified : (shapes : ℕ → ShapeOf) (entry : ℕ) (q : Qualifier) (at : TypeAt) (b : TypeKind) → shapes entry ≡ qualified q at → IsBase shapes at b → IsBase shapes (Some entry) b
+pub base_qualified : (shapes : ℕ → ShapeOf) (entry : ℕ) (q : Qualifier) (at : TypeAt) (b : TypeKind)
+    → shapes entry ≡ qualified q at → IsBase shapes at b → IsBase shapes (Some entry) b
 base_qualified shapes entry q at b is (under, stands, same) = (under, below q at is stands, same)
 
-pub base_itself : (shapes : ℕ → ShapeOf) (entry : ℕ) (s : Shape) (b : TypeKind) → shapes entry ≡ view_shape s → ((q : Qualifier) (at : TypeAt) → s ≡ shape.Qualified q at → ⊥) → b ≡ kind_in (Some (view_shape s)) → IsBase shapes (Some entry) b
-base_itself shapes entry s b is plain same =
-    (Some entry, itself (λ q at e. unqualified s plain q at (sym is ∙ e)), same ∙ ap (λ (x : ShapeOf). kind_in (Some x)) (sym is))
+pub base_itself : (shapes : ℕ → ShapeOf) (entry : ℕ) (s : Shape) (b : TypeKind) → shapes entry ≡ view_shape s
+    → ((q : Qualifier) (at : TypeAt) → s ≡ shape.Qualified q at → ⊥) → b ≡ kind_in (Some (view_shape s))
+    → IsBase shapes (Some entry) b
+base_itself shapes entry s b is plain same = (
+  Some entry,
+  itself (λ q at e. unqualified s plain q at (sym is ∙ e)),
+  same
+      ∙ ap (λ (x : ShapeOf). kind_in (Some x)) (sym is),
+)
   where
-    unqualified : (s : Shape) → ((q : Qualifier) (at : TypeAt) → s ≡ shape.Qualified q at → ⊥) → (q : Qualifier) (at : TypeAt) → view_shape s ≡ qualified q at → ⊥
+    unqualified : (s : Shape) → ((q : Qualifier) (at : TypeAt) → s ≡ shape.Qualified q at → ⊥)
+        → (q : Qualifier) (at : TypeAt) → view_shape s ≡ qualified q at → ⊥
     unqualified (shape.Qualified r to) plain q at e = plain r to refl
     unqualified _ plain q at e = cc
 
 -- it is the base of its shape too
-pub base_plain : (known : TypeAt → Summary) (s : Shape) → ((q : Qualifier) (at : TypeAt) → s ≡ shape.Qualified q at → ⊥) → kind_in (Some (view_shape s)) ≡ base_in known (view_shape s)
+pub base_plain : (known : TypeAt → Summary) (s : Shape) → ((q : Qualifier) (at : TypeAt) → s ≡ shape.Qualified q at → ⊥)
+    → kind_in (Some (view_shape s)) ≡ base_in known (view_shape s)
 base_plain known (shape.Qualified q at) plain = absurd (plain q at refl)
 base_plain known _ plain = refl
 
 -- ---- one entry
 
-pub entry_summary : (shapes : ℕ → ShapeOf) (entry : ℕ) (s : ShapeOf) (known : Summary) → shapes entry ≡ s → known.kind ≡ kind_in (Some s) → IsBase shapes (Some entry) known.base
-    → AreFound shapes (Some entry ∷ []) known.findings → ((k : ℕ) (t : Term) → term_by (term_at k shapes) s ≡ Some t → IsLength t known.kind known.base known.length) → IsSummary shapes (Some entry) known
+pub entry_summary : (shapes : ℕ → ShapeOf) (entry : ℕ) (s : ShapeOf) (known : Summary) → shapes entry ≡ s
+    → known.kind ≡ kind_in (Some s) → IsBase shapes (Some entry) known.base
+    → AreFound shapes (Some entry ∷ []) known.findings
+    → ((k : ℕ) (t : Term) → term_by (term_at k shapes) s ≡ Some t → IsLength t known.kind known.base known.length)
+    → IsSummary shapes (Some entry) known
 entry_summary shapes entry s known is kind base found long =
-    record { is_kind = kind ∙ ap (λ (x : ShapeOf). kind_in (Some x)) (sym is); is_base = base; are_found = found; is_length = of_term }
+    record {
+      is_kind = kind ∙ ap (λ (x : ShapeOf). kind_in (Some x)) (sym is);
+      is_base = base;
+      are_found = found;
+      is_length = of_term;
+    }
   where
-    of_term : (k : ℕ) (t : Term) → term_at k shapes (Some entry) ≡ Some t → IsLength t known.kind known.base known.length
+    of_term : (k : ℕ) (t : Term) → term_at k shapes (Some entry) ≡ Some t
+        → IsLength t known.kind known.base known.length
     of_term zero t e = absurd (cc)
     of_term (suc k) t e = long k t (ap (term_by (term_at k shapes)) (sym is) ∙ e)
 
 -- what is known of the lengths of some types is right
-pub knows-lengths : (shapes : ℕ → ShapeOf) (s : Survey) (k : ℕ) (types : List TypeAt) → All (Knows shapes s) types → All (Tells (term_at k shapes) (known_of s)) types
-knows-lengths shapes s k types all = All-weaker (Knows shapes s) (Tells (term_at k shapes) (known_of s)) (λ at known t is. known.is_length k t is) types all
+pub knows-lengths : (shapes : ℕ → ShapeOf) (s : Survey) (k : ℕ) (types : List TypeAt) → All (Knows shapes s) types
+    → All (Tells (term_at k shapes) (known_of s)) types
+knows-lengths shapes s k types all =
+    All-weaker (Knows shapes s) (Tells (term_at k shapes) (known_of s)) (λ at known t is. known.is_length k t is) types
+    all
 
 -- ---- all nodes
 
 get-set-same : {X : Type 0} (xs : List X) (i : ℕ) (x : X) → i < length xs → slice_get (set xs i x) i ≡ Some x
-get-set-same xs i x within = slice_get-get_or (set xs i x) i x (omega (arith, length-set xs i x)) ∙ ap Some (get_or-set_same xs i x x within)
+get-set-same xs i x within =
+    slice_get-get_or (set xs i x) i x (omega (arith, length-set xs i x)) ∙ ap Some (get_or-set_same xs i x x within)
 
 get-set-other : {X : Type 0} (xs : List X) (i j : ℕ) (x : X) → (i ≡ j → ⊥) → slice_get (set xs i x) j ≡ slice_get xs j
 get-set-other [] zero j x apart = refl
@@ -95,19 +125,28 @@ get-set-other (y ∷ xs) (suc i) (suc j) x apart = get-set-other xs i j x (λ e.
 abbrev Has : List (Option Summary) → ℕ → Type 0
 Has nodes node = is_none (get_or nodes node None) ≡ false
 
-pub have_more : (clear : List ℕ) (nodes : List (Option Summary)) (i : ℕ) (s : Summary) → i < length clear → get_or clear i 0 < length nodes → HaveSummaries (take i clear) nodes
+pub have_more : (clear : List ℕ) (nodes : List (Option Summary)) (i : ℕ) (s : Summary) → i < length clear
+    → get_or clear i 0 < length nodes → HaveSummaries (take i clear) nodes
     → HaveSummaries (take (i + 1) clear) (set nodes (get_or clear i 0) (Some s))
 have_more clear nodes i s within there have node =
     rw (take_more clear i 0 within) (by_node (cases_eq (get_or clear i 0) node))
   where
-    by_node : ((get_or clear i 0 ≡ node) ⊎ (get_or clear i 0 ≡ node → ⊥)) → Contains (take i clear ++ get_or clear i 0 ∷ []) node ↔ Has (set nodes (get_or clear i 0) (Some s)) node
+    by_node : ((get_or clear i 0 ≡ node) ⊎ (get_or clear i 0 ≡ node → ⊥))
+        → Contains (take i clear ++ get_or clear i 0 ∷ []) node ↔ Has (set nodes (get_or clear i 0) (Some s)) node
     by_node (inl same) =
-        let Q : ℕ → Type 0 = λ n. Contains (take i clear ++ get_or clear i 0 ∷ []) n ↔ Has (set nodes (get_or clear i 0) (Some s)) n in
+        let Q : ℕ → Type 0 = λ n. Contains (take i clear ++ get_or clear i 0 ∷ []) n
+        ↔ Has (set nodes (get_or clear i 0) (Some s)) n in
         let new = get_or-set_same nodes (get_or clear i 0) (Some s) None there in
-        subst Q same (λ _. ap (λ (o : Option Summary). is_none o) new, λ _. Contains-push (take i clear) (get_or clear i 0))
+        subst Q same (
+          λ _. ap (λ (o : Option Summary). is_none o) new,
+          λ _. Contains-push (take i clear)
+              (get_or clear i 0),
+        )
     by_node (inr apart) =
-        let kept = ap (λ (o : Option Summary). is_none o) (get_or-set_other nodes (get_or clear i 0) node (Some s) None (λ e. apart (sym e))) in (
-          λ c. elim (Contains-push_cases (take i clear) (get_or clear i 0) node c) [ inl old ↦ kept ∙ (have node).0 old | inr same ↦ absurd (apart same) ],
+        let kept = ap (λ (o : Option Summary). is_none o)
+        (get_or-set_other nodes (get_or clear i 0) node (Some s) None (λ e. apart (sym e))) in (
+          λ c. elim (Contains-push_cases (take i clear) (get_or clear i 0) node c)
+              [ inl old ↦ kept ∙ (have node).0 old | inr same ↦ absurd (apart same) ],
           λ h. Contains-append_left (take i clear) (get_or clear i 0 ∷ []) node ((have node).1 (sym kept ∙ h)),
         )
 
@@ -118,41 +157,54 @@ known_by places nodes at = unwrap_or (summary_at VOID places nodes at) VOID
 -- the summaries of the first nodes are right
 abbrev pub RightBefore : (ℕ → ShapeOf) → (found clear places : List ℕ) → List (Option Summary) → ℕ → Type 0
 RightBefore all found clear places nodes i =
-    (j : ℕ) → j < i → IsSummary all (Some (get_or found (get_or clear j 0) 0)) (known_by places nodes (Some (get_or found (get_or clear j 0) 0)))
+    (j : ℕ) → j < i → IsSummary all (Some (get_or found (get_or clear j 0) 0))
+    (known_by places nodes (Some (get_or found (get_or clear j 0) 0)))
 
-summary-there : (places : List ℕ) (nodes : List (Option Summary)) (entry n : ℕ) (r : Option (Option Summary)) → slice_get places entry ≡ Some n → slice_get nodes n ≡ r
+summary-there : (places : List ℕ) (nodes : List (Option Summary)) (entry n : ℕ) (r : Option (Option Summary))
+    → slice_get places entry ≡ Some n → slice_get nodes n ≡ r
     → summary_at VOID places nodes (Some entry) ≡ option_and_then (λ (s : Option Summary). s) r
 summary-there places nodes entry n r placed is =
-    ap (λ (o : Option ℕ). option_and_then (λ (s : Option Summary). s) (option_and_then (slice_get nodes) o)) placed ∙ ap (λ (o : Option (Option Summary)). option_and_then (λ (s : Option Summary). s) o) is
+    ap (λ (o : Option ℕ). option_and_then (λ (s : Option Summary). s) (option_and_then (slice_get nodes) o)) placed
+    ∙ ap (λ (o : Option (Option Summary)). option_and_then (λ (s : Option Summary). s) o) is
 
-module _ (all : ℕ → ShapeOf) (places found : List ℕ) (kept : List Shape) (clear : List ℕ) (are : AreNodes all places found kept clear) where
+module _ (all : ℕ → ShapeOf) (places found : List ℕ) (kept : List Shape) (clear : List ℕ)
+    (are : AreNodes all places found kept clear) where
   -- what the steps of a node lead to is known
-  pub all_known : (nodes : List (Option Summary)) (i : ℕ) → i < length clear → RightBefore all found clear places nodes i
-      → All (λ at. IsSummary all at (known_by places nodes at)) (types_reached (all (get_or found (get_or clear i 0) 0)))
+  pub all_known : (nodes : List (Option Summary)) (i : ℕ) → i < length clear
+      → RightBefore all found clear places nodes i
+      → All (λ at. IsSummary all at (known_by places nodes at))
+      (types_reached (all (get_or found (get_or clear i 0) 0)))
   all_known nodes i within right =
-      all-types (λ at. IsSummary all at (known_by places nodes at)) (void_summary all) (types_reached (all (get_or found (get_or clear i 0) 0)))
+      all-types (λ at. IsSummary all at (known_by places nodes at)) (void_summary all)
+      (types_reached (all (get_or found (get_or clear i 0) 0)))
       (λ to c. let behind = are.behind i to within c in
       let P : ℕ → Type 0 = λ e. IsSummary all (Some e) (known_by places nodes (Some e)) in
       subst P behind.2 (right behind.0 behind.1))
 
-  pub right_more : (nodes : List (Option Summary)) (i : ℕ) (s : Summary) → i < length clear → get_or clear i 0 < length nodes → RightBefore all found clear places nodes i
-      → IsSummary all (Some (get_or found (get_or clear i 0) 0)) s → RightBefore all found clear places (set nodes (get_or clear i 0) (Some s)) (i + 1)
+  pub right_more : (nodes : List (Option Summary)) (i : ℕ) (s : Summary) → i < length clear
+      → get_or clear i 0 < length nodes → RightBefore all found clear places nodes i
+      → IsSummary all (Some (get_or found (get_or clear i 0) 0)) s
+      → RightBefore all found clear places (set nodes (get_or clear i 0) (Some s)) (i + 1)
   right_more nodes i s within there right new j lower = by_node (cases_eq (get_or clear i 0) (get_or clear j 0))
     where
       by_node : ((get_or clear i 0 ≡ get_or clear j 0) ⊎ (get_or clear i 0 ≡ get_or clear j 0 → ⊥))
-          → IsSummary all (Some (get_or found (get_or clear j 0) 0)) (known_by places (set nodes (get_or clear i 0) (Some s)) (Some (get_or found (get_or clear j 0) 0)))
+          → IsSummary all (Some (get_or found (get_or clear j 0) 0))
+          (known_by places (set nodes (get_or clear i 0) (Some s)) (Some (get_or found (get_or clear j 0) 0)))
       by_node (inl same) =
           let n = get_or clear i 0 in
-          let at = summary-there places (set nodes n (Some s)) (get_or found n 0) n (Some (Some s)) (are.placed n (are.within i within)) (get-set-same nodes n (Some s) there) in
+          let at = summary-there places (set nodes n (Some s)) (get_or found n 0) n (Some (Some s))
+          (are.placed n (are.within i within)) (get-set-same nodes n (Some s) there) in
           let P : Option Summary → Type 0 = λ o. IsSummary all (Some (get_or found n 0)) (unwrap_or o VOID) in
-          let Q : ℕ → Type 0 = λ x. IsSummary all (Some (get_or found x 0)) (known_by places (set nodes n (Some s)) (Some (get_or found x 0))) in
+          let Q : ℕ → Type 0 = λ x. IsSummary all (Some (get_or found x 0))
+          (known_by places (set nodes n (Some s)) (Some (get_or found x 0))) in
           subst Q same (subst P (sym at) new)
       by_node (inr apart) =
           let n = get_or clear i 0 in
           let m = get_or clear j 0 in
           let earlier : j < i = before (cases_eq i j) in
           let placed = are.placed m (are.within j (omega arith)) in
-          let new_at = summary-there places (set nodes n (Some s)) (get_or found m 0) m (slice_get nodes m) placed (get-set-other nodes n m (Some s) apart) in
+          let new_at = summary-there places (set nodes n (Some s)) (get_or found m 0) m (slice_get nodes m) placed
+          (get-set-other nodes n m (Some s) apart) in
           let old_at = summary-there places nodes (get_or found m 0) m (slice_get nodes m) placed refl in
           let P : Option Summary → Type 0 = λ o. IsSummary all (Some (get_or found m 0)) (unwrap_or o VOID) in
           subst P (old_at ∙ sym new_at) (right j earlier)

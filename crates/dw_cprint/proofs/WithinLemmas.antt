@@ -22,7 +22,8 @@ one_within false n id to below is = absurd cc
 number_within : (es : List Entry) (id to : ℕ) → type_number es id ≡ Some to → to < length es
 number_within es id to is = search (rules, slice_get_within, one_within)
 
-named_within : (es : List Entry) (at : Option ℕ) (to : ℕ) → option_and_then (type_number es) at ≡ Some to → to < length es
+named_within : (es : List Entry) (at : Option ℕ) (to : ℕ) → option_and_then (type_number es) at ≡ Some to
+    → to < length es
 named_within es None to is = absurd cc
 named_within es (Some id) to is = number_within es id to is
 
@@ -43,31 +44,43 @@ pub record IsRead (n : ℕ) (s : ShapeOf) : Type 0 where
 none_within : (n : ℕ) → AreWithin n []
 none_within n = record { all = All-nil (λ to. to < n) }
 
-more_within : (n : ℕ) (at : Option ℕ) (types : List (Option ℕ)) → ((to : ℕ) → at ≡ Some to → to < n) → AreWithin n types → AreWithin n (at ∷ types)
+more_within : (n : ℕ) (at : Option ℕ) (types : List (Option ℕ)) → ((to : ℕ) → at ≡ Some to → to < n) → AreWithin n types
+    → AreWithin n (at ∷ types)
 more_within n None types below rest = record { all = rest.all }
-more_within n (Some to) types below rest = record { all = All-cons (λ to. to < n) to (entries_of types) (below to refl) rest.all }
+more_within n (Some to) types below rest =
+    record { all = All-cons (λ to. to < n) to (entries_of types) (below to refl) rest.all }
 
-type_more : (image : Image) (id : ℕ) (types : List (Option ℕ)) → AreWithin (length (entries_in image)) types → AreWithin (length (entries_in image)) (type_at image id ∷ types)
-type_more image id types rest = more_within (length (entries_in image)) (type_at image id) types (type_within image id) rest
+type_more : (image : Image) (id : ℕ) (types : List (Option ℕ)) → AreWithin (length (entries_in image)) types
+    → AreWithin (length (entries_in image)) (type_at image id ∷ types)
+type_more image id types rest =
+    more_within (length (entries_in image)) (type_at image id) types (type_within image id) rest
 
-member_more : (n : ℕ) (b : Bool) (m : MemberOf) (ms : List MemberOf) → ((to : ℕ) → m.type_at ≡ Some to → to < n) → AreWithin n (member_types ms)
+member_more : (n : ℕ) (b : Bool) (m : MemberOf) (ms : List MemberOf) → ((to : ℕ) → m.type_at ≡ Some to → to < n)
+    → AreWithin n (member_types ms)
     → AreWithin n (member_types (cons_option (if b then Some m else None) ms))
 member_more n true m ms below rest = more_within n m.type_at (member_types ms) below rest
 member_more n false m ms below rest = rest
 
-members_within : (image : Image) (ids : List ℕ) → AreWithin (length (entries_in image)) (member_types (filter_map (member_at image) ids))
+members_within : (image : Image) (ids : List ℕ)
+    → AreWithin (length (entries_in image)) (member_types (filter_map (member_at image) ids))
 members_within image [] = none_within (length (entries_in image))
-members_within image (id ∷ ids) = member_more (length (entries_in image)) _ _ (filter_map (member_at image) ids) (type_within image id) (members_within image ids)
+members_within image (id ∷ ids) =
+    member_more (length (entries_in image)) _ _ (filter_map (member_at image) ids) (type_within image id)
+    (members_within image ids)
 
-parameter_more : (n : ℕ) (a b : Bool) (at : TypeAt) (ps : List Parameter) → ((to : ℕ) → at ≡ Some to → to < n) → AreWithin n (parameter_types ps)
+parameter_more : (n : ℕ) (a b : Bool) (at : TypeAt) (ps : List Parameter) → ((to : ℕ) → at ≡ Some to → to < n)
+    → AreWithin n (parameter_types ps)
     → AreWithin n (parameter_types (cons_option (if a then Some (Typed at) else if b then Some More else None) ps))
 parameter_more n true b at ps below rest = more_within n at (parameter_types ps) below rest
 parameter_more n false true at ps below rest = rest
 parameter_more n false false at ps below rest = rest
 
-parameters_within : (image : Image) (ids : List ℕ) → AreWithin (length (entries_in image)) (parameter_types (filter_map (parameter_at image) ids))
+parameters_within : (image : Image) (ids : List ℕ)
+    → AreWithin (length (entries_in image)) (parameter_types (filter_map (parameter_at image) ids))
 parameters_within image [] = none_within (length (entries_in image))
-parameters_within image (id ∷ ids) = parameter_more (length (entries_in image)) _ _ (type_at image id) (filter_map (parameter_at image) ids) (type_within image id) (parameters_within image ids)
+parameters_within image (id ∷ ids) =
+    parameter_more (length (entries_in image)) _ _ (type_at image id) (filter_map (parameter_at image) ids)
+    (type_within image id) (parameters_within image ids)
 
 leads_nowhere : (n : ℕ) (s : ShapeOf) → types_reached s ≡ [] → IsRegular s → IsRead n s
 leads_nowhere n s none regular = record { all = rw none (none_within n); regular = regular }
@@ -76,30 +89,44 @@ either : {X : Type 0} (P : X → Type 0) (b : Bool) (x y : X) → P x → P y �
 either P true x y one another = one
 either P false x y one another = another
 
-function_within : (image : Image) (id : ℕ) (b : Bool) (ids : List ℕ) → IsRead (length (entries_in image)) (function (type_at image id) (if b then Some (filter_map (parameter_at image) ids) else None))
-function_within image id true ids = record { all = type_more image id (parameter_types (filter_map (parameter_at image) ids)) (parameters_within image ids); regular = tt }
-function_within image id false ids = record { all = type_more image id [] (none_within (length (entries_in image))); regular = tt }
+function_within : (image : Image) (id : ℕ) (b : Bool) (ids : List ℕ)
+    → IsRead (length (entries_in image))
+    (function (type_at image id) (if b then Some (filter_map (parameter_at image) ids) else None))
+function_within image id true ids =
+    record {
+      all = type_more image id (parameter_types (filter_map (parameter_at image) ids))
+          (parameters_within image ids);
+      regular = tt;
+    }
+function_within image id false ids =
+    record { all = type_more image id [] (none_within (length (entries_in image))); regular = tt }
 
 body_within : (image : Image) (id : ℕ) (word : TagKeyword) → IsRead (length (entries_in image)) (body_in image id word)
 body_within image id Enum = leads_nowhere (length (entries_in image)) _ refl tt
 body_within image id Struct = record { all = members_within image (children_at image id); regular = tt }
 body_within image id Union = record { all = members_within image (children_at image id); regular = tt }
 
-tag_within : (image : Image) (id : ℕ) (word : TagKeyword) (name : Name) → IsRead (length (entries_in image)) (tag_shape image id word name)
+tag_within : (image : Image) (id : ℕ) (word : TagKeyword) (name : Name)
+    → IsRead (length (entries_in image)) (tag_shape image id word name)
 tag_within image id word (Some name) = leads_nowhere (length (entries_in image)) _ refl tt
 tag_within image id word None =
     let n = length (entries_in image) in
-    either (IsRead n) (declared_at image id) (nameless word) (body_in image id word) (leads_nowhere n (nameless word) refl tt) (body_within image id word)
+    either (IsRead n) (declared_at image id) (nameless word) (body_in image id word)
+    (leads_nowhere n (nameless word) refl tt) (body_within image id word)
 
 -- what holds of each shape of an image
 pub shape_within : (image : Image) (id : ℕ) → IsRead (length (entries_in image)) (shape_in image id)
 unfolding shape_in
 shape_within image id =
     test DW_TAG_base_type (base name) _ (none _ refl tt) (test DW_TAG_typedef (typedef name) _ (none _ refl tt)
-    (test DW_TAG_const_type (qualified Const at) _ (typed _ refl tt) (test DW_TAG_volatile_type (qualified Volatile at) _ (typed _ refl tt)
-    (test DW_TAG_restrict_type (qualified Restrict at) _ (typed _ refl tt) (test DW_TAG_atomic_type (qualified Atomic at) _ (typed _ refl tt)
-    (test DW_TAG_pointer_type (pointer at) _ (typed _ refl tt) (test DW_TAG_array_type (array (counts_in image id) (is_strange image id) at) _ (typed _ refl tt)
-    (test DW_TAG_subroutine_type (function at (parameters_in image id)) _ (function_within image id (flag_at image id DW_AT_prototyped) (children_at image id))
+    (test DW_TAG_const_type (qualified Const at) _ (typed _ refl tt)
+    (test DW_TAG_volatile_type (qualified Volatile at) _ (typed _ refl tt)
+    (test DW_TAG_restrict_type (qualified Restrict at) _ (typed _ refl tt)
+    (test DW_TAG_atomic_type (qualified Atomic at) _ (typed _ refl tt)
+    (test DW_TAG_pointer_type (pointer at) _ (typed _ refl tt)
+    (test DW_TAG_array_type (array (counts_in image id) (is_strange image id) at) _ (typed _ refl tt)
+    (test DW_TAG_subroutine_type (function at (parameters_in image id)) _
+    (function_within image id (flag_at image id DW_AT_prototyped) (children_at image id))
     (test DW_TAG_structure_type (tag_shape image id Struct name) _ (tag_within image id Struct name)
     (test DW_TAG_union_type (tag_shape image id Union name) _ (tag_within image id Union name)
     (test DW_TAG_enumeration_type (tag_shape image id Enum name) _ (tag_within image id Enum name)
@@ -133,9 +160,12 @@ pub record IsSubjectRead (n : ℕ) (s : SubjectOf) : Type 0 where
 pub subject_within : (image : Image) (id : ℕ) → IsSubjectRead (length (entries_in image)) (subject_in image id)
 unfolding subject_in
 subject_within image id =
-    test DW_TAG_typedef (typedef_subject name at) _ (record { all = one; regular = tt }) (test DW_TAG_variable (variable_subject name at) _ (record { all = one; regular = tt })
-    (test DW_TAG_structure_type (tag_in image id Struct) _ (tag Struct) (test DW_TAG_union_type (tag_in image id Union) _ (tag Union)
-    (test DW_TAG_enumeration_type (tag_in image id Enum) (tag_subject None other) (tag Enum) (record { all = none_within n; regular = tt })))))
+    test DW_TAG_typedef (typedef_subject name at) _ (record { all = one; regular = tt })
+    (test DW_TAG_variable (variable_subject name at) _ (record { all = one; regular = tt })
+    (test DW_TAG_structure_type (tag_in image id Struct) _ (tag Struct)
+    (test DW_TAG_union_type (tag_in image id Union) _ (tag Union)
+    (test DW_TAG_enumeration_type (tag_in image id Enum) (tag_subject None other) (tag Enum)
+    (record { all = none_within n; regular = tt })))))
   where
     n : ℕ
     n = length (entries_in image)
@@ -146,21 +176,26 @@ subject_within image id =
     at : TypeAt
     at = type_at image id
 
-    test : (tag : ℕ) (x y : SubjectOf) → IsSubjectRead n x → IsSubjectRead n y → IsSubjectRead n (if tag_at image id == tag then x else y)
+    test : (tag : ℕ) (x y : SubjectOf) → IsSubjectRead n x → IsSubjectRead n y
+        → IsSubjectRead n (if tag_at image id == tag then x else y)
     test tag = either (IsSubjectRead n) (tag_at image id == tag)
 
     one : AreWithin n (at ∷ [])
     one = search (rules, type_more, none_within)
 
     tag : (word : TagKeyword) → IsSubjectRead n (tag_in image id word)
-    tag word = (let own = tag_within image id word (declared_name image id) in record { all = own.all; regular = own.regular })
+    tag word =
+        (let own = tag_within image id word (declared_name image id) in record { all = own.all; regular = own.regular })
 
 -- and so are the roots of some declarations
-pub roots_within : (image : Image) (ids : List ℕ) → All (λ to. to < length (entries_in image)) (flat_map (λ id. first_steps (subject_in image id)) ids)
+pub roots_within : (image : Image) (ids : List ℕ)
+    → All (λ to. to < length (entries_in image)) (flat_map (λ id. first_steps (subject_in image id)) ids)
 roots_within image [] = All-nil (λ to. to < length (entries_in image))
 roots_within image (id ∷ ids) =
-    All-append (λ to. to < length (entries_in image)) (first_steps (subject_in image id)) _ (subject_within image id).all.all (roots_within image ids)
+    All-append (λ to. to < length (entries_in image)) (first_steps (subject_in image id)) _
+    (subject_within image id).all.all (roots_within image ids)
 
 -- the declared entry is regular, and so is each that it reaches
 pub all-regular : (image : Image) (id : ℕ) → AreRegular (shape_in image) (subject_in image id)
-all-regular image id = record { own = (subject_within image id).regular; reached = λ entry r. (shape_within image entry).regular }
+all-regular image id =
+    record { own = (subject_within image id).regular; reached = λ entry r. (shape_within image entry).regular }

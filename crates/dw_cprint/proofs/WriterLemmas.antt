@@ -25,12 +25,15 @@ pub text-append : (xs ys : List Token) → text_of (xs ++ ys) ≡ text_of xs ++ 
 text-append xs ys = flat_map-append spelling xs ys
 
 -- one text behind another
-pub both : (a b : List Token) (old mid new : Option (List ℕ)) → Writes a old mid → Writes b mid new → Writes (a ++ b) old new
+pub both : (a b : List Token) (old mid new : Option (List ℕ)) → Writes a old mid → Writes b mid new
+    → Writes (a ++ b) old new
 both a b old mid new first second =
-    second ∙ ap (λ (u : Option (List ℕ)). appended u (text_of b)) first ∙ appended-twice old (text_of a) (text_of b) ∙ ap (appended old) (sym (text-append a b))
+    second ∙ ap (λ (u : Option (List ℕ)). appended u (text_of b)) first ∙ appended-twice old (text_of a) (text_of b)
+    ∙ ap (appended old) (sym (text-append a b))
 
 -- the same text in other tokens
-pub as_text : (a b : List Token) (old new : Option (List ℕ)) → text_of a ≡ text_of b → Writes a old new → Writes b old new
+pub as_text : (a b : List Token) (old new : Option (List ℕ)) → text_of a ≡ text_of b → Writes a old new
+    → Writes b old new
 as_text a b old new e h = h ∙ ap (appended old) e
 
 -- the same tokens, written in another way
@@ -59,10 +62,14 @@ specifier-named name = record { front = λ qs inside. refl; back = refl; not_ope
 specifier-base : (name : List ℕ) (t : Term) → base_term name ≡ Some t → IsSpecifier t
 specifier-base name t e = search (rules, specifier-named)
 
-pub specifier-of : (term : TypeAt → Option Term) (s : ShapeOf) (t : Term) → is_specifier s ≡ true → term_by term s ≡ Some t → IsSpecifier t
+pub specifier-of : (term : TypeAt → Option Term) (s : ShapeOf) (t : Term) → is_specifier s ≡ true
+    → term_by term s ≡ Some t → IsSpecifier t
 specifier-of term (base (Some name)) t is e = specifier-base name t e
-specifier-of term (typedef (Some name)) t is e = let same : Named name ≡ t = cc in subst IsSpecifier same (specifier-named name)
-specifier-of term (tagged word name) t is e = let same : Tagged word name ≡ t = cc in subst IsSpecifier same (record { front = λ qs inside. refl; back = refl; not_opened = refl; not_closed = refl })
+specifier-of term (typedef (Some name)) t is e =
+    let same : Named name ≡ t = cc in subst IsSpecifier same (specifier-named name)
+specifier-of term (tagged word name) t is e =
+    let same : Tagged word name ≡ t = cc in
+    subst IsSpecifier same (record { front = λ qs inside. refl; back = refl; not_opened = refl; not_closed = refl })
 specifier-of term (body word odd ms) t is e = search (rules, map_inverted, append_assoc)
 specifier-of term (enumeration odd es) t is e = search (rules, map_inverted, append_assoc)
 specifier-of term _ t is e = absurd (cc)
@@ -71,9 +78,12 @@ pub before-arrays : (counts : List (Option ℕ)) (u : Term) → before [] (array
 before-arrays [] u = refl
 before-arrays (c ∷ cs) u = before-arrays cs u
 
-pub after-arrays : (counts : List (Option ℕ)) (u : Term) → flat_map count_tokens counts ++ after u ≡ after (arrays counts u)
+pub after-arrays : (counts : List (Option ℕ)) (u : Term)
+    → flat_map count_tokens counts ++ after u ≡ after (arrays counts u)
 after-arrays [] u = refl
-after-arrays (c ∷ cs) u = append_assoc (count_tokens c) (flat_map count_tokens cs) (after u) ∙ ap (λ (v : List Token). count_tokens c ++ v) (after-arrays cs u)
+after-arrays (c ∷ cs) u =
+    append_assoc (count_tokens c) (flat_map count_tokens cs) (after u)
+    ∙ ap (λ (v : List Token). count_tokens c ++ v) (after-arrays cs u)
 
 -- the parts of a function's term
 pub record IsFunction (term : TypeAt → Option Term) (at : TypeAt) (ps : List Parameter) (t : Term) : Type 0 where
@@ -84,53 +94,71 @@ pub record IsFunction (term : TypeAt → Option Term) (at : TypeAt) (ps : List P
   pub are_parameters : parameters_by term ps ≡ Some parameters
   pub is : Function result (Prototyped parameters (has_more ps)) ≡ t
 
-pub function-parts : (term : TypeAt → Option Term) (at : TypeAt) (ps : List Parameter) (t : Term) → term_by term (function at (Some ps)) ≡ Some t → IsFunction term at ps t
+pub function-parts : (term : TypeAt → Option Term) (at : TypeAt) (ps : List Parameter) (t : Term)
+    → term_by term (function at (Some ps)) ≡ Some t → IsFunction term at ps t
 function-parts term at ps t e = search (rules, unless_inverted, then_inverted, map_inverted)
 
 -- the step from a type to the shape of its entry
-pub step-at : (shapes : ℕ → ShapeOf) (k below : ℕ) (at : TypeAt) (n : ℕ) (seen s : ShapeOf) → at ≡ Some n → term_at k shapes (Some n) ≡ term_by (term_at below shapes) seen → seen ≡ s
+pub step-at : (shapes : ℕ → ShapeOf) (k below : ℕ) (at : TypeAt) (n : ℕ) (seen s : ShapeOf) → at ≡ Some n
+    → term_at k shapes (Some n) ≡ term_by (term_at below shapes) seen → seen ≡ s
     → term_at k shapes at ≡ term_by (term_at below shapes) s
-step-at shapes k below at n seen s is found same = ap (term_at k shapes) is ∙ found ∙ ap (term_by (term_at below shapes)) same
+step-at shapes k below at n seen s is found same =
+    ap (term_at k shapes) is ∙ found ∙ ap (term_by (term_at below shapes)) same
 
-pub void-at : (shapes : ℕ → ShapeOf) (k : ℕ) (at : TypeAt) (t : Term) → at ≡ None → term_at k shapes at ≡ Some t → Void ≡ t
+pub void-at : (shapes : ℕ → ShapeOf) (k : ℕ) (at : TypeAt) (t : Term) → at ≡ None → term_at k shapes at ≡ Some t
+    → Void ≡ t
 void-at shapes zero at t is e = absurd (cc)
 void-at shapes (suc k) at t is e = let found : Some Void ≡ Some t = sym (ap (term_at (suc k) shapes) is) ∙ e in cc
 
 module _ (term : TypeAt → Option Term) (o : Option Term) (old new : Option (List ℕ)) where
-  pub pointer_before : (mid mid2 mid3 : Option (List ℕ)) (qs : List Qualifier) (inside : Bool) (at : TypeAt) → o ≡ term_by term (pointer at)
-      → ((t : Term) → term at ≡ Some t → Writes (before [] t true) old mid) → ((t : Term) → term at ≡ Some t → Writes (opened t) mid mid2) → Writes (Star ∷ []) mid2 mid3
+  pub pointer_before : (mid mid2 mid3 : Option (List ℕ)) (qs : List Qualifier) (inside : Bool) (at : TypeAt)
+      → o ≡ term_by term (pointer at)
+      → ((t : Term) → term at ≡ Some t → Writes (before [] t true) old mid)
+      → ((t : Term) → term at ≡ Some t → Writes (opened t) mid mid2) → Writes (Star ∷ []) mid2 mid3
       → Writes (pointer_row qs inside) mid3 new → (t : Term) → o ≡ Some t → Writes (before qs t inside) old new
   pointer_before mid mid2 mid3 qs inside at step inner opens star row t e =
       grind (arith, common_steps, map_inverted, both)
 
-  pub array_before : (qs : List Qualifier) (inside : Bool) (counts : List (Option ℕ)) (strange : Bool) (at : TypeAt) → o ≡ term_by term (array counts strange at)
-      → ((t : Term) → term at ≡ Some t → Writes (before [] t true) old new) → (t : Term) → o ≡ Some t → Writes (before qs t inside) old new
+  pub array_before : (qs : List Qualifier) (inside : Bool) (counts : List (Option ℕ)) (strange : Bool) (at : TypeAt)
+      → o ≡ term_by term (array counts strange at)
+      → ((t : Term) → term at ≡ Some t → Writes (before [] t true) old new) → (t : Term) → o ≡ Some t
+      → Writes (before qs t inside) old new
   array_before qs inside [] strange at step inner t e = absurd (cc)
   array_before qs inside (c ∷ cs) strange at step inner t e =
       search (rules, unless_inverted, map_inverted, as_tokens, before-arrays)
 
-  pub specifier_before : (mid mid2 : Option (List ℕ)) (qs : List Qualifier) (inside : Bool) (s : ShapeOf) → is_specifier s ≡ true → o ≡ term_by term s
-      → Writes (qualifying qs) old mid → ((t : Term) → term_by term s ≡ Some t → Writes (core t) mid mid2) → Writes (gap inside) mid2 new → (t : Term) → o ≡ Some t → Writes (before qs t inside) old new
+  pub specifier_before : (mid mid2 : Option (List ℕ)) (qs : List Qualifier) (inside : Bool) (s : ShapeOf)
+      → is_specifier s ≡ true → o ≡ term_by term s
+      → Writes (qualifying qs) old mid → ((t : Term) → term_by term s ≡ Some t → Writes (core t) mid mid2)
+      → Writes (gap inside) mid2 new → (t : Term) → o ≡ Some t → Writes (before qs t inside) old new
   specifier_before mid mid2 qs inside s is step row inner end t e =
       let spec = specifier-of term s t is (sym step ∙ e) in
       as_tokens (qualifying qs ++ (core t ++ gap inside)) (before qs t inside) old new (spec.front qs inside)
-      (both (qualifying qs) (core t ++ gap inside) old mid new row (both (core t) (gap inside) mid mid2 new (inner t (sym step ∙ e)) end))
+      (both (qualifying qs) (core t ++ gap inside) old mid new row
+      (both (core t) (gap inside) mid mid2 new (inner t (sym step ∙ e)) end))
 
   -- ---- what stands behind it
 
-  pub array_after : (mid : Option (List ℕ)) (counts : List (Option ℕ)) (strange : Bool) (at : TypeAt) → o ≡ term_by term (array counts strange at) → Writes (flat_map count_tokens counts) old mid
+  pub array_after : (mid : Option (List ℕ)) (counts : List (Option ℕ)) (strange : Bool) (at : TypeAt)
+      → o ≡ term_by term (array counts strange at) → Writes (flat_map count_tokens counts) old mid
       → ((t : Term) → term at ≡ Some t → Writes (after t) mid new) → (t : Term) → o ≡ Some t → Writes (after t) old new
   array_after mid counts strange at step brackets inner t e =
       let P : Term → Type 0 = λ u. Writes (after u) old new in
-      unless_holds P (is_miscounted counts) _ (λ placed. map_holds P (arrays counts) (term at) (λ u is. as_tokens (flat_map count_tokens counts ++ after u) (after (arrays counts u)) old new (after-arrays counts u)
+      unless_holds P (is_miscounted counts) _
+      (λ placed. map_holds P (arrays counts) (term at)
+      (λ u is. as_tokens (flat_map count_tokens counts ++ after u) (after (arrays counts u)) old new
+      (after-arrays counts u)
       (both (flat_map count_tokens counts) (after u) old mid new brackets (inner u is)))) t (sym step ∙ e)
 
-  pub pointer_after : (mid : Option (List ℕ)) (at : TypeAt) → o ≡ term_by term (pointer at) → ((t : Term) → term at ≡ Some t → Writes (closed t) old mid)
+  pub pointer_after : (mid : Option (List ℕ)) (at : TypeAt) → o ≡ term_by term (pointer at)
+      → ((t : Term) → term at ≡ Some t → Writes (closed t) old mid)
       → ((t : Term) → term at ≡ Some t → Writes (after t) mid new) → (t : Term) → o ≡ Some t → Writes (after t) old new
   pointer_after mid at step closes inner t e = search (rules, map_inverted, both)
 
-  pub prototype_after : (mid mid2 mid3 : Option (List ℕ)) (at : TypeAt) (ps : List Parameter) → o ≡ term_by term (function at (Some ps)) → Writes (Open ∷ []) old mid
-      → (is_misplaced ps ≡ false → (us : Parameters) → parameters_by term ps ≡ Some us → Writes (signature_tokens (Prototyped us (has_more ps))) mid mid2) → Writes (Close ∷ []) mid2 mid3
+  pub prototype_after : (mid mid2 mid3 : Option (List ℕ)) (at : TypeAt) (ps : List Parameter)
+      → o ≡ term_by term (function at (Some ps)) → Writes (Open ∷ []) old mid
+      → (is_misplaced ps ≡ false → (us : Parameters) → parameters_by term ps ≡ Some us
+      → Writes (signature_tokens (Prototyped us (has_more ps))) mid mid2) → Writes (Close ∷ []) mid2 mid3
       → ((t : Term) → term at ≡ Some t → Writes (after t) mid3 new) → (t : Term) → o ≡ Some t → Writes (after t) old new
   prototype_after mid mid2 mid3 at ps step opens written closes inner t e =
       let f = function-parts term at ps t (sym step ∙ e) in
@@ -138,7 +166,8 @@ module _ (term : TypeAt → Option Term) (o : Option Term) (old new : Option (Li
       let P : Term → Type 0 = λ u. Writes (after u) old new in
       subst P f.is
       (both (Open ∷ []) (s ++ Close ∷ after f.result) old mid new opens
-      (both s (Close ∷ after f.result) mid mid2 new (written f.placed f.parameters f.are_parameters) (both (Close ∷ []) (after f.result) mid2 mid3 new closes (inner f.result f.is_result))))
+      (both s (Close ∷ after f.result) mid mid2 new (written f.placed f.parameters f.are_parameters)
+      (both (Close ∷ []) (after f.result) mid2 mid3 new closes (inner f.result f.is_result))))
 
 -- ---- a type with a name inside
 
@@ -146,8 +175,10 @@ there-name : (name : Name) → has_elements (name_tokens name) ≡ is_some name
 there-name None = refl
 there-name (Some name) = refl
 
-pub named_written : (term : TypeAt → Option Term) (at : TypeAt) (name : Name) (old mid mid2 new : Option (List ℕ)) → ((t : Term) → term at ≡ Some t → Writes (before [] t (is_some name)) old mid)
-    → Writes (name_tokens name) mid mid2 → ((t : Term) → term at ≡ Some t → Writes (after t) mid2 new) → (t : Term) → term at ≡ Some t → Writes (spell [] t (name_tokens name)) old new
+pub named_written : (term : TypeAt → Option Term) (at : TypeAt) (name : Name) (old mid mid2 new : Option (List ℕ))
+    → ((t : Term) → term at ≡ Some t → Writes (before [] t (is_some name)) old mid)
+    → Writes (name_tokens name) mid mid2 → ((t : Term) → term at ≡ Some t → Writes (after t) mid2 new) → (t : Term)
+    → term at ≡ Some t → Writes (spell [] t (name_tokens name)) old new
 named_written term at name old mid mid2 new front word back t e = search (rules, as_tokens, there-name, in_parts, both)
 
 -- ---- a specifier without its qualifiers
@@ -156,57 +187,81 @@ pub base-core : (name : List ℕ) (t : Term) → base_term name ≡ Some t → t
 base-core name t e = search (rules, append-nil, words-text)
 
 module _ (term : TypeAt → Option Term) (old new : Option (List ℕ)) where
-  pub base_core : (name : Name) → Writes (name_tokens name) old new → (t : Term) → term_by term (base name) ≡ Some t → Writes (core t) old new
+  pub base_core : (name : Name) → Writes (name_tokens name) old new → (t : Term) → term_by term (base name) ≡ Some t
+      → Writes (core t) old new
   base_core None h t e = absurd (cc)
   base_core (Some name) h t e = as_text (Identifier name ∷ []) (core t) old new (base-core name t e) h
 
-  pub body_core : (mid mid2 : Option (List ℕ)) (word : TagKeyword) (odd : Bool) (ms : List MemberOf) → Writes (TagWord word ∷ []) old mid → Writes (Blank ∷ []) mid mid2
-      → ((us : Members) → members_by term ms ≡ Some us → Writes (body_tokens us) mid2 new) → (t : Term) → term_by term (body word odd ms) ≡ Some t → Writes (core t) old new
+  pub body_core : (mid mid2 : Option (List ℕ)) (word : TagKeyword) (odd : Bool) (ms : List MemberOf)
+      → Writes (TagWord word ∷ []) old mid → Writes (Blank ∷ []) mid mid2
+      → ((us : Members) → members_by term ms ≡ Some us → Writes (body_tokens us) mid2 new) → (t : Term)
+      → term_by term (body word odd ms) ≡ Some t → Writes (core t) old new
   body_core mid mid2 word odd ms tag blank inner t e =
       map_holds (λ (u : Term). Writes (core u) old new) (Body word) (members_by term ms)
-      (λ us are. both (TagWord word ∷ []) (Blank ∷ body_tokens us) old mid new tag (both (Blank ∷ []) (body_tokens us) mid mid2 new blank (inner us are))) t e
+      (λ us are. both (TagWord word ∷ []) (Blank ∷ body_tokens us) old mid new tag
+      (both (Blank ∷ []) (body_tokens us) mid mid2 new blank (inner us are))) t e
 
-  pub enumeration_core : (mid : Option (List ℕ)) (odd : Bool) (es : List EnumeratorOf) → Writes (TagWord Enum ∷ Blank ∷ []) old mid
-      → ((cs : List Constant) → constants_of es ≡ Some cs → Writes (enumeration_tokens cs) mid new) → (t : Term) → term_by term (enumeration odd es) ≡ Some t → Writes (core t) old new
+  pub enumeration_core : (mid : Option (List ℕ)) (odd : Bool) (es : List EnumeratorOf)
+      → Writes (TagWord Enum ∷ Blank ∷ []) old mid
+      → ((cs : List Constant) → constants_of es ≡ Some cs → Writes (enumeration_tokens cs) mid new) → (t : Term)
+      → term_by term (enumeration odd es) ≡ Some t → Writes (core t) old new
   enumeration_core mid odd es tag inner t e = grind (arith, common_steps, map_inverted, both)
 
 -- ---- declarations
 
 module _ (term : TypeAt → Option Term) (old mid mid2 new : Option (List ℕ)) where
-  pub typedef_done : (name : Name) (at : TypeAt) → Writes (TypedefWord ∷ Blank ∷ []) old mid → ((t : Term) → term at ≡ Some t → Writes (spell [] t (name_tokens name)) mid mid2) → Writes (Semicolon ∷ []) mid2 new
+  pub typedef_done : (name : Name) (at : TypeAt) → Writes (TypedefWord ∷ Blank ∷ []) old mid
+      → ((t : Term) → term at ≡ Some t → Writes (spell [] t (name_tokens name)) mid mid2)
+      → Writes (Semicolon ∷ []) mid2 new
       → (d : Declaration) → declaration_by term (typedef_subject name at) ≡ Some d → new ≡ appended old (written d)
   typedef_done None at first inner last d e = absurd (cc)
   typedef_done (Some name) at first inner last d e = grind (arith, common_steps, map_inverted, both)
 
-  pub variable_done : (name : Name) (at : TypeAt) → ((t : Term) → term at ≡ Some t → Writes (spell [] t (name_tokens name)) old mid) → Writes (Semicolon ∷ []) mid new
+  pub variable_done : (name : Name) (at : TypeAt)
+      → ((t : Term) → term at ≡ Some t → Writes (spell [] t (name_tokens name)) old mid)
+      → Writes (Semicolon ∷ []) mid new
       → (d : Declaration) → declaration_by term (variable_subject name at) ≡ Some d → new ≡ appended old (written d)
   variable_done None at inner last d e = absurd (cc)
   variable_done (Some name) at inner last d e = search (rules, map_inverted, both)
 
-  pub aggregate_done : (mid3 : Option (List ℕ)) (word : TagKeyword) (name : Name) (odd : Bool) (ms : List MemberOf) → Writes (TagWord word ∷ Blank ∷ name_tokens name) old mid → Writes (Blank ∷ []) mid mid2
-      → ((us : Members) → members_by term ms ≡ Some us → Writes (body_tokens us) mid2 mid3) → Writes (Semicolon ∷ []) mid3 new
-      → (d : Declaration) → declaration_by term (tag_subject name (body word odd ms)) ≡ Some d → new ≡ appended old (written d)
+  pub aggregate_done : (mid3 : Option (List ℕ)) (word : TagKeyword) (name : Name) (odd : Bool) (ms : List MemberOf)
+      → Writes (TagWord word ∷ Blank ∷ name_tokens name) old mid → Writes (Blank ∷ []) mid mid2
+      → ((us : Members) → members_by term ms ≡ Some us → Writes (body_tokens us) mid2 mid3)
+      → Writes (Semicolon ∷ []) mid3 new
+      → (d : Declaration) → declaration_by term (tag_subject name (body word odd ms)) ≡ Some d
+      → new ≡ appended old (written d)
   aggregate_done mid3 word None odd ms first gap inner last d e = absurd (cc)
   aggregate_done mid3 word (Some name) odd ms first gap inner last d e =
       let tag = TagWord word ∷ Blank ∷ Identifier name ∷ [] in
-      map_holds (λ (d : Declaration). new ≡ appended old (written d)) (Aggregate word name) (members_by term ms) (λ us are.
+      map_holds (λ (d : Declaration). new ≡ appended old (written d)) (Aggregate word name) (members_by term ms)
+      (λ us are.
       let body = body_tokens us in
       let same : body ++ Semicolon ∷ [] ≡ LeftBrace ∷ Blank ∷ (members_tokens us ++ RightBrace ∷ Semicolon ∷ []) =
-      ap (λ (u : List Token). LeftBrace ∷ Blank ∷ u) (append_assoc (members_tokens us) (RightBrace ∷ []) (Semicolon ∷ [])) in
-      as_tokens (tag ++ Blank ∷ (body ++ Semicolon ∷ [])) (declaration_tokens (Aggregate word name us)) old new (ap (λ (u : List Token). tag ++ Blank ∷ u) same)
-      (both tag (Blank ∷ (body ++ Semicolon ∷ [])) old mid new first (both (Blank ∷ []) (body ++ Semicolon ∷ []) mid mid2 new gap (both body (Semicolon ∷ []) mid2 mid3 new (inner us are) last)))) d e
+      ap (λ (u : List Token). LeftBrace ∷ Blank ∷ u)
+      (append_assoc (members_tokens us) (RightBrace ∷ []) (Semicolon ∷ [])) in
+      as_tokens (tag ++ Blank ∷ (body ++ Semicolon ∷ [])) (declaration_tokens (Aggregate word name us)) old new
+      (ap (λ (u : List Token). tag ++ Blank ∷ u) same)
+      (both tag (Blank ∷ (body ++ Semicolon ∷ [])) old mid new first
+      (both (Blank ∷ []) (body ++ Semicolon ∷ []) mid mid2 new gap
+      (both body (Semicolon ∷ []) mid2 mid3 new (inner us are) last)))) d e
 
-  pub constants_done : (mid3 : Option (List ℕ)) (name : Name) (odd : Bool) (es : List EnumeratorOf) → Writes (TagWord Enum ∷ Blank ∷ name_tokens name) old mid → Writes (Blank ∷ []) mid mid2
-      → ((cs : List Constant) → constants_of es ≡ Some cs → Writes (enumeration_tokens cs) mid2 mid3) → Writes (Semicolon ∷ []) mid3 new
-      → (d : Declaration) → declaration_by term (tag_subject name (enumeration odd es)) ≡ Some d → new ≡ appended old (written d)
+  pub constants_done : (mid3 : Option (List ℕ)) (name : Name) (odd : Bool) (es : List EnumeratorOf)
+      → Writes (TagWord Enum ∷ Blank ∷ name_tokens name) old mid → Writes (Blank ∷ []) mid mid2
+      → ((cs : List Constant) → constants_of es ≡ Some cs → Writes (enumeration_tokens cs) mid2 mid3)
+      → Writes (Semicolon ∷ []) mid3 new
+      → (d : Declaration) → declaration_by term (tag_subject name (enumeration odd es)) ≡ Some d
+      → new ≡ appended old (written d)
   constants_done mid3 None odd es first gap inner last d e = absurd (cc)
   constants_done mid3 (Some name) odd es first gap inner last d e =
       grind (arith, common_steps, map_inverted, append_assoc, as_tokens, both)
 
 -- ---- shapes as the code has them
 
-pub specifier-shape : (s : Shape) → ((q : Qualifier) (at : TypeAt) → s ≡ shape.Qualified q at → ⊥) → ((at : TypeAt) → s ≡ shape.Pointer at → ⊥) → ((counts : Vec (Option ℕ) Global) (strange : Bool) (at : TypeAt) → s ≡ shape.Array counts strange at → ⊥)
-    → ((at : TypeAt) (parameters : Option (Vec Parameter Global)) → s ≡ shape.Function at parameters → ⊥) → is_specifier (view_shape s) ≡ true
+pub specifier-shape : (s : Shape) → ((q : Qualifier) (at : TypeAt) → s ≡ shape.Qualified q at → ⊥)
+    → ((at : TypeAt) → s ≡ shape.Pointer at → ⊥)
+    → ((counts : Vec (Option ℕ) Global) (strange : Bool) (at : TypeAt) → s ≡ shape.Array counts strange at → ⊥)
+    → ((at : TypeAt) (parameters : Option (Vec Parameter Global)) → s ≡ shape.Function at parameters → ⊥)
+    → is_specifier (view_shape s) ≡ true
 specifier-shape (shape.Qualified q at) a b c d = absurd (a q at refl)
 specifier-shape (shape.Pointer at) a b c d = absurd (b at refl)
 specifier-shape (shape.Array counts strange at) a b c d = absurd (c counts strange at refl)

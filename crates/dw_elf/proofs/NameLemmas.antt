@@ -16,7 +16,8 @@ pub no_zero : (bytes : List ℕ) → Nowhere (Passes (is_byte 0) bytes) 0 (lengt
 no_zero bytes none = search (rules, eq-eqb)
 
 -- the byte with this number is the last that is zero
-pub last_zero : (bytes : List ℕ) (last : ℕ) → NoneAfter (Passes (is_byte 0) bytes) 0 (length bytes) last → Passes (is_byte 0) bytes last → IsAfterLastZero bytes (last + 1)
+pub last_zero : (bytes : List ℕ) (last : ℕ) → NoneAfter (Passes (is_byte 0) bytes) 0 (length bytes) last
+    → Passes (is_byte 0) bytes last → IsAfterLastZero bytes (last + 1)
 last_zero bytes last none here = search (rules, eqb-true, eq-eqb)
 
 -- a text that begins before the end has a zero byte at its own end
@@ -24,7 +25,8 @@ pub has_text : (bytes : List ℕ) (end offset : ℕ) → IsAfterLastZero bytes e
 has_text bytes end offset is lt = search (rules, (get_or-drop offset bytes (end - 1 - offset) 0), length-drop)
 
 -- what is before a first zero byte
-take_before_first : (xs : List ℕ) (k : ℕ) → NoneBefore (Passes (is_byte 0) xs) 0 (length xs) k → Passes (is_byte 0) xs k → take k xs ≡ before_first (λ b. b == 0) xs
+take_before_first : (xs : List ℕ) (k : ℕ) → NoneBefore (Passes (is_byte 0) xs) 0 (length xs) k → Passes (is_byte 0) xs k
+    → take k xs ≡ before_first (λ b. b == 0) xs
 take_before_first xs k none here = search (rules, position_or_len_is, cases_Bool)
 
 -- all bytes where none is zero
@@ -35,7 +37,8 @@ take_next : (k x : ℕ) (xs : List ℕ) → take (1 + k) (x ∷ xs) ≡ x ∷ ta
 take_next k x xs = search (rules)
 
 -- the text at the front of the first n bytes is as much of the text at the front of all
-front_before_first : (n : ℕ) (xs : List ℕ) → before_first (λ b. b == 0) (take n xs) ≡ take n (before_first (λ b. b == 0) xs)
+front_before_first : (n : ℕ) (xs : List ℕ)
+    → before_first (λ b. b == 0) (take n xs) ≡ take n (before_first (λ b. b == 0) xs)
 front_before_first zero xs = refl
 front_before_first (suc n) [] = refl
 front_before_first (suc n) (x ∷ xs) = search (rules, take_next, (front_before_first n xs))
@@ -49,15 +52,21 @@ first_bytes_stand : (name : List ℕ) → StandsFor (take 19 name) name
 first_bytes_stand name = search (rules, take-take, name_short, take_all, length-take)
 
 -- the text at the front of the first 19 bytes stands for the text at the front of all
-part_stands : (bytes front : List ℕ) (offset : ℕ) → front ≡ take 19 (drop offset bytes) → StandsFor (before_first (λ b. b == 0) front) (string_at bytes offset)
+part_stands : (bytes front : List ℕ) (offset : ℕ) → front ≡ take 19 (drop offset bytes)
+    → StandsFor (before_first (λ b. b == 0) front) (string_at bytes offset)
 unfolding string_at
 part_stands bytes front offset is =
-    rw (is, front_before_first 19 (drop offset bytes)) (first_bytes_stand (before_first (λ b. b == 0) (drop offset bytes)))
+    rw (is, front_before_first 19 (drop offset bytes))
+    (first_bytes_stand (before_first (λ b. b == 0) (drop offset bytes)))
 
 -- so what is before a zero byte among them does
-pub cut_stands : (bytes front : List ℕ) (offset k : ℕ) → front ≡ take 19 (drop offset bytes) → NoneBefore (Passes (is_byte 0) front) 0 (length front) k → Passes (is_byte 0) front k → StandsFor (take k front) (string_at bytes offset)
-cut_stands bytes front offset k is none here = rw (take_before_first front k none here) (part_stands bytes front offset is)
+pub cut_stands : (bytes front : List ℕ) (offset k : ℕ) → front ≡ take 19 (drop offset bytes)
+    → NoneBefore (Passes (is_byte 0) front) 0 (length front) k → Passes (is_byte 0) front k
+    → StandsFor (take k front) (string_at bytes offset)
+cut_stands bytes front offset k is none here =
+    rw (take_before_first front k none here) (part_stands bytes front offset is)
 
 -- and they do themselves if no byte among them is zero
-pub whole_stands : (bytes front : List ℕ) (offset : ℕ) → front ≡ take 19 (drop offset bytes) → Nowhere (Passes (is_byte 0) front) 0 (length front) → StandsFor front (string_at bytes offset)
+pub whole_stands : (bytes front : List ℕ) (offset : ℕ) → front ≡ take 19 (drop offset bytes)
+    → Nowhere (Passes (is_byte 0) front) 0 (length front) → StandsFor front (string_at bytes offset)
 whole_stands bytes front offset is none = rw (all_before_first front none) (part_stands bytes front offset is)

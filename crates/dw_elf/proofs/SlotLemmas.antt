@@ -14,34 +14,48 @@ use Rattle.dw_elf.specs.Sections.{IsSection}
 use Rattle.dw_elf.specs.Reading.{index_of, slot, SlotsUpTo}
 
 -- after a header that is not looked for
-pub slots_after_other : (file : List ℕ) (k : ℕ) (f : List (Option (Bor (List ℕ)))) → ¬ IsWanted (section_name file k) → SlotsUpTo file k f → SlotsUpTo file (k + 1) f
+pub slots_after_other : (file : List ℕ) (k : ℕ) (f : List (Option (Bor (List ℕ)))) → ¬ IsWanted (section_name file k)
+    → SlotsUpTo file k f → SlotsUpTo file (k + 1) f
 slots_after_other file k f other h = search (rules, cases_eq)
 
 -- after a header that is
-pub slots_after_put : (file : List ℕ) (k : ℕ) (f : List (Option (Bor (List ℕ)))) (s : DebugSection) (at : ℕ) (b : Bor (List ℕ)) → at ≡ index_of s → length f ≡ 6 → SlotsUpTo file k f → 0 < k → section_name file k ≡ name_of s → is_some (get_or f at None) ≡ false → b.now ≡ section_bytes file k → length b.now ≤ section_limit → SlotsUpTo file (k + 1) (set f at (Some b))
+pub slots_after_put : (file : List ℕ) (k : ℕ) (f : List (Option (Bor (List ℕ)))) (s : DebugSection) (at : ℕ)
+    (b : Bor (List ℕ)) → at ≡ index_of s → length f ≡ 6 → SlotsUpTo file k f → 0 < k → section_name file k ≡ name_of s
+    → is_some (get_or f at None) ≡ false → b.now ≡ section_bytes file k → length b.now ≤ section_limit
+    → SlotsUpTo file (k + 1) (set f at (Some b))
 slots_after_put file k f s at b index six h pos is none same small =
     search (rules, get_or-set_same, get_or-set_other, cases_eq)
 
 -- where something was found for a section, a lower header has its name
-pub named_below : (file : List ℕ) (k : ℕ) (f : List (Option (Bor (List ℕ)))) (s : DebugSection) (at : ℕ) → at ≡ index_of s → SlotsUpTo file k f → is_some (get_or f at None) ≡ true → (j : ℕ) × (0 < j) × (j < k) × (section_name file j ≡ name_of s)
+pub named_below : (file : List ℕ) (k : ℕ) (f : List (Option (Bor (List ℕ)))) (s : DebugSection) (at : ℕ)
+    → at ≡ index_of s → SlotsUpTo file k f → is_some (get_or f at None) ≡ true
+    → (j : ℕ) × (0 < j) × (j < k) × (section_name file j ≡ name_of s)
 named_below file k f s at index slots some = search rules
 
 -- where nothing was found for it, no lower header has
-pub none_below : (file : List ℕ) (k : ℕ) (f : List (Option (Bor (List ℕ)))) (s : DebugSection) (at : ℕ) → at ≡ index_of s → SlotsUpTo file k f → is_some (get_or f at None) ≡ false → (j : ℕ) → 0 < j → j < k → section_name file j ≢ name_of s
+pub none_below : (file : List ℕ) (k : ℕ) (f : List (Option (Bor (List ℕ)))) (s : DebugSection) (at : ℕ)
+    → at ≡ index_of s → SlotsUpTo file k f → is_some (get_or f at None) ≡ false → (j : ℕ) → 0 < j → j < k
+    → section_name file j ≢ name_of s
 none_below file k f s at index slots none = search rules
 
 -- after all headers, the bytes of a slot are within the limit
-pub small_at : (file : List ℕ) (k : ℕ) (f : List (Option (Bor (List ℕ)))) → SlotsUpTo file k f → (s : DebugSection) (bytes : List ℕ) → bytes ≡ unwrap_or (option_copied (slot f s)) [] → length bytes ≤ section_limit
+pub small_at : (file : List ℕ) (k : ℕ) (f : List (Option (Bor (List ℕ)))) → SlotsUpTo file k f
+    → (s : DebugSection) (bytes : List ℕ) → bytes ≡ unwrap_or (option_copied (slot f s)) []
+    → length bytes ≤ section_limit
 small_at file k f slots s bytes e = search rules
 
 -- after all headers, the bytes of a slot are the section of its name
-pub named_section : (file : List ℕ) (f : List (Option (Bor (List ℕ)))) → SlotsUpTo file (section_count file) f → (s : DebugSection) (bytes : List ℕ) → bytes ≡ unwrap_or (option_copied (slot f s)) [] → IsSection file (name_of s) bytes
+pub named_section : (file : List ℕ) (f : List (Option (Bor (List ℕ)))) → SlotsUpTo file (section_count file) f
+    → (s : DebugSection) (bytes : List ℕ) → bytes ≡ unwrap_or (option_copied (slot f s)) []
+    → IsSection file (name_of s) bytes
 named_section file f slots s bytes e = search rules
 
 -- where the checks of the places below k and of k pass, they pass below the next
-pub passes_below : (file : List ℕ) (k : ℕ) → ((j : ℕ) → j < k → Passes file j) → Passes file k → (j : ℕ) → j < k + 1 → Passes file j
+pub passes_below : (file : List ℕ) (k : ℕ) → ((j : ℕ) → j < k → Passes file j) → Passes file k → (j : ℕ) → j < k + 1
+    → Passes file j
 passes_below file k below here j lt = search (rules, cases_eq)
 
 -- all checks pass where those of the file, of each header and of .debug_info do
-pub all_pass : (file : List ℕ) (n : ℕ) → n ≡ section_count file → 0 < n → ((j : ℕ) → j < n → Passes file j) → ¬ HasNoSection file (name_of Info) → ChecksPass file
+pub all_pass : (file : List ℕ) (n : ℕ) → n ≡ section_count file → 0 < n → ((j : ℕ) → j < n → Passes file j)
+    → ¬ HasNoSection file (name_of Info) → ChecksPass file
 all_pass file n is some passed info k c f = search rules

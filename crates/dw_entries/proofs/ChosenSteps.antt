@@ -22,41 +22,58 @@ module _ (test : AttributeSpec → Bool) (x : Context) where
   Fails spec = test spec ≡ false
 
   -- attributes are passed where the test fails for all of them
-  pub front_passed : (front back : List AttributeSpec) (bs : List Attribute) → AreAttributes x (front ++ back) bs → list_any test front ≡ false → ArePassed Fails (take (length front) (map value_of bs))
+  pub front_passed : (front back : List AttributeSpec) (bs : List Attribute) → AreAttributes x (front ++ back) bs
+      → list_any test front ≡ false → ArePassed Fails (take (length front) (map value_of bs))
   front_passed [] back bs are none j item is = absurd cc
   front_passed (s ∷ front) back [] are none j item is = absurd are
   front_passed (s ∷ front) back (b ∷ bs) are none zero item is = search (rules, or_parts)
-  front_passed (s ∷ front) back (b ∷ bs) are none (suc j) item is = front_passed front back bs are.1 (or_parts (test s) (list_any test front) none).1 j item is
+  front_passed (s ∷ front) back (b ∷ bs) are none (suc j) item is =
+      front_passed front back bs are.1 (or_parts (test s) (list_any test front) none).1 j item is
 
-  pub all_passed : (specs : List AttributeSpec) (bs : List Attribute) → AreAttributes x specs bs → list_any test specs ≡ false → ArePassed Fails (map value_of bs)
+  pub all_passed : (specs : List AttributeSpec) (bs : List Attribute) → AreAttributes x specs bs
+      → list_any test specs ≡ false → ArePassed Fails (map value_of bs)
   all_passed [] [] are none j item is = absurd cc
   all_passed [] (b ∷ bs) are none j item is = absurd are
   all_passed (s ∷ specs) [] are none j item is = absurd are
   all_passed (s ∷ specs) (b ∷ bs) are none zero item is = search (rules, or_parts)
-  all_passed (s ∷ specs) (b ∷ bs) are none (suc j) item is = all_passed specs bs are.1 (or_parts (test s) (list_any test specs) none).1 j item is
+  all_passed (s ∷ specs) (b ∷ bs) are none (suc j) item is =
+      all_passed specs bs are.1 (or_parts (test s) (list_any test specs) none).1 j item is
 
   -- those before the first one that it holds for
-  pub before_passed : (all found : Attributes) (is : IsFrom test all found) (bs : List Attribute) → AreAttributes x (specs_in all) bs → ArePassed Fails (take (length (follow test all found is).before) (map value_of bs))
+  pub before_passed : (all found : Attributes) (is : IsFrom test all found) (bs : List Attribute)
+      → AreAttributes x (specs_in all) bs
+      → ArePassed Fails (take (length (follow test all found is).before) (map value_of bs))
   before_passed all found is bs are =
       let f = follow test all found is in
       search (rules, specs_ends, length-map, front_passed)
 
 -- the next one that is given is after those that are passed
-pub next_found : (X : Type 0) (Passes : AttributeSpec → Type 0) (items left behind : List (ℕ × Datum)) (k : ℕ) (r : Option (ℕ × Value)) → MatchOption r X (λ y. left ≡ viewed y ∷ behind) → left ≡ drop k items → ArePassed Passes (take k items)
+pub next_found : (X : Type 0) (Passes : AttributeSpec → Type 0) (items left behind : List (ℕ × Datum)) (k : ℕ)
+    (r : Option (ℕ × Value)) → MatchOption r X (λ y. left ≡ viewed y ∷ behind) → left ≡ drop k items
+    → ArePassed Passes (take k items)
     → IfSome r (λ found. IsNextOf Passes items (viewed found) behind)
 next_found X Passes items left behind k None steps rest are = tt
-next_found X Passes items left behind k (Some y) steps rest are = record { passed = take k items; parts = sym (take-append-drop k items) ∙ ap (λ (xs : List (ℕ × Datum)). take k items ++ xs) (sym rest ∙ steps); are_passed = are }
+next_found X Passes items left behind k (Some y) steps rest are =
+    record {
+      passed = take k items;
+      parts = sym (take-append-drop k items) ∙ ap (λ (xs : List (ℕ × Datum)). take k items ++ xs) (sym rest ∙ steps);
+      are_passed = are;
+    }
 
 -- where no more is given, all are passed
-pub none_found : (X : Type 0) (Y : ℕ × Value → Type 0) (Passes : AttributeSpec → Type 0) (items left : List (ℕ × Datum)) (k : ℕ) (r : Option (ℕ × Value)) → MatchOption r ((left ≡ []) × X) Y → left ≡ drop k items → ArePassed Passes (take k items)
+pub none_found : (X : Type 0) (Y : ℕ × Value → Type 0) (Passes : AttributeSpec → Type 0) (items left : List (ℕ × Datum))
+    (k : ℕ) (r : Option (ℕ × Value)) → MatchOption r ((left ≡ []) × X) Y → left ≡ drop k items
+    → ArePassed Passes (take k items)
     → IfNone r (ArePassed Passes items)
 none_found X Y Passes items left k (Some y) ends rest are = tt
 none_found X Y Passes items left k None ends rest are =
-    let parts : take k items ≡ items = sym (append-nil (take k items)) ∙ ap (λ (xs : List (ℕ × Datum)). take k items ++ xs) (sym ends.0 ∙ rest) ∙ take-append-drop k items in
+    let parts : take k items ≡ items = sym (append-nil (take k items))
+    ∙ ap (λ (xs : List (ℕ × Datum)). take k items ++ xs) (sym ends.0 ∙ rest) ∙ take-append-drop k items in
     subst (ArePassed Passes) parts are
 
 -- the first attribute of those that a search found is taken
-pub stop_taken : (test : AttributeSpec → Bool) (all from mid after : Attributes) → IsFrom test all from → mid ≡ from → (r : Option (ℕ × Value))
+pub stop_taken : (test : AttributeSpec → Bool) (all from mid after : Attributes) → IsFrom test all from → mid ≡ from
+    → (r : Option (ℕ × Value))
     → OnSome r ((spec : AttributeSpec) × Ends mid after (record { number = mid.first; item = spec } ∷ []))
     → OnSome r (TakesFirst test (specs_in all) (specs_in after))
 stop_taken test all from mid after is same None first = tt
@@ -67,7 +84,9 @@ stop_taken test all from mid after is same (Some y) first =
     record {
       passed = items_of f.before;
       spec = first.0;
-      parts = specs_ends all from f.before f.ends ∙ ap (λ (specs : List AttributeSpec). items_of f.before ++ specs) (first_specs from after first.0 ends);
+      parts =
+          specs_ends all from f.before f.ends
+          ∙ ap (λ (specs : List AttributeSpec). items_of f.before ++ specs) (first_specs from after first.0 ends);
       none_passed = f.none;
       taken = f.passes first.0 after ends;
     }

@@ -61,13 +61,19 @@ mutual
       → slice_get (node_entries unit above depth next id at n) k ≡ Some e
       → IsBelow (node_entries unit above depth next id at n) id above depth k e
   node_below unit above depth next id at (leaf h) zero e is =
-      let some : ◌≡◌ {A = Option Entry} (Some (record { at = at; unit = unit; parent = above; depth = depth; next = next; head = h })) (Some e) = is in
-      let same : ◌≡◌ {A = Entry} (record { at = at; unit = unit; parent = above; depth = depth; next = next; head = h }) e = cc in
+      let some : ◌≡◌ {A = Option Entry}
+      (Some (record { at = at; unit = unit; parent = above; depth = depth; next = next; head = h })) (Some e) = is
+      in
+      let same : ◌≡◌ {A = Entry} (record { at = at; unit = unit; parent = above; depth = depth; next = next; head = h })
+      e = cc in
       inl (ap (λ (x : Entry). x.parent) (sym same), ap (λ (x : Entry). x.depth) (sym same))
   node_below unit above depth next id at (leaf h) (suc k) e is = absurd cc
   node_below unit above depth next id at (parent h ns z) zero e is =
-      let some : ◌≡◌ {A = Option Entry} (Some (record { at = at; unit = unit; parent = above; depth = depth; next = next; head = h })) (Some e) = is in
-      let same : ◌≡◌ {A = Entry} (record { at = at; unit = unit; parent = above; depth = depth; next = next; head = h }) e = cc in
+      let some : ◌≡◌ {A = Option Entry}
+      (Some (record { at = at; unit = unit; parent = above; depth = depth; next = next; head = h })) (Some e) = is
+      in
+      let same : ◌≡◌ {A = Entry} (record { at = at; unit = unit; parent = above; depth = depth; next = next; head = h })
+      e = cc in
       inl (ap (λ (x : Entry). x.parent) (sym same), ap (λ (x : Entry). x.depth) (sym same))
   node_below unit above depth next id at (parent h ns z) (suc k) e is =
       go (nodes_below unit id (suc depth) (suc id) (at + length (head_bytes h)) ns k e is)
@@ -75,7 +81,8 @@ mutual
       own : Entry
       own = record { at = at; unit = unit; parent = above; depth = depth; next = next; head = h }
 
-      go : IsBelow (nodes_entries unit id (suc depth) (suc id) (at + length (head_bytes h)) ns) (suc id) (Some id) (suc depth) k e
+      go : IsBelow (nodes_entries unit id (suc depth) (suc id) (at + length (head_bytes h)) ns) (suc id) (Some id)
+          (suc depth) k e
           → IsBelow (node_entries unit above depth next id at (parent h ns z)) id above depth (suc k) e
       go (inl outer) =
           inr (record {
@@ -93,7 +100,9 @@ mutual
             above = h.above;
             before = omega (arith, before);
             is_above = h.is_above;
-            parent = h.parent ∙ ap (λ (n : ℕ). Some n) (let number : suc id + h.place ≡ id + suc h.place = omega arith in number);
+            parent =
+                h.parent ∙ ap (λ (n : ℕ). Some n)
+                (let number : suc id + h.place ≡ id + suc h.place = omega arith in number);
             depth = h.depth;
           })
 
@@ -108,13 +117,16 @@ mutual
       elim (cases_lt k (length es)) [
         | inl lt ↦
             in_front es fs id (Some above) depth k e lt
-            (node_below unit (Some above) depth (first_id ns (id + node_count n)) id at n k e (sym (get_front es fs k lt) ∙ is))
+            (node_below unit (Some above) depth (first_id ns (id + node_count n)) id at n k e
+            (sym (get_front es fs k lt) ∙ is))
         | inr le ↦
             in_back es fs id (id + node_count n) (Some above) depth k e (omega (arith, count)) le
-            (nodes_below unit above depth (id + node_count n) (at + length (node_bytes n)) ns (k - length es) e (sym (get_behind es fs k le) ∙ is))
+            (nodes_below unit above depth (id + node_count n) (at + length (node_bytes n)) ns (k - length es) e
+            (sym (get_behind es fs k le) ∙ is))
       ]
 
-units_below : (unit id at : ℕ) (us : List DebugUnit) (k : ℕ) (e : Entry) → slice_get (entries_from unit id at us) k ≡ Some e
+units_below : (unit id at : ℕ) (us : List DebugUnit) (k : ℕ) (e : Entry)
+    → slice_get (entries_from unit id at us) k ≡ Some e
     → IsBelow (entries_from unit id at us) id None 0 k e
 unfolding IsBelow
 units_below unit id at [] k e is = absurd cc
@@ -128,11 +140,13 @@ units_below unit id at (u ∷ us) k e is =
           (node_below unit None 0 None id (at + header_size u.header.kind) u.root k e (sym (get_front es fs k lt) ∙ is))
       | inr le ↦
           in_back es fs id (id + node_count u.root) None 0 k e (omega (arith, count)) le
-          (units_below (suc unit) (id + node_count u.root) (at + length (unit_bytes u)) us (k - length es) e (sym (get_behind es fs k le) ∙ is))
+          (units_below (suc unit) (id + node_count u.root) (at + length (unit_bytes u)) us (k - length es) e
+          (sym (get_behind es fs k le) ∙ is))
     ]
 
 -- an entry without a parent is not deep
-pub no_depth : (us : List DebugUnit) (k : ℕ) (e : Entry) → slice_get (entries_of us) k ≡ Some e → e.parent ≡ None → e.depth ≡ 0
+pub no_depth : (us : List DebugUnit) (k : ℕ) (e : Entry) → slice_get (entries_of us) k ≡ Some e → e.parent ≡ None
+    → e.depth ≡ 0
 unfolding IsBelow
 no_depth us k e is top = go (units_below 0 0 0 us k e is)
   where
@@ -175,12 +189,15 @@ abbrev pub height : Option ℕ → ℕ
 height None = 0
 height (Some p) = suc p
 
-module _ (a info : List ℕ) (tables : Tables) (rs : List UnitRecord) (records : List Record) (s : Scanned a info tables rs records) where
+module _ (a info : List ℕ) (tables : Tables) (rs : List UnitRecord) (records : List Record)
+    (s : Scanned a info tables rs records) where
   -- the record of an entry has its parent
-  parent_kept : (id : ℕ) (r : Record) (e : Entry) → slice_get records id ≡ Some r → slice_get (entries_of (found_units s)) id ≡ Some e → r.parent ≡ e.parent
+  parent_kept : (id : ℕ) (r : Record) (e : Entry) → slice_get records id ≡ Some r
+      → slice_get (entries_of (found_units s)) id ≡ Some e → r.parent ≡ e.parent
   parent_kept id r e read is = search (rules, kept_get, one_some)
 
-  pub starts : (id : ℕ) (r : Record) → id < length (entries_of (found_units s)) → slice_get records id ≡ Some r → Climbs (entries_of (found_units s)) id 0 r.parent
+  pub starts : (id : ℕ) (r : Record) → id < length (entries_of (found_units s)) → slice_get records id ≡ Some r
+      → Climbs (entries_of (found_units s)) id 0 r.parent
   starts id r within read =
       let k = kept_entry a info tables rs records s id within in
       record {
@@ -198,7 +215,12 @@ module _ (a info : List ℕ) (tables : Tables) (rs : List UnitRecord) (records :
     pub above_within : p < length records
     above_within =
         let (above, is, deeper, less) = one_deeper (found_units s) c.place p c.here c.is_here c.parent in
-        omega (arith, slice_get_within (entries_of (found_units s)) p above is, entries_counted a info tables rs records s)
+        omega (
+          arith,
+          slice_get_within (entries_of (found_units s)) p above is,
+          entries_counted a info tables rs records
+              s,
+        )
 
     pub depth_less : depth < id
     depth_less =
@@ -233,8 +255,10 @@ module _ (a info : List ℕ) (tables : Tables) (rs : List UnitRecord) (records :
           go None at = omega arith
           go (Some q) at =
               let (above, is, deeper, less) = one_deeper (found_units s) c.place p c.here c.is_here c.parent in
-              let (more, there, far, before) = one_deeper (found_units s) p q above is (sym (parent_kept p r above stands is) ∙ at) in
+              let (more, there, far, before) = one_deeper (found_units s) p q above is
+              (sym (parent_kept p r above stands is) ∙ at) in
               omega (arith, before)
 
-  pub is_deep : (id depth : ℕ) → Climbs (entries_of (found_units s)) id depth None → IfSome (slice_get (entries_of (found_units s)) id) (λ e. depth ≡ e.depth)
+  pub is_deep : (id depth : ℕ) → Climbs (entries_of (found_units s)) id depth None
+      → IfSome (slice_get (entries_of (found_units s)) id) (λ e. depth ≡ e.depth)
   is_deep id depth c = search (rules, no_depth)

@@ -15,52 +15,69 @@ use Rattle.dw_entries.proofs.OrderLaws.{Rises, units_rise}
 
 -- ---- the entries stand in rising offset
 
-rises_low : (low high : ℕ) (rs : List Record) (j : ℕ) (r : Record) → Rises low high rs → slice_get rs j ≡ Some r → low ≤ r.at
+rises_low : (low high : ℕ) (rs : List Record) (j : ℕ) (r : Record) → Rises low high rs → slice_get rs j ≡ Some r
+    → low ≤ r.at
 rises_low low high [] j r p is = absurd cc
-rises_low low high (q ∷ rs) zero r p is = let e : Some q ≡ Some r = is in let same : q ≡ r = cc in subst (λ (x : Record). low ≤ x.at) same p.0
-rises_low low high (q ∷ rs) (suc j) r p is = let more = rises_low (suc q.at) high rs j r p.1 is in omega (arith, more, p.0)
+rises_low low high (q ∷ rs) zero r p is =
+    let e : Some q ≡ Some r = is in let same : q ≡ r = cc in subst (λ (x : Record). low ≤ x.at) same p.0
+rises_low low high (q ∷ rs) (suc j) r p is =
+    let more = rises_low (suc q.at) high rs j r p.1 is in omega (arith, more, p.0)
 
-rises_get : (low high : ℕ) (rs : List Record) (i j : ℕ) (a b : Record) → Rises low high rs → i < j → slice_get rs i ≡ Some a → slice_get rs j ≡ Some b → a.at < b.at
+rises_get : (low high : ℕ) (rs : List Record) (i j : ℕ) (a b : Record) → Rises low high rs → i < j
+    → slice_get rs i ≡ Some a → slice_get rs j ≡ Some b → a.at < b.at
 rises_get low high [] i j a b p lt is_a is_b = absurd cc
 rises_get low high (r ∷ rs) i zero a b p lt is_a is_b = absurd (omega arith)
-rises_get low high (r ∷ rs) zero (suc j) a b p lt is_a is_b = let e : Some r ≡ Some a = is_a in let same : r ≡ a = cc in subst (λ (x : Record). x.at < b.at) same (rises_low (suc r.at) high rs j b p.1 is_b)
-rises_get low high (r ∷ rs) (suc i) (suc j) a b p lt is_a is_b = rises_get (suc r.at) high rs i j a b p.1 (omega arith) is_a is_b
+rises_get low high (r ∷ rs) zero (suc j) a b p lt is_a is_b =
+    let e : Some r ≡ Some a = is_a in let same : r ≡ a = cc in
+    subst (λ (x : Record). x.at < b.at) same (rises_low (suc r.at) high rs j b p.1 is_b)
+rises_get low high (r ∷ rs) (suc i) (suc j) a b p lt is_a is_b =
+    rises_get (suc r.at) high rs i j a b p.1 (omega arith) is_a is_b
 
-pub kept_get : (numbers : ℕ → ℕ → ℕ) (us : List DebugUnit) (i : ℕ) (e : Entry) → slice_get (entries_of us) i ≡ Some e → slice_get (records_of numbers us) i ≡ Some (record_of numbers e)
+pub kept_get : (numbers : ℕ → ℕ → ℕ) (us : List DebugUnit) (i : ℕ) (e : Entry) → slice_get (entries_of us) i ≡ Some e
+    → slice_get (records_of numbers us) i ≡ Some (record_of numbers e)
 kept_get numbers us i e is = slice_get-map (record_of numbers) (entries_of us) i ∙ rw is refl
 
 pub entries_rise : (a : List ℕ) (us : List DebugUnit) → AreUnits a us → OffsetsRise (entries_of us)
 entries_rise a us are i j d e lt is_d is_e =
     let any : ℕ → ℕ → ℕ = λ unit code. 0 in
     rises_get 0 (0 + length (units_bytes us)) (records_of any us) i j (record_of any d) (record_of any e)
-    (subst (Rises 0 (0 + length (units_bytes us))) (sym (records_kept any us)) (units_rise a any 0 0 0 us are)) lt (kept_get any us i d is_d) (kept_get any us j e is_e)
+    (subst (Rises 0 (0 + length (units_bytes us))) (sym (records_kept any us)) (units_rise a any 0 0 0 us are)) lt
+    (kept_get any us i d is_d) (kept_get any us j e is_e)
 
 -- how many entries there are
 mutual
-  pub length-node_entries : (unit : ℕ) (above : Option ℕ) (depth : ℕ) (next : Option ℕ) (id at : ℕ) (n : Node) → length (node_entries unit above depth next id at n) ≡ node_count n
+  pub length-node_entries : (unit : ℕ) (above : Option ℕ) (depth : ℕ) (next : Option ℕ) (id at : ℕ) (n : Node)
+      → length (node_entries unit above depth next id at n) ≡ node_count n
   length-node_entries unit above depth next id at (leaf h) = refl
-  length-node_entries unit above depth next id at (parent h ns z) = ap suc (length-nodes_entries unit id (suc depth) (suc id) (at + length (head_bytes h)) ns)
+  length-node_entries unit above depth next id at (parent h ns z) =
+      ap suc (length-nodes_entries unit id (suc depth) (suc id) (at + length (head_bytes h)) ns)
 
-  pub length-nodes_entries : (unit above depth id at : ℕ) (ns : Nodes) → length (nodes_entries unit above depth id at ns) ≡ nodes_count ns
+  pub length-nodes_entries : (unit above depth id at : ℕ) (ns : Nodes)
+      → length (nodes_entries unit above depth id at ns) ≡ nodes_count ns
   length-nodes_entries unit above depth id at none = refl
   length-nodes_entries unit above depth id at (n then ns) =
       omega (
         arith,
-        length-append (node_entries unit (Some above) depth (first_id ns (id + node_count n)) id at n) (nodes_entries unit above depth (id + node_count n) (at + length (node_bytes n)) ns),
+        length-append (node_entries unit (Some above) depth (first_id ns (id + node_count n)) id at n)
+            (nodes_entries unit above depth (id + node_count n) (at + length (node_bytes n)) ns),
         length-node_entries unit (Some above) depth (first_id ns (id + node_count n)) id at n,
         length-nodes_entries unit above depth (id + node_count n) (at + length (node_bytes n)) ns,
       )
 
 -- ---- the units, each at its offset
 
-pub placed_get : (at first : ℕ) (us : List DebugUnit) (k : ℕ) (u : DebugUnit) → slice_get us k ≡ Some u → (p : PlacedUnit) × (slice_get (placed_from at first us) k ≡ Some p) × (p.unit ≡ u)
+pub placed_get : (at first : ℕ) (us : List DebugUnit) (k : ℕ) (u : DebugUnit) → slice_get us k ≡ Some u
+    → (p : PlacedUnit) × (slice_get (placed_from at first us) k ≡ Some p) × (p.unit ≡ u)
 placed_get at first [] k u is = absurd cc
-placed_get at first (v ∷ us) zero u is = let e : Some v ≡ Some u = is in let same : v ≡ u = cc in (record { at = at; first = first; unit = v }, refl, same)
-placed_get at first (v ∷ us) (suc k) u is = placed_get (at + length (unit_bytes v)) (first + node_count v.root) us k u is
+placed_get at first (v ∷ us) zero u is =
+    let e : Some v ≡ Some u = is in let same : v ≡ u = cc in (record { at = at; first = first; unit = v }, refl, same)
+placed_get at first (v ∷ us) (suc k) u is =
+    placed_get (at + length (unit_bytes v)) (first + node_count v.root) us k u is
 
 pub length-placed_from : (at first : ℕ) (us : List DebugUnit) → length (placed_from at first us) ≡ length us
 length-placed_from at first [] = refl
-length-placed_from at first (u ∷ us) = ap suc (length-placed_from (at + length (unit_bytes u)) (first + node_count u.root) us)
+length-placed_from at first (u ∷ us) =
+    ap suc (length-placed_from (at + length (unit_bytes u)) (first + node_count u.root) us)
 
 -- this entry is the first of the unit with this number and place
 pub record IsFirstEntry (number : ℕ) (p : PlacedUnit) (e : Entry) : Type 0 where
@@ -78,37 +95,67 @@ pub record HasFirst (entries : List Entry) (id number : ℕ) (p : PlacedUnit) : 
 
 behind_first : (es fs : List Entry) (k : ℕ) → slice_get (es ++ fs) (length es + k) ≡ slice_get fs k
 behind_first [] fs k = ap (slice_get fs) (let e : 0 + k ≡ k = omega arith in e)
-behind_first (x ∷ es) fs k = ap (slice_get (x ∷ es ++ fs)) (let e : suc (length es) + k ≡ suc (length es + k) = omega arith in e) ∙ behind_first es fs k
+behind_first (x ∷ es) fs k =
+    ap (slice_get (x ∷ es ++ fs)) (let e : suc (length es) + k ≡ suc (length es + k) = omega arith in e)
+    ∙ behind_first es fs k
 
-first_here : (unit id at : ℕ) (u : DebugUnit) (more : List Entry) → HasFirst (node_entries unit None 0 None id (at + header_size u.header.kind) u.root ++ more) 0 unit (record { at = at; first = id; unit = u })
+first_here : (unit id at : ℕ) (u : DebugUnit) (more : List Entry)
+    → HasFirst (node_entries unit None 0 None id (at + header_size u.header.kind) u.root ++ more) 0 unit
+    (record { at = at; first = id; unit = u })
 first_here unit id at u more = go u.root refl
   where
-    go : (n : Node) → u.root ≡ n → HasFirst (node_entries unit None 0 None id (at + header_size u.header.kind) n ++ more) 0 unit (record { at = at; first = id; unit = u })
-    go (leaf h) e = record { entry = _; is_entry = refl; is_first = record { at = refl; unit = refl; parent = refl; depth = refl; head = sym (ap head_of e) } }
-    go (parent h ns z) e = record { entry = _; is_entry = refl; is_first = record { at = refl; unit = refl; parent = refl; depth = refl; head = sym (ap head_of e) } }
+    go : (n : Node) → u.root ≡ n → HasFirst
+        (node_entries unit None 0 None id (at + header_size u.header.kind) n ++ more) 0 unit
+        (record { at = at; first = id; unit = u })
+    go (leaf h) e =
+        record {
+          entry = _;
+          is_entry = refl;
+          is_first = record { at = refl; unit = refl; parent = refl; depth = refl; head = sym (ap head_of e) };
+        }
+    go (parent h ns z) e =
+        record {
+          entry = _;
+          is_entry = refl;
+          is_first = record { at = refl; unit = refl; parent = refl; depth = refl; head = sym (ap head_of e) };
+        }
 
-first_from : (unit id at : ℕ) (us : List DebugUnit) (k : ℕ) (p : PlacedUnit) → slice_get (placed_from at id us) k ≡ Some p
+first_from : (unit id at : ℕ) (us : List DebugUnit) (k : ℕ) (p : PlacedUnit)
+    → slice_get (placed_from at id us) k ≡ Some p
     → (j : ℕ) × (p.first ≡ id + j) × HasFirst (entries_from unit id at us) j (unit + k) p
 first_from unit id at [] k p is = absurd cc
 first_from unit id at (u ∷ us) zero p is =
     let e : ◌≡◌ {A = Option PlacedUnit} (Some (record { at = at; first = id; unit = u })) (Some p) = is in
     let same : ◌≡◌ {A = PlacedUnit} (record { at = at; first = id; unit = u }) p = cc in
     let number : unit ≡ unit + 0 = omega arith in
-    let here = first_here unit id at u (entries_from (suc unit) (id + node_count u.root) (at + length (unit_bytes u)) us) in
+    let here = first_here unit id at u
+    (entries_from (suc unit) (id + node_count u.root) (at + length (unit_bytes u)) us) in
     let P : PlacedUnit → Type 0 = λ q. HasFirst (entries_from unit id at (u ∷ us)) 0 unit q in
-    let Q : ℕ → Type 0 = λ n. HasFirst (entries_from unit id at (u ∷ us)) 0 n p in
-    (0, ap (λ (q : PlacedUnit). q.first) (sym same) ∙ (let z : id ≡ id + 0 = omega arith in z), subst Q number (subst P same here))
+    let Q : ℕ → Type 0 = λ n. HasFirst (entries_from unit id at (u ∷ us)) 0 n p in (
+      0,
+      ap (λ (q : PlacedUnit). q.first) (sym same)
+          ∙ (let z : id ≡ id + 0 = omega arith in z),
+      subst Q number (subst P same here),
+    )
 first_from unit id at (u ∷ us) (suc k) p is =
     let (j, first, has) = first_from (suc unit) (id + node_count u.root) (at + length (unit_bytes u)) us k p is in
     let es : List Entry = node_entries unit None 0 None id (at + header_size u.header.kind) u.root in
     let fs : List Entry = entries_from (suc unit) (id + node_count u.root) (at + length (unit_bytes u)) us in
     let count = length-node_entries unit None 0 None id (at + header_size u.header.kind) u.root in
     let number : suc unit + k ≡ unit + suc k = omega arith in
-    let P : ℕ → Type 0 = λ n. IsFirstEntry n p has.entry in
-    (length es + j, omega (arith, first, count), record { entry = has.entry; is_entry = behind_first es fs j ∙ has.is_entry; is_first = subst P number has.is_first })
+    let P : ℕ → Type 0 = λ n. IsFirstEntry n p has.entry in (
+      length es + j,
+      omega (arith, first, count),
+      record {
+        entry = has.entry;
+        is_entry = behind_first es fs j ∙ has.is_entry;
+        is_first = subst P number has.is_first;
+      },
+    )
 
 -- a unit's first entry
-pub first_entry : (us : List DebugUnit) (k : ℕ) (p : PlacedUnit) → slice_get (placed us) k ≡ Some p → HasFirst (entries_of us) p.first k p
+pub first_entry : (us : List DebugUnit) (k : ℕ) (p : PlacedUnit) → slice_get (placed us) k ≡ Some p
+    → HasFirst (entries_of us) p.first k p
 first_entry us k p is =
     let (j, first, has) = first_from 0 0 0 us k p is in
     let e : j ≡ p.first = omega (arith, first) in

@@ -16,26 +16,32 @@ use Rattle.dw_entries.proofs.KeptLaws.{KeptEntry, kept_entry, one_some, record_i
 
 -- the records before this one start below the offset, and it and those after it start there or after it
 abbrev pub IsFirstFrom : List Record → ℕ → ℕ → Type 0
-IsFirstFrom records offset number = IsPartitionPoint (λ (r : Record). r.at < offset) (λ (r : Record). offset ≤ r.at) records number
+IsFirstFrom records offset number =
+    IsPartitionPoint (λ (r : Record). r.at < offset) (λ (r : Record). offset ≤ r.at) records number
 
 -- a record is the one that its place gives
 read_at : (records : List Record) (i : ℕ) (r : Record) → slice_get records i ≡ Some r → get_or records i r ≡ r
 read_at records i r is = search (rules, slice_get-get_or, slice_get_within)
 
-module _ (a info : List ℕ) (tables : Tables) (rs : List UnitRecord) (records : List Record) (s : Scanned a info tables rs records) where
+module _ (a info : List ℕ) (tables : Tables) (rs : List UnitRecord) (records : List Record)
+    (s : Scanned a info tables rs records) where
   pub entries_counted : length records ≡ length (entries_of (found_units s))
   entries_counted = ap length s.1.entries ∙ length-map (entries_of (found_units s)) (record_of (numbers_of tables rs))
 
   -- the record of an entry
-  stands_at : (id : ℕ) {offset : ℕ} (found : IsEntryAt (entries_of (found_units s)) offset id) → slice_get records id ≡ Some (record_of (numbers_of tables rs) found.entry)
-  stands_at id found = ap (λ (xs : List Record). slice_get xs id) s.1.entries ∙ kept_get (numbers_of tables rs) (found_units s) id found.entry found.is_entry
+  stands_at : (id : ℕ) {offset : ℕ} (found : IsEntryAt (entries_of (found_units s)) offset id)
+      → slice_get records id ≡ Some (record_of (numbers_of tables rs) found.entry)
+  stands_at id found =
+      ap (λ (xs : List Record). slice_get xs id) s.1.entries
+      ∙ kept_get (numbers_of tables rs) (found_units s) id found.entry found.is_entry
 
   -- records stand in rising offset
   pub records_rise : IsNonDecreasingBy (λ (r : Record). r.at) records
   records_rise i j d le lt =
       let low = kept_entry a info tables rs records s i (omega (arith, lt, entries_counted)) in
       let high = kept_entry a info tables rs records s j (omega (arith, lt, entries_counted)) in
-      let at_low = ap (λ (r : Record). r.at) (record_is low (get_or records i d) (slice_get-get_or records i d (omega arith))) in
+      let at_low = ap (λ (r : Record). r.at)
+      (record_is low (get_or records i d) (slice_get-get_or records i d (omega arith))) in
       let at_high = ap (λ (r : Record). r.at) (record_is high (get_or records j d) (slice_get-get_or records j d lt)) in
       elim (three_ways i j) [
         | inl (inl less) ↦ search (rules, entries_rise)
@@ -45,7 +51,8 @@ module _ (a info : List ℕ) (tables : Tables) (rs : List UnitRecord) (records :
 
   module _ (number offset : ℕ) (first : IsFirstFrom records offset number) where
     before : (i : ℕ) (r : Record) → i < number → slice_get records i ≡ Some r → r.at < offset
-    before i r lt is = let P : Record → Type 0 = λ q. q.at < offset in subst P (read_at records i r is) (first.0 i r (omega arith) lt)
+    before i r lt is =
+        let P : Record → Type 0 = λ q. q.at < offset in subst P (read_at records i r is) (first.0 i r (omega arith) lt)
 
     behind : (r : Record) → slice_get records number ≡ Some r → offset ≤ r.at
     behind r is =
@@ -57,7 +64,9 @@ module _ (a info : List ℕ) (tables : Tables) (rs : List UnitRecord) (records :
     none_from_end end id found =
         let at = found.begins in
         let is = stands_at id found in
-        let b = before id (record_of (numbers_of tables rs) found.entry) (let w = slice_get_within records id (record_of (numbers_of tables rs) found.entry) is in omega (arith, w, end)) is in
+        let b = before id (record_of (numbers_of tables rs) found.entry)
+        (let w = slice_get_within records id (record_of (numbers_of tables rs) found.entry) is in
+        omega (arith, w, end)) is in
         omega (arith, at, b)
 
     module _ (r : Record) (within : number < length records) (read : r ≡ get_or records number r) where
@@ -66,7 +75,8 @@ module _ (a info : List ℕ) (tables : Tables) (rs : List UnitRecord) (records :
 
       at_is : r.at ≡ here.entry.at
       at_is =
-          let stands : slice_get records number ≡ Some r = slice_get-get_or records number r within ∙ ap (λ (x : Record). Some x) (sym read) in
+          let stands : slice_get records number
+          ≡ Some r = slice_get-get_or records number r within ∙ ap (λ (x : Record). Some x) (sym read) in
           ap (λ (q : Record). q.at) (record_is here r stands)
 
       pub found_first : r.at ≡ offset → IsEntryAt (entries_of (found_units s)) offset number
@@ -77,14 +87,20 @@ module _ (a info : List ℕ) (tables : Tables) (rs : List UnitRecord) (records :
           let at = found.begins in
           let is = stands_at id found in
           elim (three_ways id number) [
-            | inl (inl less) ↦ let b = before id (record_of (numbers_of tables rs) found.entry) less is in omega (arith, at, b)
+            | inl (inl less) ↦ let b = before id (record_of (numbers_of tables rs) found.entry) less is in
+                omega (arith, at, b)
             | inl (inr same) ↦
                 let P : ℕ → Type 0 = λ n. slice_get records n ≡ Some (record_of (numbers_of tables rs) found.entry) in
-                let stands : slice_get records number ≡ Some r = slice_get-get_or records number r within ∙ ap (λ (x : Record). Some x) (sym read) in
-                other (ap (λ (q : Record). q.at) (one_some (slice_get records number) r (record_of (numbers_of tables rs) found.entry) stands (subst P same is)) ∙ at)
+                let stands : slice_get records number
+                ≡ Some r = slice_get-get_or records number r within ∙ ap (λ (x : Record). Some x) (sym read) in
+                other (ap (λ (q : Record). q.at)
+                (one_some (slice_get records number) r (record_of (numbers_of tables rs) found.entry) stands
+                (subst P same is)) ∙ at)
             | inr more ↦
-                let stands : slice_get records number ≡ Some r = slice_get-get_or records number r within ∙ ap (λ (x : Record). Some x) (sym read) in
+                let stands : slice_get records number
+                ≡ Some r = slice_get-get_or records number r within ∙ ap (λ (x : Record). Some x) (sym read) in
                 let low = behind r stands in
-                let rise = entries_rise a (found_units s) s.1.spells.are number id here.entry found.entry more here.is_entry found.is_entry in
+                let rise = entries_rise a (found_units s) s.1.spells.are number id here.entry found.entry more
+                here.is_entry found.is_entry in
                 omega (arith, at, at_is, low, rise)
           ]

@@ -21,10 +21,12 @@ pub none_at_place : (place : Place) (Fails : Rule → Type 0) → IsLeast Fails 
 none_at_place place Fails none f fails = none f.rule fails.fails
 
 -- of two headers' failures the one that precedes does not come after
-pub header_precedes_le : (a b : ℕ) (f g : Failure) → f.place ≡ at_header a → g.place ≡ at_header b → Precedes f g → a ≤ b
+pub header_precedes_le : (a b : ℕ) (f g : Failure) → f.place ≡ at_header a → g.place ≡ at_header b → Precedes f g
+    → a ≤ b
 header_precedes_le a b f g f_at g_at precedes = search (rules)
 
-pub first_by_right : (P Q : Failure → Type 0) (broken : Broken) → HasNone P → IsFirst Q broken → IsFirst (λ f. P f ⊎ Q f) broken
+pub first_by_right : (P Q : Failure → Type 0) (broken : Broken) → HasNone P → IsFirst Q broken
+    → IsFirst (λ f. P f ⊎ Q f) broken
 first_by_right P Q broken none first = search (rules)
 
 pub none_by_both : (P Q : Failure → Type 0) → HasNone P → HasNone Q → HasNone (λ f. P f ⊎ Q f)

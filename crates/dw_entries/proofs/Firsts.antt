@@ -43,7 +43,8 @@ same_some o x y p q = cc
 
 -- THE law of the order: where the items of a list rise in offset, and no failure of a later item precedes one of
 -- an earlier item, the first failure of the first item that has one is the first of all
-pub first_of_list : {X : Type 0} (xs : List X) (offset : X → ℕ) (Fails : ℕ → X → Failure → Type 0) (number : ℕ) (x : X) (broken : Broken)
+pub first_of_list : {X : Type 0} (xs : List X) (offset : X → ℕ) (Fails : ℕ → X → Failure → Type 0) (number : ℕ) (x : X)
+    (broken : Broken)
     → ((i j : ℕ) (a b : X) → i < j → slice_get xs i ≡ Some a → slice_get xs j ≡ Some b → offset a < offset b)
     → ((i j : ℕ) (a b : X) (f g : Failure) → Fails i a f → Fails j b g → Precedes f g → offset a ≤ offset b)
     → slice_get xs number ≡ Some x
@@ -70,14 +71,16 @@ pub none_of_list : {X : Type 0} (xs : List X) (Fails : ℕ → X → Failure →
     → HasNone (InList xs Fails)
 none_of_list xs Fails passed f fails = search (rules, slice_get_within)
 
-pub more_of_list : {X : Type 0} (xs : List X) (Fails : ℕ → X → Failure → Type 0) (number : ℕ) (x : X) → slice_get xs number ≡ Some x
+pub more_of_list : {X : Type 0} (xs : List X) (Fails : ℕ → X → Failure → Type 0) (number : ℕ) (x : X)
+    → slice_get xs number ≡ Some x
     → ((j : ℕ) (y : X) → j < number → slice_get xs j ≡ Some y → HasNone (Fails j y))
     → HasNone (Fails number x)
     → (j : ℕ) (y : X) → j < number + 1 → slice_get xs j ≡ Some y → HasNone (Fails j y)
 more_of_list {X} xs Fails number x is_x passed here j y below is_y = search (rules, eq-or-lt_of_le, same_some)
 
 -- the same for entries
-pub first_of_entries : (entries : List Entry) (Fails : Entry → Failure → Type 0) (id : ℕ) (entry : Entry) (broken : Broken)
+pub first_of_entries : (entries : List Entry) (Fails : Entry → Failure → Type 0) (id : ℕ) (entry : Entry)
+    (broken : Broken)
     → OffsetsRise entries
     → ((e : Entry) (f : Failure) → Fails e f → IsAt e.at f.place)
     → slice_get entries id ≡ Some entry
@@ -98,11 +101,13 @@ Among j k f g = (j < k) ⊎ ((j ≡ k) × (number_of f.rule < number_of g.rule))
 before_in : (o j k : ℕ) → IsBefore (at_attribute o j) (at_attribute o k) → j < k
 before_in o j k before = elim before [ inl less ↦ absurd (omega arith) | inr same ↦ same.1 ]
 
-precedes_in : (o j k : ℕ) (f g : Failure) → f.place ≡ at_attribute o j → g.place ≡ at_attribute o k → Precedes f g → Among j k f g
+precedes_in : (o j k : ℕ) (f g : Failure) → f.place ≡ at_attribute o j → g.place ≡ at_attribute o k → Precedes f g
+    → Among j k f g
 precedes_in o j k f g f_at g_at precedes = search (rules, before_in)
 
 -- the first attribute at which a rule fails, by the least rule that does
-pub first_of_attributes : (Fails : Entry → ℕ → Datum → Rule → Type 0) (entry : Entry) (k attribute : ℕ) (value : Datum) (rule : Rule) (broken : Broken)
+pub first_of_attributes : (Fails : Entry → ℕ → Datum → Rule → Type 0) (entry : Entry) (k attribute : ℕ) (value : Datum)
+    (rule : Rule) (broken : Broken)
     → HasAttribute entry k attribute value
     → ((j a : ℕ) (v : Datum) → j < k → HasAttribute entry j a v → (r : Rule) → Fails entry a v r → ⊥)
     → IsLeast (Fails entry attribute value) (Some rule)
@@ -112,9 +117,11 @@ first_of_attributes Fails entry k attribute value rule broken has passed least n
     search (rules, precedes_in, same_some)
 
 pub none_of_attributes : (Fails : Entry → ℕ → Datum → Rule → Type 0) (entry : Entry)
-    → ((j a : ℕ) (v : Datum) → j < length (values_of entry.head) → HasAttribute entry j a v → (r : Rule) → Fails entry a v r → ⊥)
+    → ((j a : ℕ) (v : Datum) → j < length (values_of entry.head) → HasAttribute entry j a v → (r : Rule)
+    → Fails entry a v r → ⊥)
     → HasNone (AtAttributes Fails entry)
 none_of_attributes Fails entry passed f fails = search (rules, slice_get_within)
 
-pub attributes_stand : (Fails : Entry → ℕ → Datum → Rule → Type 0) (e : Entry) (f : Failure) → AtAttributes Fails e f → IsAt e.at f.place
+pub attributes_stand : (Fails : Entry → ℕ → Datum → Rule → Type 0) (e : Entry) (f : Failure) → AtAttributes Fails e f
+    → IsAt e.at f.place
 attributes_stand Fails e f fails = let P : Place → Type 0 = λ p. IsAt e.at p in subst P (sym fails.place) refl

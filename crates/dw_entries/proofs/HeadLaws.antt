@@ -27,15 +27,18 @@ pub record Stands (us : List DebugUnit) (info : List ℕ) (e : Entry) : Type 0 w
   pub after : List ℕ
   pub parts : drop e.at info ≡ head_bytes e.head ++ after
 
-pub all-append : {A : Type 0} (P : A → Type 0) (xs ys : List A) → AllByRecursion P xs → AllByRecursion P ys → AllByRecursion P (xs ++ ys)
+pub all-append : {A : Type 0} (P : A → Type 0) (xs ys : List A) → AllByRecursion P xs → AllByRecursion P ys
+    → AllByRecursion P (xs ++ ys)
 all-append P [] ys p q = q
 all-append P (x ∷ xs) ys p q = (p.0, all-append P xs ys p.1 q)
 
-all_map : {A : Type 0} (P Q : A → Type 0) (xs : List A) → ((x : A) → P x → Q x) → AllByRecursion P xs → AllByRecursion Q xs
+all_map : {A : Type 0} (P Q : A → Type 0) (xs : List A) → ((x : A) → P x → Q x) → AllByRecursion P xs
+    → AllByRecursion Q xs
 all_map P Q [] f p = tt
 all_map P Q (x ∷ xs) f p = (f x p.0, all_map P Q xs f p.1)
 
-pub all_get : {A : Type 0} (P : A → Type 0) (xs : List A) (k : ℕ) (x : A) → AllByRecursion P xs → slice_get xs k ≡ Some x → P x
+pub all_get : {A : Type 0} (P : A → Type 0) (xs : List A) (k : ℕ) (x : A) → AllByRecursion P xs
+    → slice_get xs k ≡ Some x → P x
 all_get P [] k x p is = absurd cc
 all_get P (y ∷ ys) zero x p is = let e : Some y ≡ Some x = is in let same : y ≡ x = cc in subst P same p.0
 all_get P (y ∷ ys) (suc k) x p is = all_get P ys k x p.1 is
@@ -45,63 +48,102 @@ behind : (info a b : List ℕ) (at : ℕ) → drop at info ≡ a ++ b → drop (
 behind info a b at e = sym (drop-drop (length a) at info) ∙ ap (drop (length a)) e ∙ drop_at a b (length a) refl
 
 mutual
-  node_stands : (x : Context) (info : List ℕ) (unit : ℕ) (above : Option ℕ) (depth : ℕ) (next : Option ℕ) (id at : ℕ) (n : Node) (after : List ℕ) → IsNode x n → drop at info ≡ node_bytes n ++ after
+  node_stands : (x : Context) (info : List ℕ) (unit : ℕ) (above : Option ℕ) (depth : ℕ) (next : Option ℕ) (id at : ℕ)
+      (n : Node) (after : List ℕ) → IsNode x n → drop at info ≡ node_bytes n ++ after
       → AllByRecursion (StandsIn x unit info) (node_entries unit above depth next id at n)
-  node_stands x info unit above depth next id at (leaf h) after p e = (record { is = p.0; in_unit = refl; after = after; parts = e }, tt)
+  node_stands x info unit above depth next id at (leaf h) after p e =
+      (record { is = p.0; in_unit = refl; after = after; parts = e }, tt)
   node_stands x info unit above depth next id at (parent h ns z) after p e =
-      let parts : drop at info ≡ head_bytes h ++ (nodes_bytes ns ++ (z ++ after)) = e ∙ append_assoc (head_bytes h) (nodes_bytes ns ++ z) after ∙ ap (λ (b : List ℕ). head_bytes h ++ b) (append_assoc (nodes_bytes ns) z after) in (
+      let parts : drop at info ≡ head_bytes h ++ (nodes_bytes ns ++ (z ++ after)) = e
+      ∙ append_assoc (head_bytes h) (nodes_bytes ns ++ z) after
+      ∙ ap (λ (b : List ℕ). head_bytes h ++ b) (append_assoc (nodes_bytes ns) z after) in (
         record { is = p.0; in_unit = refl; after = nodes_bytes ns ++ (z ++ after); parts = parts },
-        nodes_stand x info unit id (suc depth) (suc id) (at + length (head_bytes h)) ns (z ++ after) p.2 (behind info (head_bytes h) (nodes_bytes ns ++ (z ++ after)) at parts),
+        nodes_stand x info unit id (suc depth) (suc id) (at + length (head_bytes h)) ns (z ++ after) p.2
+            (behind info (head_bytes h) (nodes_bytes ns ++ (z ++ after)) at parts),
       )
 
-  nodes_stand : (x : Context) (info : List ℕ) (unit above depth id at : ℕ) (ns : Nodes) (after : List ℕ) → AreNodes x ns → drop at info ≡ nodes_bytes ns ++ after
+  nodes_stand : (x : Context) (info : List ℕ) (unit above depth id at : ℕ) (ns : Nodes) (after : List ℕ) → AreNodes x ns
+      → drop at info ≡ nodes_bytes ns ++ after
       → AllByRecursion (StandsIn x unit info) (nodes_entries unit above depth id at ns)
   nodes_stand x info unit above depth id at none after p e = tt
   nodes_stand x info unit above depth id at (n then ns) after p e =
-      let parts : drop at info ≡ node_bytes n ++ (nodes_bytes ns ++ after) = e ∙ append_assoc (node_bytes n) (nodes_bytes ns) after in
-      all-append (StandsIn x unit info) (node_entries unit (Some above) depth (first_id ns (id + node_count n)) id at n) (nodes_entries unit above depth (id + node_count n) (at + length (node_bytes n)) ns)
-      (node_stands x info unit (Some above) depth (first_id ns (id + node_count n)) id at n (nodes_bytes ns ++ after) p.0 parts)
-      (nodes_stand x info unit above depth (id + node_count n) (at + length (node_bytes n)) ns after p.1 (behind info (node_bytes n) (nodes_bytes ns ++ after) at parts))
+      let parts : drop at info ≡ node_bytes n ++ (nodes_bytes ns ++ after) = e
+      ∙ append_assoc (node_bytes n) (nodes_bytes ns) after in
+      all-append (StandsIn x unit info) (node_entries unit (Some above) depth (first_id ns (id + node_count n)) id at n)
+      (nodes_entries unit above depth (id + node_count n) (at + length (node_bytes n)) ns)
+      (node_stands x info unit (Some above) depth (first_id ns (id + node_count n)) id at n (nodes_bytes ns ++ after)
+      p.0 parts)
+      (nodes_stand x info unit above depth (id + node_count n) (at + length (node_bytes n)) ns after p.1
+      (behind info (node_bytes n) (nodes_bytes ns ++ after) at parts))
 
 -- these units are those of a longer list from the unit of this number on
 abbrev From : List DebugUnit → ℕ → List DebugUnit → Type 0
 From all unit us = (k : ℕ) (v : DebugUnit) → slice_get us k ≡ Some v → slice_get all (unit + k) ≡ Some v
 
-from_next : (all : List DebugUnit) (unit : ℕ) (u : DebugUnit) (us : List DebugUnit) → From all unit (u ∷ us) → From all (suc unit) us
-from_next all unit u us f k v is = ap (slice_get all) (let e : suc unit + k ≡ unit + suc k = omega arith in e) ∙ f (suc k) v is
+from_next : (all : List DebugUnit) (unit : ℕ) (u : DebugUnit) (us : List DebugUnit) → From all unit (u ∷ us)
+    → From all (suc unit) us
+from_next all unit u us f k v is =
+    ap (slice_get all) (let e : suc unit + k ≡ unit + suc k = omega arith in e) ∙ f (suc k) v is
 
-from_here : (all : List DebugUnit) (unit : ℕ) (u : DebugUnit) (us : List DebugUnit) → From all unit (u ∷ us) → slice_get all unit ≡ Some u
+from_here : (all : List DebugUnit) (unit : ℕ) (u : DebugUnit) (us : List DebugUnit) → From all unit (u ∷ us)
+    → slice_get all unit ≡ Some u
 from_here all unit u us f = ap (slice_get all) (let e : unit ≡ unit + 0 = omega arith in e) ∙ f 0 u refl
 
-stands_among : (all : List DebugUnit) (info : List ℕ) (unit : ℕ) (u : DebugUnit) → slice_get all unit ≡ Some u → (e : Entry) → StandsIn (context_of u) unit info e → Stands all info e
-stands_among all info unit u is e s = record { unit = u; is_unit = ap (slice_get all) s.in_unit ∙ is; is = s.is; after = s.after; parts = s.parts }
+stands_among : (all : List DebugUnit) (info : List ℕ) (unit : ℕ) (u : DebugUnit) → slice_get all unit ≡ Some u
+    → (e : Entry) → StandsIn (context_of u) unit info e → Stands all info e
+stands_among all info unit u is e s =
+    record { unit = u; is_unit = ap (slice_get all) s.in_unit ∙ is; is = s.is; after = s.after; parts = s.parts }
 
 -- the bytes of a unit after its header
-pub behind_header : (info : List ℕ) (at : ℕ) (u : DebugUnit) (after : List ℕ) → drop at info ≡ unit_bytes u ++ after → drop (at + header_size u.header.kind) info ≡ body_bytes u ++ after
+pub behind_header : (info : List ℕ) (at : ℕ) (u : DebugUnit) (after : List ℕ) → drop at info ≡ unit_bytes u ++ after
+    → drop (at + header_size u.header.kind) info ≡ body_bytes u ++ after
 behind_header info at u after e =
     ap (λ (n : ℕ). drop (at + n) info) (sym (length-header u.header))
-    ∙ behind info (header_bytes u.header) (body_bytes u ++ after) at (e ∙ append_assoc (header_bytes u.header) (body_bytes u) after)
+    ∙ behind info (header_bytes u.header) (body_bytes u ++ after) at
+    (e ∙ append_assoc (header_bytes u.header) (body_bytes u) after)
 
-units_stand : (all : List DebugUnit) (a info : List ℕ) (unit id at : ℕ) (us : List DebugUnit) (after : List ℕ) → AreUnits a us → From all unit us → drop at info ≡ units_bytes us ++ after
+units_stand : (all : List DebugUnit) (a info : List ℕ) (unit id at : ℕ) (us : List DebugUnit) (after : List ℕ)
+    → AreUnits a us → From all unit us → drop at info ≡ units_bytes us ++ after
     → AllByRecursion (Stands all info) (entries_from unit id at us)
 units_stand all a info unit id at [] after p f e = tt
 units_stand all a info unit id at (u ∷ us) after p f e =
-    let parts : drop at info ≡ unit_bytes u ++ (units_bytes us ++ after) = e ∙ append_assoc (unit_bytes u) (units_bytes us) after in
-    let root : drop (at + header_size u.header.kind) info ≡ node_bytes u.root ++ (nulls_bytes u.nulls ++ (units_bytes us ++ after)) =
-    behind_header info at u (units_bytes us ++ after) parts ∙ append_assoc (node_bytes u.root) (nulls_bytes u.nulls) (units_bytes us ++ after) in
-    all-append (Stands all info) (node_entries unit None 0 None id (at + header_size u.header.kind) u.root) (entries_from (suc unit) (id + node_count u.root) (at + length (unit_bytes u)) us)
-    (all_map (StandsIn (context_of u) unit info) (Stands all info) (node_entries unit None 0 None id (at + header_size u.header.kind) u.root) (stands_among all info unit u (from_here all unit u us f))
-    (node_stands (context_of u) info unit None 0 None id (at + header_size u.header.kind) u.root (nulls_bytes u.nulls ++ (units_bytes us ++ after)) p.0.root root))
-    (units_stand all a info (suc unit) (id + node_count u.root) (at + length (unit_bytes u)) us after p.1 (from_next all unit u us f) (behind info (unit_bytes u) (units_bytes us ++ after) at parts))
+    let parts : drop at info ≡ unit_bytes u ++ (units_bytes us ++ after) = e
+    ∙ append_assoc (unit_bytes u) (units_bytes us) after in
+    let root : drop (at + header_size u.header.kind) info
+    ≡ node_bytes u.root ++ (nulls_bytes u.nulls ++ (units_bytes us ++ after)) =
+    behind_header info at u (units_bytes us ++ after) parts
+    ∙ append_assoc (node_bytes u.root) (nulls_bytes u.nulls) (units_bytes us ++ after) in
+    all-append (Stands all info) (node_entries unit None 0 None id (at + header_size u.header.kind) u.root)
+    (entries_from (suc unit) (id + node_count u.root) (at + length (unit_bytes u)) us)
+    (all_map (StandsIn (context_of u) unit info) (Stands all info)
+    (node_entries unit None 0 None id (at + header_size u.header.kind) u.root)
+    (stands_among all info unit u (from_here all unit u us f))
+    (node_stands (context_of u) info unit None 0 None id (at + header_size u.header.kind) u.root
+    (nulls_bytes u.nulls ++ (units_bytes us ++ after)) p.0.root root))
+    (units_stand all a info (suc unit) (id + node_count u.root) (at + length (unit_bytes u)) us after p.1
+    (from_next all unit u us f) (behind info (unit_bytes u) (units_bytes us ++ after) at parts))
 
 -- the head of each entry is at its offset
-pub head_stands : (a info : List ℕ) (us : List DebugUnit) (id : ℕ) (e : Entry) → Spells a us info → slice_get (entries_of us) id ≡ Some e → Stands us info e
+pub head_stands : (a info : List ℕ) (us : List DebugUnit) (id : ℕ) (e : Entry) → Spells a us info
+    → slice_get (entries_of us) id ≡ Some e → Stands us info e
 head_stands a info us id e s is =
     all_get (Stands us info) (entries_of us) id e
-    (units_stand us a info 0 0 0 us [] s.are (λ k v at_k. ap (slice_get us) (let e : 0 + k ≡ k = omega arith in e) ∙ at_k) (s.parts ∙ sym (append-nil (units_bytes us)))) is
+    (units_stand us a info 0 0 0 us [] s.are
+    (λ k v at_k. ap (slice_get us) (let e : 0 + k ≡ k = omega arith in e) ∙ at_k)
+    (s.parts ∙ sym (append-nil (units_bytes us)))) is
 
-pub stands_code : (us : List DebugUnit) (info : List ℕ) (e : Entry) (s : Stands us info e) → seen (λ c. c.number) (code_at (drop e.at info)) ≡ Ok (e.head.decl.code, flat_map attribute_bytes e.head.attributes ++ s.after)
+pub stands_code : (us : List DebugUnit) (info : List ℕ) (e : Entry) (s : Stands us info e)
+    → seen (λ c. c.number) (code_at (drop e.at info))
+    ≡ Ok (e.head.decl.code, flat_map attribute_bytes e.head.attributes ++ s.after)
 stands_code us info e s = search (rules, append_assoc, code_again)
 
 pub stands_within : (us : List DebugUnit) (info : List ℕ) (e : Entry) → Stands us info e → e.at < length info
-stands_within us info e s = omega (arith, ap length s.parts, length-append (head_bytes e.head) s.after, item_some (context_of s.unit) (entry e.head) s.is, length-drop e.at info)
+stands_within us info e s =
+    omega (
+      arith,
+      ap length s.parts,
+      length-append (head_bytes e.head) s.after,
+      item_some (context_of s.unit)
+          (entry e.head) s.is,
+      length-drop e.at info,
+    )

@@ -40,13 +40,16 @@ some_and (Some x) P p = (x, refl, p)
 some_and None P p = absurd p
 
 -- the number of the table of a unit
-table_is : (rs : List UnitRecord) (number : ℕ) (r : UnitRecord) → slice_get rs number ≡ Some r → table_of rs number ≡ r.table
+table_is : (rs : List UnitRecord) (number : ℕ) (r : UnitRecord) → slice_get rs number ≡ Some r
+    → table_of rs number ≡ r.table
 table_is [] number r is = absurd cc
-table_is (q ∷ rs) zero r is = let e : Some q ≡ Some r = is in let same : q ≡ r = cc in ap (λ (x : UnitRecord). x.table) same
+table_is (q ∷ rs) zero r is =
+    let e : Some q ≡ Some r = is in let same : q ≡ r = cc in ap (λ (x : UnitRecord). x.table) same
 table_is (q ∷ rs) (suc n) r is = table_is rs n r is
 
 -- the record of the unit at this place
-pub unit_kept : (tables : Tables) (rs : List UnitRecord) (ps : List PlacedUnit) → AllZip (IsKept tables) rs ps → (k : ℕ) (p : PlacedUnit) → slice_get ps k ≡ Some p
+pub unit_kept : (tables : Tables) (rs : List UnitRecord) (ps : List PlacedUnit) → AllZip (IsKept tables) rs ps
+    → (k : ℕ) (p : PlacedUnit) → slice_get ps k ≡ Some p
     → (r : UnitRecord) × (slice_get rs k ≡ Some r) × IsKept tables r p
 unit_kept tables rs ps zip k p is =
     let m = AllZip-right (IsKept tables) rs ps zip k in
@@ -54,7 +57,8 @@ unit_kept tables rs ps zip k p is =
     some_and (slice_get rs k) (λ r. IsKept tables r p) at_p
 
 -- an entry of this number, with its unit and what is kept of both
-pub record KeptEntry (a info : List ℕ) (tables : Tables) (rs : List UnitRecord) (records : List Record) (s : Scanned a info tables rs records) (id : ℕ) : Type 0 where
+pub record KeptEntry (a info : List ℕ) (tables : Tables) (rs : List UnitRecord) (records : List Record)
+    (s : Scanned a info tables rs records) (id : ℕ) : Type 0 where
   pub entry : Entry
   pub is_entry : slice_get (entries_of (found_units s)) id ≡ Some entry
   pub is_record : slice_get records id ≡ Some (record_of (numbers_of tables rs) entry)
@@ -64,7 +68,8 @@ pub record KeptEntry (a info : List ℕ) (tables : Tables) (rs : List UnitRecord
   pub header : unit_record.header ≡ stands.unit.header
   pub table : items_of (chain_in tables unit_record.table) ≡ stands.unit.table
 
-pub kept_entry : (a info : List ℕ) (tables : Tables) (rs : List UnitRecord) (records : List Record) (s : Scanned a info tables rs records) (id : ℕ)
+pub kept_entry : (a info : List ℕ) (tables : Tables) (rs : List UnitRecord) (records : List Record)
+    (s : Scanned a info tables rs records) (id : ℕ)
     → id < length (entries_of (found_units s)) → KeptEntry a info tables rs records s id
 kept_entry a info tables rs records s id within = elim (slice_get_cases (entries_of (found_units s)) id).1 [
   | inr past ↦ absurd (omega (arith, past.0, within))
@@ -76,7 +81,9 @@ kept_entry a info tables rs records s id within = elim (slice_get_cases (entries
       record {
         entry = e;
         is_entry = it.2;
-        is_record = ap (λ (xs : List Record). slice_get xs id) s.1.entries ∙ kept_get (numbers_of tables rs) (found_units s) id e it.2;
+        is_record =
+            ap (λ (xs : List Record). slice_get xs id) s.1.entries
+            ∙ kept_get (numbers_of tables rs) (found_units s) id e it.2;
         stands = stands;
         unit_record = r;
         is_unit_record = is_r;
@@ -89,7 +96,8 @@ kept_entry a info tables rs records s id within = elim (slice_get_cases (entries
 pub read_is : {A : Type 0} (xs : List A) (k : ℕ) (x y : A) → slice_get xs k ≡ Some x → y ≡ get_or xs k y → y ≡ x
 read_is xs k x y is read = read ∙ get_or_from_slice_get xs k x y is
 
-module _ {a info : List ℕ} {tables : Tables} {rs : List UnitRecord} {records : List Record} {s : Scanned a info tables rs records} {id : ℕ} (k : KeptEntry a info tables rs records s id) where
+module _ {a info : List ℕ} {tables : Tables} {rs : List UnitRecord} {records : List Record}
+    {s : Scanned a info tables rs records} {id : ℕ} (k : KeptEntry a info tables rs records s id) where
   -- a fact of the entry of this number
   pub of_entry : (P : Entry → Type 0) → P k.entry → IfSome (slice_get (entries_of (found_units s)) id) P
   of_entry P p = rw k.is_entry p
@@ -102,26 +110,38 @@ module _ {a info : List ℕ} {tables : Tables} {rs : List UnitRecord} {records :
     record_is = one_some (slice_get records id) r (record_of (numbers_of tables rs) k.entry) read k.is_record
 
     pub at_within : r.at < length info
-    at_within = let e : r.at ≡ k.entry.at = ap (λ (q : Record). q.at) record_is in let w = stands_within (found_units s) info k.entry k.stands in omega (arith, e, w)
+    at_within =
+        let e : r.at ≡ k.entry.at = ap (λ (q : Record). q.at) record_is in
+        let w = stands_within (found_units s) info k.entry k.stands in omega (arith, e, w)
 
     -- its code is read at its offset, and its values follow
-    code_read : seen (λ c. c.number) (code_at (take (length info - r.at) (drop r.at info))) ≡ Ok (k.entry.head.decl.code, flat_map attribute_bytes k.entry.head.attributes ++ k.stands.after)
+    code_read : seen (λ c. c.number) (code_at (take (length info - r.at) (drop r.at info)))
+        ≡ Ok (k.entry.head.decl.code, flat_map attribute_bytes k.entry.head.attributes ++ k.stands.after)
     code_read =
         let e : r.at ≡ k.entry.at = ap (λ (q : Record). q.at) record_is in
         let w = at_within in
-        ap (λ (b : List ℕ). seen (λ c. c.number) (code_at b)) (rest_of r.at info (omega (arith, w)) ∙ ap (λ (n : ℕ). drop n info) e)
+        ap (λ (b : List ℕ). seen (λ c. c.number) (code_at b))
+        (rest_of r.at info (omega (arith, w)) ∙ ap (λ (n : ℕ). drop n info) e)
         ∙ stands_code (found_units s) info k.entry k.stands
 
-    pub never_unread : (f : Failing) → seen (λ c. c.number) (code_at (take (length info - r.at) (drop r.at info))) ≡ Err f → ⊥
+    pub never_unread : (f : Failing)
+        → seen (λ c. c.number) (code_at (take (length info - r.at) (drop r.at info))) ≡ Err f → ⊥
     never_unread f failed = let ok = code_read in cc
 
-    pub values_are : (n : ℕ) (rest : List ℕ) → seen (λ c. c.number) (code_at (take (length info - r.at) (drop r.at info))) ≡ Ok (n, rest)
+    pub values_are : (n : ℕ) (rest : List ℕ)
+        → seen (λ c. c.number) (code_at (take (length info - r.at) (drop r.at info))) ≡ Ok (n, rest)
         → rest ≡ flat_map attribute_bytes k.entry.head.attributes ++ k.stands.after
-    values_are n rest got = (ok_pair {E = Failing} n k.entry.head.decl.code rest (flat_map attribute_bytes k.entry.head.attributes ++ k.stands.after) (sym got ∙ code_read)).1
+    values_are n rest got =
+        (ok_pair {E = Failing} n k.entry.head.decl.code rest
+        (flat_map attribute_bytes k.entry.head.attributes ++ k.stands.after) (sym got ∙ code_read)).1
 
-    pub values_follow : (n : ℕ) (rest : List ℕ) → seen (λ c. c.number) (code_at (take (length info - r.at) (drop r.at info))) ≡ Ok (n, rest)
-        → IfSome (slice_get (entries_of (found_units s)) id) (λ e. (behind : List ℕ) × (rest ≡ flat_map attribute_bytes e.head.attributes ++ behind))
-    values_follow n rest got = of_entry (λ e. (behind : List ℕ) × (rest ≡ flat_map attribute_bytes e.head.attributes ++ behind)) (k.stands.after, values_are n rest got)
+    pub values_follow : (n : ℕ) (rest : List ℕ)
+        → seen (λ c. c.number) (code_at (take (length info - r.at) (drop r.at info))) ≡ Ok (n, rest)
+        → IfSome (slice_get (entries_of (found_units s)) id)
+        (λ e. (behind : List ℕ) × (rest ≡ flat_map attribute_bytes e.head.attributes ++ behind))
+    values_follow n rest got =
+        of_entry (λ e. (behind : List ℕ) × (rest ≡ flat_map attribute_bytes e.head.attributes ++ behind))
+        (k.stands.after, values_are n rest got)
 
     -- the entry is at the front of the bytes from its offset on
     pub entry_parts : take (length info - r.at) (drop r.at info) ≡ head_bytes k.entry.head ++ k.stands.after
@@ -132,18 +152,22 @@ module _ {a info : List ℕ} {tables : Tables} {rs : List UnitRecord} {records :
 
   -- the header of a unit that has the number of the entry's
   pub header_is : (number : ℕ) (u : UnitRecord) → number ≡ k.entry.unit → u ≡ get_or rs number u
-      → IfSome (slice_get (entries_of (found_units s)) id) (λ e. IfSome (slice_get (found_units s) e.unit) (λ v. u.header ≡ v.header))
+      → IfSome (slice_get (entries_of (found_units s)) id)
+      (λ e. IfSome (slice_get (found_units s) e.unit) (λ v. u.header ≡ v.header))
   header_is number u same read = search (rules, read_is, of_entry)
 
 -- the declaration of an entry is the one of its number
-module _ (decls : Decls) {a info : List ℕ} {rs : List UnitRecord} {records : List Record} {s : Scanned a info (tables_among decls) rs records} {id : ℕ} (k : KeptEntry a info (tables_among decls) rs records s id) where
+module _ (decls : Decls) {a info : List ℕ} {rs : List UnitRecord} {records : List Record}
+    {s : Scanned a info (tables_among decls) rs records} {id : ℕ}
+    (k : KeptEntry a info (tables_among decls) rs records s id) where
   abbrev nodes : List Node
   nodes = decls.lists.nodes.items
 
   abbrev kept : List KeptDecl
   kept = decls.kept.items
 
-  entry_decl : decl_of nodes kept (numbers_of (tables_among decls) rs k.entry.unit k.entry.head.decl.code) ≡ Some k.entry.head.decl
+  entry_decl : decl_of nodes kept (numbers_of (tables_among decls) rs k.entry.unit k.entry.head.decl.code)
+      ≡ Some k.entry.head.decl
   unfolding declared_in
   entry_decl = search (rules, table_is, numbers_find, own_numbers)
 
@@ -159,20 +183,25 @@ module _ (decls : Decls) {a info : List ℕ} {rs : List UnitRecord} {records : L
         let within = item_within (decls_of nodes kept) r.decl k.entry.head.decl decl_stands in
         omega (arith, within, length-map {B = Declaration × ℕ} kept (λ (x : KeptDecl). (kept_view nodes x, x.rest)))
 
-    pub decl_is : (d : Declaration) → decl_of nodes kept r.decl ≡ Some d → IfSome (slice_get (entries_of (found_units s)) id) (λ e. d ≡ e.head.decl)
-    decl_is d found = of_entry k (λ e. d ≡ e.head.decl) (one_some (decl_of nodes kept r.decl) d k.entry.head.decl found decl_stands)
+    pub decl_is : (d : Declaration) → decl_of nodes kept r.decl ≡ Some d
+        → IfSome (slice_get (entries_of (found_units s)) id) (λ e. d ≡ e.head.decl)
+    decl_is d found =
+        of_entry k (λ e. d ≡ e.head.decl) (one_some (decl_of nodes kept r.decl) d k.entry.head.decl found decl_stands)
 
 -- an entry's declaration is one of those that are kept
-pub declared_among : (a info : List ℕ) (decls : Decls) (rs : List UnitRecord) (records : List Record) (s : Scanned a info (tables_among decls) rs records) (id : ℕ) (e : Entry)
+pub declared_among : (a info : List ℕ) (decls : Decls) (rs : List UnitRecord) (records : List Record)
+    (s : Scanned a info (tables_among decls) rs records) (id : ℕ) (e : Entry)
     → slice_get (entries_of (found_units s)) id ≡ Some e → IsKeptIn decls e.head.decl
 declared_among a info decls rs records s id e is =
-    let k = kept_entry a info (tables_among decls) rs records s id (slice_get_within (entries_of (found_units s)) id e is) in
+    let k = kept_entry a info (tables_among decls) rs records s id
+    (slice_get_within (entries_of (found_units s)) id e is) in
     let same : k.entry ≡ e = one_some (slice_get (entries_of (found_units s)) id) k.entry e k.is_entry is in
     let P : Entry → Type 0 = λ x. IsKeptIn decls x.head.decl in
     subst P same (numbers_of (tables_among decls) rs k.entry.unit k.entry.head.decl.code, entry_decl decls k)
 
 -- and each of its attributes is one of those that are kept
-pub specs_among : (a info : List ℕ) (decls : Decls) (rs : List UnitRecord) (records : List Record) (s : Scanned a info (tables_among decls) rs records) (id : ℕ) (e : Entry)
+pub specs_among : (a info : List ℕ) (decls : Decls) (rs : List UnitRecord) (records : List Record)
+    (s : Scanned a info (tables_among decls) rs records) (id : ℕ) (e : Entry)
     → slice_get (entries_of (found_units s)) id ≡ Some e → HasSpecsIn decls e.head.decl
 specs_among a info decls rs records s id e is =
     let (number, found) = declared_among a info decls rs records s id e is in
@@ -180,7 +209,8 @@ specs_among a info decls rs records s id e is =
 
 -- ---- a unit
 
-pub record KeptUnit (a info : List ℕ) (tables : Tables) (rs : List UnitRecord) (records : List Record) (s : Scanned a info tables rs records) (number : ℕ) : Type 0 where
+pub record KeptUnit (a info : List ℕ) (tables : Tables) (rs : List UnitRecord) (records : List Record)
+    (s : Scanned a info tables rs records) (number : ℕ) : Type 0 where
   pub place : PlacedUnit
   pub is_place : slice_get (placed (found_units s)) number ≡ Some place
   pub unit_record : UnitRecord
@@ -188,7 +218,9 @@ pub record KeptUnit (a info : List ℕ) (tables : Tables) (rs : List UnitRecord)
   pub kept : IsKept tables unit_record place
   pub first : HasFirst (entries_of (found_units s)) place.first number place
 
-pub kept_unit : (a info : List ℕ) (tables : Tables) (rs : List UnitRecord) (records : List Record) (s : Scanned a info tables rs records) (number : ℕ) → number < length (found_units s) → KeptUnit a info tables rs records s number
+pub kept_unit : (a info : List ℕ) (tables : Tables) (rs : List UnitRecord) (records : List Record)
+    (s : Scanned a info tables rs records) (number : ℕ) → number < length (found_units s)
+    → KeptUnit a info tables rs records s number
 kept_unit a info tables rs records s number within = elim (slice_get_cases (placed (found_units s)) number).1 [
   | inr past ↦ absurd (omega (arith, past.0, within, length-placed_from 0 0 (found_units s)))
   | inl it ↦ search (rules, unit_kept, first_entry)
@@ -197,13 +229,16 @@ kept_unit a info tables rs records s number within = elim (slice_get_cases (plac
 abbrev told : ℕ → UnitHeader → UnitType → ℕ → UnitHead
 told offset header unit_type first = record { offset = offset; header = header; unit_type = unit_type; first = first }
 
-module _ {a info : List ℕ} {tables : Tables} {rs : List UnitRecord} {records : List Record} {s : Scanned a info tables rs records} {number : ℕ} (k : KeptUnit a info tables rs records s number) where
+module _ {a info : List ℕ} {tables : Tables} {rs : List UnitRecord} {records : List Record}
+    {s : Scanned a info tables rs records} {number : ℕ} (k : KeptUnit a info tables rs records s number) where
   pub number_within : number < length rs
   number_within = slice_get_within rs number k.unit_record k.is_unit_record
 
   module _ (u : UnitRecord) (read : u ≡ get_or rs number u) where
     pub kept_is : IsKept tables u k.place
-    kept_is = let P : UnitRecord → Type 0 = λ q. IsKept tables q k.place in subst P (sym (read_is rs number k.unit_record u k.is_unit_record read)) k.kept
+    kept_is =
+        let P : UnitRecord → Type 0 = λ q. IsKept tables q k.place in
+        subst P (sym (read_is rs number k.unit_record u k.is_unit_record read)) k.kept
 
     first_is : slice_get (entries_of (found_units s)) u.first ≡ Some k.first.entry
     first_is = ap (slice_get (entries_of (found_units s))) kept_is.first ∙ k.first.is_entry
@@ -211,16 +246,21 @@ module _ {a info : List ℕ} {tables : Tables} {rs : List UnitRecord} {records :
     pub first_within : u.first < length (entries_of (found_units s))
     first_within = slice_get_within (entries_of (found_units s)) u.first k.first.entry first_is
 
-    pub unit_told : (first : ℕ) (d : Declaration) (t : UnitType) → first ≡ u.first → IfSome (slice_get (entries_of (found_units s)) first) (λ e. d ≡ e.head.decl) → t ≡ type_of u.header.kind d.tag
+    pub unit_told : (first : ℕ) (d : Declaration) (t : UnitType) → first ≡ u.first
+        → IfSome (slice_get (entries_of (found_units s)) first) (λ e. d ≡ e.head.decl) → t ≡ type_of u.header.kind d.tag
         → IfSome (slice_get (placed (found_units s)) number) (λ p. told u.at u.header t first ≡ unit_head p)
     unit_told first d t same declared typed =
         let of_first = rw (ap (slice_get (entries_of (found_units s))) same ∙ first_is) at declared in
-        let tag : d.tag ≡ (head_of k.place.unit.root).decl.tag = ap (λ (c : Declaration). c.tag) of_first ∙ ap (λ (h : Head). h.decl.tag) k.first.is_first.head in
+        let tag : d.tag ≡ (head_of k.place.unit.root).decl.tag = ap (λ (c : Declaration). c.tag) of_first
+        ∙ ap (λ (h : Head). h.decl.tag) k.first.is_first.head in
         let type_is : t ≡ type_of k.place.unit.header.kind (head_of k.place.unit.root).decl.tag =
-        typed ∙ ap (λ (h : UnitHeader). type_of h.kind d.tag) kept_is.header ∙ ap (type_of k.place.unit.header.kind) tag in
+        typed ∙ ap (λ (h : UnitHeader). type_of h.kind d.tag) kept_is.header
+        ∙ ap (type_of k.place.unit.header.kind) tag in
         let number_is : first ≡ k.place.first = same ∙ kept_is.first in
         rw k.is_place (λ i. told (kept_is.at i) (kept_is.header i) (type_is i) (number_is i))
 
 -- as many records as units
-pub units_counted : (a info : List ℕ) (tables : Tables) (rs : List UnitRecord) (records : List Record) (s : Scanned a info tables rs records) → length rs ≡ length (found_units s)
-units_counted a info tables rs records s = sym (AllZip-long (IsKept tables) rs (placed (found_units s)) s.1.kept) ∙ length-placed_from 0 0 (found_units s)
+pub units_counted : (a info : List ℕ) (tables : Tables) (rs : List UnitRecord) (records : List Record)
+    (s : Scanned a info tables rs records) → length rs ≡ length (found_units s)
+units_counted a info tables rs records s =
+    sym (AllZip-long (IsKept tables) rs (placed (found_units s)) s.1.kept) ∙ length-placed_from 0 0 (found_units s)

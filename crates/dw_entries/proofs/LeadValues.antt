@@ -32,10 +32,12 @@ use Rattle.dw_entries.proofs.ChosenSteps.{all_passed}
 -- ---- the form, by the lead
 
 module _ (a : Attributes) (step : Step) (is : IsStep (numbered a) step) where
-  form_by : (l : Lead) (form : Form) → step.lead ≡ l → (l ≡ lead.Nothing → ⊥) → ((spec : AttributeSpec) → lead_of spec ≡ l → spec.form ≡ form) → form_there a step.to ≡ Some form
+  form_by : (l : Lead) (form : Form) → step.lead ≡ l → (l ≡ lead.Nothing → ⊥)
+      → ((spec : AttributeSpec) → lead_of spec ≡ l → spec.form ≡ form) → form_there a step.to ≡ Some form
   form_by l form is_l some says =
       let h = step_lead (nodes_of a) a.lists.now.known a.first a.within step is (λ none. some (sym is_l ∙ none)) in
-      ap (λ (ns : List (Numbered AttributeSpec)). option_map (λ (s : AttributeSpec). s.form) (slice_get (items_of ns) 0)) h.begins ∙ ap (λ (f : Form). Some f) (says h.spec (h.leads ∙ is_l))
+      ap (λ (ns : List (Numbered AttributeSpec)). option_map (λ (s : AttributeSpec). s.form)
+      (slice_get (items_of ns) 0)) h.begins ∙ ap (λ (f : Form). Some f) (says h.spec (h.leads ∙ is_l))
 
   pub text_form : step.lead ≡ lead.Text → form_there a step.to ≡ Some Strp
   text_form e = form_by lead.Text Strp e (λ no. cc) (λ spec l. (lead_says spec lead.Text l).0)
@@ -53,23 +55,30 @@ module _ (a : Attributes) (step : Step) (is : IsStep (numbered a) step) where
   reference_form reference = by_lead step.lead refl reference
     where
       by_lead : (l : Lead) → step.lead ≡ l → is_reference_lead l ≡ true → form_there a step.to ≡ Some Ref4
-      by_lead lead.TypeEntry e r = form_by lead.TypeEntry Ref4 e (λ no. cc) (λ spec l. (lead_says spec lead.TypeEntry l).0)
+      by_lead lead.TypeEntry e r =
+          form_by lead.TypeEntry Ref4 e (λ no. cc) (λ spec l. (lead_says spec lead.TypeEntry l).0)
       by_lead lead.Sibling e r = form_by lead.Sibling Ref4 e (λ no. cc) (λ spec l. (lead_says spec lead.Sibling l).0)
-      by_lead lead.Specification e r = form_by lead.Specification Ref4 e (λ no. cc) (λ spec l. (lead_says spec lead.Specification l).0)
+      by_lead lead.Specification e r =
+          form_by lead.Specification Ref4 e (λ no. cc) (λ spec l. (lead_says spec lead.Specification l).0)
       by_lead lead.Entry e r = form_by lead.Entry Ref4 e (λ no. cc) (λ spec l. (lead_says spec lead.Entry l).0)
       by_lead _ e r = absurd cc
 
   -- where it leads to nothing, nothing that is left leads elsewhere
-  pub nothing_left : (x : Context) (bytes : List ℕ) (l : Left x (specs_in a) bytes) → step.lead ≡ lead.Nothing → ArePassed DoesNotLead (map value_of l.0.0)
+  pub nothing_left : (x : Context) (bytes : List ℕ) (l : Left x (specs_in a) bytes) → step.lead ≡ lead.Nothing
+      → ArePassed DoesNotLead (map value_of l.0.0)
   nothing_left x bytes l none =
       all_passed does_lead x (specs_in a) l.0.0 l.1.are
-      (step_none (nodes_of a) a.lists.now.known a.first a.within step is (step_nothing (nodes_of a) a.lists.now.known a.first a.within step is none))
+      (step_none (nodes_of a) a.lists.now.known a.first a.within step is
+      (step_nothing (nodes_of a) a.lists.now.known a.first a.within step is none))
 
   -- an attribute is there, unless it leads to nothing
   pub lead_there : (step.lead ≡ lead.Nothing → ⊥) → IsThere a step.to
   lead_there some =
-      let h = step_lead (nodes_of a) a.lists.now.known a.first a.within step is some in
-      (h.spec.form, ap (λ (ns : List (Numbered AttributeSpec)). option_map (λ (s : AttributeSpec). s.form) (slice_get (items_of ns) 0)) h.begins)
+      let h = step_lead (nodes_of a) a.lists.now.known a.first a.within step is some in (
+        h.spec.form,
+        ap (λ (ns : List (Numbered AttributeSpec)). option_map (λ (s : AttributeSpec). s.form)
+            (slice_get (items_of ns) 0)) h.begins,
+      )
 
   pub passed_there : step.lead ≡ lead.Passed → IsThere a step.to
   passed_there e = lead_there (λ none. let no : lead.Passed ≡ lead.Nothing = sym e ∙ none in cc)
@@ -77,7 +86,8 @@ module _ (a : Attributes) (step : Step) (is : IsStep (numbered a) step) where
 -- ---- the value, by the form
 
 -- bytes that end inside a value of one size
-fixed_cut : (n : ℕ) (of : ℕ → Datum) (bytes : List ℕ) → nat_lt (length bytes) n ≡ true → layout_at (fixed n of) bytes ≡ Err Cut
+fixed_cut : (n : ℕ) (of : ℕ → Datum) (bytes : List ℕ) → nat_lt (length bytes) n ≡ true
+    → layout_at (fixed n of) bytes ≡ Err Cut
 unfolding layout_at fixed_at
 fixed_cut n of bytes short = rw short refl
 
@@ -89,19 +99,23 @@ pub reference_cut : (bytes : List ℕ) (b : Bool) → b ≡ nat_lt (length bytes
 reference_cut bytes true short = λ version size. fixed_cut 4 ref_unit bytes (sym short)
 reference_cut bytes false short = tt
 
-fixed_made : (n : ℕ) (of : ℕ → Datum) (bytes behind : List ℕ) (d : Datum) → layout_at (fixed n of) bytes ≡ Ok (d, behind) → (m : ℕ) × (d ≡ of m)
+fixed_made : (n : ℕ) (of : ℕ → Datum) (bytes behind : List ℕ) (d : Datum)
+    → layout_at (fixed n of) bytes ≡ Ok (d, behind) → (m : ℕ) × (d ≡ of m)
 unfolding layout_at
 fixed_made n of bytes behind d e = by_read (fixed_at n bytes) e
   where
-    by_read : (r : Result (ℕ × List ℕ) ValueFault) → (r >>= λ x. let y : Datum × List ℕ = (of x.0, x.1) in Ok y) ≡ Ok (d, behind) → (m : ℕ) × (d ≡ of m)
+    by_read : (r : Result (ℕ × List ℕ) ValueFault)
+        → (r >>= λ x. let y : Datum × List ℕ = (of x.0, x.1) in Ok y) ≡ Ok (d, behind) → (m : ℕ) × (d ≡ of m)
     by_read (Ok x) e = (x.0, (ok_pair {E = ValueFault} d (of x.0) behind x.1 (sym e)).0)
     by_read (Err f) e = absurd cc
 
-leb_made : (of : ℕ → Datum) (bytes behind : List ℕ) (d : Datum) → layout_at (leb of) bytes ≡ Ok (d, behind) → (m : ℕ) × (d ≡ of m)
+leb_made : (of : ℕ → Datum) (bytes behind : List ℕ) (d : Datum) → layout_at (leb of) bytes ≡ Ok (d, behind)
+    → (m : ℕ) × (d ≡ of m)
 unfolding layout_at
 leb_made of bytes behind d e = by_read (uleb_then bytes) e
   where
-    by_read : (r : Result (ℕ × List ℕ) ValueFault) → (r >>= λ x. let y : Datum × List ℕ = (of x.0, x.1) in Ok y) ≡ Ok (d, behind) → (m : ℕ) × (d ≡ of m)
+    by_read : (r : Result (ℕ × List ℕ) ValueFault)
+        → (r >>= λ x. let y : Datum × List ℕ = (of x.0, x.1) in Ok y) ≡ Ok (d, behind) → (m : ℕ) × (d ≡ of m)
     by_read (Ok x) e = (x.0, (ok_pair {E = ValueFault} d (of x.0) behind x.1 (sym e)).0)
     by_read (Err f) e = absurd cc
 

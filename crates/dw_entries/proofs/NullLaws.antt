@@ -23,17 +23,23 @@ pub record NullsTo (bytes rest : List ℕ) : Type 0 where
   pub are : AreNulls nulls
   pub parts : bytes ≡ nulls_bytes nulls ++ rest
 
-pub nulls_next : (bytes rest after : List ℕ) → NullsTo bytes rest → seen (λ c. c.number) (code_at rest) ≡ Ok (0, after) → NullsTo bytes after
+pub nulls_next : (bytes rest after : List ℕ) → NullsTo bytes rest → seen (λ c. c.number) (code_at rest) ≡ Ok (0, after)
+    → NullsTo bytes after
 nulls_next bytes rest after n e =
     let (c, was, zero_code) = seen_ok (λ (c : Code). c.number) (code_at rest) 0 after e in
     let took = code_takes rest c after was in
     record {
       nulls = n.nulls ++ c.bytes ∷ [];
       are = all-append IsNull n.nulls (c.bytes ∷ []) n.are (rw zero_code at took.1, tt);
-      parts = n.parts ∙ ap (λ (b : List ℕ). nulls_bytes n.nulls ++ b) (took.0 ∙ ap (λ (b : List ℕ). b ++ after) (sym (append-nil c.bytes))) ∙ sym (append_assoc (nulls_bytes n.nulls) (c.bytes ++ []) after) ∙ ap (λ (b : List ℕ). b ++ after) (sym (flat_map-append (λ (z : List ℕ). z) n.nulls (c.bytes ∷ [])));
+      parts =
+          n.parts ∙ ap (λ (b : List ℕ). nulls_bytes n.nulls ++ b)
+          (took.0 ∙ ap (λ (b : List ℕ). b ++ after) (sym (append-nil c.bytes)))
+          ∙ sym (append_assoc (nulls_bytes n.nulls) (c.bytes ++ []) after)
+          ∙ ap (λ (b : List ℕ). b ++ after) (sym (flat_map-append (λ (z : List ℕ). z) n.nulls (c.bytes ∷ [])));
     }
 
-pub null_shorter : (rest after : List ℕ) → seen (λ c. c.number) (code_at rest) ≡ Ok (0, after) → length after < length rest
+pub null_shorter : (rest after : List ℕ) → seen (λ c. c.number) (code_at rest) ≡ Ok (0, after)
+    → length after < length rest
 null_shorter rest after e =
     let (c, was, zero_code) = seen_ok (λ (c : Code). c.number) (code_at rest) 0 after e in
     let took = code_takes rest c after was in
@@ -41,34 +47,48 @@ null_shorter rest after e =
 
 -- ---- the tree and the nulls
 
-together : (body tree rest : List ℕ) (zs ws : List (List ℕ)) (left : List ℕ) → body ≡ (tree ++ nulls_bytes zs) ++ rest → rest ≡ nulls_bytes ws ++ left → body ≡ (tree ++ nulls_bytes (zs ++ ws)) ++ left
+together : (body tree rest : List ℕ) (zs ws : List (List ℕ)) (left : List ℕ) → body ≡ (tree ++ nulls_bytes zs) ++ rest
+    → rest ≡ nulls_bytes ws ++ left → body ≡ (tree ++ nulls_bytes (zs ++ ws)) ++ left
 together body tree rest zs ws left p q = search (rules, append_assoc, flat_map-append)
 
-pub tree_end : (t : Context) (numbers : ℕ → ℕ) (kind : HeaderKind) (body rest : List ℕ) (at : ℕ) (old new : List Record) → TreeOf t numbers kind body rest at old new → AreAllNulls rest → TreeOf t numbers kind body [] at old new
+pub tree_end : (t : Context) (numbers : ℕ → ℕ) (kind : HeaderKind) (body rest : List ℕ) (at : ℕ) (old new : List Record)
+    → TreeOf t numbers kind body rest at old new → AreAllNulls rest → TreeOf t numbers kind body [] at old new
 tree_end t numbers kind body rest at old new tree (zs, are, parts) = record {
   root = tree.root;
   is = tree.is;
   tag = tree.tag;
   nulls = tree.nulls ++ zs;
   are_nulls = all-append IsNull tree.nulls zs tree.are_nulls are;
-  parts = together body (node_bytes tree.root) rest tree.nulls zs [] tree.parts (parts ∙ sym (append-nil (nulls_bytes zs)));
+  parts =
+      together body (node_bytes tree.root) rest tree.nulls zs [] tree.parts (parts ∙ sym (append-nil (nulls_bytes zs)));
   records = tree.records;
 }
 
-pub fits_node : (kind : HeaderKind) (n : Node) (is : List Item) → fits_tag kind (head_of n).decl.tag ≡ true → FitsUnit kind (node_items n ++ is)
+pub fits_node : (kind : HeaderKind) (n : Node) (is : List Item) → fits_tag kind (head_of n).decl.tag ≡ true
+    → FitsUnit kind (node_items n ++ is)
 fits_node kind (leaf h) is e = e
 fits_node kind (parent h ns z) is e = e
 
 -- what comes after the nulls is left over
-pub left_over : (t : Context) (numbers : ℕ → ℕ) (kind : HeaderKind) (header start : ℕ) (body rest left : List ℕ) (old new : List Record) → start ≡ header + header_size kind → TreeOf t numbers kind body rest start old new → NullsThen rest left
-    → BodyFails t kind header body (in_unit (record { rule = LeftOver; attribute = 0 }) header (start + (length body - length left)))
+pub left_over : (t : Context) (numbers : ℕ → ℕ) (kind : HeaderKind) (header start : ℕ) (body rest left : List ℕ)
+    (old new : List Record) → start ≡ header + header_size kind → TreeOf t numbers kind body rest start old new
+    → NullsThen rest left
+    → BodyFails t kind header body
+    (in_unit (record { rule = LeftOver; attribute = 0 }) header (start + (length body - length left)))
 left_over t numbers kind header start body rest left old new s tree then =
     let zs : List (List ℕ) = tree.nulls ++ then.nulls in
     let is : List Item = node_items tree.root ++ map null zs in
-    let spelled : items_bytes is ≡ node_bytes tree.root ++ nulls_bytes zs = items_bytes-append (node_items tree.root) (map null zs) ∙ ap (λ (b : List ℕ). b ++ items_bytes (map null zs)) (node_spelled tree.root) ∙ ap (λ (b : List ℕ). node_bytes tree.root ++ b) (nulls_spelled zs) in
-    let parts : body ≡ items_bytes is ++ left = together body (node_bytes tree.root) rest tree.nulls then.nulls left tree.parts then.parts ∙ ap (λ (b : List ℕ). b ++ left) (sym spelled) in
+    let spelled : items_bytes is ≡ node_bytes tree.root
+    ++ nulls_bytes zs = items_bytes-append (node_items tree.root) (map null zs)
+    ∙ ap (λ (b : List ℕ). b ++ items_bytes (map null zs)) (node_spelled tree.root)
+    ∙ ap (λ (b : List ℕ). node_bytes tree.root ++ b) (nulls_spelled zs) in
+    let parts : body ≡ items_bytes is
+    ++ left = together body (node_bytes tree.root) rest tree.nulls then.nulls left tree.parts then.parts
+    ∙ ap (λ (b : List ℕ). b ++ left) (sym spelled) in
     let f : Failing = record { rule = LeftOver; attribute = 0 } in
-    let here : start + (length body - length left) ≡ header + header_size kind + length (items_bytes is) = omega (arith, s, ap length parts, length-append (items_bytes is) left) in
+    let here : start + (length body - length left)
+    ≡ header + header_size kind + length (items_bytes is) = omega
+    (arith, s, ap length parts, length-append (items_bytes is) left) in
     record {
       items = is;
       rest = left;

@@ -31,56 +31,72 @@ both_true true b e = (refl, e)
 both_true false b e = absurd cc
 
 -- where all forms are allowed, values that are read one after the other are the attributes at the front
-pub all_after : (t : Context) (specs : List AttributeSpec) (bytes rest : List ℕ) → are_allowed t.version specs ≡ true → values_end t.version t.address_size specs bytes ≡ Ok rest → after (attributes_at t specs bytes) ≡ Ok rest
+pub all_after : (t : Context) (specs : List AttributeSpec) (bytes rest : List ℕ) → are_allowed t.version specs ≡ true
+    → values_end t.version t.address_size specs bytes ≡ Ok rest → after (attributes_at t specs bytes) ≡ Ok rest
 unfolding values_end attributes_at
 all_after t [] bytes rest allowed e = let same : ◌≡◌ {A = Result (List ℕ) ValueFault} (Ok bytes) (Ok rest) = e in cc
 all_after t (s ∷ specs) bytes rest allowed e =
     let both = both_true (is_allowed t.version s.form) (are_allowed t.version specs) allowed in
-    let next = bind_ok (rest_at t.version s.form t.address_size bytes) (λ b. values_end t.version t.address_size specs b) rest e in
-    attributes_cons t s specs bytes next.0 (attribute_skipped t s t.version bytes next.0 refl (sym both.0) next.1) ∙ all_after t specs next.0 rest both.1 next.2
+    let next = bind_ok (rest_at t.version s.form t.address_size bytes)
+    (λ b. values_end t.version t.address_size specs b) rest e in
+    attributes_cons t s specs bytes next.0 (attribute_skipped t s t.version bytes next.0 refl (sym both.0) next.1)
+    ∙ all_after t specs next.0 rest both.1 next.2
 
 -- ---- values that are left
 
 -- the values of the first of these attributes are read one after the other, and the others are left
-pub record Passed (x : Context) (front back : List AttributeSpec) (bs : List Attribute) (rest bytes : List ℕ) : Type 0 where
-  pub behind : List ℕ
-  pub others : List Attribute
-  pub ends : values_end x.version x.address_size front bytes ≡ Ok behind
-  pub are : AreAttributes x back others
-  pub spelled : behind ≡ flat_map attribute_bytes others ++ rest
-  pub values : map value_of others ≡ drop (length front) (map value_of bs)
+pub record Passed (x : Context) (front back : List AttributeSpec) (bs : List Attribute) (rest bytes : List ℕ) : Type 0
+  where
+    pub behind : List ℕ
+    pub others : List Attribute
+    pub ends : values_end x.version x.address_size front bytes ≡ Ok behind
+    pub are : AreAttributes x back others
+    pub spelled : behind ≡ flat_map attribute_bytes others ++ rest
+    pub values : map value_of others ≡ drop (length front) (map value_of bs)
 
-pub one_end : (x : Context) (s : AttributeSpec) (b : Attribute) (rest : List ℕ) → IsAttribute x s b → rest_at x.version s.form x.address_size (b.bytes ++ rest) ≡ Ok rest
+pub one_end : (x : Context) (s : AttributeSpec) (b : Attribute) (rest : List ℕ) → IsAttribute x s b
+    → rest_at x.version s.form x.address_size (b.bytes ++ rest) ≡ Ok rest
 unfolding rest_at
 one_end x s b rest p = rw (value_again x s b rest p) refl
 
-pub passed : (x : Context) (front back : List AttributeSpec) (bs : List Attribute) (rest bytes : List ℕ) → AreAttributes x (front ++ back) bs → bytes ≡ flat_map attribute_bytes bs ++ rest → Passed x front back bs rest bytes
+pub passed : (x : Context) (front back : List AttributeSpec) (bs : List Attribute) (rest bytes : List ℕ)
+    → AreAttributes x (front ++ back) bs → bytes ≡ flat_map attribute_bytes bs ++ rest
+    → Passed x front back bs rest bytes
 unfolding values_end
-passed x [] back bs rest bytes are spelled = record { behind = bytes; others = bs; ends = refl; are = are; spelled = spelled; values = refl }
+passed x [] back bs rest bytes are spelled =
+    record { behind = bytes; others = bs; ends = refl; are = are; spelled = spelled; values = refl }
 passed x (s ∷ front) back [] rest bytes are spelled = absurd are
 passed x (s ∷ front) back (b ∷ bs) rest bytes are spelled =
-    let here : bytes ≡ b.bytes ++ (flat_map attribute_bytes bs ++ rest) = spelled ∙ append_assoc b.bytes (flat_map attribute_bytes bs) rest in
+    let here : bytes ≡ b.bytes ++ (flat_map attribute_bytes bs ++ rest) = spelled
+    ∙ append_assoc b.bytes (flat_map attribute_bytes bs) rest in
     let p = passed x front back bs rest (flat_map attribute_bytes bs ++ rest) are.1 refl in
     let first : rest_at x.version s.form x.address_size bytes ≡ Ok (flat_map attribute_bytes bs ++ rest) =
-    ap (λ (c : List ℕ). rest_at x.version s.form x.address_size c) here ∙ one_end x s b (flat_map attribute_bytes bs ++ rest) are.0 in
+    ap (λ (c : List ℕ). rest_at x.version s.form x.address_size c) here
+    ∙ one_end x s b (flat_map attribute_bytes bs ++ rest) are.0 in
     record {
       behind = p.behind;
       others = p.others;
-      ends = ap (λ (r : Result (List ℕ) ValueFault). r >>= λ more. values_end x.version x.address_size front more) first ∙ p.ends;
+      ends =
+          ap (λ (r : Result (List ℕ) ValueFault). r >>= λ more. values_end x.version x.address_size front more) first
+          ∙ p.ends;
       are = p.are;
       spelled = p.spelled;
       values = p.values;
     }
 
-module _ (x : Context) (specs front back : List AttributeSpec) (parts : specs ≡ front ++ back) (bytes : List ℕ) (l : Left x specs bytes) where
+module _ (x : Context) (specs front back : List AttributeSpec) (parts : specs ≡ front ++ back) (bytes : List ℕ)
+    (l : Left x specs bytes) where
   pub those : Passed x front back l.0.0 l.0.1 bytes
-  those = passed x front back l.0.0 l.0.1 bytes (subst (λ (ss : List AttributeSpec). AreAttributes x ss l.0.0) parts l.1.are) l.1.spelled
+  those =
+      passed x front back l.0.0 l.0.1 bytes
+      (subst (λ (ss : List AttributeSpec). AreAttributes x ss l.0.0) parts l.1.are) l.1.spelled
 
   pub never_cut : (f : ValueFault) → values_end x.version x.address_size front bytes ≡ Err f → ⊥
   never_cut f e = let ok = those.ends in cc
 
   -- what is left after them
-  pub left_on : (rest : List ℕ) → values_end x.version x.address_size front bytes ≡ Ok rest → (m : Left x back rest) × (map value_of m.0.0 ≡ drop (length front) (map value_of l.0.0))
+  pub left_on : (rest : List ℕ) → values_end x.version x.address_size front bytes ≡ Ok rest
+      → (m : Left x back rest) × (map value_of m.0.0 ≡ drop (length front) (map value_of l.0.0))
   left_on rest e =
       let same : those.behind ≡ rest = is_ok (sym those.ends ∙ e) in
       (((those.others, l.0.1), record { are = those.are; spelled = sym same ∙ those.spelled }), those.values)
@@ -88,26 +104,35 @@ module _ (x : Context) (specs front back : List AttributeSpec) (parts : specs �
       is_ok : {a b : List ℕ} → ◌≡◌ {A = Result (List ℕ) ValueFault} (Ok a) (Ok b) → a ≡ b
       is_ok e = cc
 
-  pub left_rest : (k : ℕ) → k ≡ length front → (rest : List ℕ) → values_end x.version x.address_size front bytes ≡ Ok rest → (n : Left x back rest) → map value_of n.0.0 ≡ drop k (map value_of l.0.0)
+  pub left_rest : (k : ℕ) → k ≡ length front → (rest : List ℕ)
+      → values_end x.version x.address_size front bytes ≡ Ok rest → (n : Left x back rest)
+      → map value_of n.0.0 ≡ drop k (map value_of l.0.0)
   left_rest k k_is rest e n =
       let m = left_on rest e in
-      ap (λ (z : Left x back rest). map value_of z.0.0) (left_unique x back rest n m.0) ∙ m.1 ∙ ap (λ (i : ℕ). drop i (map value_of l.0.0)) (sym k_is)
+      ap (λ (z : Left x back rest). map value_of z.0.0) (left_unique x back rest n m.0) ∙ m.1
+      ∙ ap (λ (i : ℕ). drop i (map value_of l.0.0)) (sym k_is)
 
 -- ---- the value of the first attribute with a code
 
 -- the values before it are read one after the other, and it after them
-pub record FirstValue (version size : ℕ) (specs : List AttributeSpec) (bytes : List ℕ) (values : List (ℕ × Datum)) (code place : ℕ) : Type 0 where
+pub record FirstValue (version size : ℕ) (specs : List AttributeSpec) (bytes : List ℕ) (values : List (ℕ × Datum))
+    (code place : ℕ) : Type 0 where
   pub datum : Datum
   pub is_value : Some datum ≡ value_in values code
-  pub reads : (d : AttributeSpec) → value_behind version size (slice_index_or specs place d).form (values_end version size (take place specs) bytes) ≡ Ok datum
+  pub reads : (d : AttributeSpec)
+      → value_behind version size (slice_index_or specs place d).form (values_end version size (take place specs) bytes)
+      ≡ Ok datum
 
-pub first_value : (x : Context) (specs : List AttributeSpec) (bs : List Attribute) (rest bytes : List ℕ) (code place : ℕ) → AreAttributes x specs bs → bytes ≡ flat_map attribute_bytes bs ++ rest → StandsFirst specs code place
+pub first_value : (x : Context) (specs : List AttributeSpec) (bs : List Attribute) (rest bytes : List ℕ)
+    (code place : ℕ) → AreAttributes x specs bs → bytes ≡ flat_map attribute_bytes bs ++ rest
+    → StandsFirst specs code place
     → FirstValue x.version x.address_size specs bytes (map value_of bs) code place
 unfolding values_end
 first_value x [] bs rest bytes code place are spelled first = absurd (omega (arith, first.within))
 first_value x (s ∷ specs) [] rest bytes code place are spelled first = absurd are
 first_value x (s ∷ specs) (b ∷ bs) rest bytes code zero are spelled first =
-    let here : bytes ≡ b.bytes ++ (flat_map attribute_bytes bs ++ rest) = spelled ∙ append_assoc b.bytes (flat_map attribute_bytes bs) rest in
+    let here : bytes ≡ b.bytes ++ (flat_map attribute_bytes bs ++ rest) = spelled
+    ∙ append_assoc b.bytes (flat_map attribute_bytes bs) rest in
     let same : s.attribute ≡ code = first.has s in
     let is : b.code ≡ code = let c : b.code ≡ s.attribute = are.0.code in c ∙ same in
     record {
@@ -116,10 +141,16 @@ first_value x (s ∷ specs) (b ∷ bs) rest bytes code zero are spelled first =
       reads = λ d. rw (here, value_again x s b (flat_map attribute_bytes bs ++ rest) are.0) refl;
     }
 first_value x (s ∷ specs) (b ∷ bs) rest bytes code (suc place) are spelled first =
-    let here : bytes ≡ b.bytes ++ (flat_map attribute_bytes bs ++ rest) = spelled ∙ append_assoc b.bytes (flat_map attribute_bytes bs) rest in
+    let here : bytes ≡ b.bytes ++ (flat_map attribute_bytes bs ++ rest) = spelled
+    ∙ append_assoc b.bytes (flat_map attribute_bytes bs) rest in
     let other : s.attribute ≢ code = first.none_before 0 s (omega arith) in
     let apart : b.code ≡ code → ⊥ = let c : b.code ≡ s.attribute = are.0.code in λ same. other (sym c ∙ same) in
-    let behind : StandsFirst specs code place = record { within = omega (arith, first.within); has = first.has; none_before = λ k d less. first.none_before (suc k) d (omega (arith, less)) } in
+    let behind : StandsFirst specs code place =
+    record {
+      within = omega (arith, first.within);
+      has = first.has;
+      none_before = λ k d less. first.none_before (suc k) d (omega (arith, less));
+    } in
     let more = first_value x specs bs rest (flat_map attribute_bytes bs ++ rest) code place are.1 refl behind in
     record {
       datum = more.datum;
@@ -130,18 +161,23 @@ first_value x (s ∷ specs) (b ∷ bs) rest bytes code (suc place) are spelled f
 front_range : (specs : List AttributeSpec) (k : ℕ) → slice_range specs 0 k ≡ take k specs
 front_range specs k = let same : k - 0 ≡ k = omega arith in ap (λ (n : ℕ). take n specs) same
 
-pub value_of_left : (x : Context) (specs : List AttributeSpec) (bytes : List ℕ) (l : Left x specs bytes) (attribute : ℕ) (answer : Result Datum ValueFault) → ReadsFirst x.version x.address_size specs attribute bytes answer
+pub value_of_left : (x : Context) (specs : List AttributeSpec) (bytes : List ℕ) (l : Left x specs bytes) (attribute : ℕ)
+    (answer : Result Datum ValueFault) → ReadsFirst x.version x.address_size specs attribute bytes answer
     → (v : Datum) × (answer ≡ Ok v) × (Some v ≡ value_in (map value_of l.0.0) attribute)
 value_of_left x specs bytes l attribute answer r =
     let f = first_value x specs l.0.0 l.0.1 bytes attribute r.place l.1.are l.1.spelled r.first in
     let any : AttributeSpec = record { attribute = 0; form = Flag } in
-    let front = ap (λ (ss : List AttributeSpec). value_behind x.version x.address_size (slice_index_or specs r.place any).form (values_end x.version x.address_size ss bytes)) (front_range specs r.place) in
+    let front = ap (λ (ss : List AttributeSpec). value_behind x.version x.address_size
+    (slice_index_or specs r.place any).form (values_end x.version x.address_size ss bytes))
+    (front_range specs r.place) in
     (f.datum, r.reads any ∙ front ∙ f.reads any, f.is_value)
 
 -- what reading the first attribute with a code answers is its value, if there is one
-pub answers_left : (x : Context) (specs : List AttributeSpec) (bytes : List ℕ) (l : Left x specs bytes) (attribute : ℕ) (found : Option Value) → AnswersFirst x.version x.address_size specs attribute bytes (Ok found)
+pub answers_left : (x : Context) (specs : List AttributeSpec) (bytes : List ℕ) (l : Left x specs bytes) (attribute : ℕ)
+    (found : Option Value) → AnswersFirst x.version x.address_size specs attribute bytes (Ok found)
     → option_map view found ≡ value_in (map value_of l.0.0) attribute
-answers_left x specs bytes l attribute None none = value_of_none x specs l.0.0 attribute l.1.are (declares_none specs attribute none)
+answers_left x specs bytes l attribute None none =
+    value_of_none x specs l.0.0 attribute l.1.are (declares_none specs attribute none)
 answers_left x specs bytes l attribute (Some v) reads =
     let (w, is, here) = value_of_left x specs bytes l attribute (Ok (view v)) reads in
     ap (λ (d : Datum). Some d) (ok_is is) ∙ here
@@ -149,7 +185,8 @@ answers_left x specs bytes l attribute (Some v) reads =
     ok_is : {a b : Datum} → ◌≡◌ {A = Result Datum ValueFault} (Ok a) (Ok b) → a ≡ b
     ok_is e = cc
 
-pub never_answers : (x : Context) (specs : List AttributeSpec) (bytes : List ℕ) (l : Left x specs bytes) (attribute : ℕ) (f : ValueFault) → ReadsFirst x.version x.address_size specs attribute bytes (Err f) → ⊥
+pub never_answers : (x : Context) (specs : List AttributeSpec) (bytes : List ℕ) (l : Left x specs bytes) (attribute : ℕ)
+    (f : ValueFault) → ReadsFirst x.version x.address_size specs attribute bytes (Err f) → ⊥
 never_answers x specs bytes l attribute f reads =
     let (w, is, here) = value_of_left x specs bytes l attribute (Err f) reads in
     cc

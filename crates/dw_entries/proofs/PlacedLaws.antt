@@ -30,34 +30,46 @@ no_bytes bytes v none = record {
 }
 
 -- a value that has these bytes after some others
-after_count : (count content bytes : List ℕ) (v : Datum) → bytes ≡ count ++ content → bytes_of v ≡ content → EndWithBytes bytes v
+after_count : (count content bytes : List ℕ) (v : Datum) → bytes ≡ count ++ content → bytes_of v ≡ content
+    → EndWithBytes bytes v
 after_count count content bytes v parts is = record {
   before = count;
   parts = parts ∙ ap (λ (b : List ℕ). count ++ b) (sym is);
 }
 
-plain_bytes : (size : ℕ) (f : Form) (bytes : List ℕ) (v : Datum) → SpellsPlain (layout_of size f) bytes v → EndWithBytes bytes v
-plain_bytes size form.Block1 bytes v (content, counted, is) = after_count counted.count content bytes v counted.parts (ap bytes_of is)
-plain_bytes size form.Block2 bytes v (content, counted, is) = after_count counted.count content bytes v counted.parts (ap bytes_of is)
-plain_bytes size form.Block4 bytes v (content, counted, is) = after_count counted.count content bytes v counted.parts (ap bytes_of is)
-plain_bytes size form.Block bytes v (content, counted, is) = after_count counted.count content bytes v counted.parts (ap bytes_of is)
-plain_bytes size form.Exprloc bytes v (content, counted, is) = after_count counted.count content bytes v counted.parts (ap bytes_of is)
-plain_bytes size form.Text bytes v (content, ended, is) = after_count [] bytes bytes v refl (ap bytes_of is ∙ sym ended.parts)
-plain_bytes size form.Data16 bytes v (content, exactly, is) = after_count [] bytes bytes v refl (ap bytes_of is ∙ sym exactly.same)
+plain_bytes : (size : ℕ) (f : Form) (bytes : List ℕ) (v : Datum) → SpellsPlain (layout_of size f) bytes v
+    → EndWithBytes bytes v
+plain_bytes size form.Block1 bytes v (content, counted, is) =
+    after_count counted.count content bytes v counted.parts (ap bytes_of is)
+plain_bytes size form.Block2 bytes v (content, counted, is) =
+    after_count counted.count content bytes v counted.parts (ap bytes_of is)
+plain_bytes size form.Block4 bytes v (content, counted, is) =
+    after_count counted.count content bytes v counted.parts (ap bytes_of is)
+plain_bytes size form.Block bytes v (content, counted, is) =
+    after_count counted.count content bytes v counted.parts (ap bytes_of is)
+plain_bytes size form.Exprloc bytes v (content, counted, is) =
+    after_count counted.count content bytes v counted.parts (ap bytes_of is)
+plain_bytes size form.Text bytes v (content, ended, is) =
+    after_count [] bytes bytes v refl (ap bytes_of is ∙ sym ended.parts)
+plain_bytes size form.Data16 bytes v (content, exactly, is) =
+    after_count [] bytes bytes v refl (ap bytes_of is ∙ sym exactly.same)
 plain_bytes size form.Indirect bytes v p = absurd p
 plain_bytes size form.FlagPresent bytes v p = no_bytes bytes v (ap bytes_of p.1)
 plain_bytes size (form.ImplicitConst number) bytes v p = no_bytes bytes v (ap bytes_of p.1)
 plain_bytes size _ bytes v p = no_bytes bytes v (ap bytes_of p.2)
 
-after_code : (code content bytes : List ℕ) (v : Datum) → bytes ≡ code ++ content → EndWithBytes content v → EndWithBytes bytes v
+after_code : (code content bytes : List ℕ) (v : Datum) → bytes ≡ code ++ content → EndWithBytes content v
+    → EndWithBytes bytes v
 after_code code content bytes v parts end = record {
   before = code ++ end.before;
   parts = parts ∙ ap (λ (b : List ℕ). code ++ b) end.parts ∙ sym (append_assoc code end.before (bytes_of v));
 }
 
 -- the spelling of a value ends with its bytes
-spelled_bytes : (version size : ℕ) (f : Form) (bytes : List ℕ) (v : Datum) → Val version f size bytes v → EndWithBytes bytes v
-spelled_bytes version size form.Indirect bytes v p = after_code p.code p.content bytes v p.parts (plain_bytes size p.form p.content v p.is_value)
+spelled_bytes : (version size : ℕ) (f : Form) (bytes : List ℕ) (v : Datum) → Val version f size bytes v
+    → EndWithBytes bytes v
+spelled_bytes version size form.Indirect bytes v p =
+    after_code p.code p.content bytes v p.parts (plain_bytes size p.form p.content v p.is_value)
 spelled_bytes version size form.Block1 bytes v p = plain_bytes size form.Block1 bytes v p
 spelled_bytes version size form.Block2 bytes v p = plain_bytes size form.Block2 bytes v p
 spelled_bytes version size form.Block4 bytes v p = plain_bytes size form.Block4 bytes v p
@@ -70,7 +82,8 @@ spelled_bytes version size (form.ImplicitConst number) bytes v p = no_bytes byte
 spelled_bytes version size _ bytes v p = no_bytes bytes v (ap bytes_of p.2)
 
 -- the bytes of a value that was read, and those that follow
-pub leaves : (version size len : ℕ) (f : Form) (bytes rest : List ℕ) (v : Datum) → Val version f size (take len bytes) v → rest ≡ drop len bytes → Leaves v bytes rest
+pub leaves : (version size len : ℕ) (f : Form) (bytes rest : List ℕ) (v : Datum) → Val version f size (take len bytes) v
+    → rest ≡ drop len bytes → Leaves v bytes rest
 leaves version size len f bytes rest v spelled rest_is =
     let end = spelled_bytes version size f (take len bytes) v spelled in
     record {
@@ -84,7 +97,8 @@ leaves version size len f bytes rest v spelled rest_is =
 pub rest_after : (section before bytes : List ℕ) → section ≡ before ++ bytes → IsRest section bytes
 rest_after section before bytes parts =
     let long : length section ≡ length before + length bytes = ap length parts ∙ length-append before bytes in
-    ap (drop (length section - length bytes)) parts ∙ drop_at before bytes (length section - length bytes) (omega (arith, long))
+    ap (drop (length section - length bytes)) parts
+    ∙ drop_at before bytes (length section - length bytes) (omega (arith, long))
 
 module _ (section bytes rest : List ℕ) (v : Datum) (is : IsRest section bytes) (l : Leaves v bytes rest) where
   front : List ℕ
@@ -100,7 +114,9 @@ module _ (section bytes rest : List ℕ) (v : Datum) (is : IsRest section bytes)
       ∙ sym (append_assoc front l.before (bytes_of v ++ rest))
 
   counted : length section ≡ length before + (length (bytes_of v) + length rest)
-  counted = ap length whole ∙ length-append before (bytes_of v ++ rest) ∙ ap (λ (n : ℕ). length before + n) (length-append (bytes_of v) rest)
+  counted =
+      ap length whole ∙ length-append before (bytes_of v ++ rest)
+      ∙ ap (λ (n : ℕ). length before + n) (length-append (bytes_of v) rest)
 
   -- after a value is what follows it
   pub rest_left : IsRest section rest
@@ -117,7 +133,8 @@ take_keeps section old new None is kept = subst (λ (b : Bor (List ℕ)). IsRest
 take_keeps section old new (Some item) is kept = rest_left section old.now new.now (view item.1) is kept
 
 -- what follows the code of an entry, .debug_info ends with
-module _ {a info : List ℕ} {tables : Tables} {rs : List UnitRecord} {records : List Record} {s : Scanned a info tables rs records} {id : ℕ} (k : KeptEntry a info tables rs records s id) where
+module _ {a info : List ℕ} {tables : Tables} {rs : List UnitRecord} {records : List Record}
+    {s : Scanned a info tables rs records} {id : ℕ} (k : KeptEntry a info tables rs records s id) where
   pub code_before : (r : Record) → slice_get records id ≡ Some r → (n : ℕ) (rest : List ℕ)
       → seen (λ c. c.number) (code_at (take (length info - r.at) (drop r.at info))) ≡ Ok (n, rest) → IsRest info rest
   code_before r read n rest got =
@@ -128,6 +145,7 @@ module _ {a info : List ℕ} {tables : Tables} {rs : List UnitRecord} {records :
       let code : List ℕ = k.entry.head.code in
       let own : List ℕ = flat_map attribute_bytes k.entry.head.attributes in
       let whole : info ≡ (front ++ code) ++ rest =
-      at_is ∙ ap (λ (b : List ℕ). front ++ b) (append_assoc code own k.stands.after) ∙ sym (append_assoc front code (own ++ k.stands.after))
+      at_is ∙ ap (λ (b : List ℕ). front ++ b) (append_assoc code own k.stands.after)
+      ∙ sym (append_assoc front code (own ++ k.stands.after))
       ∙ ap (λ (b : List ℕ). (front ++ code) ++ b) (sym values) in
       rest_after info (front ++ code) rest whole

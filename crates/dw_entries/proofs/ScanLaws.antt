@@ -40,32 +40,45 @@ pub record Upto (a info : List ℕ) (header : ℕ) (kept : Kept) : Type 0 where
 
 records_from-push : (numbers : ℕ → ℕ → ℕ) (unit id at : ℕ) (us : List DebugUnit) (u : DebugUnit)
     → records_from numbers unit id at (us ++ u ∷ [])
-    ≡ records_from numbers unit id at us ++ node_records (numbers (unit + length us)) None None (id + length (records_from numbers unit id at us)) ((at + length (units_bytes us)) + header_size u.header.kind) u.root
+    ≡ records_from numbers unit id at us
+    ++ node_records (numbers (unit + length us)) None None (id + length (records_from numbers unit id at us))
+    ((at + length (units_bytes us)) + header_size u.header.kind) u.root
 records_from-push numbers unit id at [] u = search (rules, add-zero, append-nil)
 records_from-push numbers unit id at (v ∷ us) u =
-    search (rules, length-append, length-node_records, append_assoc, (records_from-push numbers (suc unit) (id + node_count v.root) (at + length (unit_bytes v)) us u))
+    search (
+      rules,
+      length-append,
+      length-node_records,
+      append_assoc,
+      (records_from-push numbers (suc unit) (id + node_count v.root) (at + length (unit_bytes v)) us u),
+    )
 
 -- the records of units depend on the numbers of these units alone
-records_same : (f g : ℕ → ℕ → ℕ) (unit id at : ℕ) (us : List DebugUnit) → ((n : ℕ) → n < unit + length us → f n ≡ g n) → records_from f unit id at us ≡ records_from g unit id at us
+records_same : (f g : ℕ → ℕ → ℕ) (unit id at : ℕ) (us : List DebugUnit) → ((n : ℕ) → n < unit + length us → f n ≡ g n)
+    → records_from f unit id at us ≡ records_from g unit id at us
 records_same f g unit id at [] same = refl
 records_same f g unit id at (u ∷ us) same =
-    let rest = records_same f g (suc unit) (id + node_count u.root) (at + length (unit_bytes u)) us (λ n less. same n (omega (arith, less))) in
+    let rest = records_same f g (suc unit) (id + node_count u.root) (at + length (unit_bytes u)) us
+    (λ n less. same n (omega (arith, less))) in
     λ i. node_records (same unit (omega arith) i) None None id (at + header_size u.header.kind) u.root ++ rest i
 
 units_bytes-push : (us : List DebugUnit) (u : DebugUnit) → units_bytes (us ++ u ∷ []) ≡ units_bytes us ++ unit_bytes u
-units_bytes-push us u = flat_map-append unit_bytes us (u ∷ []) ∙ ap (λ (b : List ℕ). units_bytes us ++ b) (append-nil (unit_bytes u))
+units_bytes-push us u =
+    flat_map-append unit_bytes us (u ∷ []) ∙ ap (λ (b : List ℕ). units_bytes us ++ b) (append-nil (unit_bytes u))
 
 IsKept-more : (old new : Tables) (r : UnitRecord) (p : PlacedUnit) → Stay old new → IsKept old r p → IsKept new r p
 IsKept-more old new r p stay k = search (rules, length-append, table_stays)
 
 -- the numbers of the units so far stay, and the next unit has those of its table
-table_within : (tables : Tables) (rs : List UnitRecord) (ps : List PlacedUnit) (n : ℕ) → AllZip (IsKept tables) rs ps → n < length rs → table_of rs n < length tables
+table_within : (tables : Tables) (rs : List UnitRecord) (ps : List PlacedUnit) (n : ℕ) → AllZip (IsKept tables) rs ps
+    → n < length rs → table_of rs n < length tables
 table_within tables [] ps n k less = absurd (omega (arith, less))
 table_within tables (r ∷ rs) [] n k less = absurd k
 table_within tables (r ∷ rs) (p ∷ ps) zero k less = k.0.within
 table_within tables (r ∷ rs) (p ∷ ps) (suc n) k less = table_within tables rs ps n k.1 (omega (arith, less))
 
-table_of-push : (rs : List UnitRecord) (r : UnitRecord) (n : ℕ) → n < length rs → table_of (rs ++ r ∷ []) n ≡ table_of rs n
+table_of-push : (rs : List UnitRecord) (r : UnitRecord) (n : ℕ) → n < length rs
+    → table_of (rs ++ r ∷ []) n ≡ table_of rs n
 table_of-push [] r n less = absurd (omega (arith, less))
 table_of-push (q ∷ rs) r zero less = refl
 table_of-push (q ∷ rs) r (suc n) less = table_of-push rs r n (omega (arith, less))
@@ -74,39 +87,56 @@ table_of-last : (rs : List UnitRecord) (r : UnitRecord) → table_of (rs ++ r �
 table_of-last [] r = refl
 table_of-last (q ∷ rs) r = table_of-last rs r
 
-numbers_stay : (old new : Tables) (rs : List UnitRecord) (ps : List PlacedUnit) (r : UnitRecord) (n : ℕ) → Stay old new → AllZip (IsKept old) rs ps → n < length rs
+numbers_stay : (old new : Tables) (rs : List UnitRecord) (ps : List PlacedUnit) (r : UnitRecord) (n : ℕ) → Stay old new
+    → AllZip (IsKept old) rs ps → n < length rs
     → numbers_of old rs n ≡ numbers_of new (rs ++ r ∷ []) n
 numbers_stay old new rs ps r n stay k less = search (rules, table_stays, table_within, table_of-push)
 
-numbers_last : (tables : Tables) (rs : List UnitRecord) (r : UnitRecord) (n : ℕ) → n ≡ length rs → decl_number_in (chain_in tables r.table) ≡ numbers_of tables (rs ++ r ∷ []) n
-numbers_last tables rs r n e = ap (λ (t : ℕ). decl_number_in (chain_in tables t)) (sym (ap (table_of (rs ++ r ∷ [])) e ∙ table_of-last rs r))
+numbers_last : (tables : Tables) (rs : List UnitRecord) (r : UnitRecord) (n : ℕ) → n ≡ length rs
+    → decl_number_in (chain_in tables r.table) ≡ numbers_of tables (rs ++ r ∷ []) n
+numbers_last tables rs r n e =
+    ap (λ (t : ℕ). decl_number_in (chain_in tables t)) (sym (ap (table_of (rs ++ r ∷ [])) e ∙ table_of-last rs r))
 
-AllKept-push : (old new : Tables) (rs : List UnitRecord) (ps : List PlacedUnit) (r : UnitRecord) (p : PlacedUnit) → Stay old new → AllZip (IsKept old) rs ps → IsKept new r p
+AllKept-push : (old new : Tables) (rs : List UnitRecord) (ps : List PlacedUnit) (r : UnitRecord) (p : PlacedUnit)
+    → Stay old new → AllZip (IsKept old) rs ps → IsKept new r p
     → AllZip (IsKept new) (rs ++ r ∷ []) (ps ++ p ∷ [])
 AllKept-push old new [] [] r p stay k one = (one, tt)
 AllKept-push old new [] (q ∷ ps) r p stay k one = absurd k
 AllKept-push old new (s ∷ rs) [] r p stay k one = absurd k
-AllKept-push old new (s ∷ rs) (q ∷ ps) r p stay k one = (IsKept-more old new s q stay k.0, AllKept-push old new rs ps r p stay k.1 one)
+AllKept-push old new (s ∷ rs) (q ∷ ps) r p stay k one =
+    (IsKept-more old new s q stay k.0, AllKept-push old new rs ps r p stay k.1 one)
 
 abbrev placed_at : ℕ → ℕ → DebugUnit → PlacedUnit
 placed_at at first u = record { at = at; first = first; unit = u }
 
 placed_from-push : (numbers : ℕ → ℕ → ℕ) (unit at first : ℕ) (us : List DebugUnit) (u : DebugUnit)
-    → placed_from at first (us ++ u ∷ []) ≡ placed_from at first us ++ record { at = at + length (units_bytes us); first = first + length (records_from numbers unit first at us); unit = u } ∷ []
+    → placed_from at first (us ++ u ∷ [])
+    ≡ placed_from at first us ++ record {
+      at = at + length (units_bytes us);
+      first = first + length (records_from numbers unit first at us);
+      unit = u;
+    } ∷ []
 placed_from-push numbers unit at first [] u = search (rules)
 placed_from-push numbers unit at first (v ∷ us) u =
     let start : ℕ = at + header_size v.header.kind in
     let front : List Record = node_records (numbers unit) None None first start v.root in
-    let others : List Record = records_from numbers (suc unit) (first + node_count v.root) (at + length (unit_bytes v)) us in
-    let o : (at + length (unit_bytes v)) + length (units_bytes us) ≡ at + length (units_bytes (v ∷ us)) = omega (arith, length-append (unit_bytes v) (units_bytes us)) in
-    let k : (first + node_count v.root) + length others ≡ first + length (front ++ others) = omega (arith, length-append front others, length-node_records (numbers unit) None None first start v.root) in
-    ap (λ (ps : List PlacedUnit). placed_at at first v ∷ ps) (placed_from-push numbers (suc unit) (at + length (unit_bytes v)) (first + node_count v.root) us u
+    let others : List Record = records_from numbers (suc unit) (first + node_count v.root) (at + length (unit_bytes v))
+    us in
+    let o : (at + length (unit_bytes v)) + length (units_bytes us)
+    ≡ at + length (units_bytes (v ∷ us)) = omega (arith, length-append (unit_bytes v) (units_bytes us)) in
+    let k : (first + node_count v.root) + length others
+    ≡ first + length (front ++ others) = omega
+    (arith, length-append front others, length-node_records (numbers unit) None None first start v.root) in
+    ap (λ (ps : List PlacedUnit). placed_at at first v ∷ ps)
+    (placed_from-push numbers (suc unit) (at + length (unit_bytes v)) (first + node_count v.root) us u
     ∙ (λ i. placed_from (at + length (unit_bytes v)) (first + node_count v.root) us ++ placed_at (o i) (k i) u ∷ []))
 
-pub upto_start : (a info : List ℕ) (kept : Kept) → AreTablesOf a kept.tables → kept.units.items ≡ [] → kept.records.items ≡ [] → Upto a info 0 kept
+pub upto_start : (a info : List ℕ) (kept : Kept) → AreTablesOf a kept.tables → kept.units.items ≡ []
+    → kept.records.items ≡ [] → Upto a info 0 kept
 upto_start a info kept tables us e = search (rules)
 
-pub upto_next : (a info : List ℕ) (header : ℕ) (old new : Kept) (len : ℕ) → Upto a info header old → UnitTaken a (drop header info) header old new len → Upto a info (header + len) new
+pub upto_next : (a info : List ℕ) (header : ℕ) (old new : Kept) (len : ℕ) → Upto a info header old
+    → UnitTaken a (drop header info) header old new len → Upto a info (header + len) new
 upto_next a info header old new len u t =
     let records : List Record = old.records.items in
     let unit : ℕ = length old.units.items in
@@ -115,23 +145,49 @@ upto_next a info header old new len u t =
     let tables : Tables = tables_in new.tables in
     let before : ℕ → ℕ → ℕ = numbers_of (tables_in old.tables) old.units.items in
     let numbers : ℕ → ℕ → ℕ = numbers_of tables (old.units.items ++ t.record_is ∷ []) in
-    let left : drop (header + len) info ≡ t.after = sym (drop-drop _ _ info) ∙ ap (drop len) t.parts ∙ drop_at (unit_bytes v) t.after len (sym t.len_is) in
+    let left : drop (header + len) info
+    ≡ t.after = sym (drop-drop _ _ info) ∙ ap (drop len) t.parts
+    ∙ drop_at (unit_bytes v) t.after len (sym t.len_is) in
     let same : records ≡ records_from numbers 0 0 0 u.units =
-    u.places ∙ records_same before numbers 0 0 0 u.units (λ n less. numbers_stay (tables_in old.tables) tables old.units.items (placed u.units) t.record_is n t.stay u.unit_records (omega (arith, less, u.count))) in
+    u.places ∙ records_same before numbers 0 0 0 u.units
+    (λ n less. numbers_stay (tables_in old.tables) tables old.units.items (placed u.units) t.record_is n t.stay
+    u.unit_records (omega (arith, less, u.count))) in
     let n : unit ≡ 0 + length u.units = omega (arith, u.count) in
     let id : length records ≡ 0 + length (records_from numbers 0 0 0 u.units) = omega (arith, ap length same) in
     let at : header ≡ 0 + length (units_bytes u.units) = omega (arith, u.at) in
     record {
       units = u.units ++ v ∷ [];
       are = all-append (IsUnit a) u.units (v ∷ []) u.are (t.is, tt);
-      parts = u.parts ∙ ap (λ (x : List ℕ). units_bytes u.units ++ x) (t.parts ∙ ap (λ (x : List ℕ). unit_bytes v ++ x) (sym left)) ∙ sym (append_assoc (units_bytes u.units) (unit_bytes v) _) ∙ ap (λ (x : List ℕ). x ++ drop (header + len) info) (sym (units_bytes-push u.units v));
-      at = omega (arith, u.at, t.len_is, ap length (units_bytes-push u.units v), length-append (units_bytes u.units) (unit_bytes v));
-      count = omega (arith, ap length t.units, length-append old.units.items (t.record_is ∷ []), u.count, length-append u.units (v ∷ []));
+      parts =
+          u.parts ∙ ap (λ (x : List ℕ). units_bytes u.units ++ x)
+          (t.parts ∙ ap (λ (x : List ℕ). unit_bytes v ++ x) (sym left))
+          ∙ sym (append_assoc (units_bytes u.units) (unit_bytes v) _)
+          ∙ ap (λ (x : List ℕ). x ++ drop (header + len) info) (sym (units_bytes-push u.units v));
+      at =
+          omega (
+            arith,
+            u.at,
+            t.len_is,
+            ap length (units_bytes-push u.units v),
+            length-append (units_bytes u.units)
+                (unit_bytes v),
+          );
+      count =
+          omega (
+            arith,
+            ap length t.units,
+            length-append old.units.items (t.record_is ∷ []),
+            u.count,
+            length-append
+                u.units (v ∷ []),
+          );
       unit_records = rw (t.units, placed_from-push numbers 0 0 0 u.units v, ← at, ← id)
-          (AllKept-push (tables_in old.tables) tables old.units.items (placed u.units) t.record_is (placed_at header (length records) v) t.stay u.unit_records t.kept);
+          (AllKept-push (tables_in old.tables) tables old.units.items (placed u.units) t.record_is
+          (placed_at header (length records) v) t.stay u.unit_records t.kept);
       tables = t.tables;
       places = rw t.units (t.records
-          ∙ ap (λ (f : ℕ → ℕ). records ++ node_records f None None (length records) (header + size) v.root) (numbers_last tables old.units.items t.record_is unit refl)
+          ∙ ap (λ (f : ℕ → ℕ). records ++ node_records f None None (length records) (header + size) v.root)
+          (numbers_last tables old.units.items t.record_is unit refl)
           ∙ (λ i. same i ++ node_records (numbers (n i)) None None (id i) (at i + size) v.root)
           ∙ sym (records_from-push numbers 0 0 0 u.units v));
     }
@@ -143,22 +199,41 @@ some_size PartialUnit = omega arith
 some_size (TypeUnit signature type_offset) = omega arith
 
 some_bytes : (u : DebugUnit) → 0 < length (unit_bytes u)
-some_bytes u = omega (arith, length-append (header_bytes u.header) (body_bytes u), length-header u.header, some_size u.header.kind)
+some_bytes u =
+    omega (arith, length-append (header_bytes u.header) (body_bytes u), length-header u.header, some_size u.header.kind)
 
 pub few_units : (us : List DebugUnit) → length us ≤ length (units_bytes us)
 few_units [] = omega arith
 few_units (u ∷ us) = omega (arith, length-append (unit_bytes u) (units_bytes us), some_bytes u, few_units us)
 
-pub upto_few_entries : (a info : List ℕ) (header : ℕ) (kept : Kept) → Upto a info header kept → length kept.records.items ≤ header
-upto_few_entries a info header kept u = omega (arith, ap length u.places, u.at, few_entries a (numbers_of (tables_in kept.tables) kept.units.items) u.units u.are)
+pub upto_few_entries : (a info : List ℕ) (header : ℕ) (kept : Kept) → Upto a info header kept
+    → length kept.records.items ≤ header
+upto_few_entries a info header kept u =
+    omega (
+      arith,
+      ap length u.places,
+      u.at,
+      few_entries a (numbers_of (tables_in kept.tables) kept.units.items) u.units
+          u.are,
+    )
 
-pub upto_end : (a info : List ℕ) (header : ℕ) (kept : Kept) → Upto a info header kept → length info ≤ header → Scanned a info (tables_in kept.tables) kept.units.items kept.records.items
+pub upto_end : (a info : List ℕ) (header : ℕ) (kept : Kept) → Upto a info header kept → length info ≤ header
+    → Scanned a info (tables_in kept.tables) kept.units.items kept.records.items
 upto_end a info header kept u e =
-    let whole : info ≡ units_bytes u.units = u.parts ∙ ap (λ (x : List ℕ). units_bytes u.units ++ x) (drop_of_length-le info e) ∙ append-nil (units_bytes u.units) in
-    (u.units, record { spells = record { are = u.are; parts = whole }; kept = u.unit_records; entries = u.places ∙ sym (records_kept (numbers_of (tables_in kept.tables) kept.units.items) u.units) })
+    let whole : info ≡ units_bytes u.units = u.parts
+    ∙ ap (λ (x : List ℕ). units_bytes u.units ++ x) (drop_of_length-le info e) ∙ append-nil (units_bytes u.units) in (
+      u.units,
+      record {
+        spells = record { are = u.are; parts = whole };
+        kept = u.unit_records;
+        entries = u.places ∙ sym (records_kept (numbers_of (tables_in kept.tables) kept.units.items) u.units);
+      },
+    )
 
-pub unit_within : (a info : List ℕ) (header : ℕ) (old new : Kept) (len : ℕ) → header ≤ length info → UnitTaken a (drop header info) header old new len → header + len ≤ length info
-unit_within a info header old new len le t = omega (arith, t.len_is, length-drop header info, ap length t.parts, length-append (unit_bytes t.taken) t.after)
+pub unit_within : (a info : List ℕ) (header : ℕ) (old new : Kept) (len : ℕ) → header ≤ length info
+    → UnitTaken a (drop header info) header old new len → header + len ≤ length info
+unit_within a info header old new len le t =
+    omega (arith, t.len_is, length-drop header info, ap length t.parts, length-append (unit_bytes t.taken) t.after)
 
 -- the rest of a slice
 pub rest_of : (n : ℕ) (s : List ℕ) → n ≤ length s → take (length s - n) (drop n s) ≡ drop n s

@@ -46,20 +46,24 @@ EndWith-prop : (bytes t : List ℕ) → IsProp (EndWith bytes t)
 EndWith-prop bytes t = hlevel props
 
 -- after other bytes
-end_after : (code content bytes t : List ℕ) → bytes ≡ code ++ content → content ≡ t ++ 0 ∷ [] → All (λ byte. 0 < byte) t → EndWith bytes t
+end_after : (code content bytes t : List ℕ) → bytes ≡ code ++ content → content ≡ t ++ 0 ∷ [] → All (λ byte. 0 < byte) t
+    → EndWith bytes t
 end_after code content bytes t parts is none_before =
     let long : length content ≡ length t + 1 = ap length is ∙ length-append t (0 ∷ []) in
     let whole : length bytes ≡ length code + length content = ap length parts ∙ length-append code content in
     record {
       long = omega (arith, long, whole);
-      parts = ap (drop (length bytes - suc (length t))) parts ∙ drop_at code content (length bytes - suc (length t)) (omega (arith, long, whole)) ∙ is;
+      parts =
+          ap (drop (length bytes - suc (length t))) parts
+          ∙ drop_at code content (length bytes - suc (length t)) (omega (arith, long, whole)) ∙ is;
       none_before = none_before;
     }
 
 same_text : (a b : List ℕ) → text a ≡ text b → a ≡ b
 same_text a b is = cc
 
-plain_text : (size : ℕ) (f : Form) (code content bytes t : List ℕ) → SpellsPlain (layout_of size f) content (text t) → bytes ≡ code ++ content → EndWith bytes t
+plain_text : (size : ℕ) (f : Form) (code content bytes t : List ℕ) → SpellsPlain (layout_of size f) content (text t)
+    → bytes ≡ code ++ content → EndWith bytes t
 plain_text size form.Text code content bytes t (v, ended, is) parts = search (rules, same_text, end_after)
 plain_text size form.Indirect code content bytes t p parts = absurd p
 plain_text size form.FlagPresent code content bytes t p parts = absurd (let other = p.1 in cc)
@@ -74,10 +78,12 @@ spelled_text version size form.FlagPresent bytes t p = absurd (let other = p.1 i
 spelled_text version size (form.ImplicitConst number) bytes t p = absurd (let other = p.1 in cc)
 spelled_text version size _ bytes t p = absurd (let other = p.2 in cc)
 
-text_ends : (x : Context) (s : AttributeSpec) (b : Attribute) (t : List ℕ) → IsAttribute x s b → b.value ≡ text t → EndWith b.bytes t
+text_ends : (x : Context) (s : AttributeSpec) (b : Attribute) (t : List ℕ) → IsAttribute x s b → b.value ≡ text t
+    → EndWith b.bytes t
 text_ends x s b t is value =
     ∥∥₁_elim is.value (EndWith-prop b.bytes t)
-    (λ v. spelled_text x.version x.address_size s.form b.bytes t (subst (Val x.version s.form x.address_size b.bytes) value v))
+    (λ v. spelled_text x.version x.address_size s.form b.bytes t
+    (subst (Val x.version s.form x.address_size b.bytes) value v))
 
 -- the text of one of these attributes, and what follows its zero byte
 pub record HasText (bs : List Attribute) (t rest after : List ℕ) : Type 0 where
@@ -94,8 +100,11 @@ some_is : {a b : Datum} → Some a ≡ Some b → a ≡ b
 some_is e = cc
 
 -- the text of the first attribute with a code, by the bytes after its value
-pub text_of_first : (x : Context) (front : List AttributeSpec) (s : AttributeSpec) (back : List AttributeSpec) (bs : List Attribute) (rest bytes after : List ℕ) (code : ℕ) (t : List ℕ) → AreAttributes x (front ++ s ∷ back) bs → bytes ≡ flat_map attribute_bytes bs ++ rest
-    → list_any (has_this code) front ≡ false → has_this code s ≡ true → value_in (map value_of bs) code ≡ Some (text t) → values_end x.version x.address_size (front ++ s ∷ []) bytes ≡ Ok after → HasText bs t rest after
+pub text_of_first : (x : Context) (front : List AttributeSpec) (s : AttributeSpec) (back : List AttributeSpec)
+    (bs : List Attribute) (rest bytes after : List ℕ) (code : ℕ) (t : List ℕ) → AreAttributes x (front ++ s ∷ back) bs
+    → bytes ≡ flat_map attribute_bytes bs ++ rest
+    → list_any (has_this code) front ≡ false → has_this code s ≡ true → value_in (map value_of bs) code ≡ Some (text t)
+    → values_end x.version x.address_size (front ++ s ∷ []) bytes ≡ Ok after → HasText bs t rest after
 unfolding values_end
 text_of_first x [] s back [] rest bytes after code t are spelled none has value ends = absurd are
 text_of_first x [] s back (b ∷ bs) rest bytes after code t are spelled none has value ends =
@@ -108,12 +117,15 @@ text_of_first x [] s back (b ∷ bs) rest bytes after code t are spelled none ha
     let first_end : rest_at x.version s.form x.address_size bytes ≡ Ok (others ++ rest) =
     ap (λ (c : List ℕ). rest_at x.version s.form x.address_size c) here ∙ one_end x s b (others ++ rest) are.0 in
     let n : ℕ = length b.bytes - suc (length t) in
-    let split : b.bytes ≡ take n b.bytes ++ (t ++ 0 ∷ []) = sym (take-append-drop n b.bytes) ∙ ap (λ (c : List ℕ). take n b.bytes ++ c) end.parts in
+    let split : b.bytes ≡ take n b.bytes ++ (t ++ 0 ∷ []) = sym (take-append-drop n b.bytes)
+    ∙ ap (λ (c : List ℕ). take n b.bytes ++ c) end.parts in
     record {
       before = take n b.bytes;
       tail = others;
       parts = search (rules, append_assoc);
-      follows = sym (ok_is (ap (λ (r : Result (List ℕ) ValueFault). r >>= λ more. values_end x.version x.address_size [] more) (sym first_end) ∙ ends));
+      follows =
+          sym (ok_is (ap (λ (r : Result (List ℕ) ValueFault). r >>= λ more. values_end x.version x.address_size [] more)
+          (sym first_end) ∙ ends));
       none_before = end.none_before;
     }
 text_of_first x (r ∷ front) s back [] rest bytes after code t are spelled none has value ends = absurd are
@@ -127,18 +139,21 @@ text_of_first x (r ∷ front) s back (b ∷ bs) rest bytes after code t are spel
     let first_end : rest_at x.version r.form x.address_size bytes ≡ Ok (others ++ rest) =
     ap (λ (c : List ℕ). rest_at x.version r.form x.address_size c) here ∙ one_end x r b (others ++ rest) are.0 in
     let more = text_of_first x front s back bs rest (others ++ rest) after code t are.1 refl others_lack.1 has found
-    (ap (λ (q : Result (List ℕ) ValueFault). q >>= λ more. values_end x.version x.address_size (front ++ s ∷ []) more) (sym first_end) ∙ ends) in
+    (ap (λ (q : Result (List ℕ) ValueFault). q >>= λ more. values_end x.version x.address_size (front ++ s ∷ []) more)
+    (sym first_end) ∙ ends) in
     record {
       before = b.bytes ++ more.before;
       tail = more.tail;
-      parts = ap (λ (c : List ℕ). b.bytes ++ c) more.parts ∙ sym (append_assoc b.bytes more.before (t ++ 0 ∷ more.tail));
+      parts =
+          ap (λ (c : List ℕ). b.bytes ++ c) more.parts ∙ sym (append_assoc b.bytes more.before (t ++ 0 ∷ more.tail));
       follows = more.follows;
       none_before = more.none_before;
     }
 
 -- ---- in the bytes of an entry, and in .debug_info
 
-module _ (h : Head) (t rest after : List ℕ) (has : HasText h.attributes t rest after) (entry : List ℕ) (entry_is : entry ≡ head_bytes h ++ rest) where
+module _ (h : Head) (t rest after : List ℕ) (has : HasText h.attributes t rest after) (entry : List ℕ)
+    (entry_is : entry ≡ head_bytes h ++ rest) where
   front : List ℕ
   front = h.code ++ has.before
 
@@ -153,7 +168,9 @@ module _ (h : Head) (t rest after : List ℕ) (has : HasText h.attributes t rest
   pub text_in_head : IsTextAt (head_bytes h) (length entry - (length after + 1 + length t)) t
   text_in_head = record {
     rest = has.tail;
-    parts = ap (drop (length entry - (length after + 1 + length t))) head_parts ∙ drop_at front (t ++ 0 ∷ has.tail) (length entry - (length after + 1 + length t)) (omega (arith, counted));
+    parts =
+        ap (drop (length entry - (length after + 1 + length t))) head_parts
+        ∙ drop_at front (t ++ 0 ∷ has.tail) (length entry - (length after + 1 + length t)) (omega (arith, counted));
     none_before = has.none_before;
   }
 
@@ -161,56 +178,79 @@ module _ (h : Head) (t rest after : List ℕ) (has : HasText h.attributes t rest
   has_room = omega (arith, counted)
 
 -- the text that is the value of an attribute of an entry, by the bytes after it
-module _ {a info : List ℕ} {tables : Tables} {rs : List UnitRecord} {records : List Record} {s : Scanned a info tables rs records} {id : ℕ} (k : KeptEntry a info tables rs records s id)
-    (r : Record) (read : slice_get records id ≡ Some r) (header : UnitHeader) (version number : ℕ) (all found others : Attributes) (spec : AttributeSpec) (values after t : List ℕ) (attribute : ℕ)
-    (of_unit : IfSome (slice_get (entries_of (found_units s)) id) (λ e. IfSome (slice_get (found_units s) e.unit) (λ u. header ≡ u.header)))
+module _ {a info : List ℕ} {tables : Tables} {rs : List UnitRecord} {records : List Record}
+    {s : Scanned a info tables rs records} {id : ℕ} (k : KeptEntry a info tables rs records s id)
+    (r : Record) (read : slice_get records id ≡ Some r) (header : UnitHeader) (version number : ℕ)
+    (all found others : Attributes) (spec : AttributeSpec) (values after t : List ℕ) (attribute : ℕ)
+    (of_unit : IfSome (slice_get (entries_of (found_units s)) id)
+    (λ e. IfSome (slice_get (found_units s) e.unit) (λ u. header ≡ u.header)))
     (of_specs : IfSome (slice_get (entries_of (found_units s)) id) (λ e. specs_in all ≡ e.head.decl.attributes))
     (version_is : version ≡ version_of header.kind)
     (got : seen (λ c. c.number) (code_at (take (length info - r.at) (drop r.at info))) ≡ Ok (number, values))
     (is : IsFrom (has_this attribute) all found)
     (first : Ends found others (record { number = found.first; item = spec } ∷ []))
     (value : IfSome (slice_get (entries_of (found_units s)) id) (λ e. value_at_entry e attribute ≡ Some (text t)))
-    (ends : (before : List (Numbered AttributeSpec)) → Ends all others before → values_end version header.address_size (items_of before) values ≡ Ok after) where
+    (ends : (before : List (Numbered AttributeSpec)) → Ends all others before
+    → values_end version header.address_size (items_of before) values ≡ Ok after) where
   text_here : HasText k.entry.head.attributes t k.stands.after after
   text_here =
       let f = follow (has_this attribute) all found is in
       let n : Numbered AttributeSpec = record { number = found.first; item = spec } in
       let x : Context = value_context version header.address_size in
-      let are = are_here k header (specs_in all) values version of_unit of_specs (values_follow k r read number values got) version_is in
+      let are = are_here k header (specs_in all) values version of_unit of_specs
+      (values_follow k r read number values got) version_is in
       let parts : specs_in all ≡ items_of f.before ++ spec ∷ specs_in others =
-      specs_ends all found f.before f.ends ∙ ap (λ (specs : List AttributeSpec). items_of f.before ++ specs) (specs_ends found others (n ∷ []) first) in
-      text_of_first x (items_of f.before) spec (specs_in others) k.entry.head.attributes k.stands.after values after attribute t
-      (subst (λ (specs : List AttributeSpec). AreAttributes x specs k.entry.head.attributes) parts are) (values_are k r read number values got) f.none (f.passes spec others first)
+      specs_ends all found f.before f.ends
+      ∙ ap (λ (specs : List AttributeSpec). items_of f.before ++ specs) (specs_ends found others (n ∷ []) first) in
+      text_of_first x (items_of f.before) spec (specs_in others) k.entry.head.attributes k.stands.after values after
+      attribute t
+      (subst (λ (specs : List AttributeSpec). AreAttributes x specs k.entry.head.attributes) parts are)
+      (values_are k r read number values got) f.none (f.passes spec others first)
       (from_entry k (λ e. value_at_entry e attribute ≡ Some (text t)) value)
-      (ap (λ (specs : List AttributeSpec). values_end version header.address_size specs values) (sym (items_append f.before (n ∷ []))) ∙ ends (f.before ++ n ∷ []) (ends_on all found others f.before (n ∷ []) f.ends first))
+      (ap (λ (specs : List AttributeSpec). values_end version header.address_size specs values)
+      (sym (items_append f.before (n ∷ [])))
+      ∙ ends (f.before ++ n ∷ []) (ends_on all found others f.before (n ∷ []) f.ends first))
 
   pub room_here : length t + suc (length after) ≤ length (take (length info - r.at) (drop r.at info))
-  room_here = has_room k.entry.head t k.stands.after after text_here (take (length info - r.at) (drop r.at info)) (entry_parts k r read)
+  room_here =
+      has_room k.entry.head t k.stands.after after text_here (take (length info - r.at) (drop r.at info))
+      (entry_parts k r read)
 
-  pub starts_here : IfSome (slice_get (entries_of (found_units s)) id) (λ e. IsTextAt (head_bytes e.head) (length (take (length info - r.at) (drop r.at info)) - (length after + 1 + length t)) t)
+  pub starts_here : IfSome (slice_get (entries_of (found_units s)) id)
+      (λ e. IsTextAt (head_bytes e.head)
+      (length (take (length info - r.at) (drop r.at info)) - (length after + 1 + length t)) t)
   starts_here =
-      of_entry k (λ e. IsTextAt (head_bytes e.head) (length (take (length info - r.at) (drop r.at info)) - (length after + 1 + length t)) t)
-      (text_in_head k.entry.head t k.stands.after after text_here (take (length info - r.at) (drop r.at info)) (entry_parts k r read))
+      of_entry k (λ e. IsTextAt (head_bytes e.head)
+      (length (take (length info - r.at) (drop r.at info)) - (length after + 1 + length t)) t)
+      (text_in_head k.entry.head t k.stands.after after text_here (take (length info - r.at) (drop r.at info))
+      (entry_parts k r read))
 
 -- a text is before the end of the bytes
 pub text_within : (bytes : List ℕ) (n : ℕ) (t : List ℕ) → IsTextAt bytes n t → n + length t < length bytes
 text_within bytes n t is = omega (arith, ap length is.parts, length-append t (0 ∷ is.rest), length-drop n bytes)
 
 -- the text of an entry in the bytes that have the entry at an offset
-pub text_in_info : (info : List ℕ) (at : ℕ) (h : Head) (after : List ℕ) (n : ℕ) (t : List ℕ) → drop at info ≡ head_bytes h ++ after → IsTextAt (head_bytes h) n t → IsTextAt info (at + n) t
+pub text_in_info : (info : List ℕ) (at : ℕ) (h : Head) (after : List ℕ) (n : ℕ) (t : List ℕ)
+    → drop at info ≡ head_bytes h ++ after → IsTextAt (head_bytes h) n t → IsTextAt info (at + n) t
 text_in_info info at h after n t parts is =
     let within = text_within (head_bytes h) n t is in
     record {
       rest = is.rest ++ after;
-      parts = sym (drop-drop n at info) ∙ ap (drop n) parts ∙ drop-append-le n (head_bytes h) after (omega (arith, within)) ∙ ap (λ (b : List ℕ). b ++ after) is.parts
+      parts =
+          sym (drop-drop n at info) ∙ ap (drop n) parts ∙ drop-append-le n (head_bytes h) after (omega (arith, within))
+          ∙ ap (λ (b : List ℕ). b ++ after) is.parts
           ∙ append_assoc t (0 ∷ is.rest) after;
       none_before = is.none_before;
     }
 
 -- so of an entry that is looked up
-pub text_at_entry : (a info : List ℕ) (tables : Tables) (rs : List UnitRecord) (records : List Record) (s : Scanned a info tables rs records) (id : ℕ) → id < length (entries_of (found_units s)) → (at n : ℕ) (t : List ℕ)
-    → IfSome (slice_get (entries_of (found_units s)) id) (λ e. at ≡ e.at) → IfSome (slice_get (entries_of (found_units s)) id) (λ e. IsTextAt (head_bytes e.head) n t) → IsTextAt info (at + n) t
+pub text_at_entry : (a info : List ℕ) (tables : Tables) (rs : List UnitRecord) (records : List Record)
+    (s : Scanned a info tables rs records) (id : ℕ) → id < length (entries_of (found_units s)) → (at n : ℕ) (t : List ℕ)
+    → IfSome (slice_get (entries_of (found_units s)) id) (λ e. at ≡ e.at)
+    → IfSome (slice_get (entries_of (found_units s)) id) (λ e. IsTextAt (head_bytes e.head) n t)
+    → IsTextAt info (at + n) t
 text_at_entry a info tables rs records s id within at n t is_at is =
     let k = kept_entry a info tables rs records s id within in
     let same : at ≡ k.entry.at = from_entry k (λ e. at ≡ e.at) is_at in
-    text_in_info info at k.entry.head k.stands.after n t (ap (λ (m : ℕ). drop m info) same ∙ k.stands.parts) (from_entry k (λ e. IsTextAt (head_bytes e.head) n t) is)
+    text_in_info info at k.entry.head k.stands.after n t (ap (λ (m : ℕ). drop m info) same ∙ k.stands.parts)
+    (from_entry k (λ e. IsTextAt (head_bytes e.head) n t) is)

@@ -84,17 +84,21 @@ range_from unit id at (u ∷ us) (suc n) p k e is is_e low high =
     let fs : List Entry = entries_from (suc unit) (id + node_count u.root) (at + length (unit_bytes u)) us in
     let count = length-node_entries unit None 0 None id (at + header_size u.header.kind) u.root in
     let least = first_least (at + length (unit_bytes u)) (id + node_count u.root) us n p is in
-    let behind : slice_get fs (k - length es) ≡ Some e = sym (get_behind es fs k (omega (arith, count, least, low))) ∙ is_e in
-    let same = range_from (suc unit) (id + node_count u.root) (at + length (unit_bytes u)) us n p (k - length es) e is behind
+    let behind : slice_get fs (k - length es)
+    ≡ Some e = sym (get_behind es fs k (omega (arith, count, least, low))) ∙ is_e in
+    let same = range_from (suc unit) (id + node_count u.root) (at + length (unit_bytes u)) us n p (k - length es) e is
+    behind
     (omega (arith, count, least, low)) (omega (arith, count, least, low, high)) in
     same ∙ (let number : suc unit + n ≡ unit + suc n = omega arith in number)
 
-pub unit_in_range : (us : List DebugUnit) (n : ℕ) (p : PlacedUnit) (k : ℕ) (e : Entry) → slice_get (placed us) n ≡ Some p
+pub unit_in_range : (us : List DebugUnit) (n : ℕ) (p : PlacedUnit) (k : ℕ) (e : Entry)
+    → slice_get (placed us) n ≡ Some p
     → slice_get (entries_of us) k ≡ Some e → p.first ≤ k → k < p.first + node_count p.unit.root → e.unit ≡ n
 unit_in_range us n p k e is is_e low high = search (rules, range_from)
 
 -- the next unit begins where a unit ends
-next_from : (at first : ℕ) (us : List DebugUnit) (n : ℕ) (p q : PlacedUnit) → slice_get (placed_from at first us) n ≡ Some p
+next_from : (at first : ℕ) (us : List DebugUnit) (n : ℕ) (p q : PlacedUnit)
+    → slice_get (placed_from at first us) n ≡ Some p
     → slice_get (placed_from at first us) (suc n) ≡ Some q → q.first ≡ p.first + node_count p.unit.root
 next_from at first [] n p q is next = absurd cc
 next_from at first (u ∷ []) zero p q is next = absurd cc
@@ -107,7 +111,8 @@ pub next_first : (us : List DebugUnit) (n : ℕ) (p q : PlacedUnit) → slice_ge
 next_first us n p q is next = next_from 0 0 us n p q is next
 
 -- the last unit ends with the last entry
-last_from : (unit id at : ℕ) (us : List DebugUnit) (n : ℕ) (p : PlacedUnit) → slice_get (placed_from at id us) n ≡ Some p
+last_from : (unit id at : ℕ) (us : List DebugUnit) (n : ℕ) (p : PlacedUnit)
+    → slice_get (placed_from at id us) n ≡ Some p
     → suc n ≡ length us → id + length (entries_from unit id at us) ≡ p.first + node_count p.unit.root
 last_from unit id at [] n p is last = absurd cc
 last_from unit id at (u ∷ []) zero p is last = search (rules, length-node_entries, length-append)
@@ -117,16 +122,19 @@ last_from unit id at (u ∷ us) (suc n) p is last =
     let fs : List Entry = entries_from (suc unit) (id + node_count u.root) (at + length (unit_bytes u)) us in
     let count = length-node_entries unit None 0 None id (at + header_size u.header.kind) u.root in
     let len = length-append es fs in
-    let more = last_from (suc unit) (id + node_count u.root) (at + length (unit_bytes u)) us n p is (omega (arith, last)) in
+    let more = last_from (suc unit) (id + node_count u.root) (at + length (unit_bytes u)) us n p is
+    (omega (arith, last)) in
     omega (arith, count, len, more)
 
 pub last_ends : (us : List DebugUnit) (n : ℕ) (p : PlacedUnit) → slice_get (placed us) n ≡ Some p → suc n ≡ length us
     → length (entries_of us) ≡ p.first + node_count p.unit.root
-last_ends us n p is last = (let z : length (entries_of us) ≡ 0 + length (entries_of us) = omega arith in z) ∙ last_from 0 0 0 us n p is last
+last_ends us n p is last =
+    (let z : length (entries_of us) ≡ 0 + length (entries_of us) = omega arith in z) ∙ last_from 0 0 0 us n p is last
 
 -- units begin with rising entries
 firsts_from : (at first : ℕ) (us : List DebugUnit) (i j : ℕ) (p q : PlacedUnit) → i ≤ j
-    → slice_get (placed_from at first us) i ≡ Some p → slice_get (placed_from at first us) j ≡ Some q → p.first ≤ q.first
+    → slice_get (placed_from at first us) i ≡ Some p → slice_get (placed_from at first us) j ≡ Some q
+    → p.first ≤ q.first
 firsts_from at first [] i j p q le is_p is_q = absurd cc
 firsts_from at first (u ∷ us) zero j p q le is_p is_q = search (rules, first_least)
 firsts_from at first (u ∷ us) (suc i) zero p q le is_p is_q = absurd (omega arith)
@@ -135,12 +143,15 @@ firsts_from at first (u ∷ us) (suc i) (suc j) p q le is_p is_q =
 
 -- ---- the units that are kept
 
-module _ (a info : List ℕ) (tables : Tables) (rs : List UnitRecord) (records : List Record) (s : Scanned a info tables rs records) where
+module _ (a info : List ℕ) (tables : Tables) (rs : List UnitRecord) (records : List Record)
+    (s : Scanned a info tables rs records) where
   -- what is kept of a unit says where its first entry is
-  pub kept_first : (n : ℕ) (u : UnitRecord) → slice_get rs n ≡ Some u → (p : PlacedUnit) × (slice_get (placed (found_units s)) n ≡ Some p) × (u.first ≡ p.first)
+  pub kept_first : (n : ℕ) (u : UnitRecord) → slice_get rs n ≡ Some u
+      → (p : PlacedUnit) × (slice_get (placed (found_units s)) n ≡ Some p) × (u.first ≡ p.first)
   kept_first n u is =
       let within = slice_get_within rs n u is in
-      let k = kept_unit a info tables rs records s n (omega (arith, within, units_counted a info tables rs records s)) in
+      let k = kept_unit a info tables rs records s n (omega (arith, within, units_counted a info tables rs records s))
+      in
       let same : k.unit_record ≡ u = one_some (slice_get rs n) k.unit_record u k.is_unit_record is in
       (k.place, k.is_place, ap (λ (q : UnitRecord). q.first) (sym same) ∙ k.kept.first)
 
@@ -163,7 +174,8 @@ module _ (a info : List ℕ) (tables : Tables) (rs : List UnitRecord) (records :
       last : suc n ≡ length (found_units s)
       last = search (rules, units_counted)
 
-      go : (o : Option PlacedUnit) → slice_get (placed (found_units s)) n ≡ o → IfSome o (λ p. length records ≡ p.first + node_count p.unit.root)
+      go : (o : Option PlacedUnit) → slice_get (placed (found_units s)) n ≡ o
+          → IfSome o (λ p. length records ≡ p.first + node_count p.unit.root)
       go None at = tt
       go (Some p) at = entries_counted a info tables rs records s ∙ last_ends (found_units s) n p at last
 
@@ -171,13 +183,16 @@ module _ (a info : List ℕ) (tables : Tables) (rs : List UnitRecord) (records :
   units_rise i j d le lt = search (rules, kept_first, slice_get-get_or, firsts_from)
 
   pub few_records : length rs ≤ length info
-  few_records = omega (arith, units_counted a info tables rs records s, few_units (found_units s), ap length s.1.spells.parts)
+  few_records =
+      omega (arith, units_counted a info tables rs records s, few_units (found_units s), ap length s.1.spells.parts)
 
   module _ (id : ℕ) (within : id < length (entries_of (found_units s))) (n : ℕ)
       (point : IsPartitionPoint (λ (u : UnitRecord). u.first ≤ id) (λ (u : UnitRecord). id < u.first) rs n) where
     -- an entry is of a unit
     pub some_unit : 0 < length rs
-    some_unit = let k = kept_entry a info tables rs records s id within in let w = slice_get_within rs k.entry.unit k.unit_record k.is_unit_record in omega (arith, w)
+    some_unit =
+        let k = kept_entry a info tables rs records s id within in
+        let w = slice_get_within rs k.entry.unit k.unit_record k.is_unit_record in omega (arith, w)
 
     -- the first unit begins with the first entry
     pub some_before : 0 < n
@@ -216,12 +231,15 @@ module _ (a info : List ℕ) (tables : Tables) (rs : List UnitRecord) (records :
         let u = get_or rs (n - 1) k.unit_record in
         let (p, is_p, first) = kept_first (n - 1) u (slice_get-get_or rs (n - 1) k.unit_record (point_within le)) in
         let low : u.first ≤ id = point.0 (n - 1) k.unit_record (omega arith) (omega (arith, some_before)) in
-        of_entry k (λ e. n - 1 ≡ e.unit) (sym (unit_in_range (found_units s) (n - 1) p id k.entry is_p k.is_entry (omega (arith, low, first)) (high p is_p)))
+        of_entry k (λ e. n - 1 ≡ e.unit)
+        (sym (unit_in_range (found_units s) (n - 1) p id k.entry is_p k.is_entry (omega (arith, low, first))
+        (high p is_p)))
       where
         behind : n ≡ suc (n - 1)
         behind = omega (arith, some_before)
 
-        high : (p : PlacedUnit) → slice_get (placed (found_units s)) (n - 1) ≡ Some p → id < p.first + node_count p.unit.root
+        high : (p : PlacedUnit) → slice_get (placed (found_units s)) (n - 1) ≡ Some p
+            → id < p.first + node_count p.unit.root
         high p is_p =
             elim (slice_get_cases rs n).1 [
               | inl it ↦

@@ -20,7 +20,8 @@ use Rattle.dw_entries.proofs.HeaderReads.{AreBytes, header_takes}
 abbrev unit_record : ℕ → UnitHeader → ℕ → ℕ → UnitRecord
 unit_record at h table first = record { at = at; header = h; table = table; first = first }
 
-module _ (a rest : List ℕ) (h : UnitHeader) (body : List ℕ) (bytes : AreBytes rest) (read : header_at (length a) rest ≡ Ok (h, body)) where
+module _ (a rest : List ℕ) (h : UnitHeader) (body : List ℕ) (bytes : AreBytes rest)
+    (read : header_at (length a) rest ≡ Ok (h, body)) where
   pub read_size : IsSize h.address_size
   read_size = (header_takes (length a) rest h body bytes read).is.address_size
 
@@ -30,14 +31,22 @@ module _ (a rest : List ℕ) (h : UnitHeader) (body : List ℕ) (bytes : AreByte
   pub read_start : header_size h.kind + length body ≤ length rest
   read_start =
       let r = header_takes (length a) rest h body bytes read in
-      omega (arith, length-header h, ap length r.parts, length-append (header_bytes h) (body ++ r.after), length-append body r.after)
+      omega (
+        arith,
+        length-header h,
+        ap length r.parts,
+        length-append (header_bytes h) (body ++ r.after),
+        length-append
+            body r.after,
+      )
 
   pub unit_taken : (at start number first : ℕ) (old new : Kept)
       → start ≡ at + header_size h.kind → first ≡ length old.records.items
       → IsTableIn a (tables_in new.tables) h.abbrev_offset number
       → AreTablesOf a new.tables → Stay (tables_in old.tables) (tables_in new.tables)
       → new.units.items ≡ old.units.items ++ unit_record at h number first ∷ []
-      → TreeOf (context_by h (table_in (tables_in new.tables) number)) (decl_number_in (chain_in (tables_in new.tables) number)) h.kind body [] start old.records.items new.records.items
+      → TreeOf (context_by h (table_in (tables_in new.tables) number))
+      (decl_number_in (chain_in (tables_in new.tables) number)) h.kind body [] start old.records.items new.records.items
       → UnitTaken a rest at old new (4 + h.unit_length)
   unit_taken at start number first old new s few there tables stay units tree =
       let r = header_takes (length a) rest h body bytes read in
@@ -47,14 +56,38 @@ module _ (a rest : List ℕ) (h : UnitHeader) (body : List ℕ) (bytes : AreByte
       let whole : body ≡ body_bytes u = tree.parts ∙ append-nil (body_bytes u) in
       record {
         taken = u;
-        is = record { header = r.is; table = there.table; root = tree.is; tag = tree.tag; nulls = tree.are_nulls; unit_length = r.unit_length ∙ ap (λ (b : List ℕ). length (header_fields h ++ b)) whole };
+        is =
+            record {
+              header = r.is;
+              table = there.table;
+              root = tree.is;
+              tag = tree.tag;
+              nulls = tree.are_nulls;
+              unit_length = r.unit_length ∙ ap (λ (b : List ℕ). length (header_fields h ++ b)) whole;
+            };
         after = r.after;
-        parts = r.parts ∙ ap (λ (b : List ℕ). header_bytes h ++ (b ++ r.after)) whole ∙ sym (append_assoc (header_bytes h) (body_bytes u) r.after);
-        len_is = omega (arith, r.unit_length, ap length whole, length-append (header_fields h) body, length-append (header_bytes h) (body_bytes u), length-header h, length-append (little_bytes 4 h.unit_length) (header_fields h), length-bytes_low_first 0 4 h.unit_length);
+        parts =
+            r.parts ∙ ap (λ (b : List ℕ). header_bytes h ++ (b ++ r.after)) whole
+            ∙ sym (append_assoc (header_bytes h) (body_bytes u) r.after);
+        len_is =
+            omega (
+              arith,
+              r.unit_length,
+              ap length whole,
+              length-append (header_fields h) body,
+              length-append
+                  (header_bytes h) (body_bytes u),
+              length-header h,
+              length-append (little_bytes 4 h.unit_length)
+                  (header_fields h),
+              length-bytes_low_first 0 4 h.unit_length,
+            );
         record_is = unit_record at h number first;
         kept = search (rules);
         units = units;
-        records = tree.records ∙ ap (λ (k : ℕ). old.records.items ++ node_records numbers None None (length old.records.items) k tree.root) s;
+        records =
+            tree.records ∙ ap (λ (k : ℕ). old.records.items
+            ++ node_records numbers None None (length old.records.items) k tree.root) s;
         tables = tables;
         stay = stay;
       }

@@ -9,13 +9,17 @@ use Rattle.dw_entries.specs.Entries.{placed}
 use Rattle.dw_entries.specs.Lookups.{unit_head}
 use Rattle.dw_entries.proofs.EntryFacts.{length-placed_from}
 
-pub unit_turn : (us : List DebugUnit) (n : ℕ) (h : UnitHead) → n < length us → IfSome (slice_get (placed us) n) (λ p. h ≡ unit_head p)
+pub unit_turn : (us : List DebugUnit) (n : ℕ) (h : UnitHead) → n < length us
+    → IfSome (slice_get (placed us) n) (λ p. h ≡ unit_head p)
     → map unit_head (drop n (placed us)) ≡ h ∷ map unit_head (drop (n + 1) (placed us))
 unit_turn us n h within told = search (rules, slice_get_cases, length-placed_from, add-one, drop-cons)
 
-pub fewer_units : (us : List DebugUnit) (n : ℕ) (h : UnitHead) → n < length us → IfSome (slice_get (placed us) n) (λ p. h ≡ unit_head p)
+pub fewer_units : (us : List DebugUnit) (n : ℕ) (h : UnitHead) → n < length us
+    → IfSome (slice_get (placed us) n) (λ p. h ≡ unit_head p)
     → length (map unit_head (drop (n + 1) (placed us))) < length (map unit_head (drop n (placed us)))
 fewer_units us n h within told = omega (arith, ap length (unit_turn us n h within told))
 
 pub no_units : (us : List DebugUnit) (n : ℕ) → length us ≤ n → map unit_head (drop n (placed us)) ≡ []
-no_units us n past = ap (map unit_head) (nil_from_length (drop n (placed us)) (omega (arith, past, length-drop n (placed us), length-placed_from 0 0 us)))
+no_units us n past =
+    ap (map unit_head) (nil_from_length (drop n (placed us))
+    (omega (arith, past, length-drop n (placed us), length-placed_from 0 0 us)))

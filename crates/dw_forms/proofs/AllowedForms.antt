@@ -7,6 +7,7 @@ in_5 : (specs : List AttributeSpec) → true ≡ are_allowed 5 specs
 in_5 [] = refl
 in_5 (spec ∷ specs) = in_5 specs
 
-pub all_allowed : (version : ℕ) (specs : List AttributeSpec) → (version ≡ 4) ⊎ (version ≡ 5) → version ≢ 4 → true ≡ are_allowed version specs
+pub all_allowed : (version : ℕ) (specs : List AttributeSpec) → (version ≡ 4) ⊎ (version ≡ 5) → version ≢ 4
+    → true ≡ are_allowed version specs
 all_allowed version specs (inl four) other = absurd (other four)
 all_allowed version specs (inr five) other = in_5 specs ∙ ap (λ (v : ℕ). are_allowed v specs) (sym five)

@@ -26,10 +26,13 @@ use Rattle.dw_forms.specs.LebLaws.{uleb_says, uleb_again, sleb_says, sleb_again}
 
 -- ---- numbers
 
-with_rest_says : {V : Type 0} (Spells : List ℕ → V → Type 0) (Fails : List ℕ → NumberFault → Type 0) (bytes : List ℕ) (r : Result (V × ℕ) NumberFault)
+with_rest_says : {V : Type 0} (Spells : List ℕ → V → Type 0) (Fails : List ℕ → NumberFault → Type 0) (bytes : List ℕ)
+    (r : Result (V × ℕ) NumberFault)
     → MatchResult r (λ (x : V × ℕ). BeginsWith Spells bytes x.0 x.1) (Fails bytes)
-    → MatchResult (number_and_rest bytes r) (λ (x : V × List ℕ). Takes Spells bytes x.0 x.1) (λ f. (g : NumberFault) × Fails bytes g × (f ≡ decl_fault_of g))
-with_rest_says Spells Fails bytes (Ok r) h = record { text = take r.1 bytes; parts = sym (take-append-drop r.1 bytes); spelled = h.spelled }
+    → MatchResult (number_and_rest bytes r) (λ (x : V × List ℕ). Takes Spells bytes x.0 x.1)
+    (λ f. (g : NumberFault) × Fails bytes g × (f ≡ decl_fault_of g))
+with_rest_says Spells Fails bytes (Ok r) h =
+    record { text = take r.1 bytes; parts = sym (take-append-drop r.1 bytes); spelled = h.spelled }
 with_rest_says Spells Fails bytes (Err g) h = (g, h, refl)
 
 pub number_reader : IsReader unsigned_at Uleb NumberFails
@@ -56,25 +59,34 @@ NewForm earlier attribute code f = (code_of f ≡ code) × Lacks attribute_of at
 NoNewForm : List AttributeSpec → ℕ → ℕ → DeclFault → Type 0
 NoNewForm earlier attribute code fault =
     (((f : Form) → code_of f ≢ code) × (fault ≡ broken UnknownForm attribute))
-    ⊎ ((f : Form) × (code_of f ≡ code) × Any (λ s. s.attribute ≡ attribute) earlier × (fault ≡ broken AttributeTwice attribute))
+    ⊎ ((f : Form) × (code_of f ≡ code) × Any (λ s. s.attribute ≡ attribute) earlier
+    × (fault ≡ broken AttributeTwice attribute))
 
-new_form_on : (earlier : List AttributeSpec) (attribute code : ℕ) (f : Form) (b : Bool) → code_of f ≡ code → has_attribute attribute earlier ≡ b
-    → MatchResult (cond b (Err (broken AttributeTwice attribute)) (Ok f)) (NewForm earlier attribute code) (NoNewForm earlier attribute code)
+new_form_on : (earlier : List AttributeSpec) (attribute code : ℕ) (f : Form) (b : Bool) → code_of f ≡ code
+    → has_attribute attribute earlier ≡ b
+    → MatchResult (cond b (Err (broken AttributeTwice attribute)) (Ok f)) (NewForm earlier attribute code)
+    (NoNewForm earlier attribute code)
 unfolding NewForm NoNewForm
 new_form_on earlier attribute code f true same e = inr (f, same, any_from attribute_of attribute earlier e, refl)
 new_form_on earlier attribute code f false same e = (same, lacks_from attribute_of attribute earlier e)
 
 new_form_by : (earlier : List AttributeSpec) (attribute code : ℕ) (o : Option Form) → FormIs code o
-    → MatchResult (on_option o (Err (broken UnknownForm attribute)) (λ f. cond (has_attribute attribute earlier) (Err (broken AttributeTwice attribute)) (Ok f))) (NewForm earlier attribute code) (NoNewForm earlier attribute code)
+    → MatchResult (on_option o (Err (broken UnknownForm attribute))
+    (λ f. cond (has_attribute attribute earlier) (Err (broken AttributeTwice attribute)) (Ok f)))
+    (NewForm earlier attribute code) (NoNewForm earlier attribute code)
 unfolding NoNewForm
 new_form_by earlier attribute code None h = inl (h, refl)
-new_form_by earlier attribute code (Some f) h = new_form_on earlier attribute code f (has_attribute attribute earlier) h refl
+new_form_by earlier attribute code (Some f) h =
+    new_form_on earlier attribute code f (has_attribute attribute earlier) h refl
 
-new_form_says : (earlier : List AttributeSpec) (attribute code : ℕ) → MatchResult (new_form_of earlier attribute code) (NewForm earlier attribute code) (NoNewForm earlier attribute code)
+new_form_says : (earlier : List AttributeSpec) (attribute code : ℕ)
+    → MatchResult (new_form_of earlier attribute code) (NewForm earlier attribute code)
+    (NoNewForm earlier attribute code)
 unfolding new_form_of
 new_form_says earlier attribute code = new_form_by earlier attribute code (form_of code) (form_of_says code)
 
-pub new_form_again : (earlier : List AttributeSpec) (attribute : ℕ) (f : Form) → Lacks attribute_of attribute earlier → new_form_of earlier attribute (code_of f) ≡ Ok (bare f)
+pub new_form_again : (earlier : List AttributeSpec) (attribute : ℕ) (f : Form) → Lacks attribute_of attribute earlier
+    → new_form_of earlier attribute (code_of f) ≡ Ok (bare f)
 unfolding new_form_of
 new_form_again earlier attribute f lacks = rw (form_of-code_of f, lacks_test attribute_of attribute earlier lacks) refl
 
@@ -84,7 +96,9 @@ new_form_again earlier attribute f lacks = rw (form_of-code_of f, lacks_test att
 abbrev IsWhole : Form → List ℕ → Form → Type 0
 IsWhole f text g = (code_of g ≡ code_of f) × SpellsConstant g text
 
-form_says : (f : Form) (bytes : List ℕ) → MatchResult (form_at f bytes) (λ (x : Form × List ℕ). Takes (IsWhole f) bytes x.0 x.1) (λ fault. (code_of f ≡ 0x21) × ConstantFails bytes fault)
+form_says : (f : Form) (bytes : List ℕ)
+    → MatchResult (form_at f bytes) (λ (x : Form × List ℕ). Takes (IsWhole f) bytes x.0 x.1)
+    (λ fault. (code_of f ≡ 0x21) × ConstantFails bytes fault)
 form_says (form.ImplicitConst number) bytes = search (rules, signed_reader)
 form_says f bytes = record { text = []; parts = refl; spelled = (refl, refl) }
 
@@ -98,7 +112,8 @@ form_again f text rest s = ap (λ (t : List ℕ). form_at f (t ++ rest)) s
 abbrev pub NextAttribute : List AttributeSpec → List ℕ → Option AttributeSpec → Type 0
 NextAttribute = NextOf attribute_of (λ s. IsCode16 s.attribute) SpellsAttribute (λ text. SpellsPair text (0, 0))
 
-pub pair_takes : (bytes : List ℕ) (a c : ℕ) (rest after : List ℕ) → Takes Uleb bytes a rest → Takes Uleb rest c after → Takes SpellsPair bytes (a, c) after
+pub pair_takes : (bytes : List ℕ) (a c : ℕ) (rest after : List ℕ) → Takes Uleb bytes a rest → Takes Uleb rest c after
+    → Takes SpellsPair bytes (a, c) after
 pair_takes bytes a c rest after t u = record {
   text = t.text ++ u.text;
   parts = t.parts ∙ ap (λ (r : List ℕ). t.text ++ r) u.parts ∙ sym (append_assoc t.text u.text after);
@@ -120,31 +135,51 @@ after_numbers earlier a c rest =
     cond (eqb a 0 && eqb c 0) (Ok (None, rest)) (cond (eqb a 0 || eqb c 0 || ltb 65535 a) (Err (broken BadPair 0))
     (new_form_of earlier a c >>= λ f. form_at f rest >>= λ g. Ok (Some (record { attribute = a; form = g.0 }), g.1)))
 
-module _ (earlier : List AttributeSpec) (bytes : List ℕ) (a c : ℕ) (rest : List ℕ) (t : Takes SpellsPair bytes (a, c) rest) where
+module _ (earlier : List AttributeSpec) (bytes : List ℕ) (a c : ℕ) (rest : List ℕ)
+    (t : Takes SpellsPair bytes (a, c) rest) where
   Next : Option AttributeSpec × List ℕ → Type 0
   Next x = Takes (NextAttribute earlier) bytes x.0 x.1
 
   no_form : IsCode16 a → 0 < c → (fault : DeclFault) → NoNewForm earlier a c fault → PairFails earlier bytes fault
   unfolding NoNewForm
   no_form good some fault (inl h) = unknown_form a c rest t good some h.0 h.1
-  no_form good some fault (inr h) = attribute_twice a h.0 rest (subst (λ (k : ℕ). Takes SpellsPair bytes (a, k) rest) (sym h.1) t) good h.2 h.3
+  no_form good some fault (inr h) =
+      attribute_twice a h.0 rest (subst (λ (k : ℕ). Takes SpellsPair bytes (a, k) rest) (sym h.1) t) good h.2 h.3
 
-  spec_takes : IsCode16 a → (f g : Form) (after : List ℕ) → NewForm earlier a c f → Takes (IsWhole f) rest g after → Next (Some (record { attribute = a; form = g }), after)
+  spec_takes : IsCode16 a → (f g : Form) (after : List ℕ) → NewForm earlier a c f → Takes (IsWhole f) rest g after
+      → Next (Some (record { attribute = a; form = g }), after)
   unfolding NewForm Next
   spec_takes good f g after n u = record {
     text = t.text ++ u.text;
     parts = t.parts ∙ ap (λ (r : List ℕ). t.text ++ r) u.parts ∙ sym (append_assoc t.text u.text after);
-    spelled = (record { pair = t.text; constant = u.text; parts = refl; is_pair = subst (λ (k : ℕ). SpellsPair t.text (a, k)) (sym (u.spelled.0 ∙ n.0)) t.spelled; is_constant = u.spelled.1 }, good, n.1);
+    spelled = (
+      record {
+        pair = t.text;
+        constant = u.text;
+        parts = refl;
+        is_pair = subst (λ (k : ℕ). SpellsPair t.text (a, k)) (sym (u.spelled.0 ∙ n.0)) t.spelled;
+        is_constant = u.spelled.1;
+      },
+      good,
+      n.1,
+    );
   }
 
-  with_form_says : IsCode16 a → 0 < c → MatchResult (new_form_of earlier a c >>= λ f. form_at f rest >>= λ g. Ok (Some (record { attribute = a; form = g.0 }), g.1)) Next (PairFails earlier bytes)
+  with_form_says : IsCode16 a → 0 < c
+      → MatchResult (new_form_of earlier a c >>= λ f. form_at f rest >>= λ g. Ok
+      (Some (record { attribute = a; form = g.0 }), g.1)) Next (PairFails earlier bytes)
   unfolding NewForm
   with_form_says good some =
-      bind_says (new_form_of earlier a c) (λ f. form_at f rest >>= λ g. Ok (Some (record { attribute = a; form = g.0 }), g.1)) (NewForm earlier a c) (NoNewForm earlier a c) Next (PairFails earlier bytes)
+      bind_says (new_form_of earlier a c)
+      (λ f. form_at f rest >>= λ g. Ok (Some (record { attribute = a; form = g.0 }), g.1)) (NewForm earlier a c)
+      (NoNewForm earlier a c) Next (PairFails earlier bytes)
       (new_form_says earlier a c)
-      (λ f n. bind_says (form_at f rest) (λ g. Ok (Some (record { attribute = a; form = g.0 }), g.1)) (λ (x : Form × List ℕ). Takes (IsWhole f) rest x.0 x.1) (λ fault. (code_of f ≡ 0x21) × ConstantFails rest fault) Next (PairFails earlier bytes)
+      (λ f n. bind_says (form_at f rest) (λ g. Ok (Some (record { attribute = a; form = g.0 }), g.1))
+      (λ (x : Form × List ℕ). Takes (IsWhole f) rest x.0 x.1)
+      (λ fault. (code_of f ≡ 0x21) × ConstantFails rest fault) Next (PairFails earlier bytes)
       (form_says f rest) (λ g u. spec_takes good f g.0 g.1 n u)
-      (λ fault h. constant_number a rest (subst (λ (k : ℕ). Takes SpellsPair bytes (a, k) rest) (sym n.0 ∙ h.0) t) good n.1 h.1))
+      (λ fault h. constant_number a rest (subst (λ (k : ℕ). Takes SpellsPair bytes (a, k) rest) (sym n.0 ∙ h.0) t) good
+      n.1 h.1))
       (λ fault h. no_form good some fault h)
 
   after_numbers_says : MatchResult (after_numbers earlier a c rest) Next (PairFails earlier bytes)
@@ -152,17 +187,28 @@ module _ (earlier : List AttributeSpec) (bytes : List ℕ) (a c : ℕ) (rest : L
   after_numbers_says =
       cond_says (eqb a 0 && eqb c 0) _ _ Next (PairFails earlier bytes)
       (λ both. let p = and_parts (eqb a 0) (eqb c 0) both in
-      record { text = t.text; parts = t.parts; spelled = subst (λ (k : ℕ). SpellsPair t.text (k, 0)) (eqb-true a 0 p.0) (subst (λ (k : ℕ). SpellsPair t.text (a, k)) (eqb-true c 0 p.1) t.spelled) })
+      record {
+        text = t.text;
+        parts = t.parts;
+        spelled = subst (λ (k : ℕ). SpellsPair t.text (k, 0)) (eqb-true a 0 p.0)
+            (subst (λ (k : ℕ). SpellsPair t.text (a, k)) (eqb-true c 0 p.1) t.spelled);
+      })
       (λ not_both. cond_says (eqb a 0 || eqb c 0 || ltb 65535 a) _ _ Next (PairFails earlier bytes)
       (λ wrong. bad_pair a c rest t (is_bad a c not_both wrong) refl)
       (λ right. let g = is_good a c right in with_form_says g.0 g.1))
 
-pub pair_says : (earlier : List AttributeSpec) (bytes : List ℕ) → MatchResult (pair_at earlier bytes) (λ (x : Option AttributeSpec × List ℕ). Takes (NextAttribute earlier) bytes x.0 x.1) (PairFails earlier bytes)
+pub pair_says : (earlier : List AttributeSpec) (bytes : List ℕ)
+    → MatchResult (pair_at earlier bytes)
+    (λ (x : Option AttributeSpec × List ℕ). Takes (NextAttribute earlier) bytes x.0 x.1) (PairFails earlier bytes)
 unfolding pair_at Next
 pair_says earlier bytes =
-    bind_says (unsigned_at bytes) (λ a. unsigned_at a.1 >>= λ c. after_numbers earlier a.0 c.0 c.1) (λ (x : ℕ × List ℕ). Takes Uleb bytes x.0 x.1) (NumberFails bytes) (λ (x : Option AttributeSpec × List ℕ). Takes (NextAttribute earlier) bytes x.0 x.1) (PairFails earlier bytes)
+    bind_says (unsigned_at bytes) (λ a. unsigned_at a.1 >>= λ c. after_numbers earlier a.0 c.0 c.1)
+    (λ (x : ℕ × List ℕ). Takes Uleb bytes x.0 x.1) (NumberFails bytes)
+    (λ (x : Option AttributeSpec × List ℕ). Takes (NextAttribute earlier) bytes x.0 x.1) (PairFails earlier bytes)
     (number_reader.says bytes)
-    (λ a t. bind_says (unsigned_at a.1) (λ c. after_numbers earlier a.0 c.0 c.1) (λ (x : ℕ × List ℕ). Takes Uleb a.1 x.0 x.1) (NumberFails a.1) (λ (x : Option AttributeSpec × List ℕ). Takes (NextAttribute earlier) bytes x.0 x.1) (PairFails earlier bytes)
+    (λ a t. bind_says (unsigned_at a.1) (λ c. after_numbers earlier a.0 c.0 c.1)
+    (λ (x : ℕ × List ℕ). Takes Uleb a.1 x.0 x.1) (NumberFails a.1)
+    (λ (x : Option AttributeSpec × List ℕ). Takes (NextAttribute earlier) bytes x.0 x.1) (PairFails earlier bytes)
     (number_reader.says a.1)
     (λ c u. after_numbers_says earlier bytes a.0 c.0 c.1 (pair_takes bytes a.0 c.0 a.1 c.1 t u))
     (λ fault h. form_number a.0 a.1 t h))
@@ -172,23 +218,38 @@ pair_says earlier bytes =
 
 module _ (earlier : List AttributeSpec) (rest : List ℕ) where
   -- the two numbers are read
-  pub numbers_again : (text after : List ℕ) (a c : ℕ) → SpellsPair text (a, c) → pair_at earlier (text ++ after) ≡ after_numbers earlier a c after
+  pub numbers_again : (text after : List ℕ) (a c : ℕ) → SpellsPair text (a, c)
+      → pair_at earlier (text ++ after) ≡ after_numbers earlier a c after
   unfolding pair_at
   numbers_again text after a c p =
-      let parts : text ++ after ≡ p.first ++ (p.second ++ after) = ap (λ (t : List ℕ). t ++ after) p.parts ∙ append_assoc p.first p.second after in
-      let first : unsigned_at (text ++ after) ≡ Ok (a, p.second ++ after) = ap unsigned_at parts ∙ number_reader.again p.first (p.second ++ after) a p.is_first in
+      let parts : text ++ after ≡ p.first ++ (p.second ++ after) = ap (λ (t : List ℕ). t ++ after) p.parts
+      ∙ append_assoc p.first p.second after in
+      let first : unsigned_at (text ++ after)
+      ≡ Ok (a, p.second ++ after) = ap unsigned_at parts
+      ∙ number_reader.again p.first (p.second ++ after) a p.is_first in
       let second : unsigned_at (p.second ++ after) ≡ Ok (c, after) = number_reader.again p.second after c p.is_second in
       rw (first, second) refl
 
   pub end_again : (text : List ℕ) → SpellsPair text (0, 0) → pair_at earlier (text ++ rest) ≡ Ok (None, rest)
   end_again text p = numbers_again text rest 0 0 p
 
-  pub not_bad : (a c : ℕ) → IsCode16 a → 0 < c → ((eqb a 0 && eqb c 0) ≡ false) × ((eqb a 0 || eqb c 0 || ltb 65535 a) ≡ false)
+  pub not_bad : (a c : ℕ) → IsCode16 a → 0 < c
+      → ((eqb a 0 && eqb c 0) ≡ false) × ((eqb a 0 || eqb c 0 || ltb 65535 a) ≡ false)
   not_bad a c good some = search (rules, ne_eqb, le-ltb)
 
-  pub next_again : (text : List ℕ) (s : AttributeSpec) → SpellsAttribute text s → IsCode16 s.attribute → Lacks attribute_of s.attribute earlier → pair_at earlier (text ++ rest) ≡ Ok (Some s, rest)
+  pub next_again : (text : List ℕ) (s : AttributeSpec) → SpellsAttribute text s → IsCode16 s.attribute
+      → Lacks attribute_of s.attribute earlier → pair_at earlier (text ++ rest) ≡ Ok (Some s, rest)
   next_again text s p good lacks =
-      let parts : text ++ rest ≡ p.pair ++ (p.constant ++ rest) = ap (λ (t : List ℕ). t ++ rest) p.parts ∙ append_assoc p.pair p.constant rest in
-      let first : pair_at earlier (text ++ rest) ≡ after_numbers earlier s.attribute (code_of s.form) (p.constant ++ rest) = ap (pair_at earlier) parts ∙ numbers_again p.pair (p.constant ++ rest) s.attribute (code_of s.form) p.is_pair in
+      let parts : text ++ rest ≡ p.pair ++ (p.constant ++ rest) = ap (λ (t : List ℕ). t ++ rest) p.parts
+      ∙ append_assoc p.pair p.constant rest in
+      let first : pair_at earlier (text ++ rest)
+      ≡ after_numbers earlier s.attribute (code_of s.form) (p.constant ++ rest) = ap (pair_at earlier) parts
+      ∙ numbers_again p.pair (p.constant ++ rest) s.attribute (code_of s.form) p.is_pair in
       let tests = not_bad s.attribute (code_of s.form) good (code_some s.form) in
-      first ∙ rw (tests.0, tests.1, new_form_again earlier s.attribute s.form lacks, form_again s.form p.constant rest p.is_constant) refl
+      first ∙ rw (
+        tests.0,
+        tests.1,
+        new_form_again earlier s.attribute s.form lacks,
+        form_again s.form p.constant rest
+            p.is_constant,
+      ) refl

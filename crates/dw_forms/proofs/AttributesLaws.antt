@@ -21,8 +21,15 @@ uleb_some text n u = ended_some text u.ended
 spec_some : (text : List ℕ) (s : AttributeSpec) → SpellsAttribute text s → 0 < length text
 spec_some text s p = search (rules, uleb_some, length-append)
 
-pub reads_attributes : ReadsNext attribute_of (λ s. IsCode16 s.attribute) SpellsAttribute (λ text. SpellsPair text (0, 0)) PairFails pair_at (broken AbbrevCut 0)
-reads_attributes = record { some = spec_some; says = pair_says; ends = λ earlier text rest. end_again earlier rest text; more = λ earlier text rest. next_again earlier rest text }
+pub reads_attributes : ReadsNext attribute_of (λ s. IsCode16 s.attribute) SpellsAttribute
+    (λ text. SpellsPair text (0, 0)) PairFails pair_at (broken AbbrevCut 0)
+reads_attributes =
+    record {
+      some = spec_some;
+      says = pair_says;
+      ends = λ earlier text rest. end_again earlier rest text;
+      more = λ earlier text rest. next_again earlier rest text;
+    }
 
 -- what attributes_of answers: the attributes that are spelled
 abbrev pub SpellsAll : List ℕ → List AttributeSpec → Type 0

@@ -12,24 +12,29 @@ abbrev pub numbered : {X : Type 0} → ℕ → (X × ℕ) → Numbered X
 numbered number k = record { number = number; item = k.0 }
 
 more_from : {X : Type 0} → (chains : List (List (Numbered X))) (items : List (X × ℕ)) (k : X × ℕ)
-    → chains_from chains (items ++ k ∷ []) ≡ chains_from chains items ++ (numbered (length (chains_from chains items)) k ∷ chain_in (chains_from chains items) k.1) ∷ []
+    → chains_from chains (items ++ k ∷ [])
+    ≡ chains_from chains items ++ (numbered (length (chains_from chains items)) k
+    ∷ chain_in (chains_from chains items) k.1) ∷ []
 unfolding chains_from
 more_from chains [] k = refl
 more_from chains (j ∷ items) k = more_from (chains ++ (numbered (length chains) j ∷ chain_in chains j.1) ∷ []) items k
 
-long_from : {X : Type 0} → (chains : List (List (Numbered X))) (items : List (X × ℕ)) → length (chains_from chains items) ≡ length chains + length items
+long_from : {X : Type 0} → (chains : List (List (Numbered X))) (items : List (X × ℕ))
+    → length (chains_from chains items) ≡ length chains + length items
 unfolding chains_from
 long_from chains [] = omega arith
 long_from chains (j ∷ items) =
     let t = (numbered (length chains) j ∷ chain_in chains j.1) ∷ [] in
     omega (arith, long_from (chains ++ t) items, length-append chains t)
 
-first_from : {X : Type 0} → (chains : List (List (Numbered X))) (items : List (X × ℕ)) (n : ℕ) → n < length chains → chain_in (chains_from chains items) n ≡ chain_in chains n
+first_from : {X : Type 0} → (chains : List (List (Numbered X))) (items : List (X × ℕ)) (n : ℕ) → n < length chains
+    → chain_in (chains_from chains items) n ≡ chain_in chains n
 unfolding chains_from
 first_from chains [] n within = refl
 first_from chains (j ∷ items) n within =
     let t = (numbered (length chains) j ∷ chain_in chains j.1) ∷ [] in
-    first_from (chains ++ t) items n (omega (arith, within, length-append chains t)) ∙ get_or_append_left chains t [] n within
+    first_from (chains ++ t) items n (omega (arith, within, length-append chains t))
+    ∙ get_or_append_left chains t [] n within
 
 pub chains_long : {X : Type 0} → (items : List (X × ℕ)) → length (chains_of items) ≡ suc (length items)
 chains_long items = omega (arith, long_from ([] ∷ []) items)
@@ -38,7 +43,8 @@ pub chain_none : {X : Type 0} → (items : List (X × ℕ)) → chain_in (chains
 chain_none items = first_from ([] ∷ []) items 0 (omega arith)
 
 module _ {X : Type 0} (items : List (X × ℕ)) (k : X × ℕ) where
-  pub chains_more : chains_of (items ++ k ∷ []) ≡ chains_of items ++ (numbered (length (chains_of items)) k ∷ chain_in (chains_of items) k.1) ∷ []
+  pub chains_more : chains_of (items ++ k ∷ [])
+      ≡ chains_of items ++ (numbered (length (chains_of items)) k ∷ chain_in (chains_of items) k.1) ∷ []
   chains_more = more_from ([] ∷ []) items k
 
   -- the old chains stay
@@ -46,22 +52,26 @@ module _ {X : Type 0} (items : List (X × ℕ)) (k : X × ℕ) where
   old_chain n within = search (rules, chains_more, get_or_append_left, chains_long)
 
   -- the new one is the item and the chain after it
-  pub new_chain : chain_in (chains_of (items ++ k ∷ [])) (suc (length items)) ≡ numbered (suc (length items)) k ∷ chain_in (chains_of items) k.1
+  pub new_chain : chain_in (chains_of (items ++ k ∷ [])) (suc (length items))
+      ≡ numbered (suc (length items)) k ∷ chain_in (chains_of items) k.1
   new_chain = search (rules, chains_more, get_or_at, chains_long)
 
 -- ---- one item more
 
-item_more : {X : Type 0} → (items : List (X × ℕ)) (k : X × ℕ) (n : ℕ) (d : X) → item_of items n ≡ Some d → item_of (items ++ k ∷ []) n ≡ Some d
+item_more : {X : Type 0} → (items : List (X × ℕ)) (k : X × ℕ) (n : ℕ) (d : X) → item_of items n ≡ Some d
+    → item_of (items ++ k ∷ []) n ≡ Some d
 item_more items k zero d is = is
 item_more {X} [] k (suc n) d is = grind (arith, common_steps, slice_get_past)
 item_more (x ∷ items) k (suc zero) d is = is
 item_more (x ∷ items) k (suc (suc n)) d is = item_more items k (suc n) d is
 
-item_last : {X : Type 0} → (items : List (X × ℕ)) (k : X × ℕ) → item_of (items ++ k ∷ []) (suc (length items)) ≡ Some (k.0)
+item_last : {X : Type 0} → (items : List (X × ℕ)) (k : X × ℕ)
+    → item_of (items ++ k ∷ []) (suc (length items)) ≡ Some (k.0)
 item_last [] k = refl
 item_last (x ∷ items) k = item_last items k
 
-numbered_more : {X : Type 0} → (items : List (X × ℕ)) (k : X × ℕ) (chain : List (Numbered X)) → AreNumbered items chain → AreNumbered (items ++ k ∷ []) chain
+numbered_more : {X : Type 0} → (items : List (X × ℕ)) (k : X × ℕ) (chain : List (Numbered X)) → AreNumbered items chain
+    → AreNumbered (items ++ k ∷ []) chain
 numbered_more items k [] are = tt
 numbered_more items k (n ∷ chain) are = (item_more items k n.number n.item are.0, numbered_more items k chain are.1)
 
@@ -69,16 +79,26 @@ three_ways : (i j : ℕ) → ((i < j) ⊎ (i ≡ j)) ⊎ (j < i)
 three_ways i j = grind arith
 
 -- the items of chains have their numbers, if those of the first chains have
-numbered_from : {X : Type 0} → (front items : List (X × ℕ)) (chains : List (List (Numbered X))) → length chains ≡ suc (length front) → ((n : ℕ) → AreNumbered front (chain_in chains n)) → (n : ℕ) → AreNumbered (front ++ items) (chain_in (chains_from chains items) n)
+numbered_from : {X : Type 0} → (front items : List (X × ℕ)) (chains : List (List (Numbered X)))
+    → length chains ≡ suc (length front) → ((n : ℕ) → AreNumbered front (chain_in chains n)) → (n : ℕ)
+    → AreNumbered (front ++ items) (chain_in (chains_from chains items) n)
 unfolding chains_from
 numbered_from front [] chains long are n = rw (append-nil front) (are n)
 numbered_from front (k ∷ items) chains long are n =
     let new = numbered (length chains) k ∷ chain_in chains k.1 in
     rw (← append_assoc front (k ∷ []) items)
-    (numbered_from (front ++ k ∷ []) items (chains ++ new ∷ []) (omega (arith, long, length-append chains (new ∷ []), length-append front (k ∷ []))) (λ m. elim (three_ways m (length chains)) [
-      | inl (inl less) ↦ rw (get_or_append_left chains (new ∷ []) [] m less) (numbered_more front k (chain_in chains m) (are m))
-      | inl (inr same) ↦ rw (get_or_at chains new [] [] m (sym same)) (ap (item_of (front ++ k ∷ [])) long ∙ item_last front k, numbered_more front k (chain_in chains k.1) (are k.1))
-      | inr past ↦ rw (get_or-eq_default (chains ++ new ∷ []) [] {n = m} (omega (arith, past, length-append chains (new ∷ [])))) tt
+    (numbered_from (front ++ k ∷ []) items (chains ++ new ∷ [])
+    (omega (arith, long, length-append chains (new ∷ []), length-append front (k ∷ [])))
+    (λ m. elim (three_ways m (length chains)) [
+      | inl (inl less) ↦ rw (get_or_append_left chains (new ∷ []) [] m less)
+          (numbered_more front k (chain_in chains m) (are m))
+      | inl (inr same) ↦ rw (get_or_at chains new [] [] m (sym same)) (
+        ap (item_of (front ++ k ∷ [])) long
+            ∙ item_last front k,
+        numbered_more front k (chain_in chains k.1) (are k.1),
+      )
+      | inr past ↦ rw (get_or-eq_default (chains ++ new ∷ []) [] {n = m}
+          (omega (arith, past, length-append chains (new ∷ [])))) tt
     ]) n)
 
 no_chain : (X : Type 0) (n : ℕ) → chain_in {X = X} ([] ∷ []) n ≡ []
@@ -93,30 +113,38 @@ are_numbered {X} items n = numbered_from [] items ([] ∷ []) refl (λ m. rw (no
 same_here : (number more others : ℕ) (b c : Bool) → b ≡ c → more ≡ others → cond b number more ≡ cond c number others
 same_here number more others b c same rest = rw (same, rest) refl
 
-pub where_same : {X : Type 0} → (p q : X → Bool) → ((c : X) → p c ≡ q c) → (chain : List (Numbered X)) → number_where p chain ≡ number_where q chain
+pub where_same : {X : Type 0} → (p q : X → Bool) → ((c : X) → p c ≡ q c) → (chain : List (Numbered X))
+    → number_where p chain ≡ number_where q chain
 unfolding number_where
 where_same p q same [] = refl
 where_same p q same (n ∷ chain) = same_here n.number _ _ (p n.item) (q n.item) (same n.item) (where_same p q same chain)
 
 -- the first item passes the test, or is passed over
-pub where_first : {X : Type 0} → (p : X → Bool) (n : Numbered X) (chain : List (Numbered X)) → p n.item ≡ true → number_where p (n ∷ chain) ≡ n.number
+pub where_first : {X : Type 0} → (p : X → Bool) (n : Numbered X) (chain : List (Numbered X)) → p n.item ≡ true
+    → number_where p (n ∷ chain) ≡ n.number
 unfolding number_where
 where_first p n chain is = rw is refl
 
-pub where_later : {X : Type 0} → (p : X → Bool) (n : Numbered X) (chain : List (Numbered X)) → p n.item ≡ false → number_where p (n ∷ chain) ≡ number_where p chain
+pub where_later : {X : Type 0} → (p : X → Bool) (n : Numbered X) (chain : List (Numbered X)) → p n.item ≡ false
+    → number_where p (n ∷ chain) ≡ number_where p chain
 unfolding number_where
 where_later p n chain is = rw is refl
 
-passes_here : {X : Type 0} → (items : List (X × ℕ)) (n : Numbered X) (more : ℕ) (p : X → Bool) (b : Bool) → p n.item ≡ b → item_of items n.number ≡ Some n.item
-    → (0 < more → (d : X) × (item_of items more ≡ Some d) × (p d ≡ true)) → 0 < cond b n.number more → (d : X) × (item_of items (cond b n.number more) ≡ Some d) × (p d ≡ true)
+passes_here : {X : Type 0} → (items : List (X × ℕ)) (n : Numbered X) (more : ℕ) (p : X → Bool) (b : Bool) → p n.item ≡ b
+    → item_of items n.number ≡ Some n.item
+    → (0 < more → (d : X) × (item_of items more ≡ Some d) × (p d ≡ true)) → 0 < cond b n.number more
+    → (d : X) × (item_of items (cond b n.number more) ≡ Some d) × (p d ≡ true)
 passes_here items n more p true is own rest some = (n.item, own, is)
 passes_here items n more p false is own rest some = rest some
 
 -- the item of the number passes the test
-pub where_passes : {X : Type 0} → (items : List (X × ℕ)) (p : X → Bool) (chain : List (Numbered X)) → AreNumbered items chain → 0 < number_where p chain → (d : X) × (item_of items (number_where p chain) ≡ Some d) × (p d ≡ true)
+pub where_passes : {X : Type 0} → (items : List (X × ℕ)) (p : X → Bool) (chain : List (Numbered X))
+    → AreNumbered items chain → 0 < number_where p chain
+    → (d : X) × (item_of items (number_where p chain) ≡ Some d) × (p d ≡ true)
 unfolding number_where
 where_passes items p [] are some = absurd (omega (arith, some))
-where_passes items p (n ∷ chain) are some = passes_here items n (number_where p chain) p (p n.item) refl are.0 (where_passes items p chain are.1) some
+where_passes items p (n ∷ chain) are some =
+    passes_here items n (number_where p chain) p (p n.item) refl are.0 (where_passes items p chain are.1) some
 
 -- the item that passes the narrower test is in the chain that begins with the one that passes the wider test
 module _ {X : Type 0} (p q : X → Bool) (narrower : (c : X) → p c ≡ true → q c ≡ true) where
@@ -128,20 +156,24 @@ module _ {X : Type 0} (p q : X → Bool) (narrower : (c : X) → p c ≡ true �
     within : number_where q (chain_in chains n) < length chains
     same : number_where p (chain_in chains n) ≡ number_where p (chain_in chains (number_where q (chain_in chains n)))
 
-  none_narrows : (chains : List (List (Numbered X))) (n : ℕ) → 0 < length chains → chain_in chains 0 ≡ [] → chain_in chains n ≡ [] → Narrows chains n
+  none_narrows : (chains : List (List (Numbered X))) (n : ℕ) → 0 < length chains → chain_in chains 0 ≡ []
+      → chain_in chains n ≡ [] → Narrows chains n
   unfolding number_where
   none_narrows chains n some none is = record { within = rw is some; same = rw (is, none) refl }
 
-  longer_narrows : (chains : List (List (Numbered X))) (new : List (Numbered X)) (n : ℕ) → n < length chains → Narrows chains n → Narrows (chains ++ new ∷ []) n
+  longer_narrows : (chains : List (List (Numbered X))) (new : List (Numbered X)) (n : ℕ) → n < length chains
+      → Narrows chains n → Narrows (chains ++ new ∷ []) n
   longer_narrows chains new n less is = search (rules, get_or_append_left, length-append)
 
-  new_narrows : (chains : List (List (Numbered X))) (first : Numbered X) (rest : ℕ) (b : Bool) → q first.item ≡ b → first.number ≡ length chains → Narrows chains rest
+  new_narrows : (chains : List (List (Numbered X))) (first : Numbered X) (rest : ℕ) (b : Bool) → q first.item ≡ b
+      → first.number ≡ length chains → Narrows chains rest
       → Narrows (chains ++ (first ∷ chain_in chains rest) ∷ []) (length chains)
   new_narrows chains first rest true is number before = search (rules, get_or_at, where_first, length-append)
   new_narrows chains first rest false is number before =
       search (rules, get_or_at, where_later, not_narrower, length-append, get_or_append_left)
 
-  narrows_from : (chains : List (List (Numbered X))) (items : List (X × ℕ)) → 0 < length chains → chain_in chains 0 ≡ [] → ((n : ℕ) → Narrows chains n) → (n : ℕ) → Narrows (chains_from chains items) n
+  narrows_from : (chains : List (List (Numbered X))) (items : List (X × ℕ)) → 0 < length chains → chain_in chains 0 ≡ []
+      → ((n : ℕ) → Narrows chains n) → (n : ℕ) → Narrows (chains_from chains items) n
   unfolding chains_from
   narrows_from chains [] some none are n = are n
   narrows_from chains (k ∷ items) some none are n =
@@ -149,25 +181,33 @@ module _ {X : Type 0} (p q : X → Bool) (narrower : (c : X) → p c ≡ true �
       let new = first ∷ chain_in chains k.1 in
       let more : length (chains ++ new ∷ []) ≡ length chains + 1 = omega (arith, length-append chains (new ∷ [])) in
       let still_none : chain_in (chains ++ new ∷ []) 0 ≡ [] = get_or_append_left chains (new ∷ []) [] 0 some ∙ none in
-      narrows_from (chains ++ new ∷ []) items (omega (arith, more)) still_none (λ m. elim (three_ways m (length chains)) [
+      narrows_from (chains ++ new ∷ []) items (omega (arith, more)) still_none
+      (λ m. elim (three_ways m (length chains)) [
         | inl (inl less) ↦ longer_narrows chains new m less (are m)
         | inl (inr same) ↦ rw same (new_narrows chains first k.1 (q first.item) refl refl (are k.1))
-        | inr past ↦ none_narrows (chains ++ new ∷ []) m (omega (arith, more)) still_none (get_or-eq_default (chains ++ new ∷ []) [] {n = m} (omega (arith, past, more)))
+        | inr past ↦ none_narrows (chains ++ new ∷ []) m (omega (arith, more)) still_none
+            (get_or-eq_default (chains ++ new ∷ []) [] {n = m} (omega (arith, past, more)))
       ]) n
 
-  pub narrowed : (items : List (X × ℕ)) (n : ℕ) → number_where p (chain_in (chains_of items) n) ≡ number_where p (chain_in (chains_of items) (number_where q (chain_in (chains_of items) n)))
-  narrowed items n = (narrows_from ([] ∷ []) items (omega arith) refl (λ m. none_narrows ([] ∷ []) m (omega arith) refl (no_chain X m)) n).same
+  pub narrowed : (items : List (X × ℕ)) (n : ℕ)
+      → number_where p (chain_in (chains_of items) n)
+      ≡ number_where p (chain_in (chains_of items) (number_where q (chain_in (chains_of items) n)))
+  narrowed items n =
+      (narrows_from ([] ∷ []) items (omega arith) refl (λ m. none_narrows ([] ∷ []) m (omega arith) refl (no_chain X m))
+      n).same
 
 -- ---- what is found
 
-pub item_within : {X : Type 0} → (items : List (X × ℕ)) (number : ℕ) (d : X) → item_of items number ≡ Some d → number ≤ length items
+pub item_within : {X : Type 0} → (items : List (X × ℕ)) (number : ℕ) (d : X) → item_of items number ≡ Some d
+    → number ≤ length items
 item_within items zero d is = omega arith
 item_within {X} [] (suc n) d is = search (rules, slice_get_past)
 item_within (x ∷ items) (suc zero) d is = omega arith
 item_within (x ∷ items) (suc (suc n)) d is = let within = item_within items (suc n) d is in omega (arith, within)
 
 -- the item that is read at the place before a number
-pub item_read : {X : Type 0} → (items : List (X × ℕ)) (number : ℕ) (x : X × ℕ) → 0 < number → number ≤ length items → x ≡ get_or items (number - 1) x → item_of items number ≡ Some (x.0)
+pub item_read : {X : Type 0} → (items : List (X × ℕ)) (number : ℕ) (x : X × ℕ) → 0 < number → number ≤ length items
+    → x ≡ get_or items (number - 1) x → item_of items number ≡ Some (x.0)
 item_read items zero x some within read = absurd (omega (arith, some))
 item_read {X} items (suc n) x some within read = search (rules, slice_get-get_or)
 
@@ -182,24 +222,32 @@ at_map g (x ∷ xs) zero d = refl
 at_map g (x ∷ xs) (suc n) d = at_map g xs n d
 
 map_from : {X Y : Type 0} → (f : X → Y) (chains : List (List (Numbered X))) (items : List (X × ℕ)) (n : ℕ)
-    → chain_in (chains_from (map (map (mapped f)) chains) (map (λ (x : X × ℕ). (f x.0, x.1)) items)) n ≡ map (mapped f) (chain_in (chains_from chains items) n)
+    → chain_in (chains_from (map (map (mapped f)) chains) (map (λ (x : X × ℕ). (f x.0, x.1)) items)) n
+    ≡ map (mapped f) (chain_in (chains_from chains items) n)
 unfolding chains_from
 map_from f chains [] n = at_map (map (mapped f)) chains n []
 map_from {X} {Y} f chains (x ∷ items) n =
     let new = numbered (length chains) x ∷ chain_in chains x.1 in
     let number : length (map (map (mapped f)) chains) ≡ length chains = length-map chains (map (mapped f)) in
-    let more : map (map (mapped f)) (chains ++ new ∷ []) ≡ map (map (mapped f)) chains ++ map (mapped f) new ∷ [] = map-append (map (mapped f)) chains (new ∷ []) in
-    let same : (map (map (mapped f)) chains ++ (numbered (length (map (map (mapped f)) chains)) (f x.0, x.1) ∷ chain_in (map (map (mapped f)) chains) x.1) ∷ []) ≡ map (map (mapped f)) (chains ++ new ∷ []) =
-    ap (λ (m : ℕ). map (map (mapped f)) chains ++ (numbered m (f x.0, x.1) ∷ chain_in (map (map (mapped f)) chains) x.1) ∷ []) number
-    ∙ ap (λ (rest : List (Numbered Y)). map (map (mapped f)) chains ++ (numbered (length chains) (f x.0, x.1) ∷ rest) ∷ []) (at_map (map (mapped f)) chains x.1 [])
+    let more : map (map (mapped f)) (chains ++ new ∷ [])
+    ≡ map (map (mapped f)) chains ++ map (mapped f) new ∷ [] = map-append (map (mapped f)) chains (new ∷ []) in
+    let same : (map (map (mapped f)) chains
+    ++ (numbered (length (map (map (mapped f)) chains)) (f x.0, x.1) ∷ chain_in (map (map (mapped f)) chains) x.1)
+    ∷ []) ≡ map (map (mapped f)) (chains ++ new ∷ []) =
+    ap (λ (m : ℕ). map (map (mapped f)) chains ++ (numbered m (f x.0, x.1) ∷ chain_in (map (map (mapped f)) chains) x.1)
+    ∷ []) number
+    ∙ ap (λ (rest : List (Numbered Y)). map (map (mapped f)) chains ++ (numbered (length chains) (f x.0, x.1) ∷ rest)
+    ∷ []) (at_map (map (mapped f)) chains x.1 [])
     ∙ sym more in
     ap (λ (cs : List (List (Numbered Y))). chain_in (chains_from cs (map (λ (y : X × ℕ). (f y.0, y.1)) items)) n) same
     ∙ map_from f (chains ++ new ∷ []) items n
 
-pub chain_map : {X Y : Type 0} → (f : X → Y) (items : List (X × ℕ)) (n : ℕ) → chain_in (chains_of (map (λ (x : X × ℕ). (f x.0, x.1)) items)) n ≡ map (mapped f) (chain_in (chains_of items) n)
+pub chain_map : {X Y : Type 0} → (f : X → Y) (items : List (X × ℕ)) (n : ℕ)
+    → chain_in (chains_of (map (λ (x : X × ℕ). (f x.0, x.1)) items)) n ≡ map (mapped f) (chain_in (chains_of items) n)
 chain_map f items n = map_from f ([] ∷ []) items n
 
-pub where_map : {X Y : Type 0} → (test : Y → Bool) (f : X → Y) (chain : List (Numbered X)) → number_where test (map (mapped f) chain) ≡ number_where (λ x. test (f x)) chain
+pub where_map : {X Y : Type 0} → (test : Y → Bool) (f : X → Y) (chain : List (Numbered X))
+    → number_where test (map (mapped f) chain) ≡ number_where (λ x. test (f x)) chain
 unfolding number_where
 where_map test f [] = refl
 where_map test f (n ∷ chain) = ap (λ (m : ℕ). cond (test (f n.item)) n.number m) (where_map test f chain)
@@ -211,20 +259,26 @@ pub item_some : {X : Type 0} → (items : List (X × ℕ)) (number : ℕ) (x : X
 item_some {X} items zero x is = let no : ◌≡◌ {A = Option X} None (Some x) = is in absurd cc
 item_some items (suc number) x is = omega arith
 
-none_here : (number more : ℕ) (has b : Bool) → (number ≡ 0 → ⊥) → (more ≡ 0 → has ≡ false) → cond b number more ≡ 0 → (b || has) ≡ false
+none_here : (number more : ℕ) (has b : Bool) → (number ≡ 0 → ⊥) → (more ≡ 0 → has ≡ false) → cond b number more ≡ 0
+    → (b || has) ≡ false
 none_here number more has true some rest e = absurd (some e)
 none_here number more has false some rest e = rest e
 
-pub none_has : {X : Type 0} → (test : X → Bool) (items : List (X × ℕ)) (chain : List (Numbered X)) → AreNumbered items chain → number_where test chain ≡ 0 → list_any test (items_of chain) ≡ false
+pub none_has : {X : Type 0} → (test : X → Bool) (items : List (X × ℕ)) (chain : List (Numbered X))
+    → AreNumbered items chain → number_where test chain ≡ 0 → list_any test (items_of chain) ≡ false
 unfolding number_where
 none_has test items [] are none = refl
 none_has test items (n ∷ chain) are none = search (rules, none_here, item_some, (none_has test items chain are.1))
 
-some_here : (number more : ℕ) (has b : Bool) → ((more ≡ 0 → ⊥) → has ≡ true) → (cond b number more ≡ 0 → ⊥) → (b || has) ≡ true
+some_here : (number more : ℕ) (has b : Bool) → ((more ≡ 0 → ⊥) → has ≡ true) → (cond b number more ≡ 0 → ⊥)
+    → (b || has) ≡ true
 some_here number more has true rest some = refl
 some_here number more has false rest some = rest some
 
-pub some_has : {X : Type 0} → (test : X → Bool) (chain : List (Numbered X)) → (number_where test chain ≡ 0 → ⊥) → list_any test (items_of chain) ≡ true
+pub some_has : {X : Type 0} → (test : X → Bool) (chain : List (Numbered X)) → (number_where test chain ≡ 0 → ⊥)
+    → list_any test (items_of chain) ≡ true
 unfolding number_where
 some_has test [] some = absurd (some refl)
-some_has test (n ∷ chain) some = some_here n.number (number_where test chain) (list_any test (items_of chain)) (test n.item) (some_has test chain) some
+some_has test (n ∷ chain) some =
+    some_here n.number (number_where test chain) (list_any test (items_of chain)) (test n.item) (some_has test chain)
+    some

@@ -26,18 +26,24 @@ pub codes_more : (links : List Link) (k : Link) → codes_of (links ++ k ∷ [])
 codes_more links k = map-append part links (k ∷ [])
 
 -- the old chains stay
-pub old_codes : (links : List Link) (k : Link) (n : ℕ) → n ≤ length links → codes_in (links ++ k ∷ []) n ≡ codes_in links n
+pub old_codes : (links : List Link) (k : Link) (n : ℕ) → n ≤ length links
+    → codes_in (links ++ k ∷ []) n ≡ codes_in links n
 old_codes links k n within = search (rules, codes_more, old_chain, codes_long)
 
 -- the new one is the link and the chain after it
-pub new_codes : (links : List Link) (k : Link) → codes_in (links ++ k ∷ []) (suc (length links)) ≡ own (suc (length links)) k ∷ codes_in links k.rest
+pub new_codes : (links : List Link) (k : Link)
+    → codes_in (links ++ k ∷ []) (suc (length links)) ≡ own (suc (length links)) k ∷ codes_in links k.rest
 new_codes links k = search (rules, codes_more, codes_long, new_chain)
 
 -- the link that is read at the place before a number
-pub code_read : (links : List Link) (number : ℕ) (x : Link) → 0 < number → number ≤ length links → x ≡ get_or links (number - 1) x → item_of (codes_of links) number ≡ Some x.code
+pub code_read : (links : List Link) (number : ℕ) (x : Link) → 0 < number → number ≤ length links
+    → x ≡ get_or links (number - 1) x → item_of (codes_of links) number ≡ Some x.code
 code_read links number x some within read =
-    let at : get_or (codes_of links) (number - 1) (part x) ≡ part (get_or links (number - 1) x) = get_or-map part links (number - 1) x (part x) (omega (arith, some, within)) in
-    item_read (codes_of links) number (part x) some (omega (arith, within, codes_long links)) (sym (at ∙ ap part (sym read)))
+    let at : get_or (codes_of links) (number - 1) (part x)
+    ≡ part (get_or links (number - 1) x) = get_or-map part links (number - 1) x (part x)
+    (omega (arith, some, within)) in
+    item_read (codes_of links) number (part x) some (omega (arith, within, codes_long links))
+    (sym (at ∙ ap part (sym read)))
 
 -- the chain without links
 pub none_number : (links : List Link) (chain code : ℕ) → chain ≡ 0 → 0 ≡ number_in (codes_in links chain) code
@@ -45,41 +51,52 @@ unfolding number_where
 none_number links chain code none = rw (none, codes_none links) refl
 
 -- a run with one link more
-run_more : (chain : List (Numbered ℕ)) (k : Link) (last : ℕ) → ((i : ℕ) → i + 1 < k.run → number_in chain (k.code + (i + 1)) ≡ last - i) → IsRun (own (suc last) k ∷ chain) k.run k.code (suc last)
+run_more : (chain : List (Numbered ℕ)) (k : Link) (last : ℕ)
+    → ((i : ℕ) → i + 1 < k.run → number_in chain (k.code + (i + 1)) ≡ last - i)
+    → IsRun (own (suc last) k ∷ chain) k.run k.code (suc last)
 unfolding number_where
 run_more chain k last run zero few = search (rules, eq_true)
 run_more chain k last run (suc i) few =
     let one : i + 1 ≡ suc i = omega arith in
     let less : last - i ≡ suc last - suc i = omega arith in
-    ap (λ (b : Bool). cond b (suc last) (number_in chain (k.code + suc i))) (differ k.code (k.code + suc i) (λ e. omega (arith, e)))
+    ap (λ (b : Bool). cond b (suc last) (number_in chain (k.code + suc i)))
+    (differ k.code (k.code + suc i) (λ e. omega (arith, e)))
     ∙ ap (λ (j : ℕ). number_in chain (k.code + j)) (sym one) ∙ run i (omega (arith, few)) ∙ less
 
 -- ---- how codes are found, with one link more
 
 -- none of the branches that are there changes
-pub branches_stay : (branches : List ℕ) (more from count code : ℕ) (chain : List (Numbered ℕ)) → AreBranches branches from count code chain → AreBranches (branches ++ more ∷ []) from count code chain
+pub branches_stay : (branches : List ℕ) (more from count code : ℕ) (chain : List (Numbered ℕ))
+    → AreBranches branches from count code chain → AreBranches (branches ++ more ∷ []) from count code chain
 branches_stay branches more from count code chain are = search (rules, length-append, get_or_append_left)
 
-below_stay : (branches : List ℕ) (more from count number : ℕ) → from + count ≤ length branches → AreBelow branches from count number → AreBelow (branches ++ more ∷ []) from count number
+below_stay : (branches : List ℕ) (more from count number : ℕ) → from + count ≤ length branches
+    → AreBelow branches from count number → AreBelow (branches ++ more ∷ []) from count number
 below_stay branches more from count number within are = search (rules, get_or_append_left)
 
-pub found_stay : (branches : List ℕ) (more : ℕ) (links : List Link) → AreFound branches links → AreFound (branches ++ more ∷ []) links
+pub found_stay : (branches : List ℕ) (more : ℕ) (links : List Link) → AreFound branches links
+    → AreFound (branches ++ more ∷ []) links
 found_stay branches more links are = grind (arith, common_steps, below_stay, branches_stay)
 
 module _ (branches : List ℕ) (links : List Link) (k : Link) (are : AreFound branches links) where
-  old_found : (n : ℕ) (x : Link) → n ≤ length links → IsFoundBy branches links n x → IsFoundBy branches (links ++ k ∷ []) n x
+  old_found : (n : ℕ) (x : Link) → n ≤ length links → IsFoundBy branches links n x
+      → IsFoundBy branches (links ++ k ∷ []) n x
   old_found n x within is = search (rules, old_codes)
 
   module _ (short : k.run ≤ length links + 1)
       (run : (i : ℕ) → i + 1 < k.run → number_in (codes_in links k.rest) (k.code + (i + 1)) ≡ length links - i)
       (below : AreBelow branches k.branches k.branch_count (length links + 1))
       (is : AreBranches branches k.branches k.branch_count k.code (codes_in links k.rest)) where
-    later : (bit : ℕ) → number_where (parts k.code bit) (own (suc (length links)) k ∷ codes_in links k.rest) ≡ number_where (parts k.code bit) (codes_in links k.rest)
-    later bit = where_later (parts k.code bit) (own (suc (length links)) k) (codes_in links k.rest) (parts_self k.code bit)
+    later : (bit : ℕ) → number_where (parts k.code bit) (own (suc (length links)) k ∷ codes_in links k.rest)
+        ≡ number_where (parts k.code bit) (codes_in links k.rest)
+    later bit =
+        where_later (parts k.code bit) (own (suc (length links)) k) (codes_in links k.rest) (parts_self k.code bit)
 
     new_found : IsFoundBy branches (links ++ k ∷ []) (suc (length links)) k
     new_found = record {
-      first = λ test is_own. rw (new_codes links k) (where_first test (own (suc (length links)) k) (codes_in links k.rest) is_own);
+      first =
+          λ test is_own. rw (new_codes links k)
+          (where_first test (own (suc (length links)) k) (codes_in links k.rest) is_own);
       short = omega (arith, short);
       run = rw (new_codes links k) (run_more (codes_in links k.rest) k (length links) run);
       below = λ bit less. let b = below bit less in omega (arith, b);
@@ -107,7 +124,8 @@ first_within number more bound true here rest = here
 first_within number more bound false here rest = rest
 
 -- the number of a code is one of a link, or 0
-first_number : (links : List Link) (chain : List (Numbered ℕ)) (code : ℕ) → AreNumbered (codes_of links) chain → number_in chain code ≤ length links
+first_number : (links : List Link) (chain : List (Numbered ℕ)) (code : ℕ) → AreNumbered (codes_of links) chain
+    → number_in chain code ≤ length links
 unfolding number_where
 first_number links [] code are = omega arith
 first_number links (n ∷ chain) code are =
@@ -117,6 +135,7 @@ pub number_within : (links : List Link) (chain code : ℕ) → number_in (codes_
 number_within links chain code = first_number links (codes_in links chain) code (are_numbered (codes_of links) chain)
 
 -- a link more, if there was memory for it
-pub found_either : (b : Bool) (branches : List ℕ) (old new : List Link) (k : Link) → new ≡ cond b (old ++ k ∷ []) old → AreFound branches old → AreFound branches (old ++ k ∷ []) → AreFound branches new
+pub found_either : (b : Bool) (branches : List ℕ) (old new : List Link) (k : Link) → new ≡ cond b (old ++ k ∷ []) old
+    → AreFound branches old → AreFound branches (old ++ k ∷ []) → AreFound branches new
 found_either true branches old new k is without with = rw is with
 found_either false branches old new k is without with = rw is without

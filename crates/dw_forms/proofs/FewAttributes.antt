@@ -35,6 +35,7 @@ pub few_specs : (specs : List AttributeSpec) → AreAttributes specs → length 
 unfolding codes
 few_specs specs a =
     let distinct = IsDistinct-from_AllPairs Decides-eqb (codes specs) (codes_apart specs a) in
-    let few = length-le_from_distinct_below (codes specs) 0x10000 distinct (λ q h. let c = Any-from_list_any (eqb q) (codes specs) h in
+    let few = length-le_from_distinct_below (codes specs) 0x10000 distinct
+    (λ q h. let c = Any-from_list_any (eqb q) (codes specs) h in
     omega (arith, eqb-true q c.1 c.4, codes_small specs a c.0 c.1 c.2, c.3)) in
     omega (arith, few, length-map specs attribute_of)

@@ -18,7 +18,8 @@ use Rattle.dw_forms.proofs.ListLaws.{rest_of}
 
 module _ (section : List ℕ) (offset : ℕ) where
   -- no code
-  pub code_breaks : (error : Stop DeclFault) → FailsOrMemory error (unsigned_at (drop offset section)) → IfFault (λ _. IfNoDecl section offset) error
+  pub code_breaks : (error : Stop DeclFault) → FailsOrMemory error (unsigned_at (drop offset section))
+      → IfFault (λ _. IfNoDecl section offset) error
   code_breaks stops.Memory e = tt
   code_breaks (stops.Fault fault) e = (fault, code_fault (drop offset section) fault e)
 
@@ -27,33 +28,47 @@ module _ (section : List ℕ) (offset : ℕ) where
     pub next_none : code ≡ 0 → decl_at [] (drop offset section) ≡ Ok (None, drop (length section - length rest) section)
     next_none none =
         let ends = number_ends (drop offset section) code rest code_is in
-        decl_end (drop offset section) code rest code_is (eq_true code 0 none) ∙ ap (λ (r : List ℕ). Ok (None, r)) (rest_of section offset ends.0 rest ends.1)
+        decl_end (drop offset section) code rest code_is (eq_true code 0 none)
+        ∙ ap (λ (r : List ℕ). Ok (None, r)) (rest_of section offset ends.0 rest ends.1)
 
     module _ (some : code ≡ 0 → ⊥) where
       -- no tag
-      pub tag_breaks : (error : Stop DeclFault) → FailsOrMemory error (tagged_at rest) → IfFault (λ _. IfNoDecl section offset) error
+      pub tag_breaks : (error : Stop DeclFault) → FailsOrMemory error (tagged_at rest)
+          → IfFault (λ _. IfNoDecl section offset) error
       tag_breaks stops.Memory e = tt
-      tag_breaks (stops.Fault fault) e = (fault, decl_by (drop offset section) code rest code_is (ne_eqb code 0 some) ∙ rw e refl)
+      tag_breaks (stops.Fault fault) e =
+          (fault, decl_by (drop offset section) code rest code_is (ne_eqb code 0 some) ∙ rw e refl)
 
       module _ (tag : ℕ) (children : Bool) (after : List ℕ) (tag_is : tagged_at rest ≡ Ok (tag, children, after)) where
         after_is : after ≡ drop (length section - length after) section
         after_is =
             let first = number_ends (drop offset section) code rest code_is in
             let second = tag_ends rest tag children after tag_is in
-            rest_of section offset (first.0 ++ second.0) after (first.1 ∙ ap (λ (r : List ℕ). first.0 ++ r) second.1 ∙ sym (append_assoc first.0 second.0 after))
+            rest_of section offset (first.0 ++ second.0) after
+            (first.1 ∙ ap (λ (r : List ℕ). first.0 ++ r) second.1 ∙ sym (append_assoc first.0 second.0 after))
 
         -- the list of its attributes
-        pub next_some : (nodes : List Node) (first end : ℕ) → IsListAt section nodes (length section - length after) first end
-            → decl_at [] (drop offset section) ≡ Ok (Some (record { code = code; tag = tag; has_children = children; attributes = list_in nodes first }), drop end section)
+        pub next_some : (nodes : List Node) (first end : ℕ)
+            → IsListAt section nodes (length section - length after) first end
+            → decl_at [] (drop offset section)
+            ≡ Ok (
+              Some (record { code = code; tag = tag; has_children = children; attributes = list_in nodes first }),
+              drop end section,
+            )
         next_some nodes first end is =
-            let list : attributes_of after ≡ Ok (list_in nodes first, drop end section) = ap attributes_of after_is ∙ is.list in
+            let list : attributes_of after
+            ≡ Ok (list_in nodes first, drop end section) = ap attributes_of after_is ∙ is.list in
             decl_by (drop offset section) code rest code_is (ne_eqb code 0 some) ∙ rw (tag_is, list) refl
 
         -- no list
-        pub list_breaks : (error : Stop DeclFault) → IfFault (λ _. NoListAt section (length section - length after)) error → IfFault (λ _. IfNoDecl section offset) error
+        pub list_breaks : (error : Stop DeclFault)
+            → IfFault (λ _. NoListAt section (length section - length after)) error
+            → IfFault (λ _. IfNoDecl section offset) error
         list_breaks stops.Memory e = tt
         list_breaks (stops.Fault fault) none = by_list (attributes_of after) refl
           where
-            by_list : (list : Result (List AttributeSpec × List ℕ) DeclFault) → attributes_of after ≡ list → IfNoDecl section offset
+            by_list : (list : Result (List AttributeSpec × List ℕ) DeclFault) → attributes_of after ≡ list
+                → IfNoDecl section offset
             by_list (Ok x) e = absurd (none x.0 x.1 (sym (ap attributes_of after_is) ∙ e))
-            by_list (Err other) e = (other, decl_by (drop offset section) code rest code_is (ne_eqb code 0 some) ∙ rw (tag_is, e) refl)
+            by_list (Err other) e =
+                (other, decl_by (drop offset section) code rest code_is (ne_eqb code 0 some) ∙ rw (tag_is, e) refl)

@@ -20,8 +20,10 @@ use Rattle.dw_forms.proofs.PassSteps.{known_is, run, sum_goes}
 use Rattle.dw_forms.proofs.SuffixLaws.{number_is_within}
 
 -- the attributes before a code, where the others begin with it
-before_front : (code : ℕ) (front back : List (Numbered AttributeSpec)) → list_any (has_this code) (items_of front) ≡ false
-    → ((m : Numbered AttributeSpec) (list : List (Numbered AttributeSpec)) → back ≡ m ∷ list → has_this code m.item ≡ true) → before_code code (items_of (front ++ back)) ≡ items_of front
+before_front : (code : ℕ) (front back : List (Numbered AttributeSpec))
+    → list_any (has_this code) (items_of front) ≡ false
+    → ((m : Numbered AttributeSpec) (list : List (Numbered AttributeSpec)) → back ≡ m ∷ list
+    → has_this code m.item ≡ true) → before_code code (items_of (front ++ back)) ≡ items_of front
 before_front code [] [] none passes = refl
 before_front code [] (m ∷ back) none passes = rw (passes m back refl) refl
 before_front code (n ∷ front) back none passes =
@@ -34,31 +36,42 @@ module _ (all : Attributes) (code : ℕ) where
 
   -- those before it come before the list that begins with it
   before_here : before_code code (specs_in all) ≡ items_of here.before
-  before_here = ap (λ (list : List (Numbered AttributeSpec)). before_code code (items_of list)) here.goes ∙ before_front code here.before (numbered_in (nodes_of all) (number_where (has_this code) (numbered all))) here.none here.passes
+  before_here =
+      ap (λ (list : List (Numbered AttributeSpec)). before_code code (items_of list)) here.goes
+      ∙ before_front code here.before (numbered_in (nodes_of all) (number_where (has_this code) (numbered all)))
+      here.none here.passes
 
   -- where the next value of no one size is not before it, each value before it has one size
-  pub sized_here : (n : Node) → IsKnown (nodes_of all) all.first n → n.next_varying ≤ number_where (has_this code) (numbered all) → list_any varies (before_code code (specs_in all)) ≡ false
+  pub sized_here : (n : Node) → IsKnown (nodes_of all) all.first n
+      → n.next_varying ≤ number_where (has_this code) (numbered all)
+      → list_any varies (before_code code (specs_in all)) ≡ false
   sized_here n is less =
       let to = number_where (has_this code) (numbered all) in
       let within = number_is_within (has_this code) all in
-      let next : number_where varies (here.before ++ numbered_in (nodes_of all) to) ≡ n.next_varying = ap (number_where varies) (sym here.goes) ∙ sym is.knows.varying in
+      let next : number_where varies (here.before ++ numbered_in (nodes_of all) to)
+      ≡ n.next_varying = ap (number_where varies) (sym here.goes) ∙ sym is.knows.varying in
       ap (list_any varies) before_here ∙ none_before varies all.first to here.before (numbered_in (nodes_of all) to)
-      (subst (Falls all.first) here.goes (falls (nodes_of all) all.lists.now.known all.first all.within)) (starts (nodes_of all) all.lists.now.known to within) (omega (arith, next, less))
+      (subst (Falls all.first) here.goes (falls (nodes_of all) all.lists.now.known all.first all.within))
+      (starts (nodes_of all) all.lists.now.known to within) (omega (arith, next, less))
 
   module _ (found : Attributes) (from : IsFrom (has_this code) all found) where
-    found_specs : known_sum 8 (specs_in found) ≡ known_sum 8 (items_of (numbered_in (nodes_of all) (number_where (has_this code) (numbered all))))
+    found_specs : known_sum 8 (specs_in found)
+        ≡ known_sum 8 (items_of (numbered_in (nodes_of all) (number_where (has_this code) (numbered all))))
     found_specs =
         ap (λ (nodes : List Node). known_sum 8 (items_of (numbered_in nodes found.first))) from.nodes
         ∙ ap (λ (number : ℕ). known_sum 8 (items_of (numbered_in (nodes_of all) number))) from.first
 
     -- the sum of their sizes
-    pub sum_here : (n : Node) → IsKnown (nodes_of all) all.first n → known_of 8 n ≡ known_sum 8 (before_code code (specs_in all)) + known_sum 8 (specs_in found)
+    pub sum_here : (n : Node) → IsKnown (nodes_of all) all.first n
+        → known_of 8 n ≡ known_sum 8 (before_code code (specs_in all)) + known_sum 8 (specs_in found)
     sum_here n is =
-        known_is 8 (numbered all) n (inr refl) is.knows ∙ sum_goes 8 (nodes_of all) all.first (number_where (has_this code) (numbered all)) here.before here.goes
+        known_is 8 (numbered all) n (inr refl) is.knows
+        ∙ sum_goes 8 (nodes_of all) all.first (number_where (has_this code) (numbered all)) here.before here.goes
         ∙ ap (λ (sum : ℕ). known_sum 8 (items_of here.before) + sum) (sym found_specs)
         ∙ ap (λ (specs : List AttributeSpec). known_sum 8 specs + known_sum 8 (specs_in found)) (sym before_here)
 
-    pub is_placed : (n : Node) (at : ℕ) (p : KnownPlace) → IsKnown (nodes_of all) all.first n → n.next_varying ≤ found.first → at ≡ known_of 8 n - known_sum 8 (specs_in found)
+    pub is_placed : (n : Node) (at : ℕ) (p : KnownPlace) → IsKnown (nodes_of all) all.first n
+        → n.next_varying ≤ found.first → at ≡ known_of 8 n - known_sum 8 (specs_in found)
         → p.attribute ≡ code → p.at ≡ at → p.list ≡ found.first → IsPlaced (numbered all) p
     is_placed n at p is less sum attribute_is at_is list_is =
         let first = from.first in
@@ -69,25 +82,34 @@ module _ (all : Attributes) (code : ℕ) where
         })
 
     -- so the values before it are cut off together
-    pub cut_here : (p : KnownPlace) → p.attribute ≡ code → IsPlaced (numbered all) p → (before : List (Numbered AttributeSpec)) → Ends all found before
+    pub cut_here : (p : KnownPlace) → p.attribute ≡ code → IsPlaced (numbered all) p
+        → (before : List (Numbered AttributeSpec)) → Ends all found before
         → (version : ℕ) (bytes : List ℕ) → values_end version 8 (items_of before) bytes ≡ cut_at p.at bytes
     cut_here p attribute_is placed before ends version bytes =
-        let same : before ≡ here.before = append_cancel_right before here.before (numbered_in (nodes_of all) (number_where (has_this code) (numbered all)))
-        (ap (λ (number : ℕ). before ++ numbered_in (nodes_of all) number) (sym from.first) ∙ sym ends.parts ∙ here.goes) in
+        let same : before ≡ here.before = append_cancel_right before here.before
+        (numbered_in (nodes_of all) (number_where (has_this code) (numbered all)))
+        (ap (λ (number : ℕ). before ++ numbered_in (nodes_of all) number) (sym from.first) ∙ sym ends.parts ∙ here.goes)
+        in
         let items : items_of before ≡ before_code code (specs_in all) = ap items_of same ∙ sym before_here in
-        let coded : before_code p.attribute (specs_in all) ≡ items_of before = ap (λ (c : ℕ). before_code c (specs_in all)) attribute_is ∙ sym items in
-        run version 8 before bytes (ap (list_any varies) (sym coded) ∙ placed.sized) ∙ ap (λ (n : ℕ). cut_at n bytes) (ap (known_sum 8) (sym coded) ∙ sym placed.sum)
+        let coded : before_code p.attribute (specs_in all)
+        ≡ items_of before = ap (λ (c : ℕ). before_code c (specs_in all)) attribute_is ∙ sym items in
+        run version 8 before bytes (ap (list_any varies) (sym coded) ∙ placed.sized)
+        ∙ ap (λ (n : ℕ). cut_at n bytes) (ap (known_sum 8) (sym coded) ∙ sym placed.sum)
 
 -- the first attribute comes before all values
-pub first_placed : (all : Attributes) (n : Node) (p : KnownPlace) → IsKnown (nodes_of all) all.first n → p.attribute ≡ n.attribute → p.at ≡ 0 → p.list ≡ all.first → IsPlaced (numbered all) p
+pub first_placed : (all : Attributes) (n : Node) (p : KnownPlace) → IsKnown (nodes_of all) all.first n
+    → p.attribute ≡ n.attribute → p.at ≡ 0 → p.list ≡ all.first → IsPlaced (numbered all) p
 first_placed all n p is attribute_is at_is list_is =
     let own : (n.attribute == n.attribute) ≡ true = eq_true n.attribute n.attribute refl in
     rw (attribute_is, is.begins) (record {
-      list_is = list_is ∙ sym (where_first (has_this n.attribute) (record { number = all.first; item = spec_of n }) (numbered_in (nodes_of all) n.next) own);
+      list_is =
+          list_is ∙ sym (where_first (has_this n.attribute) (record { number = all.first; item = spec_of n })
+          (numbered_in (nodes_of all) n.next) own);
       sized = rw own refl;
       sum = rw own at_is;
     })
 
-pub none_placed : (all : Attributes) (p : KnownPlace) → all.first ≡ 0 → numbered all ≡ [] → p.at ≡ 0 → p.list ≡ all.first → IsPlaced (numbered all) p
+pub none_placed : (all : Attributes) (p : KnownPlace) → all.first ≡ 0 → numbered all ≡ [] → p.at ≡ 0
+    → p.list ≡ all.first → IsPlaced (numbered all) p
 unfolding number_where
 none_placed all p none is at_is list_is = rw is (record { list_is = list_is ∙ none; sized = refl; sum = at_is })

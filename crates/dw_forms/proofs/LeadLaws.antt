@@ -17,24 +17,37 @@ Says lead.Text form code leads = (form ≡ Strp) × (code ≢ DW_AT_type)
 Says lead.TypeEntry form code leads = (form ≡ Ref4) × (code ≡ DW_AT_type)
 Says lead.Sibling form code leads = (form ≡ Ref4) × (code ≡ DW_AT_sibling)
 Says lead.Specification form code leads = (form ≡ Ref4) × (code ≡ DW_AT_specification)
-Says lead.Entry form code leads = (form ≡ Ref4) × (code ≢ DW_AT_type) × (code ≢ DW_AT_sibling) × (code ≢ DW_AT_specification) × (code ≢ DW_AT_import) × (code ≢ DW_AT_signature)
+Says lead.Entry form code leads =
+    (form ≡ Ref4) × (code ≢ DW_AT_type) × (code ≢ DW_AT_sibling) × (code ≢ DW_AT_specification) × (code ≢ DW_AT_import)
+    × (code ≢ DW_AT_signature)
 Says lead.Index1 form code leads = (form ≡ Strx1) × (code ≢ DW_AT_type)
 Says lead.Index2 form code leads = (form ≡ Strx2) × (code ≢ DW_AT_type)
 Says lead.Address form code leads = (form ≡ Addrx) × (code ≢ DW_AT_type)
 Says lead.Passed form code leads = leads ≡ false
 Says lead.Other form code leads = ⊤
 
-reference_says : (code : ℕ) (b : Bool) (a1 a2 a3 a4 a5 : Bool) → (code == DW_AT_type) ≡ a1 → (code == DW_AT_sibling) ≡ a2 → (code == DW_AT_specification) ≡ a3 → (code == DW_AT_import) ≡ a4 → (code == DW_AT_signature) ≡ a5
-    → Says (if a1 then lead.TypeEntry else (if a2 then lead.Sibling else (if a3 then lead.Specification else (if a4 || a5 then lead.Other else lead.Entry)))) Ref4 code b
+reference_says : (code : ℕ) (b : Bool) (a1 a2 a3 a4 a5 : Bool) → (code == DW_AT_type) ≡ a1
+    → (code == DW_AT_sibling) ≡ a2 → (code == DW_AT_specification) ≡ a3 → (code == DW_AT_import) ≡ a4
+    → (code == DW_AT_signature) ≡ a5
+    → Says (if a1 then lead.TypeEntry else
+    (if a2 then lead.Sibling else (if a3 then lead.Specification else (if a4 || a5 then lead.Other else lead.Entry))))
+    Ref4 code b
 reference_says code b true a2 a3 a4 a5 e1 e2 e3 e4 e5 = (refl, eqb-true code DW_AT_type e1)
 reference_says code b false true a3 a4 a5 e1 e2 e3 e4 e5 = (refl, eqb-true code DW_AT_sibling e2)
 reference_says code b false false true a4 a5 e1 e2 e3 e4 e5 = (refl, eqb-true code DW_AT_specification e3)
 reference_says code b false false false true a5 e1 e2 e3 e4 e5 = tt
 reference_says code b false false false false true e1 e2 e3 e4 e5 = tt
-reference_says code b false false false false false e1 e2 e3 e4 e5 =
-    (refl, eqb-false code DW_AT_type e1, eqb-false code DW_AT_sibling e2, eqb-false code DW_AT_specification e3, eqb-false code DW_AT_import e4, eqb-false code DW_AT_signature e5)
+reference_says code b false false false false false e1 e2 e3 e4 e5 = (
+  refl,
+  eqb-false code DW_AT_type e1,
+  eqb-false code DW_AT_sibling e2,
+  eqb-false code DW_AT_specification e3,
+  eqb-false code DW_AT_import e4,
+  eqb-false code DW_AT_signature e5,
+)
 
-value_says : (l : Lead) (form : Form) (code : ℕ) (b a : Bool) → (code == DW_AT_type) ≡ a → ((code ≢ DW_AT_type) → Says l form code b) → Says (if a then lead.Other else l) form code b
+value_says : (l : Lead) (form : Form) (code : ℕ) (b a : Bool) → (code == DW_AT_type) ≡ a
+    → ((code ≢ DW_AT_type) → Says l form code b) → Says (if a then lead.Other else l) form code b
 value_says l form code b true e says = tt
 value_says l form code b false e says = says (eqb-false code DW_AT_type e)
 

@@ -28,19 +28,24 @@ use Rattle.dw_forms.proofs.OffsetLaws.{begins_within, apart_push, along_pop, alo
 
 -- ---- what stays
 
-pub lists_stay : (more nodes : List Node) (number : ℕ) → number ≤ length nodes → numbered_in (nodes ++ more) number ≡ numbered_in nodes number
+pub lists_stay : (more nodes : List Node) (number : ℕ) → number ≤ length nodes
+    → numbered_in (nodes ++ more) number ≡ numbered_in nodes number
 lists_stay [] nodes number within = ap (λ (all : List Node). numbered_in all number) (append-nil nodes)
 lists_stay (n ∷ more) nodes number within =
     ap (λ (all : List Node). numbered_in all number) (sym (append_assoc nodes (n ∷ []) more))
-    ∙ lists_stay more (nodes ++ n ∷ []) number (omega (arith, within, length-append nodes (n ∷ []))) ∙ old_list nodes n number within
+    ∙ lists_stay more (nodes ++ n ∷ []) number (omega (arith, within, length-append nodes (n ∷ [])))
+    ∙ old_list nodes n number within
 
-pub list_stays : (section : List ℕ) (old new : List Node) (offset number end : ℕ) → Stay old new → IsListAt section old offset number end → IsListAt section new offset number end
+pub list_stays : (section : List ℕ) (old new : List Node) (offset number end : ℕ) → Stay old new
+    → IsListAt section old offset number end → IsListAt section new offset number end
 list_stays section old new offset number end stay is = search (rules, length-append, lists_stay)
 
 -- ---- one attribute more
 
 -- the lists stay where they are, and so does one more
-pub placed_more : (section : List ℕ) (nodes : List Node) (n : Node) (starts ends : List ℕ) (at end : ℕ) → ArePlaced section nodes starts ends → NothingAt starts at → at < length section → IsListAt section (nodes ++ n ∷ []) at (suc (length nodes)) end
+pub placed_more : (section : List ℕ) (nodes : List Node) (n : Node) (starts ends : List ℕ) (at end : ℕ)
+    → ArePlaced section nodes starts ends → NothingAt starts at → at < length section
+    → IsListAt section (nodes ++ n ∷ []) at (suc (length nodes)) end
     → ArePlaced section (nodes ++ n ∷ []) (starts ++ at ∷ []) (ends ++ end ∷ [])
 placed_more section nodes n starts ends at end placed nothing less_at is = record {
   apart = apart_push (length section) starts at placed.apart nothing less_at;
@@ -50,14 +55,21 @@ placed_more section nodes n starts ends at end placed nothing less_at is = recor
 }
 
 -- where no list begins after attributes, none begins with them
-none_along : (section : List ℕ) (pairs : List (Placed AttributeSpec)) (offset end : ℕ) → AreAlong (IsPairAt section) pairs offset end → NoListAt section end → NoListAt section offset
-none_along section = along_back (IsPairAt section) (NoListAt section) (λ offset next spec e none. none_before reads_attributes (drop offset section) (drop next section) spec e.is none)
+none_along : (section : List ℕ) (pairs : List (Placed AttributeSpec)) (offset end : ℕ)
+    → AreAlong (IsPairAt section) pairs offset end → NoListAt section end → NoListAt section offset
+none_along section =
+    along_back (IsPairAt section) (NoListAt section)
+    (λ offset next spec e none. none_before reads_attributes (drop offset section) (drop next section) spec e.is none)
 
 -- ---- a turn: the last attribute before a list, and the list
 
-module _ {section : List ℕ} {old : List Node} {starts : List ℕ} {offset first end : ℕ} {all : List (Placed AttributeSpec)} (left : List (Placed AttributeSpec)) (p : Placed AttributeSpec) (parts : all ≡ left ++ p ∷ []) (leads : Leads section old starts all offset first end) where
+module _ {section : List ℕ} {old : List Node} {starts : List ℕ} {offset first end : ℕ}
+    {all : List (Placed AttributeSpec)} (left : List (Placed AttributeSpec)) (p : Placed AttributeSpec)
+    (parts : all ≡ left ++ p ∷ []) (leads : Leads section old starts all offset first end) where
   popped : AreAlong (IsPairAt section) left offset p.at × IsPairAt section p.at p.item leads.next
-  popped = along_pop (IsPairAt section) left offset leads.next p (subst (λ (xs : List (Placed AttributeSpec)). AreAlong (IsPairAt section) xs offset leads.next) parts leads.along)
+  popped =
+      along_pop (IsPairAt section) left offset leads.next p
+      (subst (λ (xs : List (Placed AttributeSpec)). AreAlong (IsPairAt section) xs offset leads.next) parts leads.along)
 
   pub pair_less : p.at < length section
   pair_less = let e = popped.1 in omega (arith, e.rises, e.fits)
@@ -66,7 +78,10 @@ module _ {section : List ℕ} {old : List Node} {starts : List ℕ} {offset firs
   code_before = is_good reads_attributes (drop p.at section) (drop leads.next section) p.item popped.1.is
 
   pub no_list : (new : List Node) → AddedSpec p.item first old new None → NoListAt section offset
-  no_list new added = none_along section left offset p.at popped.0 (none_twice reads_attributes (drop p.at section) (drop leads.next section) (drop end section) p.item (list_in old first) popped.1.is leads.list.list
+  no_list new added =
+      none_along section left offset p.at popped.0
+      (none_twice reads_attributes (drop p.at section) (drop leads.next section) (drop end section) p.item
+      (list_in old first) popped.1.is leads.list.list
       (λ lacks. let e = lacks_test attribute_of p.item.attribute (list_in old first) lacks in cc))
 
   pub next_new : NothingAt starts p.at × AreNew (starts ++ p.at ∷ []) left
@@ -79,7 +94,8 @@ module _ {section : List ℕ} {old : List Node} {starts : List ℕ} {offset firs
     made : list_in (old ++ last.node ∷ []) (suc (length old)) ≡ p.item ∷ list_in old first
     made =
         ap (λ (list : List (Numbered AttributeSpec)). items_of list) (new_list old last.node)
-        ∙ ap (λ (s : AttributeSpec). s ∷ list_in old last.node.next) last.spec_is ∙ ap (λ (n : ℕ). p.item ∷ list_in old n) last.next_is
+        ∙ ap (λ (s : AttributeSpec). s ∷ list_in old last.node.next) last.spec_is
+        ∙ ap (λ (n : ℕ). p.item ∷ list_in old n) last.next_is
 
     here : IsListAt section (old ++ last.node ∷ []) p.at (suc (length old)) end
     here =
@@ -87,7 +103,11 @@ module _ {section : List ℕ} {old : List Node} {starts : List ℕ} {offset firs
         let less = popped.1.rises in
         record {
           within = omega (arith, length-append old (last.node ∷ []));
-          list = list_more reads_attributes (drop p.at section) (drop leads.next section) (drop end section) p.item (list_in old first) popped.1.is leads.list.list (lacks_from attribute_of p.item.attribute (list_in old first) added.0) ∙ ap (λ (specs : List AttributeSpec). Ok (specs, drop end section)) (sym made);
+          list =
+              list_more reads_attributes (drop p.at section) (drop leads.next section) (drop end section) p.item
+              (list_in old first) popped.1.is leads.list.list
+              (lacks_from attribute_of p.item.attribute (list_in old first) added.0)
+              ∙ ap (λ (specs : List AttributeSpec). Ok (specs, drop end section)) (sym made);
           rises = omega (arith, less, rises);
           fits = leads.list.fits;
         }
@@ -97,12 +117,16 @@ module _ {section : List ℕ} {old : List Node} {starts : List ℕ} {offset firs
       next = p.at;
       along = popped.0;
       new = next_new.1;
-      list = subst (λ (n : ℕ). IsListAt section new p.at n end) (sym added.1) (subst (λ (ns : List Node). IsListAt section ns p.at (suc (length old)) end) (sym last.nodes) here);
+      list =
+          subst (λ (n : ℕ). IsListAt section new p.at n end) (sym added.1)
+          (subst (λ (ns : List Node). IsListAt section ns p.at (suc (length old)) end) (sym last.nodes) here);
     }
 
-    pub next_placed : (ends : List ℕ) → ArePlaced section old starts ends → ArePlaced section new (starts ++ p.at ∷ []) (ends ++ end ∷ [])
+    pub next_placed : (ends : List ℕ) → ArePlaced section old starts ends
+        → ArePlaced section new (starts ++ p.at ∷ []) (ends ++ end ∷ [])
     next_placed ends placed =
-        subst (λ (ns : List Node). ArePlaced section ns (starts ++ p.at ∷ []) (ends ++ end ∷ [])) (sym last.nodes) (placed_more section old last.node starts ends p.at end placed next_new.0 pair_less here)
+        subst (λ (ns : List Node). ArePlaced section ns (starts ++ p.at ∷ []) (ends ++ end ∷ [])) (sym last.nodes)
+        (placed_more section old last.node starts ends p.at end placed next_new.0 pair_less here)
 
     pub next_stay : Stay old new
     next_stay = (last.node ∷ [], last.nodes)
@@ -110,19 +134,28 @@ module _ {section : List ℕ} {old : List Node} {starts : List ℕ} {offset firs
 -- ---- what is read at an offset
 
 -- what is left after a pair is an end of the section
-pub pair_rest : (section : List ℕ) (offset : ℕ) (o : Option AttributeSpec) (after : List ℕ) → pair_at [] (drop offset section) ≡ Ok (o, after) → after ≡ drop (length section - length after) section
-pair_rest section offset o after e = let t = taken reads_attributes (drop offset section) o after e in rest_of section offset t.text after t.parts
+pub pair_rest : (section : List ℕ) (offset : ℕ) (o : Option AttributeSpec) (after : List ℕ)
+    → pair_at [] (drop offset section) ≡ Ok (o, after) → after ≡ drop (length section - length after) section
+pair_rest section offset o after e =
+    let t = taken reads_attributes (drop offset section) o after e in rest_of section offset t.text after t.parts
 
 -- at the pair 0, 0 begins the list without attributes
-pub end_list : (section : List ℕ) (nodes : List Node) (at after : ℕ) → pair_at [] (drop at section) ≡ Ok (None, drop after section) → at < after → after ≤ length section → IsListAt section nodes at 0 after
+pub end_list : (section : List ℕ) (nodes : List Node) (at after : ℕ)
+    → pair_at [] (drop at section) ≡ Ok (None, drop after section) → at < after → after ≤ length section
+    → IsListAt section nodes at 0 after
 end_list section nodes at after e rises fits = search (rules, (list_end pair_at (broken AbbrevCut 0)), chain_none)
 
 -- where an attribute is broken, no list begins before it
-pub pairs_break : (section : List ℕ) (pairs : List (Placed AttributeSpec)) (offset at : ℕ) → AreAlong (IsPairAt section) pairs offset at → (error : Stop DeclFault) → FailsOrMemory error (pair_at [] (drop at section)) → IfFault (λ _. NoListAt section offset) error
+pub pairs_break : (section : List ℕ) (pairs : List (Placed AttributeSpec)) (offset at : ℕ)
+    → AreAlong (IsPairAt section) pairs offset at → (error : Stop DeclFault)
+    → FailsOrMemory error (pair_at [] (drop at section)) → IfFault (λ _. NoListAt section offset) error
 pairs_break section pairs offset at after stops.Memory e = tt
-pairs_break section pairs offset at after (stops.Fault fault) e = none_along section pairs offset at after (none_broken pair_at _ (drop at section) fault e)
+pairs_break section pairs offset at after (stops.Fault fault) e =
+    none_along section pairs offset at after (none_broken pair_at _ (drop at section) fault e)
 
 -- a list that is kept begins at its offset
-pub kept_list : (section : List ℕ) (nodes : List Node) (starts ends : List ℕ) (offset number end : ℕ) → ArePlaced section nodes starts ends → BeginsAt starts number offset → 0 < number → end ≡ get_or ends (number - 1) 0
+pub kept_list : (section : List ℕ) (nodes : List Node) (starts ends : List ℕ) (offset number end : ℕ)
+    → ArePlaced section nodes starts ends → BeginsAt starts number offset → 0 < number
+    → end ≡ get_or ends (number - 1) 0
     → IsListAt section nodes offset number end
 kept_list section nodes starts ends offset number end placed begins some read = search (rules, begins_within)

@@ -33,73 +33,96 @@ codes_parts (n ∷ nodes) = ap (λ (rest : List (ℕ × ℕ)). (n.attribute, n.n
 abbrev pub attribute_in : List Node → ℕ → ℕ → ℕ
 attribute_in nodes number code = number_where (λ (s : AttributeSpec). s.attribute == code) (numbered_in nodes number)
 
-pub code_is : (links : List Link) (nodes : List Node) (number code : ℕ) → AreCoded links nodes → number_in (codes_in links number) code ≡ attribute_in nodes number code
+pub code_is : (links : List Link) (nodes : List Node) (number code : ℕ) → AreCoded links nodes
+    → number_in (codes_in links number) code ≡ attribute_in nodes number code
 code_is links nodes number code are =
     ap (λ (items : List (ℕ × ℕ)). number_in (chain_in (chains_of items) number) code) (are ∙ codes_parts nodes)
     ∙ ap (λ (chain : List (Numbered ℕ)). number_in chain code) (chain_map attribute_of (specs_of nodes) number)
     ∙ where_map (λ c. c == code) attribute_of (numbered_in nodes number)
 
-pub lacks : (links : List Link) (nodes : List Node) (number code : ℕ) → AreCoded links nodes → number_in (codes_in links number) code ≡ 0 → has_attribute code (list_in nodes number) ≡ false
+pub lacks : (links : List Link) (nodes : List Node) (number code : ℕ) → AreCoded links nodes
+    → number_in (codes_in links number) code ≡ 0 → has_attribute code (list_in nodes number) ≡ false
 lacks links nodes number code are none =
-    none_has (λ (s : AttributeSpec). s.attribute == code) (specs_of nodes) (numbered_in nodes number) (are_numbered (specs_of nodes) number) (sym (code_is links nodes number code are) ∙ none)
+    none_has (λ (s : AttributeSpec). s.attribute == code) (specs_of nodes) (numbered_in nodes number)
+    (are_numbered (specs_of nodes) number) (sym (code_is links nodes number code are) ∙ none)
 
-pub has : (links : List Link) (nodes : List Node) (number code : ℕ) → AreCoded links nodes → 0 < number_in (codes_in links number) code → has_attribute code (list_in nodes number) ≡ true
+pub has : (links : List Link) (nodes : List Node) (number code : ℕ) → AreCoded links nodes
+    → 0 < number_in (codes_in links number) code → has_attribute code (list_in nodes number) ≡ true
 has links nodes number code are some =
     let same = code_is links nodes number code are in
-    some_has (λ (s : AttributeSpec). s.attribute == code) (numbered_in nodes number) (λ none. omega (arith, none, same, some))
+    some_has (λ (s : AttributeSpec). s.attribute == code) (numbered_in nodes number)
+    (λ none. omega (arith, none, same, some))
 
 -- an attribute is in the list exactly if the search finds a link
-pub has_is : (links : List Link) (nodes : List Node) (number code found : ℕ) → AreCoded links nodes → found ≡ number_in (codes_in links number) code → not (found == 0) ≡ has_attribute code (list_in nodes number)
+pub has_is : (links : List Link) (nodes : List Node) (number code found : ℕ) → AreCoded links nodes
+    → found ≡ number_in (codes_in links number) code → not (found == 0) ≡ has_attribute code (list_in nodes number)
 has_is links nodes number code found are is = search (rules, cases_eq, eq_true, lacks, differ, has)
 
 -- ---- one attribute more
 
-pub specs_more : (nodes : List Node) (n : Node) → specs_of (nodes ++ n ∷ []) ≡ specs_of nodes ++ (spec_of n, n.next) ∷ []
+pub specs_more : (nodes : List Node) (n : Node)
+    → specs_of (nodes ++ n ∷ []) ≡ specs_of nodes ++ (spec_of n, n.next) ∷ []
 specs_more nodes n = map-append (λ (x : Node). (spec_of x, x.next)) nodes (n ∷ [])
 
 -- the old lists stay
-pub old_list : (nodes : List Node) (n : Node) (number : ℕ) → number ≤ length nodes → numbered_in (nodes ++ n ∷ []) number ≡ numbered_in nodes number
+pub old_list : (nodes : List Node) (n : Node) (number : ℕ) → number ≤ length nodes
+    → numbered_in (nodes ++ n ∷ []) number ≡ numbered_in nodes number
 old_list nodes n number within = search (rules, specs_more, old_chain, length-map)
 
 -- the new one is the attribute and the list after it
-pub new_list : (nodes : List Node) (n : Node) → numbered_in (nodes ++ n ∷ []) (suc (length nodes)) ≡ record { number = suc (length nodes); item = spec_of n } ∷ numbered_in nodes n.next
+pub new_list : (nodes : List Node) (n : Node)
+    → numbered_in (nodes ++ n ∷ []) (suc (length nodes))
+    ≡ record { number = suc (length nodes); item = spec_of n } ∷ numbered_in nodes n.next
 new_list nodes n = search (rules, length-map, specs_more, new_chain)
 
 -- the links have its code, too
-pub coded_more : (old new : List Link) (nodes : List Node) (n : Node) → AreCoded old nodes → codes_of new ≡ codes_of old ++ (n.attribute, n.next) ∷ [] → AreCoded new (nodes ++ n ∷ [])
+pub coded_more : (old new : List Link) (nodes : List Node) (n : Node) → AreCoded old nodes
+    → codes_of new ≡ codes_of old ++ (n.attribute, n.next) ∷ [] → AreCoded new (nodes ++ n ∷ [])
 coded_more old new nodes n are more = search (rules, map-append)
 
-pub coded_push : (old new : List Link) (nodes : List Node) (n : Node) (spec : AttributeSpec) (rest code : ℕ) → spec_of n ≡ spec → n.next ≡ rest → code ≡ spec.attribute → AreCoded old nodes
+pub coded_push : (old new : List Link) (nodes : List Node) (n : Node) (spec : AttributeSpec) (rest code : ℕ)
+    → spec_of n ≡ spec → n.next ≡ rest → code ≡ spec.attribute → AreCoded old nodes
     → codes_of new ≡ codes_of old ++ (code, rest) ∷ [] → AreCoded new (nodes ++ n ∷ [])
 coded_push old new nodes n spec rest code spec_is next_is code_is are more = search (rules, code_is, coded_more)
 
 pub links_long : (links : List Link) (nodes : List Node) → AreCoded links nodes → length links ≡ length nodes
-links_long links nodes are = sym (codes_long links) ∙ ap length are ∙ length-map {B = ℕ × ℕ} nodes (λ (n : Node). (n.attribute, n.next))
+links_long links nodes are =
+    sym (codes_long links) ∙ ap length are ∙ length-map {B = ℕ × ℕ} nodes (λ (n : Node). (n.attribute, n.next))
 
 -- ---- what is known of the new list
 
-pub attributes_more : (spec : AttributeSpec) (specs : List AttributeSpec) → AreAttributes specs → IsCode16 spec.attribute → has_attribute spec.attribute specs ≡ false → AreAttributes (spec ∷ specs)
+pub attributes_more : (spec : AttributeSpec) (specs : List AttributeSpec) → AreAttributes specs
+    → IsCode16 spec.attribute → has_attribute spec.attribute specs ≡ false → AreAttributes (spec ∷ specs)
 attributes_more spec specs are code none = grind (arith, common_steps, apart_cons, lacks_from)
 
-pub attributes_in : (nodes : List Node) (number : ℕ) → AreKnown nodes → number ≤ length nodes → AreAttributes (list_in nodes number)
+pub attributes_in : (nodes : List Node) (number : ℕ) → AreKnown nodes → number ≤ length nodes
+    → AreAttributes (list_in nodes number)
 attributes_in nodes zero known within = rw (chain_none (specs_of nodes)) none_apart
 attributes_in [] (suc k) known within = absurd (omega (arith, within))
 attributes_in (d ∷ nodes) (suc k) known within =
-    (known k (get_or (d ∷ nodes) k d) (omega (arith, within)) (get_or_default (d ∷ nodes) k d (get_or (d ∷ nodes) k d) (omega (arith, within)))).attributes
+    (known k (get_or (d ∷ nodes) k d) (omega (arith, within))
+    (get_or_default (d ∷ nodes) k d (get_or (d ∷ nodes) k d) (omega (arith, within)))).attributes
 
 module _ (nodes : List Node) (n : Node) where
-  old_known : (number : ℕ) (x : Node) → number ≤ length nodes → IsKnown nodes number x → IsKnown (nodes ++ n ∷ []) number x
+  old_known : (number : ℕ) (x : Node) → number ≤ length nodes → IsKnown nodes number x
+      → IsKnown (nodes ++ n ∷ []) number x
   old_known number x within is = search (rules, old_list)
 
-  pub known_more : AreKnown nodes → n.next ≤ length nodes → IsCode16 n.attribute → has_attribute n.attribute (list_in nodes n.next) ≡ false
-      → Knows (record { number = suc (length nodes); item = spec_of n } ∷ numbered_in nodes n.next) n → IsStep (numbered_in nodes n.next) n.after → AreKnown (nodes ++ n ∷ [])
+  pub known_more : AreKnown nodes → n.next ≤ length nodes → IsCode16 n.attribute
+      → has_attribute n.attribute (list_in nodes n.next) ≡ false
+      → Knows (record { number = suc (length nodes); item = spec_of n } ∷ numbered_in nodes n.next) n
+      → IsStep (numbered_in nodes n.next) n.after → AreKnown (nodes ++ n ∷ [])
   known_more known within code none knows after k x less read = elim (cases_eq k (length nodes)) [
     | inl same ↦
         let is : x ≡ n = read ∙ get_or_at nodes n [] x k (sym same) in
         rw (is, same) (record {
           next = omega (arith, within);
-          begins = new_list nodes n ∙ ap (λ (list : List (Numbered AttributeSpec)). record { number = suc (length nodes); item = spec_of n } ∷ list) (sym (old_list nodes n n.next within));
-          attributes = rw (new_list nodes n) (attributes_more (spec_of n) (list_in nodes n.next) (attributes_in nodes n.next known within) code none);
+          begins =
+              new_list nodes n ∙ ap (λ (list : List (Numbered AttributeSpec)).
+              record { number = suc (length nodes); item = spec_of n } ∷ list) (sym (old_list nodes n n.next within));
+          attributes =
+              rw (new_list nodes n) (attributes_more (spec_of n) (list_in nodes n.next)
+              (attributes_in nodes n.next known within) code none);
           knows = rw (new_list nodes n) knows;
           after = rw (old_list nodes n n.next within) after;
         })
@@ -108,6 +131,9 @@ module _ (nodes : List Node) (n : Node) where
         old_known (suc k) x before (known k x before (read ∙ get_or_append_left nodes (n ∷ []) x k before))
   ]
 
-  pub known_push : (spec : AttributeSpec) (rest number : ℕ) → spec_of n ≡ spec → n.next ≡ rest → number ≡ suc (length nodes) → AreKnown nodes → rest ≤ length nodes → IsCode16 spec.attribute
-      → has_attribute spec.attribute (list_in nodes rest) ≡ false → Knows (record { number = number; item = spec } ∷ numbered_in nodes rest) n → IsStep (numbered_in nodes rest) n.after → AreKnown (nodes ++ n ∷ [])
+  pub known_push : (spec : AttributeSpec) (rest number : ℕ) → spec_of n ≡ spec → n.next ≡ rest
+      → number ≡ suc (length nodes) → AreKnown nodes → rest ≤ length nodes → IsCode16 spec.attribute
+      → has_attribute spec.attribute (list_in nodes rest) ≡ false
+      → Knows (record { number = number; item = spec } ∷ numbered_in nodes rest) n
+      → IsStep (numbered_in nodes rest) n.after → AreKnown (nodes ++ n ∷ [])
   known_push spec rest number spec_is next_is number_is known within code none knows after = search (rules, known_more)

@@ -12,12 +12,15 @@ use Rattle.dw_forms.specs.Plans.{known_size, known_sum}
 use Rattle.dw_forms.proofs.FewAttributes.{few_specs}
 
 -- the next list of a kind: this one, or the next after it
-pub next_more : (test : AttributeSpec → Bool) (number : ℕ) (spec : AttributeSpec) (list : List (Numbered AttributeSpec)) (b : Bool) (next result : ℕ)
-    → b ≡ test spec → next ≡ number_where test list → result ≡ cond b number next → result ≡ number_where test (record { number = number; item = spec } ∷ list)
+pub next_more : (test : AttributeSpec → Bool) (number : ℕ) (spec : AttributeSpec) (list : List (Numbered AttributeSpec))
+    (b : Bool) (next result : ℕ)
+    → b ≡ test spec → next ≡ number_where test list → result ≡ cond b number next
+    → result ≡ number_where test (record { number = number; item = spec } ∷ list)
 unfolding number_where
 next_more test number spec list b next result here there is = rw (is, here, there) refl
 
-pub sum_more : (size : ℕ) (spec : AttributeSpec) (specs : List AttributeSpec) (known own : ℕ) → known ≡ known_sum size specs → own ≡ known_size size spec.form → known + own ≡ known_sum size (spec ∷ specs)
+pub sum_more : (size : ℕ) (spec : AttributeSpec) (specs : List AttributeSpec) (known own : ℕ)
+    → known ≡ known_sum size specs → own ≡ known_size size spec.form → known + own ≡ known_sum size (spec ∷ specs)
 sum_more size spec specs known own e o = search (rules, sum_by-cons)
 
 -- whether both hold, if the second one holds
@@ -32,10 +35,13 @@ and_false false all result next e failed is = is ∙ failed
 
 -- ---- the sums are small
 
-pub known_small : (list : List (Numbered AttributeSpec)) (known : ℕ) → AreAttributes (items_of list) → known ≤ 0xff * length list → known ≤ 0xffffff
-known_small list known are le = omega (arith, le, few_specs (items_of list) are, length-map list (λ (n : Numbered AttributeSpec). n.item))
+pub known_small : (list : List (Numbered AttributeSpec)) (known : ℕ) → AreAttributes (items_of list)
+    → known ≤ 0xff * length list → known ≤ 0xffffff
+known_small list known are le =
+    omega (arith, le, few_specs (items_of list) are, length-map list (λ (n : Numbered AttributeSpec). n.item))
 
 -- ---- the node that is read at the place before a number
 
-pub node_read : (nodes : List Node) (number : ℕ) (n : Node) → AreKnown nodes → 0 < number → number ≤ length nodes → n ≡ get_or nodes (number - 1) n → IsKnown nodes number n
+pub node_read : (nodes : List Node) (number : ℕ) (n : Node) → AreKnown nodes → 0 < number → number ≤ length nodes
+    → n ≡ get_or nodes (number - 1) n → IsKnown nodes number n
 node_read nodes number n are some within read = search (rules)

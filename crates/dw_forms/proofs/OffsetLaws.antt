@@ -14,12 +14,15 @@ use Rattle.dw_forms.specs.Offsets.{BeginsAt, NothingAt, AreApart, AreAlong, AreN
 use Rattle.dw_forms.proofs.BitLaws.{differ}
 
 -- what begins at an offset is one of those that are kept
-pub begins_within : (starts : List ℕ) (number offset : ℕ) → BeginsAt starts number offset → (number - 1 < length starts) × (get_or starts (number - 1) 0 ≡ offset)
-begins_within starts number offset e = (slice_get_within starts (number - 1) offset e, get_or_from_slice_get starts (number - 1) offset 0 e)
+pub begins_within : (starts : List ℕ) (number offset : ℕ) → BeginsAt starts number offset
+    → (number - 1 < length starts) × (get_or starts (number - 1) 0 ≡ offset)
+begins_within starts number offset e =
+    (slice_get_within starts (number - 1) offset e, get_or_from_slice_get starts (number - 1) offset 0 e)
 
 -- ---- nothing begins at an offset
 
-pub nothing_push : (starts : List ℕ) (start offset : ℕ) → NothingAt starts offset → (start ≡ offset → ⊥) → NothingAt (starts ++ start ∷ []) offset
+pub nothing_push : (starts : List ℕ) (start offset : ℕ) → NothingAt starts offset → (start ≡ offset → ⊥)
+    → NothingAt (starts ++ start ∷ []) offset
 nothing_push starts start offset nothing other k less same =
     search (rules, cases_eq, get_or_at, length-append, get_or_append_left)
 
@@ -27,7 +30,9 @@ nothing_push starts start offset nothing other k less same =
 
 none_any : (starts : List ℕ) (offset : ℕ) → NothingAt starts offset → list_any (nat_eq offset) starts ≡ false
 none_any starts offset nothing =
-    list_any_none (nat_eq offset) starts (λ k d less. differ offset (get_or starts k d) (λ same. nothing k less (get_or_default starts k 0 d less ∙ sym same)))
+    list_any_none (nat_eq offset) starts
+    (λ k d less. differ offset (get_or starts k d)
+    (λ same. nothing k less (get_or_default starts k 0 d less ∙ sym same)))
 
 either : (a b : Bool) → (a || (b || false)) ≡ true → (a ≡ true) ⊎ (b ≡ true)
 either true b e = inl refl
@@ -40,7 +45,8 @@ apart_none end = record {
   before = λ offset any. let no : false ≡ true = any in absurd cc;
 }
 
-pub apart_push : (end : ℕ) (starts : List ℕ) (start : ℕ) → AreApart end starts → NothingAt starts start → start < end → AreApart end (starts ++ start ∷ [])
+pub apart_push : (end : ℕ) (starts : List ℕ) (start : ℕ) → AreApart end starts → NothingAt starts start → start < end
+    → AreApart end (starts ++ start ∷ [])
 apart_push end starts start are nothing less = record {
   distinct = IsDistinct-push nat_eq_equiv starts start are.distinct (none_any starts start nothing);
   before = search (rules, either, list_any-append, eqb-true);
@@ -53,41 +59,55 @@ apart_few end starts are = length-le_from_distinct_below starts end are.distinct
 -- ---- things one after another
 
 module _ {T : Type 0} (Is : ℕ → T → ℕ → Type 0) where
-  pub along_push : (xs : List (Placed T)) (offset end next : ℕ) (x : T) → AreAlong Is xs offset end → Is end x next → AreAlong Is (xs ++ record { at = end; item = x } ∷ []) offset next
+  pub along_push : (xs : List (Placed T)) (offset end next : ℕ) (x : T) → AreAlong Is xs offset end → Is end x next
+      → AreAlong Is (xs ++ record { at = end; item = x } ∷ []) offset next
   along_push [] offset end next x here is = (sym here, next, subst (λ (n : ℕ). Is n x next) (sym here) is, refl)
   along_push (y ∷ xs) offset end next x a is = (a.0, a.1, a.2, along_push xs a.1 end next x a.3 is)
 
-  pub along_pop : (xs : List (Placed T)) (offset end : ℕ) (x : Placed T) → AreAlong Is (xs ++ x ∷ []) offset end → AreAlong Is xs offset x.at × Is x.at x.item end
-  along_pop [] offset end x a = (sym a.0, subst (λ (n : ℕ). Is n x.item end) (sym a.0) (subst (λ (n : ℕ). Is offset x.item n) a.3 a.2))
+  pub along_pop : (xs : List (Placed T)) (offset end : ℕ) (x : Placed T) → AreAlong Is (xs ++ x ∷ []) offset end
+      → AreAlong Is xs offset x.at × Is x.at x.item end
+  along_pop [] offset end x a =
+      (sym a.0, subst (λ (n : ℕ). Is n x.item end) (sym a.0) (subst (λ (n : ℕ). Is offset x.item n) a.3 a.2))
   along_pop (y ∷ xs) offset end x a = let r = along_pop xs a.1 end x a.3 in ((a.0, a.1, a.2, r.0), r.1)
 
   -- what passes from the end of each to its offset passes from the end of all
-  pub along_back : (P : ℕ → Type 0) → ((offset next : ℕ) (x : T) → Is offset x next → P next → P offset) → (xs : List (Placed T)) (offset end : ℕ) → AreAlong Is xs offset end → P end → P offset
+  pub along_back : (P : ℕ → Type 0) → ((offset next : ℕ) (x : T) → Is offset x next → P next → P offset)
+      → (xs : List (Placed T)) (offset end : ℕ) → AreAlong Is xs offset end → P end → P offset
   along_back P back [] offset end here p = subst P (sym here) p
   along_back P back (x ∷ xs) offset end a p = back offset a.1 x.item a.2 (along_back P back xs a.1 end a.3 p)
 
   module _ (rises : (offset next : ℕ) (x : T) → Is offset x next → offset < next) where
     along_on : (xs : List (Placed T)) (offset end : ℕ) → AreAlong Is xs offset end → offset ≤ end
     along_on [] offset end here = omega (arith, here)
-    along_on (x ∷ xs) offset end a = let less = rises offset a.1 x.item a.2 in let on = along_on xs a.1 end a.3 in omega (arith, less, on)
+    along_on (x ∷ xs) offset end a =
+        let less = rises offset a.1 x.item a.2 in let on = along_on xs a.1 end a.3 in omega (arith, less, on)
 
     -- things before an offset are new when one is kept that begins there
-    pub new_stay : (starts : List ℕ) (xs : List (Placed T)) (offset end : ℕ) → AreAlong Is xs offset end → AreNew starts xs → AreNew (starts ++ end ∷ []) xs
+    pub new_stay : (starts : List ℕ) (xs : List (Placed T)) (offset end : ℕ) → AreAlong Is xs offset end
+        → AreNew starts xs → AreNew (starts ++ end ∷ []) xs
     new_stay starts [] offset end a new = tt
     new_stay starts (x ∷ xs) offset end a new =
         let less = rises offset a.1 x.item a.2 in
-        let on = along_on xs a.1 end a.3 in
-        (nothing_push starts end x.at new.0 (λ e. omega (arith, e, a.0, less, on)), new_stay starts xs a.1 end a.3 new.1)
+        let on = along_on xs a.1 end a.3 in (
+          nothing_push starts end x.at new.0 (λ e. omega (arith, e, a.0, less, on)),
+          new_stay starts xs a.1 end a.3
+              new.1,
+        )
 
-pub along_same : {T : Type 0} (Is Was : ℕ → T → ℕ → Type 0) → ((offset next : ℕ) (x : T) → Was offset x next → Is offset x next) → (xs : List (Placed T)) (offset end : ℕ) → AreAlong Was xs offset end → AreAlong Is xs offset end
+pub along_same : {T : Type 0} (Is Was : ℕ → T → ℕ → Type 0)
+    → ((offset next : ℕ) (x : T) → Was offset x next → Is offset x next) → (xs : List (Placed T)) (offset end : ℕ)
+    → AreAlong Was xs offset end → AreAlong Is xs offset end
 along_same Is Was same [] offset end here = here
-along_same Is Was same (x ∷ xs) offset end a = (a.0, a.1, same offset a.1 x.item a.2, along_same Is Was same xs a.1 end a.3)
+along_same Is Was same (x ∷ xs) offset end a =
+    (a.0, a.1, same offset a.1 x.item a.2, along_same Is Was same xs a.1 end a.3)
 
-pub new_push : {T : Type 0} (starts : List ℕ) (xs : List (Placed T)) (x : Placed T) → AreNew starts xs → NothingAt starts x.at → AreNew starts (xs ++ x ∷ [])
+pub new_push : {T : Type 0} (starts : List ℕ) (xs : List (Placed T)) (x : Placed T) → AreNew starts xs
+    → NothingAt starts x.at → AreNew starts (xs ++ x ∷ [])
 new_push starts [] x new nothing = (nothing, tt)
 new_push starts (y ∷ xs) x new nothing = (new.0, new_push starts xs x new.1 nothing)
 
-pub new_pop : {T : Type 0} (starts : List ℕ) (xs : List (Placed T)) (x : Placed T) → AreNew starts (xs ++ x ∷ []) → AreNew starts xs × NothingAt starts x.at
+pub new_pop : {T : Type 0} (starts : List ℕ) (xs : List (Placed T)) (x : Placed T) → AreNew starts (xs ++ x ∷ [])
+    → AreNew starts xs × NothingAt starts x.at
 new_pop starts [] x new = (tt, new.0)
 new_pop starts (y ∷ xs) x new = let r = new_pop starts xs x new.1 in ((new.0, r.0), r.1)
 
@@ -97,4 +117,5 @@ pub stay_same : {X : Type 0} (xs : List X) → Stay xs xs
 stay_same xs = ([], sym (append-nil xs))
 
 pub stay_on : {X : Type 0} (old middle new : List X) → Stay old middle → Stay middle new → Stay old new
-stay_on {X} old middle new first second = (first.0 ++ second.0, second.1 ∙ ap (λ (xs : List X). xs ++ second.0) first.1 ∙ append_assoc old first.0 second.0)
+stay_on {X} old middle new first second =
+    (first.0 ++ second.0, second.1 ∙ ap (λ (xs : List X). xs ++ second.0) first.1 ∙ append_assoc old first.0 second.0)

@@ -38,15 +38,28 @@ place_least k code (c ∷ codes) = elim (cases_eq code c) [
 ]
 
 -- a code among these has a place of its own
-own_place : (k code other : ℕ) (codes : List ℕ) → place_from k codes code < k + length codes → place_from k codes other ≡ place_from k codes code → other ≡ code
+own_place : (k code other : ℕ) (codes : List ℕ) → place_from k codes code < k + length codes
+    → place_from k codes other ≡ place_from k codes code → other ≡ code
 own_place k code other [] less same = absurd (omega (arith, less))
 own_place k code other (c ∷ codes) less same = elim (cases_eq code c) [
   | inl here ↦ elim (cases_eq other c) [
     | inl too ↦ too ∙ sym here
-    | inr there ↦ absurd (omega (arith, same, place_here k code c codes here, place_there k other c codes there, place_least (suc k) other codes))
+    | inr there ↦ absurd (omega (
+      arith,
+      same,
+      place_here k code c codes here,
+      place_there k other c codes there,
+      place_least (suc k) other codes,
+    ))
   ]
   | inr there ↦ elim (cases_eq other c) [
-    | inl here ↦ absurd (omega (arith, same, place_here k other c codes here, place_there k code c codes there, place_least (suc k) code codes))
+    | inl here ↦ absurd (omega (
+      arith,
+      same,
+      place_here k other c codes here,
+      place_there k code c codes there,
+      place_least (suc k) code codes,
+    ))
     | inr too ↦ own_place (suc k) code other codes (omega (arith, less, place_there k code c codes there))
         (sym (place_there k other c codes too) ∙ same ∙ place_there k code c codes there)
   ]
@@ -59,7 +72,8 @@ own_bit code other less same = own_place 0 code other asked less same
 same_test : (code other : ℕ) → bit_of code < 21 → (bit_of other == bit_of code) ≡ (other == code)
 same_test code other own = elim (cases_eq other code) [
   | inl same ↦ eq_true (bit_of other) (bit_of code) (ap bit_of same) ∙ sym (eq_true other code same)
-  | inr differs ↦ differ (bit_of other) (bit_of code) (λ same. differs (own_bit code other own same)) ∙ sym (differ other code differs)
+  | inr differs ↦ differ (bit_of other) (bit_of code) (λ same. differs (own_bit code other own same))
+      ∙ sym (differ other code differs)
 ]
 
 -- ---- the bits of a list
@@ -74,36 +88,51 @@ or_one bits place i = elim (cases_eq place i) [
       rw (eq_true place i same) (eq_true _ 1 (omega (arith, bit_at_or bits (2 ^ place) i, set, bit_at-lt bits i)))
   | inr other ↦
       let clear : bit_at (2 ^ place) i ≡ 0 = bit_at-pow_other place i (λ same. other (sym same)) in
-      let stays : bit_at (bit_or bits (2 ^ place)) i ≡ bit_at bits i = omega (arith, bit_at_or bits (2 ^ place) i, clear) in
+      let stays : bit_at (bit_or bits (2 ^ place)) i
+      ≡ bit_at bits i = omega (arith, bit_at_or bits (2 ^ place) i, clear) in
       rw (differ place i other, stays) refl
 ]
 
-pub more_bits : (bits bit : ℕ) (spec : AttributeSpec) (specs : List AttributeSpec) → bit ≡ 2 ^ bit_of spec.attribute → AreBitsOf specs bits → AreBitsOf (spec ∷ specs) (bit_or bits bit)
+pub more_bits : (bits bit : ℕ) (spec : AttributeSpec) (specs : List AttributeSpec) → bit ≡ 2 ^ bit_of spec.attribute
+    → AreBitsOf specs bits → AreBitsOf (spec ∷ specs) (bit_or bits bit)
 more_bits bits bit spec specs is are i = rw (is, or_one bits (bit_of spec.attribute) i, are i) refl
 
 -- the same test of codes and of their bits
-any_own : (code : ℕ) (specs : List AttributeSpec) → bit_of code < 21 → list_any (λ (spec : AttributeSpec). bit_of spec.attribute == bit_of code) specs ≡ has_attribute code specs
+any_own : (code : ℕ) (specs : List AttributeSpec) → bit_of code < 21
+    → list_any (λ (spec : AttributeSpec). bit_of spec.attribute == bit_of code) specs ≡ has_attribute code specs
 any_own code [] own = refl
 any_own code (spec ∷ specs) own = rw (same_test code spec.attribute own, any_own code specs own) refl
 
-module _ (bits mask code : ℕ) (specs : List AttributeSpec) (are : AreBitsOf specs bits) (is : mask ≡ 2 ^ bit_of code) where
-  masked : bit_and bits mask ≡ bit_at bits (bit_of code) * 2 ^ bit_of code
-  masked = ap (bit_and bits) is ∙ and_pow bits (bit_of code)
+module _ (bits mask code : ℕ) (specs : List AttributeSpec) (are : AreBitsOf specs bits) (is : mask ≡ 2 ^ bit_of code)
+  where
+    masked : bit_and bits mask ≡ bit_at bits (bit_of code) * 2 ^ bit_of code
+    masked = ap (bit_and bits) is ∙ and_pow bits (bit_of code)
 
-  -- where the bit is clear, none has the code
-  pub clear_bit : bit_and bits mask ≡ 0 → has_attribute code specs ≡ false
-  clear_bit none =
-      let zero : bit_at bits (bit_of code) ≡ 0 = no_product (bit_at bits (bit_of code)) (2 ^ bit_of code) (pow_pos (bit_of code)) (sym masked ∙ none) in
-      let lacks = lacks_from (λ (spec : AttributeSpec). bit_of spec.attribute) (bit_of code) specs (sym (are (bit_of code)) ∙ ap (λ (b : ℕ). b == 1) zero) in
-      lacks_test (λ (spec : AttributeSpec). spec.attribute) code specs (λ k d within same. lacks k d within (ap bit_of same))
+    -- where the bit is clear, none has the code
+    pub clear_bit : bit_and bits mask ≡ 0 → has_attribute code specs ≡ false
+    clear_bit none =
+        let zero : bit_at bits (bit_of code)
+        ≡ 0 = no_product (bit_at bits (bit_of code)) (2 ^ bit_of code) (pow_pos (bit_of code)) (sym masked ∙ none) in
+        let lacks = lacks_from (λ (spec : AttributeSpec). bit_of spec.attribute) (bit_of code) specs
+        (sym (are (bit_of code)) ∙ ap (λ (b : ℕ). b == 1) zero) in
+        lacks_test (λ (spec : AttributeSpec). spec.attribute) code specs
+        (λ k d within same. lacks k d within (ap bit_of same))
 
-  -- where a bit of its own is set, one has it
-  pub own_bit_set : bit_of code < 21 → bit_and bits mask ≢ 0 → has_attribute code specs ≡ true
-  own_bit_set own some =
-      let one : bit_at bits (bit_of code) ≡ 1 = one_of (bit_at bits (bit_of code)) (2 ^ bit_of code) (bit_at-lt bits (bit_of code)) (λ none. some (masked ∙ none)) in
-      sym (any_own code specs own) ∙ sym (are (bit_of code)) ∙ ap (λ (b : ℕ). b == 1) one
+    -- where a bit of its own is set, one has it
+    pub own_bit_set : bit_of code < 21 → bit_and bits mask ≢ 0 → has_attribute code specs ≡ true
+    own_bit_set own some =
+        let one : bit_at bits (bit_of code)
+        ≡ 1 = one_of (bit_at bits (bit_of code)) (2 ^ bit_of code) (bit_at-lt bits (bit_of code))
+        (λ none. some (masked ∙ none)) in
+        sym (any_own code specs own) ∙ sym (are (bit_of code)) ∙ ap (λ (b : ℕ). b == 1) one
 
 -- a test that finds no attribute with the code says that all have another one
-pub lacks_is : (code : ℕ) (specs : List AttributeSpec) (found : Bool) → found ≡ has_attribute code specs → IsTrue (not found) ↔ All (λ (spec : AttributeSpec). spec.attribute ≢ code) specs
-lacks_is code specs true is = (λ no. absurd (let wrong : false ≡ true = no in cc), λ lacks. sym (lacks_test (λ (spec : AttributeSpec). spec.attribute) code specs lacks) ∙ sym is)
-lacks_is code specs false is = (λ _. lacks_from (λ (spec : AttributeSpec). spec.attribute) code specs (sym is), λ _. refl)
+pub lacks_is : (code : ℕ) (specs : List AttributeSpec) (found : Bool) → found ≡ has_attribute code specs
+    → IsTrue (not found) ↔ All (λ (spec : AttributeSpec). spec.attribute ≢ code) specs
+lacks_is code specs true is = (
+  λ no. absurd (let wrong : false ≡ true = no in cc),
+  λ lacks. sym
+      (lacks_test (λ (spec : AttributeSpec). spec.attribute) code specs lacks) ∙ sym is,
+)
+lacks_is code specs false is =
+    (λ _. lacks_from (λ (spec : AttributeSpec). spec.attribute) code specs (sym is), λ _. refl)

@@ -44,16 +44,23 @@ cut_long len bytes le = rw (le-ltb _ _ le) refl
 cut_cut : (m n : ℕ) (bytes : List ℕ) → (cut_at m bytes >>= λ rest. cut_at n rest) ≡ cut_at (m + n) bytes
 cut_cut m n bytes = search (rules, ltb-true, cut_short, length-drop, ltb-false, cut_long, drop-drop)
 
-rest_cut : (version : ℕ) (f : Form) (size : ℕ) (bytes : List ℕ) → does_vary f ≡ false → rest_at version f size bytes ≡ cut_at (known_size size f) bytes
+rest_cut : (version : ℕ) (f : Form) (size : ℕ) (bytes : List ℕ) → does_vary f ≡ false
+    → rest_at version f size bytes ≡ cut_at (known_size size f) bytes
 rest_cut version f size bytes e = by_length (ltb (length bytes) (known_size size f)) refl
   where
-    by_length : (b : Bool) → ltb (length bytes) (known_size size f) ≡ b → rest_at version f size bytes ≡ cut_at (known_size size f) bytes
-    by_length true lt = rest_cuts version f size (known_size size f) bytes (has_size f size e) (ltb-true _ _ lt) ∙ sym (cut_short (known_size size f) bytes (ltb-true _ _ lt))
-    by_length false le = rest_skips version f size (known_size size f) bytes (has_size f size e) (ltb-false _ _ le) ∙ sym (cut_long (known_size size f) bytes (ltb-false _ _ le))
+    by_length : (b : Bool) → ltb (length bytes) (known_size size f) ≡ b
+        → rest_at version f size bytes ≡ cut_at (known_size size f) bytes
+    by_length true lt =
+        rest_cuts version f size (known_size size f) bytes (has_size f size e) (ltb-true _ _ lt)
+        ∙ sym (cut_short (known_size size f) bytes (ltb-true _ _ lt))
+    by_length false le =
+        rest_skips version f size (known_size size f) bytes (has_size f size e) (ltb-false _ _ le)
+        ∙ sym (cut_long (known_size size f) bytes (ltb-false _ _ le))
 
 -- ---- a run of values that have one size each
 
-bind_on : (r : Result (List ℕ) ValueFault) (f g : List ℕ → Result (List ℕ) ValueFault) → ((b : List ℕ) → f b ≡ g b) → (r >>= λ b. f b) ≡ (r >>= λ b. g b)
+bind_on : (r : Result (List ℕ) ValueFault) (f g : List ℕ → Result (List ℕ) ValueFault) → ((b : List ℕ) → f b ≡ g b)
+    → (r >>= λ b. f b) ≡ (r >>= λ b. g b)
 bind_on (Ok b) f g h = h b
 bind_on (Err x) f g h = refl
 
@@ -62,27 +69,36 @@ abbrev pub HaveSizes : List AttributeSpec → Type 0
 HaveSizes [] = Unit {0}
 HaveSizes (spec ∷ specs) = (does_vary spec.form ≡ false) × HaveSizes specs
 
-pub run_ends : (version size : ℕ) (specs : List AttributeSpec) (bytes : List ℕ) → HaveSizes specs → values_end version size specs bytes ≡ cut_at (known_sum size specs) bytes
+pub run_ends : (version size : ℕ) (specs : List AttributeSpec) (bytes : List ℕ) → HaveSizes specs
+    → values_end version size specs bytes ≡ cut_at (known_sum size specs) bytes
 unfolding values_end
 run_ends version size [] bytes e = sym (cut_long 0 bytes (omega arith))
 run_ends version size (spec ∷ specs) bytes e =
-    bind_on (rest_at version spec.form size bytes) (λ rest. values_end version size specs rest) (λ rest. cut_at (known_sum size specs) rest) (λ rest. run_ends version size specs rest e.1)
-    ∙ ap (λ (q : Result (List ℕ) ValueFault). q >>= λ rest. cut_at (known_sum size specs) rest) (rest_cut version spec.form size bytes e.0)
+    bind_on (rest_at version spec.form size bytes) (λ rest. values_end version size specs rest)
+    (λ rest. cut_at (known_sum size specs) rest) (λ rest. run_ends version size specs rest e.1)
+    ∙ ap (λ (q : Result (List ℕ) ValueFault). q >>= λ rest. cut_at (known_sum size specs) rest)
+    (rest_cut version spec.form size bytes e.0)
     ∙ cut_cut (known_size size spec.form) (known_sum size specs) bytes
     ∙ ap (λ (n : ℕ). cut_at n bytes) (sym (sum_by-cons (λ (s : AttributeSpec). known_size size s.form) spec specs))
 
 -- ---- some values, and others after them
 
-bind_bind : (r : Result (List ℕ) ValueFault) (f g : List ℕ → Result (List ℕ) ValueFault) → ((r >>= λ b. f b) >>= λ b. g b) ≡ (r >>= λ b. f b >>= λ c. g c)
+bind_bind : (r : Result (List ℕ) ValueFault) (f g : List ℕ → Result (List ℕ) ValueFault)
+    → ((r >>= λ b. f b) >>= λ b. g b) ≡ (r >>= λ b. f b >>= λ c. g c)
 bind_bind (Ok b) f g = refl
 bind_bind (Err x) f g = refl
 
-pub ends_append : (version size : ℕ) (xs ys : List AttributeSpec) (bytes : List ℕ) → values_end version size (xs ++ ys) bytes ≡ (values_end version size xs bytes >>= λ rest. values_end version size ys rest)
+pub ends_append : (version size : ℕ) (xs ys : List AttributeSpec) (bytes : List ℕ)
+    → values_end version size (xs ++ ys) bytes
+    ≡ (values_end version size xs bytes >>= λ rest. values_end version size ys rest)
 unfolding values_end
 ends_append version size [] ys bytes = refl
 ends_append version size (x ∷ xs) ys bytes =
-    bind_on (rest_at version x.form size bytes) (λ rest. values_end version size (xs ++ ys) rest) (λ rest. values_end version size xs rest >>= λ more. values_end version size ys more) (λ rest. ends_append version size xs ys rest)
-    ∙ sym (bind_bind (rest_at version x.form size bytes) (λ rest. values_end version size xs rest) (λ rest. values_end version size ys rest))
+    bind_on (rest_at version x.form size bytes) (λ rest. values_end version size (xs ++ ys) rest)
+    (λ rest. values_end version size xs rest >>= λ more. values_end version size ys more)
+    (λ rest. ends_append version size xs ys rest)
+    ∙ sym (bind_bind (rest_at version x.form size bytes) (λ rest. values_end version size xs rest)
+    (λ rest. values_end version size ys rest))
 
 -- ---- values up to those of a list
 
@@ -100,22 +116,27 @@ pub items_append : (xs ys : List (Numbered AttributeSpec)) → items_of (xs ++ y
 items_append xs ys = map-append (λ (n : Numbered AttributeSpec). n.item) xs ys
 
 -- the sum of the known sizes before a list
-pub sum_goes : (size : ℕ) (nodes : List Node) (from to : ℕ) (before : List (Numbered AttributeSpec)) → EndsWith nodes from to before
+pub sum_goes : (size : ℕ) (nodes : List Node) (from to : ℕ) (before : List (Numbered AttributeSpec))
+    → EndsWith nodes from to before
     → known_sum size (list_in nodes from) ≡ known_sum size (items_of before) + known_sum size (list_in nodes to)
 sum_goes size nodes from to before goes = search (rules, items_append, sum_append)
 
-pub known_is : (size : ℕ) (list : List (Numbered AttributeSpec)) (n : Node) → (size ≡ 4) ⊎ (size ≡ 8) → Knows list n → known_of size n ≡ known_sum size (items_of list)
+pub known_is : (size : ℕ) (list : List (Numbered AttributeSpec)) (n : Node) → (size ≡ 4) ⊎ (size ≡ 8) → Knows list n
+    → known_of size n ≡ known_sum size (items_of list)
 known_is size list n (inl e) k = rw e k.known_with_4
 known_is size list n (inr e) k = rw e k.known_with_8
 
 -- values that do not vary are cut off together
-pub run : (version size : ℕ) (before : List (Numbered AttributeSpec)) (bytes : List ℕ) → list_any varies (items_of before) ≡ false
+pub run : (version size : ℕ) (before : List (Numbered AttributeSpec)) (bytes : List ℕ)
+    → list_any varies (items_of before) ≡ false
     → values_end version size (items_of before) bytes ≡ cut_at (known_sum size (items_of before)) bytes
 run version size before bytes none = run_ends version size (items_of before) bytes (none_vary before none)
 
 -- values that do not vary, one, and others
-pub one : (version size : ℕ) (front others : List (Numbered AttributeSpec)) (z : Numbered AttributeSpec) (bytes : List ℕ) → list_any varies (items_of front) ≡ false
+pub one : (version size : ℕ) (front others : List (Numbered AttributeSpec)) (z : Numbered AttributeSpec)
+    (bytes : List ℕ) → list_any varies (items_of front) ≡ false
     → values_end version size (items_of (front ++ z ∷ others)) bytes
-    ≡ (cut_at (known_sum size (items_of front)) bytes >>= λ mid. rest_at version z.item.form size mid >>= λ rest. values_end version size (items_of others) rest)
+    ≡ (cut_at (known_sum size (items_of front)) bytes >>= λ mid. rest_at version z.item.form size mid >>= λ rest.
+    values_end version size (items_of others) rest)
 unfolding values_end
 one version size front others z bytes none = search (rules, items_append, ends_append, run)

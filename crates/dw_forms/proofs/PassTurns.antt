@@ -18,7 +18,8 @@ use Rattle.dw_forms.proofs.PartLaws.{Falls, StartsAt, falls, starts, head_above,
 use Rattle.dw_forms.proofs.PassSteps.{known_is, sum_goes, run, one}
 
 -- where some attributes come before a list, its number is lower
-above_by : (at to : ℕ) (before here there : List (Numbered AttributeSpec)) → here ≡ before ++ there → Falls at here → StartsAt at here → StartsAt to there → (at ≡ to → ⊥) → to < at
+above_by : (at to : ℕ) (before here there : List (Numbered AttributeSpec)) → here ≡ before ++ there → Falls at here
+    → StartsAt at here → StartsAt to there → (at ≡ to → ⊥) → to < at
 above_by at to [] here there e falls here_starts there_starts other = search (rules)
 above_by at to (m ∷ before) here there e falls here_starts there_starts other =
     let first : m.number ≡ at = subst (StartsAt at) e here_starts in
@@ -26,7 +27,8 @@ above_by at to (m ∷ before) here there e falls here_starts there_starts other 
     omega (arith, first, less)
 
 -- some values have one size each, the one at the next number has none, and others come after it
-pub record Turn (nodes : List Node) (size at to : ℕ) (before : List (Numbered AttributeSpec)) (here varying : Node) : Type 0 where
+pub record Turn (nodes : List Node) (size at to : ℕ) (before : List (Numbered AttributeSpec)) (here varying : Node) :
+    Type 0 where
   pub front : List (Numbered AttributeSpec)
   pub others : List (Numbered AttributeSpec)
   pub none : list_any varies (items_of front) ≡ false
@@ -45,13 +47,16 @@ pub record Passes (all to : Attributes) (version size : ℕ) (bytes : List ℕ) 
   pub left : List (Numbered AttributeSpec)
   pub goes : EndsWith (nodes_of all) at to.first left
   pub within : at ≤ length (nodes_of all)
-  pub same : (before : List (Numbered AttributeSpec)) → Ends all to before → values_end version size (items_of left) rest ≡ values_end version size (items_of before) bytes
+  pub same : (before : List (Numbered AttributeSpec)) → Ends all to before
+      → values_end version size (items_of left) rest ≡ values_end version size (items_of before) bytes
 
 -- there is one such list of attributes
-pub passes_first : {all to : Attributes} {version size : ℕ} {bytes : List ℕ} (before : List (Numbered AttributeSpec)) → Ends all to before → (size ≡ 4) ⊎ (size ≡ 8) → Passes all to version size bytes all.first bytes
+pub passes_first : {all to : Attributes} {version size : ℕ} {bytes : List ℕ} (before : List (Numbered AttributeSpec))
+    → Ends all to before → (size ≡ 4) ⊎ (size ≡ 8) → Passes all to version size bytes all.first bytes
 passes_first {all} {to} {version} {size} {bytes} before ends sized = search (rules, append_cancel_right)
 
-module _ {all to : Attributes} {version size : ℕ} {bytes : List ℕ} {at : ℕ} {rest : List ℕ} (p : Passes all to version size bytes at rest) where
+module _ {all to : Attributes} {version size : ℕ} {bytes : List ℕ} {at : ℕ} {rest : List ℕ}
+    (p : Passes all to version size bytes at rest) where
   falling : Falls at (numbered_in (nodes_of all) at)
   falling = falls (nodes_of all) all.lists.now.known at p.within
 
@@ -62,16 +67,20 @@ module _ {all to : Attributes} {version size : ℕ} {bytes : List ℕ} {at : ℕ
   to_starts = starts (nodes_of all) all.lists.now.known to.first to_within
 
   -- at the list that is asked for all values are passed
-  pub passes_last : at ≡ to.first → (before : List (Numbered AttributeSpec)) → Ends all to before → values_end version size (items_of before) bytes ≡ Ok rest
+  pub passes_last : at ≡ to.first → (before : List (Numbered AttributeSpec)) → Ends all to before
+      → values_end version size (items_of before) bytes ≡ Ok rest
   unfolding values_end
   passes_last same before ends =
-      let none : [] ≡ p.left = append_cancel_right [] p.left (numbered_in (nodes_of all) to.first) (ap (numbered_in (nodes_of all)) (sym same) ∙ p.goes) in
-      sym (p.same before ends) ∙ ap (λ (list : List (Numbered AttributeSpec)). values_end version size (items_of list) rest) (sym none)
+      let none : [] ≡ p.left = append_cancel_right [] p.left (numbered_in (nodes_of all) to.first)
+      (ap (numbered_in (nodes_of all)) (sym same) ∙ p.goes) in
+      sym (p.same before ends) ∙ ap (λ (list : List (Numbered AttributeSpec)). values_end version size (items_of list)
+      rest) (sym none)
 
   module _ (other : at ≡ to.first → ⊥) where
     pub some_left : 0 < at
     some_left =
-        let above = above_by at to.first p.left (numbered_in (nodes_of all) at) (numbered_in (nodes_of all) to.first) p.goes falling (starts (nodes_of all) all.lists.now.known at p.within) to_starts other in
+        let above = above_by at to.first p.left (numbered_in (nodes_of all) at) (numbered_in (nodes_of all) to.first)
+        p.goes falling (starts (nodes_of all) all.lists.now.known at p.within) to_starts other in
         omega (arith, above)
 
     module _ {here : Node} (read : here ≡ get_or (nodes_of all) (at - 1) here) where
@@ -82,7 +91,8 @@ module _ {all to : Attributes} {version size : ℕ} {bytes : List ℕ} {at : ℕ
       next_is = is.knows.varying
 
       next_within : here.next_varying ≤ at
-      next_within = let w = (split varies (nodes_of all) all.lists.now.known at p.within).within in omega (arith, next_is, w)
+      next_within =
+          let w = (split varies (nodes_of all) all.lists.now.known at p.within).within in omega (arith, next_is, w)
 
       pub next_number : here.next_varying ≤ length (nodes_of all)
       next_number = let w = p.within in omega (arith, w, next_within)
@@ -95,26 +105,37 @@ module _ {all to : Attributes} {version size : ℕ} {bytes : List ℕ} {at : ℕ
         last_sum : known_of size here ≡ known_sum size (items_of p.left) + sum
         last_sum =
             here_sum ∙ sum_goes size (nodes_of all) at to.first p.left p.goes
-            ∙ ap (λ (n : ℕ). known_sum size (items_of p.left) + n) (sym (sum_is ∙ ap (λ (nodes : List Node). known_sum size (list_in nodes to.first)) p.nodes))
+            ∙ ap (λ (n : ℕ). known_sum size (items_of p.left) + n)
+            (sym (sum_is ∙ ap (λ (nodes : List Node). known_sum size (list_in nodes to.first)) p.nodes))
 
         pub last_less : sum ≤ known_of size here
         last_less = omega (arith, last_sum)
 
-        pub last_cut : {len : ℕ} → len ≡ known_of size here → here.next_varying ≤ to.first → (before : List (Numbered AttributeSpec)) → Ends all to before → values_end version size (items_of before) bytes ≡ cut_at (len - sum) rest
+        pub last_cut : {len : ℕ} → len ≡ known_of size here → here.next_varying ≤ to.first
+            → (before : List (Numbered AttributeSpec)) → Ends all to before
+            → values_end version size (items_of before) bytes ≡ cut_at (len - sum) rest
         last_cut {len} len_is le before ends =
-            let parts : number_where varies (p.left ++ numbered_in (nodes_of all) to.first) ≡ here.next_varying = ap (number_where varies) (sym p.goes) ∙ sym next_is in
-            let none = none_before varies at to.first p.left (numbered_in (nodes_of all) to.first) (subst (Falls at) p.goes falling) to_starts (omega (arith, parts, le)) in
+            let parts : number_where varies (p.left ++ numbered_in (nodes_of all) to.first)
+            ≡ here.next_varying = ap (number_where varies) (sym p.goes) ∙ sym next_is in
+            let none = none_before varies at to.first p.left (numbered_in (nodes_of all) to.first)
+            (subst (Falls at) p.goes falling) to_starts (omega (arith, parts, le)) in
             let same : known_sum size (items_of p.left) ≡ len - sum = omega (arith, last_sum) in
             sym (p.same before ends) ∙ run version size p.left rest none ∙ ap (λ (n : ℕ). cut_at n rest) same
 
       -- up to the next value of no one size
-      pub next_turn : to.first < here.next_varying → {varying : Node} → varying ≡ get_or (nodes_of all) (here.next_varying - 1) varying → Turn (nodes_of all) size at to.first p.left here varying
+      pub next_turn : to.first < here.next_varying → {varying : Node}
+          → varying ≡ get_or (nodes_of all) (here.next_varying - 1) varying
+          → Turn (nodes_of all) size at to.first p.left here varying
       next_turn less {varying} there =
           let s = split varies (nodes_of all) all.lists.now.known at p.within in
-          let v = node_read (nodes_of all) here.next_varying varying all.lists.now.known (omega (arith, less)) next_number there in
-          let front_goes : EndsWith (nodes_of all) at here.next_varying s.before = s.goes ∙ ap (λ (n : ℕ). s.before ++ numbered_in (nodes_of all) n) (sym next_is) in
-          let part = part_at to.first (record { number = here.next_varying; item = spec_of varying }) (numbered_in (nodes_of all) varying.next) s.before p.left (numbered_in (nodes_of all) to.first)
-          (falls (nodes_of all) all.lists.now.known to.first to_within) to_starts less (sym p.goes ∙ front_goes ∙ ap (λ (list : List (Numbered AttributeSpec)). s.before ++ list) v.begins) in
+          let v = node_read (nodes_of all) here.next_varying varying all.lists.now.known (omega (arith, less))
+          next_number there in
+          let front_goes : EndsWith (nodes_of all) at here.next_varying s.before = s.goes
+          ∙ ap (λ (n : ℕ). s.before ++ numbered_in (nodes_of all) n) (sym next_is) in
+          let part = part_at to.first (record { number = here.next_varying; item = spec_of varying })
+          (numbered_in (nodes_of all) varying.next) s.before p.left (numbered_in (nodes_of all) to.first)
+          (falls (nodes_of all) all.lists.now.known to.first to_within) to_starts less
+          (sym p.goes ∙ front_goes ∙ ap (λ (list : List (Numbered AttributeSpec)). s.before ++ list) v.begins) in
           let next = v.next in
           record {
             front = s.before;
@@ -123,28 +144,46 @@ module _ {all to : Attributes} {version size : ℕ} {bytes : List ℕ} {at : ℕ
             parts = part.parts;
             goes_on = part.goes;
             sum = here_sum ∙ sum_goes size (nodes_of all) at here.next_varying s.before front_goes
-                ∙ ap (λ (n : ℕ). known_sum size (items_of s.before) + n) (sym (known_is size (numbered_in (nodes_of all) here.next_varying) varying p.sized v.knows));
+                ∙ ap (λ (n : ℕ). known_sum size (items_of s.before) + n)
+                (sym (known_is size (numbered_in (nodes_of all) here.next_varying) varying p.sized v.knows));
             within = omega (arith, next, next_number);
             less = omega (arith, next, next_within);
           }
 
   -- the values before it are cut off, it is passed, and the values after it are left
-  module _ {here varying : Node} (t : Turn (nodes_of all) size at to.first p.left here varying) {a b : ℕ} (a_is : a ≡ known_of size here) (b_is : b ≡ known_of size varying) where
+  module _ {here varying : Node} (t : Turn (nodes_of all) size at to.first p.left here varying) {a b : ℕ}
+      (a_is : a ≡ known_of size here) (b_is : b ≡ known_of size varying) where
     passed : (before : List (Numbered AttributeSpec)) → Ends all to before
-        → values_end version size (items_of before) bytes ≡ (cut_at (a - b) rest >>= λ mid. rest_at version varying.form size mid >>= λ more. values_end version size (items_of t.others) more)
+        → values_end version size (items_of before) bytes
+        ≡ (cut_at (a - b) rest >>= λ mid. rest_at version varying.form size mid >>= λ more. values_end version size
+        (items_of t.others) more)
     passed before ends =
         let all_sum = t.sum in
         let len : known_sum size (items_of t.front) ≡ a - b = omega (arith, all_sum) in
-        sym (p.same before ends) ∙ ap (λ (list : List (Numbered AttributeSpec)). values_end version size (items_of list) rest) t.parts
+        sym (p.same before ends) ∙ ap (λ (list : List (Numbered AttributeSpec)). values_end version size (items_of list)
+        rest) t.parts
         ∙ one version size t.front t.others (record { number = here.next_varying; item = spec_of varying }) rest t.none
-        ∙ ap (λ (n : ℕ). cut_at n rest >>= λ mid. rest_at version varying.form size mid >>= λ more. values_end version size (items_of t.others) more) len
+        ∙ ap (λ (n : ℕ). cut_at n rest >>= λ mid. rest_at version varying.form size mid >>= λ more. values_end version
+        size (items_of t.others) more) len
 
-    pub cut_fails : {f : ValueFault} → cut_at (a - b) rest ≡ Err f → (before : List (Numbered AttributeSpec)) → Ends all to before → values_end version size (items_of before) bytes ≡ Err f
+    pub cut_fails : {f : ValueFault} → cut_at (a - b) rest ≡ Err f → (before : List (Numbered AttributeSpec))
+        → Ends all to before → values_end version size (items_of before) bytes ≡ Err f
     cut_fails e before ends = passed before ends ∙ rw e refl
 
     module _ {mid : List ℕ} (cut : cut_at (a - b) rest ≡ Ok mid) where
-      pub value_fails : {f : ValueFault} → rest_at version varying.form size mid ≡ Err f → (before : List (Numbered AttributeSpec)) → Ends all to before → values_end version size (items_of before) bytes ≡ Err f
+      pub value_fails : {f : ValueFault} → rest_at version varying.form size mid ≡ Err f
+          → (before : List (Numbered AttributeSpec)) → Ends all to before
+          → values_end version size (items_of before) bytes ≡ Err f
       value_fails e before ends = passed before ends ∙ rw (cut, e) refl
 
-      pub value_passes : {more : List ℕ} → rest_at version varying.form size mid ≡ Ok more → Passes all to version size bytes varying.next more
-      value_passes e = record { nodes = p.nodes; sized = p.sized; left = t.others; goes = t.goes_on; within = t.within; same = λ before ends. sym (passed before ends ∙ rw (cut, e) refl) }
+      pub value_passes : {more : List ℕ} → rest_at version varying.form size mid ≡ Ok more
+          → Passes all to version size bytes varying.next more
+      value_passes e =
+          record {
+            nodes = p.nodes;
+            sized = p.sized;
+            left = t.others;
+            goes = t.goes_on;
+            within = t.within;
+            same = λ before ends. sym (passed before ends ∙ rw (cut, e) refl);
+          }

@@ -20,20 +20,25 @@ code_of_decl d = d.code
 pub lacks_of : (code : ℕ) (ds : List Decl) → has_code code (views ds) ≡ false → Lacks code_of_decl code ds
 lacks_of code ds e = lacks_from code_of_decl code ds (sym (has_code_views code ds) ∙ e)
 
-pub index_pushed : (ds : List Decl) (m : BTreeMap ℕ ℕ) (d : Decl) → IsIndex ds m → Lacks code_of_decl d.code ds → (d.code ≢ length ds + 1 → get nat_cmp m d.code ≡ Some (length ds)) → IsIndex (ds ++ d ∷ []) m
+pub index_pushed : (ds : List Decl) (m : BTreeMap ℕ ℕ) (d : Decl) → IsIndex ds m → Lacks code_of_decl d.code ds
+    → (d.code ≢ length ds + 1 → get nat_cmp m d.code ≡ Some (length ds)) → IsIndex (ds ++ d ∷ []) m
 index_pushed ds m d index lacks here =
     search (rules, apart_push, cases_lt, get_or_append_left, length-append, get_or_at)
 
 -- ---- what is found
 
-pub found_view : (ds : List Decl) (code i : ℕ) (d e : Decl) → Apart code_of_decl ds → IsPlace ds code (Some i) → e ≡ get_or ds i d → Some (table_view e) ≡ find (λ d. d.code == code) (views ds)
+pub found_view : (ds : List Decl) (code i : ℕ) (d e : Decl) → Apart code_of_decl ds → IsPlace ds code (Some i)
+    → e ≡ get_or ds i d → Some (table_view e) ≡ find (λ d. d.code == code) (views ds)
 found_view ds code i d e apart place is =
-    let whole : find (λ d. d.code == code) (views ds) ≡ Some (table_view (get_or ds i d)) = rw (find_views code ds, find_at code_of_decl code ds i d apart place.0 (place.1 d)) refl in
+    let whole : find (λ d. d.code == code) (views ds)
+    ≡ Some (table_view (get_or ds i d)) = rw
+    (find_views code ds, find_at code_of_decl code ds i d apart place.0 (place.1 d)) refl in
     ap (λ (x : Decl). Some (table_view x)) is ∙ sym whole
 
 pub none_view : (ds : List Decl) (code : ℕ) → IsPlace ds code None → None ≡ find (λ d. d.code == code) (views ds)
 none_view ds code lacks =
-    let whole : find (λ d. d.code == code) (views ds) ≡ None = rw (find_views code ds, find_none code_of_decl code ds lacks) refl in
+    let whole : find (λ d. d.code == code) (views ds)
+    ≡ None = rw (find_views code ds, find_none code_of_decl code ds lacks) refl in
     sym whole
 
 -- ---- whether it is found
@@ -42,7 +47,8 @@ any_more : (b c : Bool) → c ≡ true → (b || c) ≡ true
 any_more true c e = refl
 any_more false c e = e
 
-any_at : (ds : List Decl) (code i : ℕ) (d : Decl) → i < length ds → (get_or ds i d).code ≡ code → list_any (λ e. e.code == code) ds ≡ true
+any_at : (ds : List Decl) (code i : ℕ) (d : Decl) → i < length ds → (get_or ds i d).code ≡ code
+    → list_any (λ e. e.code == code) ds ≡ true
 any_at [] code i d lt same = absurd (omega arith)
 any_at (e ∷ ds) code zero d lt same = rw (eq-eqb e.code code same) refl
 any_at (e ∷ ds) code (suc i) d lt same = any_more (e.code == code) _ (any_at ds code i d (omega arith) same)
@@ -52,26 +58,31 @@ any_none ds code lacks = lacks_test code_of_decl code ds lacks
 
 pub has_place : (ds : List Decl) (code : ℕ) (o : Option ℕ) → IsPlace ds code o → is_some o ≡ has_code code (views ds)
 has_place [] code (Some i) place = absurd (omega (arith, place.0))
-has_place (d ∷ ds) code (Some i) place = sym (has_code_views code (d ∷ ds) ∙ any_at (d ∷ ds) code i d place.0 (place.1 d))
+has_place (d ∷ ds) code (Some i) place =
+    sym (has_code_views code (d ∷ ds) ∙ any_at (d ∷ ds) code i d place.0 (place.1 d))
 has_place ds code None lacks = sym (has_code_views code ds ∙ any_none ds code lacks)
 
 -- ---- the place that is found
 
-slice_views : (ds : List Decl) (i : ℕ) (d : Decl) → i < length ds → slice_get (views ds) i ≡ Some (table_view (get_or ds i d))
+slice_views : (ds : List Decl) (i : ℕ) (d : Decl) → i < length ds
+    → slice_get (views ds) i ≡ Some (table_view (get_or ds i d))
 slice_views [] i d lt = absurd (omega arith)
 slice_views (e ∷ ds) zero d lt = refl
 slice_views (e ∷ ds) (suc i) d lt = slice_views ds i d (omega arith)
 
-pub stands_at : (ds : List Decl) (code : ℕ) (o : Option ℕ) → IsPlace ds code o → IfSome o (λ place. StandsAt (views ds) place code)
+pub stands_at : (ds : List Decl) (code : ℕ) (o : Option ℕ) → IsPlace ds code o
+    → IfSome o (λ place. StandsAt (views ds) place code)
 stands_at ds code None lacks = tt
 stands_at [] code (Some i) place = absurd (omega (arith, place.0))
 stands_at (d ∷ ds) code (Some i) place = (table_view (get_or (d ∷ ds) i d), slice_views (d ∷ ds) i d place.0, place.1 d)
 
-pub none_stands : (ds : List Decl) (code : ℕ) (o : Option ℕ) → IsPlace ds code o → IfNone o (All (λ d. d.code ≢ code) (views ds))
+pub none_stands : (ds : List Decl) (code : ℕ) (o : Option ℕ) → IsPlace ds code o
+    → IfNone o (All (λ d. d.code ≢ code) (views ds))
 none_stands ds code None lacks = All-map (λ d. d.code ≢ code) table_view ds lacks
 none_stands ds code (Some i) place = tt
 
-pub find_place : (ds : List Decl) (code : ℕ) (o : Option ℕ) → Apart code_of_decl ds → IsPlace ds code o → find (λ d. d.code == code) (views ds) ≡ option_and_then (slice_get (views ds)) o
+pub find_place : (ds : List Decl) (code : ℕ) (o : Option ℕ) → Apart code_of_decl ds → IsPlace ds code o
+    → find (λ d. d.code == code) (views ds) ≡ option_and_then (slice_get (views ds)) o
 find_place ds code None apart lacks = sym (none_view ds code lacks)
 find_place [] code (Some i) apart place = absurd (omega (arith, place.0))
 find_place (d ∷ ds) code (Some i) apart place =

@@ -18,14 +18,17 @@ no_link = record { code = 0; branches = 0; branch_count = 0; rest = 0; run = 0 }
 abbrev pub link_at : List Link → ℕ → Link
 link_at links number = get_or links (number - 1) no_link
 
-pub is_read : (links : List Link) (number : ℕ) → 0 < number → number ≤ length links → link_at links number ≡ get_or links (number - 1) (link_at links number)
-is_read links number some within = get_or_default links (number - 1) no_link (link_at links number) (omega (arith, some, within))
+pub is_read : (links : List Link) (number : ℕ) → 0 < number → number ≤ length links
+    → link_at links number ≡ get_or links (number - 1) (link_at links number)
+is_read links number some within =
+    get_or_default links (number - 1) no_link (link_at links number) (omega (arith, some, within))
 
 less_or_not : (i j : ℕ) → (i < j) ⊎ (j ≤ i)
 less_or_not i j = grind arith
 
 -- at a link that is read
-module _ (branches : List ℕ) (links : List Link) (n : ℕ) (x : Link) (are : AreFound branches links) (some : 0 < n) (within : n ≤ length links) (read : x ≡ get_or links (n - 1) x) where
+module _ (branches : List ℕ) (links : List Link) (n : ℕ) (x : Link) (are : AreFound branches links) (some : 0 < n)
+    (within : n ≤ length links) (read : x ≡ get_or links (n - 1) x) where
   pub is_found : IsFoundBy branches links n x
   is_found = search (rules)
 
@@ -37,7 +40,8 @@ module _ (branches : List ℕ) (links : List Link) (n : ℕ) (x : Link) (are : A
   search_ends code same = sym (first_passes (λ c. c == code) (eq_true x.code code (sym same)))
 
   -- its branch at a bit
-  module _ (bit next : ℕ) (kept_is : bit < x.branch_count → next ≡ get_or branches (x.branches + bit) 0) (none_is : x.branch_count ≤ bit → next ≡ 0) (fits : bit < 64) where
+  module _ (bit next : ℕ) (kept_is : bit < x.branch_count → next ≡ get_or branches (x.branches + bit) 0)
+      (none_is : x.branch_count ≤ bit → next ≡ 0) (fits : bit < 64) where
     pub branch_is : next ≡ number_where (parts x.code bit) (codes_in links n)
     branch_is = elim (less_or_not bit x.branch_count) [
       | inl less ↦ kept_is less ∙ is_found.codes.each bit less
@@ -51,10 +55,12 @@ module _ (branches : List ℕ) (links : List Link) (n : ℕ) (x : Link) (are : A
     ]
 
     -- the search goes on there for a code that first differs in the bit
-    pub search_on : (code : ℕ) → parts x.code bit code ≡ true → number_in (codes_in links next) code ≡ number_in (codes_in links n) code
+    pub search_on : (code : ℕ) → parts x.code bit code ≡ true
+        → number_in (codes_in links next) code ≡ number_in (codes_in links n) code
     search_on code apart =
         ap (λ (m : ℕ). number_in (codes_in links m) code) branch_is
-        ∙ sym (narrowed (λ c. c == code) (parts x.code bit) (λ c same. ap (parts x.code bit) (eqb-true c code same) ∙ apart) (codes_of links) n)
+        ∙ sym (narrowed (λ c. c == code) (parts x.code bit)
+        (λ c same. ap (parts x.code bit) (eqb-true c code same) ∙ apart) (codes_of links) n)
 
 pub search_none : (links : List Link) (n code : ℕ) → n ≡ 0 → 0 ≡ number_in (codes_in links n) code
 unfolding number_where

@@ -13,7 +13,8 @@ use Rattle.dw_forms.specs.Chains.{Numbered, items_of, item_of, AreNumbered}
 use Rattle.dw_forms.specs.KeptDecls.{kept_view, decl_of}
 use Rattle.dw_forms.proofs.ChainLaws.{are_numbered}
 
-pub spec_read : (nodes : List Node) (number : ℕ) (n : Node) → number < length nodes → n ≡ get_or nodes number n → slice_get (map spec_of nodes) number ≡ Some (spec_of n)
+pub spec_read : (nodes : List Node) (number : ℕ) (n : Node) → number < length nodes → n ≡ get_or nodes number n
+    → slice_get (map spec_of nodes) number ≡ Some (spec_of n)
 spec_read nodes number n within read =
     slice_get_read (map spec_of nodes) (length nodes) number (spec_of n) (sym (length-map nodes spec_of)) within
     (ap spec_of read ∙ sym (get_or-map spec_of nodes number n (spec_of n) within))
@@ -29,7 +30,8 @@ apart x e = cc
 some_is : {X : Type 0} → (x y : X) → ◌≡◌ {A = Option X} (Some x) (Some y) → x ≡ y
 some_is x y e = cc
 
-number_kept : (nodes : List Node) (number : ℕ) (spec : AttributeSpec) → item_of (specs_of nodes) number ≡ Some spec → Kept nodes spec
+number_kept : (nodes : List Node) (number : ℕ) (spec : AttributeSpec) → item_of (specs_of nodes) number ≡ Some spec
+    → Kept nodes spec
 number_kept nodes zero spec is = absurd (apart spec is)
 number_kept [] (suc n) spec is = absurd (apart spec is)
 number_kept (x ∷ nodes) (suc zero) spec is = (0, omega arith, some_is (spec_of x) spec is)
@@ -37,17 +39,24 @@ number_kept (x ∷ nodes) (suc (suc n)) spec is =
     let (k, within, same) = number_kept nodes (suc n) spec is in
     (suc k, omega (arith, within), same)
 
-list_kept : (nodes : List Node) (list : List (Numbered AttributeSpec)) → AreNumbered (specs_of nodes) list → All (λ (spec : AttributeSpec). Kept nodes spec) (items_of list)
+list_kept : (nodes : List Node) (list : List (Numbered AttributeSpec)) → AreNumbered (specs_of nodes) list
+    → All (λ (spec : AttributeSpec). Kept nodes spec) (items_of list)
 list_kept nodes [] are = All-nil (λ (spec : AttributeSpec). Kept nodes spec)
-list_kept nodes (n ∷ list) are = All-cons (λ (spec : AttributeSpec). Kept nodes spec) n.item (items_of list) (number_kept nodes n.number n.item are.0) (list_kept nodes list are.1)
+list_kept nodes (n ∷ list) are =
+    All-cons (λ (spec : AttributeSpec). Kept nodes spec) n.item (items_of list)
+    (number_kept nodes n.number n.item are.0) (list_kept nodes list are.1)
 
-kept_of : (nodes : List Node) (kept : List KeptDecl) (number : ℕ) (d : Declaration) → decl_of nodes kept number ≡ Some d → (k : KeptDecl) × (kept_view nodes k ≡ d)
+kept_of : (nodes : List Node) (kept : List KeptDecl) (number : ℕ) (d : Declaration) → decl_of nodes kept number ≡ Some d
+    → (k : KeptDecl) × (kept_view nodes k ≡ d)
 kept_of nodes kept zero d is = absurd (apart d is)
 kept_of nodes [] (suc n) d is = absurd (apart d is)
 kept_of nodes (k ∷ kept) (suc zero) d is = (k, some_is (kept_view nodes k) d is)
 kept_of nodes (k ∷ kept) (suc (suc n)) d is = kept_of nodes kept (suc n) d is
 
-pub decl_specs : (nodes : List Node) (kept : List KeptDecl) (number : ℕ) (d : Declaration) → decl_of nodes kept number ≡ Some d → All (λ (spec : AttributeSpec). Contains (map spec_of nodes) spec) d.attributes
+pub decl_specs : (nodes : List Node) (kept : List KeptDecl) (number : ℕ) (d : Declaration)
+    → decl_of nodes kept number ≡ Some d
+    → All (λ (spec : AttributeSpec). Contains (map spec_of nodes) spec) d.attributes
 decl_specs nodes kept number d is =
     let (k, same) = kept_of nodes kept number d is in
-    subst (λ (x : Declaration). All (λ (spec : AttributeSpec). Kept nodes spec) x.attributes) same (list_kept nodes (numbered_in nodes k.first) (are_numbered (specs_of nodes) k.first))
+    subst (λ (x : Declaration). All (λ (spec : AttributeSpec). Kept nodes spec) x.attributes) same
+    (list_kept nodes (numbered_in nodes k.first) (are_numbered (specs_of nodes) k.first))

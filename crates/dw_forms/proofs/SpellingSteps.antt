@@ -20,7 +20,8 @@ sevens (suc k) =
     rw (e, pow-add, pow-suc 128 k) (ap (λ (p : ℕ). p * 128) (sevens k))
 
 -- the low seven bits of a byte, shifted to their place
-pub shifted : (b place low : ℕ) → low ≡ bit_and b 127 → place ≤ 9 → low * 2 ^ (7 * place) % 2 ^ 128 ≡ (b % 128) * 128 ^ place
+pub shifted : (b place low : ℕ) → low ≡ bit_and b 127 → place ≤ 9
+    → low * 2 ^ (7 * place) % 2 ^ 128 ≡ (b % 128) * 128 ^ place
 shifted b place low is le =
     let low_seven : low ≡ b % 128 = is ∙ and_mask b 7 in
     let below : b % 128 < 2 ^ 7 = omega arith in
@@ -34,12 +35,18 @@ pub bits_70 : (place n : ℕ) → place ≤ 9 → n < 128 ^ (place + 1) → n < 
 bits_70 place n le lt = search (rules, pow-le-pow_right)
 
 pub step_end : (bytes : List ℕ) (place sum : ℕ) → place < length bytes → get_or bytes place 0 < 128
-    → spelling_from place sum (drop place bytes) ≡ Ok (record { sum = sum + (get_or bytes place 0 % 128) * 128 ^ place; last = get_or bytes place 0; len = place + 1 })
+    → spelling_from place sum (drop place bytes)
+    ≡ Ok (record {
+      sum = sum + (get_or bytes place 0 % 128) * 128 ^ place;
+      last = get_or bytes place 0;
+      len = place + 1;
+    })
 unfolding spelling_from
 step_end bytes place sum lt low = grind (arith, common_steps, lt-ltb, at_drop_more)
 
 pub step_on : (bytes : List ℕ) (place sum : ℕ) → place < length bytes → 128 ≤ get_or bytes place 0 → place < 9
-    → spelling_from place sum (drop place bytes) ≡ spelling_from (place + 1) (sum + (get_or bytes place 0 % 128) * 128 ^ place) (drop (place + 1) bytes)
+    → spelling_from place sum (drop place bytes)
+    ≡ spelling_from (place + 1) (sum + (get_or bytes place 0 % 128) * 128 ^ place) (drop (place + 1) bytes)
 unfolding spelling_from
 step_on bytes place sum lt high le = grind (arith, common_steps, at_drop_more, le-ltb, lt-ltb)
 
@@ -48,7 +55,8 @@ pub step_bad : (bytes : List ℕ) (place sum : ℕ) → place < length bytes →
 unfolding spelling_from
 step_bad bytes place sum lt high le = grind (arith, common_steps, at_drop_more, le-ltb)
 
-pub step_cut : (bytes : List ℕ) (place sum : ℕ) → length bytes ≤ place → spelling_from place sum (drop place bytes) ≡ Err Cut
+pub step_cut : (bytes : List ℕ) (place sum : ℕ) → length bytes ≤ place
+    → spelling_from place sum (drop place bytes) ≡ Err Cut
 unfolding spelling_from
 step_cut bytes place sum le = at_drop_all (spelling_from place sum) bytes place le
 
@@ -57,5 +65,6 @@ difference : (s p : ℕ) → s < 2 ^ 71 → p < 2 ^ 71 → to_z w128 (of_z w128 
 difference s p small_s small_p = omega (arith, ints)
 
 -- a power of 128 is taken off
-pub taken_off : (s k : ℕ) → k ≤ 10 → s < 2 ^ 70 → to_z w128 (of_z w128 (to_z w128 s -ℤ to_z w128 (1 * 2 ^ (7 * k) % 2 ^ 128))) ≡ pos s -ℤ pos (128 ^ k)
+pub taken_off : (s k : ℕ) → k ≤ 10 → s < 2 ^ 70
+    → to_z w128 (of_z w128 (to_z w128 s -ℤ to_z w128 (1 * 2 ^ (7 * k) % 2 ^ 128))) ≡ pos s -ℤ pos (128 ^ k)
 taken_off s k le lt = search (rules, one_shl, sevens, pow-le-pow_right, difference)

@@ -20,16 +20,21 @@ use Rattle.dw_forms.proofs.TailLaws.{table_more, twice_none, none_along, table_a
 
 -- ---- what stays
 
-pub table_stays : (old new : Tables) (number : ℕ) → Stay old new → number < length old → chain_in new number ≡ chain_in old number
-table_stays old new number stay within = ap (λ (ts : Tables). chain_in ts number) stay.1 ∙ get_or_append_left old stay.0 [] number within
+pub table_stays : (old new : Tables) (number : ℕ) → Stay old new → number < length old
+    → chain_in new number ≡ chain_in old number
+table_stays old new number stay within =
+    ap (λ (ts : Tables). chain_in ts number) stay.1 ∙ get_or_append_left old stay.0 [] number within
 
-pub is_table_stays : (section : List ℕ) (old new : Tables) (offset number : ℕ) → Stay old new → IsTableIn section old offset number → IsTableIn section new offset number
+pub is_table_stays : (section : List ℕ) (old new : Tables) (offset number : ℕ) → Stay old new
+    → IsTableIn section old offset number → IsTableIn section new offset number
 is_table_stays section old new offset number stay is = search (rules, length-append, table_stays)
 
 -- ---- one declaration more
 
 -- the table before which declarations were read
-pub goes_on : (nodes : List Node) (section : List ℕ) (kept : List KeptDecl) (starts : List ℕ) (offset rest : ℕ) → AreStarts section (tables_of nodes kept) starts → GoesOn section starts offset rest → IsTableIn section (tables_of nodes kept) offset rest
+pub goes_on : (nodes : List Node) (section : List ℕ) (kept : List KeptDecl) (starts : List ℕ) (offset rest : ℕ)
+    → AreStarts section (tables_of nodes kept) starts → GoesOn section starts offset rest
+    → IsTableIn section (tables_of nodes kept) offset rest
 goes_on nodes section kept starts offset rest are (inl (some, begins)) = search (rules, begins_within)
 goes_on nodes section kept starts offset rest are (inr (none, is)) = search (rules, tables_long, table_none)
 
@@ -39,14 +44,20 @@ code_twice code ds has lacks =
     cc
 
 -- the declarations that are left are one after another up to where a table that is kept begins
-pub record Leads (section : List ℕ) (nodes : List Node) (tables : Tables) (decls : List (Placed KeptDecl)) (offset number : ℕ) : Type 0 where
+pub record Leads (section : List ℕ) (nodes : List Node) (tables : Tables) (decls : List (Placed KeptDecl))
+    (offset number : ℕ) : Type 0 where
   pub next : ℕ
   pub along : AreAlong (IsDeclAt section nodes) decls offset next
   pub table : IsTableIn section tables next number
 
-module _ {section : List ℕ} {nodes : List Node} {old : Tables} {offset rest : ℕ} {all : List (Placed KeptDecl)} (left : List (Placed KeptDecl)) (s : Placed KeptDecl) (parts : all ≡ left ++ s ∷ []) (leads : Leads section nodes old all offset rest) where
+module _ {section : List ℕ} {nodes : List Node} {old : Tables} {offset rest : ℕ} {all : List (Placed KeptDecl)}
+    (left : List (Placed KeptDecl)) (s : Placed KeptDecl) (parts : all ≡ left ++ s ∷ [])
+    (leads : Leads section nodes old all offset rest) where
   pub popped : AreAlong (IsDeclAt section nodes) left offset s.at × IsDeclAt section nodes s.at s.item leads.next
-  popped = along_pop (IsDeclAt section nodes) left offset leads.next s (subst (λ (xs : List (Placed KeptDecl)). AreAlong (IsDeclAt section nodes) xs offset leads.next) parts leads.along)
+  popped =
+      along_pop (IsDeclAt section nodes) left offset leads.next s
+      (subst (λ (xs : List (Placed KeptDecl)). AreAlong (IsDeclAt section nodes) xs offset leads.next) parts
+      leads.along)
 
   pub start_less : s.at < length section
   start_less = let e = popped.1 in omega (arith, e.rises, e.fits)
@@ -54,7 +65,8 @@ module _ {section : List ℕ} {nodes : List Node} {old : Tables} {offset rest : 
   pub turn_none : (new : Tables) → IsAddedTable (kept_view nodes s.item) rest old new None → NoTable section offset
   turn_none new added =
       none_along section nodes left offset s.at popped.0
-      (twice_none section s.at leads.next (kept_view nodes s.item) (table_in old rest) popped.1.is leads.table.table (code_twice s.item.code (table_in old rest) added.0))
+      (twice_none section s.at leads.next (kept_view nodes s.item) (table_in old rest) popped.1.is leads.table.table
+      (code_twice s.item.code (table_in old rest) added.0))
 
   pub turn_new : (starts : List ℕ) → AreNew starts all → NothingAt starts s.at × AreNew (starts ++ s.at ∷ []) left
   turn_new starts are =
@@ -67,7 +79,13 @@ module _ {section : List ℕ} {nodes : List Node} {old : Tables} {offset rest : 
     turn_stay = (_, added.2)
 
     long : length new ≡ suc (length old)
-    long = omega (arith, ap length added.2, length-append old ((record { number = number; item = kept_view nodes s.item } ∷ chain_in old rest) ∷ []))
+    long =
+        omega (
+          arith,
+          ap length added.2,
+          length-append old
+              ((record { number = number; item = kept_view nodes s.item } ∷ chain_in old rest) ∷ []),
+        )
 
     new_is : chain_in new number ≡ record { number = number; item = kept_view nodes s.item } ∷ chain_in old rest
     new_is = ap (λ (ts : Tables). chain_in ts number) added.2 ∙ get_or_at old _ [] [] number (sym added.1)
@@ -75,12 +93,15 @@ module _ {section : List ℕ} {nodes : List Node} {old : Tables} {offset rest : 
     table : IsTableIn section new s.at number
     table = record {
       within = omega (arith, added.1, long);
-      table = table_more section s.at leads.next (kept_view nodes s.item) (table_in old rest) popped.1.is leads.table.table (lacks_from code_of_decl s.item.code (table_in old rest) added.0)
+      table =
+          table_more section s.at leads.next (kept_view nodes s.item) (table_in old rest) popped.1.is leads.table.table
+          (lacks_from code_of_decl s.item.code (table_in old rest) added.0)
           ∙ ap (λ (t : List (Numbered Declaration)). Ok (items_of t)) (sym new_is);
     }
 
     -- one start more, with its table
-    pub turn_starts : (starts : List ℕ) → AreStarts section old starts → NothingAt starts s.at → AreStarts section new (starts ++ s.at ∷ [])
+    pub turn_starts : (starts : List ℕ) → AreStarts section old starts → NothingAt starts s.at
+        → AreStarts section new (starts ++ s.at ∷ [])
     turn_starts starts are nothing = record {
       apart = apart_push (length section) starts s.at are.apart nothing start_less;
       long = omega (arith, are.long, long, length-append starts (s.at ∷ []));
@@ -91,7 +112,8 @@ module _ {section : List ℕ} {nodes : List Node} {old : Tables} {offset rest : 
             rw (start_is, last) table
         | inr other ↦
             let before : k < length starts = omega (arith, other, less, length-append starts (s.at ∷ [])) in
-            let start_is : get_or (starts ++ s.at ∷ []) k 0 ≡ get_or starts k 0 = get_or_append_left starts (s.at ∷ []) 0 k before in
+            let start_is : get_or (starts ++ s.at ∷ []) k 0
+            ≡ get_or starts k 0 = get_or_append_left starts (s.at ∷ []) 0 k before in
             rw start_is (is_table_stays section old new (get_or starts k 0) (suc k) turn_stay (are.each k before))
       ];
     }

@@ -30,7 +30,8 @@ pub none_there : (a : Attributes) → a.first ≡ 0 → numbered a ≡ []
 none_there a none = ap (numbered_in (nodes_of a)) none ∙ chain_none (specs_of (nodes_of a))
 
 -- the first attribute, and those after it
-pub first_ends : (a rest : Attributes) (n : Node) → IsKnown (nodes_of a) a.first n → nodes_of rest ≡ nodes_of a → rest.first ≡ n.next → Ends a rest (record { number = a.first; item = spec_of n } ∷ [])
+pub first_ends : (a rest : Attributes) (n : Node) → IsKnown (nodes_of a) a.first n → nodes_of rest ≡ nodes_of a
+    → rest.first ≡ n.next → Ends a rest (record { number = a.first; item = spec_of n } ∷ [])
 first_ends a rest n is same next = search (rules)
 
 -- all of them, and then none
@@ -38,18 +39,22 @@ pub none_ends : (a rest : Attributes) → nodes_of rest ≡ nodes_of a → rest.
 none_ends a rest same none = search (rules, append-nil, chain_none)
 
 -- the attributes in another list that one ends with
-pub numbered_ends : (a b : Attributes) (before : List (Numbered AttributeSpec)) → Ends a b before → numbered a ≡ before ++ numbered b
+pub numbered_ends : (a b : Attributes) (before : List (Numbered AttributeSpec)) → Ends a b before
+    → numbered a ≡ before ++ numbered b
 numbered_ends a b before e = e.parts ∙ ap (λ (nodes : List Node). before ++ numbered_in nodes b.first) (sym e.nodes)
 
-pub specs_ends : (a b : Attributes) (before : List (Numbered AttributeSpec)) → Ends a b before → specs_in a ≡ items_of before ++ specs_in b
+pub specs_ends : (a b : Attributes) (before : List (Numbered AttributeSpec)) → Ends a b before
+    → specs_in a ≡ items_of before ++ specs_in b
 specs_ends a b before e = ap items_of (numbered_ends a b before e) ∙ items_append before (numbered b)
 
 -- the first attribute before those after it
-pub first_specs : (all rest : Attributes) (spec : AttributeSpec) → Ends all rest (record { number = all.first; item = spec } ∷ []) → specs_in all ≡ spec ∷ specs_in rest
+pub first_specs : (all rest : Attributes) (spec : AttributeSpec)
+    → Ends all rest (record { number = all.first; item = spec } ∷ []) → specs_in all ≡ spec ∷ specs_in rest
 first_specs all rest spec ends = specs_ends all rest (record { number = all.first; item = spec } ∷ []) ends
 
 -- a list ends with what its end ends with
-pub ends_on : (a b c : Attributes) (xs ys : List (Numbered AttributeSpec)) → Ends a b xs → Ends b c ys → Ends a c (xs ++ ys)
+pub ends_on : (a b c : Attributes) (xs ys : List (Numbered AttributeSpec)) → Ends a b xs → Ends b c ys
+    → Ends a c (xs ++ ys)
 ends_on a b c xs ys e f = search (rules, numbered_ends, append_assoc)
 
 -- ---- those from the next one of a kind on
@@ -67,31 +72,42 @@ module _ (test : AttributeSpec → Bool) (all : Attributes) where
     pub before : List (Numbered AttributeSpec)
     pub ends : Ends all found before
     pub none : list_any test (items_of before) ≡ false
-    pub passes : (spec : AttributeSpec) (rest : Attributes) → Ends found rest (record { number = found.first; item = spec } ∷ []) → test spec ≡ true
+    pub passes : (spec : AttributeSpec) (rest : Attributes)
+        → Ends found rest (record { number = found.first; item = spec } ∷ []) → test spec ≡ true
 
   pub follow : (found : Attributes) → IsFrom test all found → Follow found
   unfolding parted
   follow found is = search (rules, parted, numbered_ends)
 
   -- where there are none from it on, all fail the test
-  pub none_follow : (found : Attributes) → IsFrom test all found → specs_in found ≡ [] → list_any test (specs_in all) ≡ false
+  pub none_follow : (found : Attributes) → IsFrom test all found → specs_in found ≡ []
+      → list_any test (specs_in all) ≡ false
   none_follow found is none =
       let f = follow found is in
-      ap (list_any test) (specs_ends all found f.before f.ends ∙ ap (λ (specs : List AttributeSpec). items_of f.before ++ specs) none ∙ append-nil (items_of f.before)) ∙ f.none
+      ap (list_any test) (specs_ends all found f.before f.ends
+      ∙ ap (λ (specs : List AttributeSpec). items_of f.before ++ specs) none ∙ append-nil (items_of f.before))
+      ∙ f.none
 
 -- none of no attributes is of the kind
 none_number : (test : AttributeSpec → Bool) → number_where test [] ≡ 0
 unfolding number_where
 none_number test = refl
 
-pub none_from : (test : AttributeSpec → Bool) (all : Attributes) → all.first ≡ 0 → numbered all ≡ [] → IsFrom test all all
+pub none_from : (test : AttributeSpec → Bool) (all : Attributes) → all.first ≡ 0 → numbered all ≡ []
+    → IsFrom test all all
 none_from test all none is = record { nodes = refl; first = none ∙ sym (ap (number_where test) is ∙ none_number test) }
 
 -- ---- the attribute of a code
 
 module _ (all : Attributes) (code : ℕ) where
   pub first_within : all.first ≤ length all.lists.now.codes.links.items
-  first_within = let w = all.within in omega (arith, w, links_long all.lists.now.codes.links.items (nodes_of all) all.lists.now.coded)
+  first_within =
+      let w = all.within in omega (
+        arith,
+        w,
+        links_long all.lists.now.codes.links.items (nodes_of all)
+            all.lists.now.coded,
+      )
 
   module _ (found : ℕ) (is : found ≡ number_in (codes_in all.lists.now.codes.links.items all.first) code) where
     pub found_is : found ≡ number_where (has_this code) (numbered all)
@@ -102,16 +118,20 @@ module _ (all : Attributes) (code : ℕ) where
 
 -- ---- the size of all values together
 
-pub whole_some : (a : Attributes) (n : Node) → IsKnown (nodes_of a) a.first n → n.next_varying ≡ 0 → Some n.known_with_8 ≡ whole_in 8 (specs_in a)
+pub whole_some : (a : Attributes) (n : Node) → IsKnown (nodes_of a) a.first n → n.next_varying ≡ 0
+    → Some n.known_with_8 ≡ whole_in 8 (specs_in a)
 whole_some a n is none =
-    let fixed = none_has varies (specs_of (nodes_of a)) (numbered a) (are_numbered (specs_of (nodes_of a)) a.first) (sym is.knows.varying ∙ none) in
+    let fixed = none_has varies (specs_of (nodes_of a)) (numbered a) (are_numbered (specs_of (nodes_of a)) a.first)
+    (sym is.knows.varying ∙ none) in
     rw fixed (ap (λ (size : ℕ). Some size) is.knows.known_with_8)
 
-pub whole_none : (a : Attributes) (n : Node) → IsKnown (nodes_of a) a.first n → (n.next_varying ≡ 0 → ⊥) → None ≡ whole_in 8 (specs_in a)
+pub whole_none : (a : Attributes) (n : Node) → IsKnown (nodes_of a) a.first n → (n.next_varying ≡ 0 → ⊥)
+    → None ≡ whole_in 8 (specs_in a)
 whole_none a n is some = rw (some_has varies (numbered a) (λ e. some (is.knows.varying ∙ e))) refl
 
 -- values that have one size each are cut off together
-pub whole_cut : (version size : ℕ) (list : List (Numbered AttributeSpec)) (bytes : List ℕ) → Some size ≡ whole_in 8 (items_of list) → values_end version 8 (items_of list) bytes ≡ cut_at size bytes
+pub whole_cut : (version size : ℕ) (list : List (Numbered AttributeSpec)) (bytes : List ℕ)
+    → Some size ≡ whole_in 8 (items_of list) → values_end version 8 (items_of list) bytes ≡ cut_at size bytes
 whole_cut version size list bytes is = by_kind (list_any varies (items_of list)) refl
   where
     same : Some size ≡ Some (known_sum 8 (items_of list)) → size ≡ known_sum 8 (items_of list)
@@ -120,19 +140,23 @@ whole_cut version size list bytes is = by_kind (list_any varies (items_of list))
     other : Some size ≡ None → ⊥
     other e = cc
 
-    by_kind : (b : Bool) → list_any varies (items_of list) ≡ b → values_end version 8 (items_of list) bytes ≡ cut_at size bytes
+    by_kind : (b : Bool) → list_any varies (items_of list) ≡ b
+        → values_end version 8 (items_of list) bytes ≡ cut_at size bytes
     by_kind true e = absurd (other (is ∙ rw e refl))
     by_kind false e = run version 8 list bytes e ∙ ap (λ (n : ℕ). cut_at n bytes) (sym (same (is ∙ rw e refl)))
 
 -- ---- a flag, as its form says
 
-find_none : (code : ℕ) (specs : List AttributeSpec) → list_any (has_this code) specs ≡ false → find (has_this code) specs ≡ None
+find_none : (code : ℕ) (specs : List AttributeSpec) → list_any (has_this code) specs ≡ false
+    → find (has_this code) specs ≡ None
 find_none code [] none = refl
 find_none code (s ∷ specs) none =
     let parts = or_parts (has_this code s) (list_any (has_this code) specs) none in
     rw parts.0 (find_none code specs parts.1)
 
-find_first : (code : ℕ) (front : List AttributeSpec) (spec : AttributeSpec) (back : List AttributeSpec) → list_any (has_this code) front ≡ false → has_this code spec ≡ true → find (has_this code) (front ++ spec ∷ back) ≡ Some spec
+find_first : (code : ℕ) (front : List AttributeSpec) (spec : AttributeSpec) (back : List AttributeSpec)
+    → list_any (has_this code) front ≡ false → has_this code spec ≡ true
+    → find (has_this code) (front ++ spec ∷ back) ≡ Some spec
 find_first code [] spec back none is = rw is refl
 find_first code (s ∷ front) spec back none is =
     let parts = or_parts (has_this code s) (list_any (has_this code) front) none in
@@ -142,17 +166,23 @@ module _ (code : ℕ) (all found : Attributes) (is : IsFrom (has_this code) all 
   pub flag_none : specs_in found ≡ [] → flag_in code (specs_in all) ≡ Some false
   flag_none none = ap flag_by (find_none code (specs_in all) (none_follow (has_this code) all found is none))
 
-  pub flag_some : (spec : AttributeSpec) (rest : Attributes) → Ends found rest (record { number = found.first; item = spec } ∷ []) → flag_in code (specs_in all) ≡ known_flag spec.form
+  pub flag_some : (spec : AttributeSpec) (rest : Attributes)
+      → Ends found rest (record { number = found.first; item = spec } ∷ [])
+      → flag_in code (specs_in all) ≡ known_flag spec.form
   flag_some spec rest first =
       let f = follow (has_this code) all found is in
       let parts : specs_in all ≡ items_of f.before ++ (spec ∷ specs_in rest) =
-      specs_ends all found f.before f.ends ∙ ap (λ (specs : List AttributeSpec). items_of f.before ++ specs) (first_specs found rest spec first) in
-      ap flag_by (ap (find (has_this code)) parts ∙ find_first code (items_of f.before) spec (specs_in rest) f.none (f.passes spec rest first))
+      specs_ends all found f.before f.ends
+      ∙ ap (λ (specs : List AttributeSpec). items_of f.before ++ specs) (first_specs found rest spec first) in
+      ap flag_by (ap (find (has_this code)) parts
+      ∙ find_first code (items_of f.before) spec (specs_in rest) f.none (f.passes spec rest first))
 
 -- ---- its value
 
 -- the first one with the code comes after some that have another
-stands_first : (code : ℕ) (front : List AttributeSpec) (spec : AttributeSpec) (back : List AttributeSpec) → list_any (has_this code) front ≡ false → has_this code spec ≡ true → StandsFirst (front ++ spec ∷ back) code (length front)
+stands_first : (code : ℕ) (front : List AttributeSpec) (spec : AttributeSpec) (back : List AttributeSpec)
+    → list_any (has_this code) front ≡ false → has_this code spec ≡ true
+    → StandsFirst (front ++ spec ∷ back) code (length front)
 stands_first code front spec back none is =
     search (rules, common_steps, length-append, attribute_of, get_or_at, eqb-true, lacks_from, get_or_append_left)
 
@@ -161,10 +191,14 @@ take_front [] ys = refl
 take_front (x ∷ xs) ys = ap (λ (zs : List AttributeSpec). x ∷ zs) (take_front xs ys)
 
 front_range : (xs ys : List AttributeSpec) → slice_range (xs ++ ys) 0 (length xs) ≡ xs
-front_range xs ys = let n : length xs - 0 ≡ length xs = omega arith in ap (λ (k : ℕ). take k (xs ++ ys)) n ∙ take_front xs ys
+front_range xs ys =
+    let n : length xs - 0 ≡ length xs = omega arith in ap (λ (k : ℕ). take k (xs ++ ys)) n ∙ take_front xs ys
 
-reads_front : (version size code : ℕ) (front : List AttributeSpec) (spec : AttributeSpec) (back : List AttributeSpec) (bytes : List ℕ) (answer : Result Datum ValueFault)
-    → list_any (has_this code) front ≡ false → has_this code spec ≡ true → answer ≡ value_behind version size spec.form (values_end version size front bytes) → ReadsFirst version size (front ++ spec ∷ back) code bytes answer
+reads_front : (version size code : ℕ) (front : List AttributeSpec) (spec : AttributeSpec) (back : List AttributeSpec)
+    (bytes : List ℕ) (answer : Result Datum ValueFault)
+    → list_any (has_this code) front ≡ false → has_this code spec ≡ true
+    → answer ≡ value_behind version size spec.form (values_end version size front bytes)
+    → ReadsFirst version size (front ++ spec ∷ back) code bytes answer
 reads_front version size code front spec back bytes answer none is e = record {
   place = length front;
   first = stands_first code front spec back none is;
@@ -172,8 +206,10 @@ reads_front version size code front spec back bytes answer none is e = record {
 }
 
 -- where there are none from it on, none has the code
-pub none_has_it : (code : ℕ) (all found : Attributes) → IsFrom (has_this code) all found → specs_in found ≡ [] → All (λ (spec : AttributeSpec). spec.attribute ≢ code) (specs_in all)
-none_has_it code all found is none = lacks_from attribute_of code (specs_in all) (none_follow (has_this code) all found is none)
+pub none_has_it : (code : ℕ) (all found : Attributes) → IsFrom (has_this code) all found → specs_in found ≡ []
+    → All (λ (spec : AttributeSpec). spec.attribute ≢ code) (specs_in all)
+none_has_it code all found is none =
+    lacks_from attribute_of code (specs_in all) (none_follow (has_this code) all found is none)
 
 module _ (version size code : ℕ) (all found : Attributes) (is : IsFrom (has_this code) all found) where
   before_it : Follow (has_this code) all found
@@ -183,26 +219,39 @@ module _ (version size code : ℕ) (all found : Attributes) (is : IsFrom (has_th
   pub before_found : (before : List (Numbered AttributeSpec)) × Ends all found before
   before_found = (before_it.before, before_it.ends)
 
-  module _ (spec : AttributeSpec) (rest : Attributes) (first : Ends found rest (record { number = found.first; item = spec } ∷ [])) (bytes : List ℕ) where
-    reads_it : (answer : Result Datum ValueFault) → answer ≡ value_behind version size spec.form (values_end version size (items_of before_it.before) bytes) → ReadsFirst version size (specs_in all) code bytes answer
+  module _ (spec : AttributeSpec) (rest : Attributes)
+      (first : Ends found rest (record { number = found.first; item = spec } ∷ [])) (bytes : List ℕ) where
+    reads_it : (answer : Result Datum ValueFault)
+        → answer ≡ value_behind version size spec.form (values_end version size (items_of before_it.before) bytes)
+        → ReadsFirst version size (specs_in all) code bytes answer
     reads_it answer e =
         let parts : specs_in all ≡ items_of before_it.before ++ (spec ∷ specs_in rest) =
-        specs_ends all found before_it.before before_it.ends ∙ ap (λ (specs : List AttributeSpec). items_of before_it.before ++ specs) (specs_ends found rest (record { number = found.first; item = spec } ∷ []) first) in
+        specs_ends all found before_it.before before_it.ends
+        ∙ ap (λ (specs : List AttributeSpec). items_of before_it.before ++ specs)
+        (specs_ends found rest (record { number = found.first; item = spec } ∷ []) first) in
         subst (λ (specs : List AttributeSpec). ReadsFirst version size specs code bytes answer) (sym parts)
-        (reads_front version size code (items_of before_it.before) spec (specs_in rest) bytes answer before_it.none (before_it.passes spec rest first) e)
+        (reads_front version size code (items_of before_it.before) spec (specs_in rest) bytes answer before_it.none
+        (before_it.passes spec rest first) e)
 
     -- the values before it fail
-    pub before_fails : (f : ValueFault) → values_end version size (items_of before_found.0) bytes ≡ Err f → ReadsFirst version size (specs_in all) code bytes (Err f)
+    pub before_fails : (f : ValueFault) → values_end version size (items_of before_found.0) bytes ≡ Err f
+        → ReadsFirst version size (specs_in all) code bytes (Err f)
     unfolding before_found
     before_fails f e = reads_it (Err f) (ap (value_behind version size spec.form) (sym e))
 
     module _ (mid : List ℕ) (passed : values_end version size (items_of before_found.0) bytes ≡ Ok mid) where
-      value_here : (r : Result (Datum × List ℕ) ValueFault) → value_at version spec.form size mid ≡ r → value_behind version size spec.form (values_end version size (items_of before_it.before) bytes) ≡ (r >>= λ v. Ok v.0)
+      value_here : (r : Result (Datum × List ℕ) ValueFault) → value_at version spec.form size mid ≡ r
+          → value_behind version size spec.form (values_end version size (items_of before_it.before) bytes)
+          ≡ (r >>= λ v. Ok v.0)
       unfolding before_found
-      value_here r e = ap (value_behind version size spec.form) passed ∙ ap (λ (q : Result (Datum × List ℕ) ValueFault). q >>= λ v. Ok v.0) e
+      value_here r e =
+          ap (value_behind version size spec.form) passed
+          ∙ ap (λ (q : Result (Datum × List ℕ) ValueFault). q >>= λ v. Ok v.0) e
 
-      pub it_fails : (f : ValueFault) → value_at version spec.form size mid ≡ Err f → ReadsFirst version size (specs_in all) code bytes (Err f)
+      pub it_fails : (f : ValueFault) → value_at version spec.form size mid ≡ Err f
+          → ReadsFirst version size (specs_in all) code bytes (Err f)
       it_fails f e = reads_it (Err f) (sym (value_here (Err f) e))
 
-      pub it_reads : (v : Datum) (more : List ℕ) → value_at version spec.form size mid ≡ Ok (v, more) → ReadsFirst version size (specs_in all) code bytes (Ok v)
+      pub it_reads : (v : Datum) (more : List ℕ) → value_at version spec.form size mid ≡ Ok (v, more)
+          → ReadsFirst version size (specs_in all) code bytes (Ok v)
       it_reads v more e = reads_it (Ok v) (sym (value_here (Ok (v, more)) e))

@@ -14,10 +14,12 @@ module _ (version : ℕ) (form : Form) (size : ℕ) (bytes : List ℕ) where
   abbrev IsRead : Result (Value × ℕ) ValueFault → Type 0
   IsRead r = Gives (λ x. (view x.0, drop x.1 bytes)) r (value_at version form size bytes)
 
-  pub found_by : (r : Result (Value × ℕ) ValueFault) → IfOk r (λ x. x.1 ≤ length bytes) → IsRead r → IfOk r (λ x. BeginsWith (Val version form size) bytes (view x.0) x.1)
+  pub found_by : (r : Result (Value × ℕ) ValueFault) → IfOk r (λ x. x.1 ≤ length bytes) → IsRead r
+      → IfOk r (λ x. BeginsWith (Val version form size) bytes (view x.0) x.1)
   found_by (Ok x) within e =
       let long : length bytes - length (drop x.1 bytes) ≡ x.1 = omega (arith, within, length-drop x.1 bytes) in
-      subst (λ (k : ℕ). BeginsWith (Val version form size) bytes (view x.0) k) long (value_begins version form size bytes (view x.0) (drop x.1 bytes) e)
+      subst (λ (k : ℕ). BeginsWith (Val version form size) bytes (view x.0) k) long
+      (value_begins version form size bytes (view x.0) (drop x.1 bytes) e)
   found_by (Err f) within e = tt
 
   pub none_by : (r : Result (Value × ℕ) ValueFault) → IsRead r → OnErr r (BeginsWithNone (Val version form size) bytes)

@@ -18,33 +18,41 @@ use Rattle.dw_forms.proofs.PartLaws.{known_at, none_both}
 
 -- ---- one attribute
 
-stops_first : (n : Numbered AttributeSpec) (list : List (Numbered AttributeSpec)) → stops_at (step_in list) n.item ≡ true → step_in (n ∷ list) ≡ n.number
+stops_first : (n : Numbered AttributeSpec) (list : List (Numbered AttributeSpec))
+    → stops_at (step_in list) n.item ≡ true → step_in (n ∷ list) ≡ n.number
 unfolding step_in
 stops_first n list is = rw is refl
 
-stops_later : (n : Numbered AttributeSpec) (list : List (Numbered AttributeSpec)) → stops_at (step_in list) n.item ≡ false → step_in (n ∷ list) ≡ step_in list
+stops_later : (n : Numbered AttributeSpec) (list : List (Numbered AttributeSpec))
+    → stops_at (step_in list) n.item ≡ false → step_in (n ∷ list) ≡ step_in list
 unfolding step_in
 stops_later n list is = rw is refl
 
-leads_first : (n : Numbered AttributeSpec) (list : List (Numbered AttributeSpec)) → stops_at (step_in list) n.item ≡ true → lead_in (n ∷ list) ≡ lead_of n.item
+leads_first : (n : Numbered AttributeSpec) (list : List (Numbered AttributeSpec))
+    → stops_at (step_in list) n.item ≡ true → lead_in (n ∷ list) ≡ lead_of n.item
 unfolding lead_in
 leads_first n list is = rw is refl
 
-leads_later : (n : Numbered AttributeSpec) (list : List (Numbered AttributeSpec)) → stops_at (step_in list) n.item ≡ false → lead_in (n ∷ list) ≡ lead_in list
+leads_later : (n : Numbered AttributeSpec) (list : List (Numbered AttributeSpec))
+    → stops_at (step_in list) n.item ≡ false → lead_in (n ∷ list) ≡ lead_in list
 unfolding lead_in
 leads_later n list is = rw is refl
 
-skips_none : (size : ℕ) (n : Numbered AttributeSpec) (list : List (Numbered AttributeSpec)) → stops_at (step_in list) n.item ≡ true → skip_in size (n ∷ list) ≡ 0
+skips_none : (size : ℕ) (n : Numbered AttributeSpec) (list : List (Numbered AttributeSpec))
+    → stops_at (step_in list) n.item ≡ true → skip_in size (n ∷ list) ≡ 0
 unfolding skip_in
 skips_none size n list is = rw is refl
 
-skips_more : (size : ℕ) (n : Numbered AttributeSpec) (list : List (Numbered AttributeSpec)) → stops_at (step_in list) n.item ≡ false → skip_in size (n ∷ list) ≡ skip_in size list + known_size size n.item.form
+skips_more : (size : ℕ) (n : Numbered AttributeSpec) (list : List (Numbered AttributeSpec))
+    → stops_at (step_in list) n.item ≡ false → skip_in size (n ∷ list) ≡ skip_in size list + known_size size n.item.form
 unfolding skip_in
 skips_more size n list is = rw is refl
 
 -- a value that is passed before a step does not vary
 never_varies : (next : ℕ) (b : Bool) → (next ≡ 0 → ⊥) → (b && not (next == 0)) ≡ false → b ≡ false
-never_varies next true some e = absurd (let other : (next == 0) ≡ false = ne_eqb next 0 some in let no : not (next == 0) ≡ true = ap not other in cc)
+never_varies next true some e =
+    absurd (let other : (next == 0) ≡ false = ne_eqb next 0 some in let no : not (next == 0) ≡ true = ap not other in
+    cc)
 never_varies next false some e = refl
 
 -- where a step is made, the value leads elsewhere or varies
@@ -58,12 +66,16 @@ leads_or_varies false false c e = e
 -- the attribute that the list of the found number begins with leads elsewhere or varies
 abbrev pub StopsThere : List Node → ℕ → Type 0
 StopsThere nodes found =
-    (spec : AttributeSpec) (list : List (Numbered AttributeSpec)) → numbered_in nodes found ≡ record { number = found; item = spec } ∷ list → (does_lead spec || does_vary spec.form) ≡ true
+    (spec : AttributeSpec) (list : List (Numbered AttributeSpec))
+    → numbered_in nodes found ≡ record { number = found; item = spec } ∷ list
+    → (does_lead spec || does_vary spec.form) ≡ true
 
 -- the lead is that of the attribute that the list of the found number begins with
 abbrev pub LeadsTo : List Node → ℕ → ℕ → Type 0
 LeadsTo nodes number found =
-    (spec : AttributeSpec) (list : List (Numbered AttributeSpec)) → numbered_in nodes found ≡ record { number = found; item = spec } ∷ list → lead_in (numbered_in nodes number) ≡ lead_of spec
+    (spec : AttributeSpec) (list : List (Numbered AttributeSpec))
+    → numbered_in nodes found ≡ record { number = found; item = spec } ∷ list
+    → lead_in (numbered_in nodes number) ≡ lead_of spec
 
 -- the values before an attribute have one size each and lead nowhere, and so many bytes are those that are passed
 pub record GoesTo (nodes : List Node) (number found : ℕ) : Type 0 where
@@ -82,22 +94,30 @@ pub record Walks (nodes : List Node) (number found : ℕ) : Type 0 where
   pub no_lead : found ≡ 0 → lead_in (numbered_in nodes number) ≡ Nothing
   pub goes : (found ≡ 0 → ⊥) → GoesTo nodes number found
 
-first_item : (m n : Numbered AttributeSpec) (ms ns : List (Numbered AttributeSpec)) → ◌≡◌ {A = List (Numbered AttributeSpec)} (m ∷ ms) (n ∷ ns) → m.item ≡ n.item
+first_item : (m n : Numbered AttributeSpec) (ms ns : List (Numbered AttributeSpec))
+    → ◌≡◌ {A = List (Numbered AttributeSpec)} (m ∷ ms) (n ∷ ns) → m.item ≡ n.item
 first_item m n ms ns e = let same : m ≡ n = cc in ap (λ (x : Numbered AttributeSpec). x.item) same
 
 module _ (nodes : List Node) (known : AreKnown nodes) where
-  walks_here : (number : ℕ) (n : Node) (b : Bool) → 0 < number → IsKnown nodes number n → stops_at (step_in (numbered_in nodes n.next)) (spec_of n) ≡ b
-      → Walks nodes n.next (step_in (numbered_in nodes n.next)) → Walks nodes number (step_in (numbered_in nodes number))
+  walks_here : (number : ℕ) (n : Node) (b : Bool) → 0 < number → IsKnown nodes number n
+      → stops_at (step_in (numbered_in nodes n.next)) (spec_of n) ≡ b
+      → Walks nodes n.next (step_in (numbered_in nodes n.next))
+      → Walks nodes number (step_in (numbered_in nodes number))
   walks_here number n true some is stops rest =
       let first : Numbered AttributeSpec = record { number = number; item = spec_of n } in
       let there : StopsThere nodes number = λ spec list begins.
-      let same : ◌≡◌ {A = List (Numbered AttributeSpec)} (record { number = number; item = spec } ∷ list) (record { number = number; item = spec_of n } ∷ numbered_in nodes n.next) = sym begins ∙ is.begins in
+      let same : ◌≡◌ {A = List (Numbered AttributeSpec)} (record { number = number; item = spec } ∷ list)
+      (record { number = number; item = spec_of n } ∷ numbered_in nodes n.next) = sym begins ∙ is.begins in
       ap (λ (s : AttributeSpec). does_lead s || does_vary s.form) (first_item _ _ list (numbered_in nodes n.next) same)
-      ∙ leads_or_varies (does_lead (spec_of n)) (does_vary n.form) (not (step_in (numbered_in nodes n.next) == 0)) stops in
+      ∙ leads_or_varies (does_lead (spec_of n)) (does_vary n.form) (not (step_in (numbered_in nodes n.next) == 0)) stops
+      in
       let leads : LeadsTo nodes number number = λ spec list begins.
-      let same : ◌≡◌ {A = List (Numbered AttributeSpec)} (record { number = number; item = spec } ∷ list) (record { number = number; item = spec_of n } ∷ numbered_in nodes n.next) = sym begins ∙ is.begins in
-      ap lead_in is.begins ∙ leads_first first (numbered_in nodes n.next) stops ∙ ap lead_of (sym (first_item _ _ list (numbered_in nodes n.next) same)) in
-      let found : step_in (numbered_in nodes number) ≡ number = ap step_in is.begins ∙ stops_first first (numbered_in nodes n.next) stops in
+      let same : ◌≡◌ {A = List (Numbered AttributeSpec)} (record { number = number; item = spec } ∷ list)
+      (record { number = number; item = spec_of n } ∷ numbered_in nodes n.next) = sym begins ∙ is.begins in
+      ap lead_in is.begins ∙ leads_first first (numbered_in nodes n.next) stops
+      ∙ ap lead_of (sym (first_item _ _ list (numbered_in nodes n.next) same)) in
+      let found : step_in (numbered_in nodes number)
+      ≡ number = ap step_in is.begins ∙ stops_first first (numbered_in nodes n.next) stops in
       rw found (record {
         within = omega arith;
         none = λ e. absurd (omega (arith, e, some));
@@ -114,84 +134,104 @@ module _ (nodes : List Node) (known : AreKnown nodes) where
       })
   walks_here number n false some is stops rest =
       let first : Numbered AttributeSpec = record { number = number; item = spec_of n } in
-      let found : step_in (numbered_in nodes number) ≡ step_in (numbered_in nodes n.next) = ap step_in is.begins ∙ stops_later first (numbered_in nodes n.next) stops in
-      let parts = or_parts (does_lead (spec_of n)) (does_vary n.form && not (step_in (numbered_in nodes n.next) == 0)) stops in
+      let found : step_in (numbered_in nodes number)
+      ≡ step_in (numbered_in nodes n.next) = ap step_in is.begins
+      ∙ stops_later first (numbered_in nodes n.next) stops in
+      let parts = or_parts (does_lead (spec_of n)) (does_vary n.form && not (step_in (numbered_in nodes n.next) == 0))
+      stops in
       let less = is.next in
       let w = rest.within in
       rw found (record {
         within = omega (arith, less, w);
-        none = λ e. ap (λ (list : List (Numbered AttributeSpec)). list_any does_lead (items_of list)) is.begins ∙ none_both (does_lead (spec_of n)) (list_any does_lead (items_of (numbered_in nodes n.next))) parts.0 (rest.none e);
+        none =
+            λ e. ap (λ (list : List (Numbered AttributeSpec)). list_any does_lead (items_of list)) is.begins
+            ∙ none_both (does_lead (spec_of n)) (list_any does_lead (items_of (numbered_in nodes n.next))) parts.0
+            (rest.none e);
         no_lead = λ e. ap lead_in is.begins ∙ leads_later first (numbered_in nodes n.next) stops ∙ rest.no_lead e;
         goes = λ other.
             let g = rest.goes other in
             record {
               before = first ∷ g.before;
               goes = is.begins ∙ ap (λ (list : List (Numbered AttributeSpec)). first ∷ list) g.goes;
-              none_leads = none_both (does_lead (spec_of n)) (list_any does_lead (items_of g.before)) parts.0 g.none_leads;
-              none_varies = none_both (does_vary n.form) (list_any varies (items_of g.before)) (never_varies (step_in (numbered_in nodes n.next)) (does_vary n.form) other parts.1) g.none_varies;
+              none_leads =
+                  none_both (does_lead (spec_of n)) (list_any does_lead (items_of g.before)) parts.0 g.none_leads;
+              none_varies =
+                  none_both (does_vary n.form) (list_any varies (items_of g.before))
+                  (never_varies (step_in (numbered_in nodes n.next)) (does_vary n.form) other parts.1) g.none_varies;
               skips = λ size.
-                  let more = sum_by-cons (λ (s : AttributeSpec). known_size size s.form) (spec_of n) (items_of g.before) in
+                  let more = sum_by-cons (λ (s : AttributeSpec). known_size size s.form) (spec_of n) (items_of g.before)
+                  in
                   let here = ap (skip_in size) is.begins ∙ skips_more size first (numbered_in nodes n.next) stops in
                   omega (arith, here, g.skips size, more);
               stops = g.stops;
-              leads = λ spec list begins. ap lead_in is.begins ∙ leads_later first (numbered_in nodes n.next) stops ∙ g.leads spec list begins;
+              leads =
+                  λ spec list begins. ap lead_in is.begins ∙ leads_later first (numbered_in nodes n.next) stops
+                  ∙ g.leads spec list begins;
             };
       })
 
-  walks_to : (bound number : ℕ) → number ≤ bound → number ≤ length nodes → Walks nodes number (step_in (numbered_in nodes number))
+  walks_to : (bound number : ℕ) → number ≤ bound → number ≤ length nodes
+      → Walks nodes number (step_in (numbered_in nodes number))
   unfolding step_in lead_in
   walks_to bound zero le within = search (rules, chain_none)
   walks_to zero (suc k) le within = absurd (omega (arith, le))
   walks_to (suc bound) (suc k) le within =
       let (n, is) = known_at nodes known (suc k) (omega arith) within in
       let less = is.next in
-      walks_here (suc k) n (stops_at (step_in (numbered_in nodes n.next)) (spec_of n)) (omega arith) is refl (walks_to bound n.next (omega (arith, less, le)) (omega (arith, less, within)))
+      walks_here (suc k) n (stops_at (step_in (numbered_in nodes n.next)) (spec_of n)) (omega arith) is refl
+      (walks_to bound n.next (omega (arith, less, le)) (omega (arith, less, within)))
 
-  module _ (number : ℕ) (within : number ≤ length nodes) (step : Step) (is : IsStep (numbered_in nodes number) step) where
-    walks : Walks nodes number step.to
-    walks = subst (Walks nodes number) (sym is.to) (walks_to number number (omega arith) within)
+  module _ (number : ℕ) (within : number ≤ length nodes) (step : Step) (is : IsStep (numbered_in nodes number) step)
+    where
+      walks : Walks nodes number step.to
+      walks = subst (Walks nodes number) (sym is.to) (walks_to number number (omega arith) within)
 
-    pub step_within : step.to ≤ length nodes
-    step_within = let w = walks.within in omega (arith, w, within)
+      pub step_within : step.to ≤ length nodes
+      step_within = let w = walks.within in omega (arith, w, within)
 
-    -- where no step is made, no value leads elsewhere
-    pub step_none : step.to ≡ 0 → list_any does_lead (items_of (numbered_in nodes number)) ≡ false
-    step_none none = walks.none none
+      -- where no step is made, no value leads elsewhere
+      pub step_none : step.to ≡ 0 → list_any does_lead (items_of (numbered_in nodes number)) ≡ false
+      step_none none = walks.none none
 
-    -- the attribute to which it goes has its lead
-    pub record HasLead : Type 0 where
-      pub spec : AttributeSpec
-      pub list : List (Numbered AttributeSpec)
-      pub begins : numbered_in nodes step.to ≡ record { number = step.to; item = spec } ∷ list
-      pub leads : lead_of spec ≡ step.lead
+      -- the attribute to which it goes has its lead
+      pub record HasLead : Type 0 where
+        pub spec : AttributeSpec
+        pub list : List (Numbered AttributeSpec)
+        pub begins : numbered_in nodes step.to ≡ record { number = step.to; item = spec } ∷ list
+        pub leads : lead_of spec ≡ step.lead
 
-    has_lead : (step.to ≡ 0 → ⊥) → HasLead
-    has_lead some =
-        let (node, at) = known_at nodes known step.to (omega (arith, some)) step_within in
-        record {
-          spec = spec_of node;
-          list = numbered_in nodes node.next;
-          begins = at.begins;
-          leads = sym ((walks.goes some).leads (spec_of node) (numbered_in nodes node.next) at.begins) ∙ sym is.lead;
-        }
+      has_lead : (step.to ≡ 0 → ⊥) → HasLead
+      has_lead some =
+          let (node, at) = known_at nodes known step.to (omega (arith, some)) step_within in
+          record {
+            spec = spec_of node;
+            list = numbered_in nodes node.next;
+            begins = at.begins;
+            leads = sym ((walks.goes some).leads (spec_of node) (numbered_in nodes node.next) at.begins) ∙ sym is.lead;
+          }
 
-    -- where it leads to nothing, no step is made
-    pub step_nothing : step.lead ≡ Nothing → step.to ≡ 0
-    step_nothing nothing = by_number step.to refl
-      where
-        by_number : (n : ℕ) → step.to ≡ n → step.to ≡ 0
-        by_number zero e = e
-        by_number (suc n) e = let h = has_lead (λ none. omega (arith, none, e)) in absurd (lead_says h.spec Nothing (h.leads ∙ nothing))
+      -- where it leads to nothing, no step is made
+      pub step_nothing : step.lead ≡ Nothing → step.to ≡ 0
+      step_nothing nothing = by_number step.to refl
+        where
+          by_number : (n : ℕ) → step.to ≡ n → step.to ≡ 0
+          by_number zero e = e
+          by_number (suc n) e =
+              let h = has_lead (λ none. omega (arith, none, e)) in absurd (lead_says h.spec Nothing (h.leads ∙ nothing))
 
-    -- and where it leads to something, one is
-    pub step_lead : (step.lead ≡ Nothing → ⊥) → HasLead
-    step_lead something = has_lead (λ none. something (is.lead ∙ walks.no_lead none))
+      -- and where it leads to something, one is
+      pub step_lead : (step.lead ≡ Nothing → ⊥) → HasLead
+      step_lead something = has_lead (λ none. something (is.lead ∙ walks.no_lead none))
 
-    pub goes_to : (step.to ≡ 0 → ⊥) → GoesTo nodes number step.to
-    goes_to other = walks.goes other
+      pub goes_to : (step.to ≡ 0 → ⊥) → GoesTo nodes number step.to
+      goes_to other = walks.goes other
 
-    -- how many bytes are passed
-    pub skip_is : (size : ℕ) → (size ≡ 4) ⊎ (size ≡ 8) → (skip : ℕ) → ((size ≡ 8) × (skip ≡ step.skip_with_8)) ⊎ ((size ≡ 8 → ⊥) × (skip ≡ step.skip_with_4)) → skip ≡ skip_in size (numbered_in nodes number)
-    skip_is size sized skip (inl eight) = eight.1 ∙ is.with_8 ∙ ap (λ (n : ℕ). skip_in n (numbered_in nodes number)) (sym eight.0)
-    skip_is size (inl four) skip (inr other) = other.1 ∙ is.with_4 ∙ ap (λ (n : ℕ). skip_in n (numbered_in nodes number)) (sym four)
-    skip_is size (inr eight) skip (inr other) = absurd (other.0 eight)
+      -- how many bytes are passed
+      pub skip_is : (size : ℕ) → (size ≡ 4) ⊎ (size ≡ 8) → (skip : ℕ)
+          → ((size ≡ 8) × (skip ≡ step.skip_with_8)) ⊎ ((size ≡ 8 → ⊥) × (skip ≡ step.skip_with_4))
+          → skip ≡ skip_in size (numbered_in nodes number)
+      skip_is size sized skip (inl eight) =
+          eight.1 ∙ is.with_8 ∙ ap (λ (n : ℕ). skip_in n (numbered_in nodes number)) (sym eight.0)
+      skip_is size (inl four) skip (inr other) =
+          other.1 ∙ is.with_4 ∙ ap (λ (n : ℕ). skip_in n (numbered_in nodes number)) (sym four)
+      skip_is size (inr eight) skip (inr other) = absurd (other.0 eight)

@@ -57,13 +57,17 @@ HasOneAttribute Fails = (f g : Failure) → Fails f → Fails g → f.place ≡ 
 no_header : (at offset k : ℕ) → at_header at ≡ at_attribute offset k → ⊥
 no_header at offset k same = absurd cc
 
-has_one_attribute : (s : Sections) (us : List DebugUnit) → AreUnits s.«abbrev».now us → (group : Group) → HasOneAttribute (failures_of s us group)
-has_one_attribute s us are classes f g p q here = one_attribute (entries_of us) _ (entries_rise s.«abbrev».now us are) f g p q here
-has_one_attribute s us are strings f g p q here = one_attribute (entries_of us) _ (entries_rise s.«abbrev».now us are) f g p q here
+has_one_attribute : (s : Sections) (us : List DebugUnit) → AreUnits s.«abbrev».now us → (group : Group)
+    → HasOneAttribute (failures_of s us group)
+has_one_attribute s us are classes f g p q here =
+    one_attribute (entries_of us) _ (entries_rise s.«abbrev».now us are) f g p q here
+has_one_attribute s us are strings f g p q here =
+    one_attribute (entries_of us) _ (entries_rise s.«abbrev».now us are) f g p q here
 has_one_attribute s us are _ f g p q here = search (rules, no_header, one_attribute, entries_rise)
 
 -- one failure of a group is named at a place
-pub one_at_place : (s : Sections) (us : List DebugUnit) → AreUnits s.«abbrev».now us → (group : Group) → AreOneAtPlace (failures_of s us group)
+pub one_at_place : (s : Sections) (us : List DebugUnit) → AreUnits s.«abbrev».now us → (group : Group)
+    → AreOneAtPlace (failures_of s us group)
 one_at_place s us are group f g p q here number = search (rules, has_group, one_rule, behind_first, has_one_attribute)
 
 -- ---- the order of the groups
@@ -80,5 +84,6 @@ one_group _ _ same = absurd (omega (arith, same))
 pub none_before : (s : Sections) (us : List DebugUnit) → HoldBefore s us 2
 none_before s us earlier less = absurd (let p = second_or_later earlier in omega (arith, p, less))
 
-pub one_more : (s : Sections) (us : List DebugUnit) (group : Group) → HoldBefore s us (turn_of group) → HasNone (failures_of s us group) → HoldBefore s us (turn_of group + 1)
+pub one_more : (s : Sections) (us : List DebugUnit) (group : Group) → HoldBefore s us (turn_of group)
+    → HasNone (failures_of s us group) → HoldBefore s us (turn_of group + 1)
 one_more s us group before here earlier less = search (rules, three_ways, one_group)

@@ -18,7 +18,8 @@ use Rattle.dw_image.specs.Lookups.{is_type_entry}
 module _ (us : List DebugUnit) (graph : Graph) (is : graph ≡ by_value (facts_in us)) where
   -- each entry is a node
   pub nodes-are : length graph ≡ length (entries_of us)
-  nodes-are = ap (λ (g : Graph). length g) is ∙ (length-by_value (facts_in us) ∙ length-facts_of (entries_of us) (placed us))
+  nodes-are =
+      ap (λ (g : Graph). length g) is ∙ (length-by_value (facts_in us) ∙ length-facts_of (entries_of us) (placed us))
 
   -- each step leads to an entry
   pub step-below : (node k : ℕ) → k < length (steps_of graph node) → step_at graph node k < length (entries_of us)
@@ -29,10 +30,12 @@ module _ (us : List DebugUnit) (graph : Graph) (is : graph ≡ by_value (facts_i
       rw is (omega (arith, below, long, count))
 
   -- the k-th step, or none past the last
-  pub step-there : (node k : ℕ) → k < length (steps_of graph node) → Some (step_at graph node k) ≡ slice_get (steps_of (by_value (facts_in us)) node) k
+  pub step-there : (node k : ℕ) → k < length (steps_of graph node)
+      → Some (step_at graph node k) ≡ slice_get (steps_of (by_value (facts_in us)) node) k
   step-there node k within = rw (← is) (sym (slice_get-get_or (steps_of graph node) k 0 within))
 
-  pub step-past : (node k : ℕ) → length (steps_of graph node) ≤ k → None ≡ slice_get (steps_of (by_value (facts_in us)) node) k
+  pub step-past : (node k : ℕ) → length (steps_of graph node) ≤ k
+      → None ≡ slice_get (steps_of (by_value (facts_in us)) node) k
   step-past node k past = rw (← is) (sym (slice_get_past (steps_of graph node) k past))
 
 -- each entry has a size or none
@@ -41,9 +44,12 @@ unfolding units_in
 size_within i id below = search (rules, length-facts_of)
 
 module _ {X Y : Type 0} (p : Y → Bool) (q : X → Bool) (f : X → Y) (same : (x : X) → p (f x) ≡ q x) where
-  count-along : (a : ℕ) (xs : List X) → fold (λ s y. s + cond (p y) 1 0) a (map f xs) ≡ fold (λ s x. s + cond (q x) 1 0) a xs
+  count-along : (a : ℕ) (xs : List X)
+      → fold (λ s y. s + cond (p y) 1 0) a (map f xs) ≡ fold (λ s x. s + cond (q x) 1 0) a xs
   count-along a [] = refl
-  count-along a (x ∷ xs) = ap (λ (b : Bool). fold (λ s y. s + cond (p y) 1 0) (a + cond b 1 0) (map f xs)) (same x) ∙ count-along (a + cond (q x) 1 0) xs
+  count-along a (x ∷ xs) =
+      ap (λ (b : Bool). fold (λ s y. s + cond (p y) 1 0) (a + cond b 1 0) (map f xs)) (same x)
+      ∙ count-along (a + cond (q x) 1 0) xs
 
   count-map : (xs : List X) → count_by p (map f xs) ≡ count_by q xs
   count-map xs = count-along 0 xs

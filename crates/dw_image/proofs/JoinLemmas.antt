@@ -33,72 +33,100 @@ use Rattle.dw_image.proofs.Promises.{classes_of, texts_of, references_of}
 use Rattle.dw_image.specs.Measures.{PassInTypes, FailsInTypes}
 
 -- two lists of units that spell the sections are one
-pub one_list_of : (s : Sections) (units others : List DebugUnit) → SpellsInfo s units → SpellsInfo s others → units ≡ others
+pub one_list_of : (s : Sections) (units others : List DebugUnit) → SpellsInfo s units → SpellsInfo s others
+    → units ≡ others
 one_list_of s units others p q = one_list s.«abbrev».now s.info.now units others p q
 
 -- the rules of each group hold of valid sections
-holds_of : (s : Sections) (units : List DebugUnit) → IsValidBy s units → (group : Group) → HasNone (failures_of s units group)
+holds_of : (s : Sections) (units : List DebugUnit) → IsValidBy s units → (group : Group)
+    → HasNone (failures_of s units group)
 holds_of s units valid cycles = no_cycle_holds (facts_in units) valid.contained
-holds_of s units valid sizes = none_by_size (facts_in units) (facts-parents_first units) (facts-targets units) valid.sizes.0 valid.sizes.1.one valid.sizes.1.none
+holds_of s units valid sizes =
+    none_by_size (facts_in units) (facts-parents_first units) (facts-targets units) valid.sizes.0 valid.sizes.1.one
+    valid.sizes.1.none
 holds_of s units valid _ = search rules
 
 -- a group where no rule fails has no first failure
 none_first : (Fails : Failure → Type 0) (fault : Fault) → HasNone Fails → IsPlainFault (IsFirst Fails) fault → ⊥
 none_first Fails fault none first = none first.holds.failure first.holds.fails
 
-none_named : (s : Sections) (units : List DebugUnit) (group : Group) (fault : Fault) → HasNone (failures_of s units group) → IsFirstIn s units group fault → ⊥
-none_named s units cycles fault none first = none (cycle_failure (facts_in units) first.nodes) (cycle_fails (facts_in units) first.nodes first.is_cycle)
+none_named : (s : Sections) (units : List DebugUnit) (group : Group) (fault : Fault)
+    → HasNone (failures_of s units group) → IsFirstIn s units group fault → ⊥
+none_named s units cycles fault none first =
+    none (cycle_failure (facts_in units) first.nodes) (cycle_fails (facts_in units) first.nodes first.is_cycle)
 none_named s units _ fault none first = none_first _ fault none first
 
 -- valid sections have no fault
 pub no_fault_of : (s : Sections) (fault : Fault) → IsValid s → IsFirstFault s fault → ⊥
-no_fault_of s fault valid (in_trees fails cycle) = no_list s.«abbrev».now s.info.now valid.0 (broken_of fault) valid.1.trees fails
+no_fault_of s fault valid (in_trees fails cycle) =
+    no_list s.«abbrev».now s.info.now valid.0 (broken_of fault) valid.1.trees fails
 no_fault_of s fault valid (in_group group fails) = search (rules, one_list_of, none_named, holds_of)
 
 -- a group's failure is of the first group that has one
-no_earlier : (s : Sections) (group later : Group) (fault other : Fault) → FailsInGroup s group fault → FailsInGroup s later other → turn_of group < turn_of later → ⊥
+no_earlier : (s : Sections) (group later : Group) (fault other : Fault) → FailsInGroup s group fault
+    → FailsInGroup s later other → turn_of group < turn_of later → ⊥
 no_earlier s group later fault other p q less = search (rules, one_list_of, none_named)
 
 one_of_group : (s : Sections) (units : List DebugUnit) (group : Group) (fault other : Fault) → SpellsInfo s units
-    → IsPlainFault (IsFirst (failures_of s units group)) fault → IsPlainFault (IsFirst (failures_of s units group)) other → IsOneFault fault other
+    → IsPlainFault (IsFirst (failures_of s units group)) fault
+    → IsPlainFault (IsFirst (failures_of s units group)) other → IsOneFault fault other
 one_of_group s units group fault other spelled p q =
     inl (record {
-      broken = one_first (failures_of s units group) (broken_of fault) (broken_of other) (one_at_place s units spelled.are group) p.holds q.holds;
+      broken =
+          one_first (failures_of s units group) (broken_of fault) (broken_of other)
+          (one_at_place s units spelled.are group) p.holds q.holds;
       cycle = p.cycle ∙ sym q.cycle;
     })
 
-one_named : (s : Sections) (units : List DebugUnit) (group : Group) (fault other : Fault) → SpellsInfo s units → IsFirstIn s units group fault → IsFirstIn s units group other → IsOneFault fault other
-one_named s units cycles fault other spelled p q = inr (record { one = ap (λ (b : Broken). b.rule) p.named; two = ap (λ (b : Broken). b.rule) q.named })
+one_named : (s : Sections) (units : List DebugUnit) (group : Group) (fault other : Fault) → SpellsInfo s units
+    → IsFirstIn s units group fault → IsFirstIn s units group other → IsOneFault fault other
+one_named s units cycles fault other spelled p q =
+    inr (record { one = ap (λ (b : Broken). b.rule) p.named; two = ap (λ (b : Broken). b.rule) q.named })
 one_named s units group fault other spelled p q = one_of_group s units group fault other spelled p q
 
-one_in_group : (s : Sections) (group : Group) (fault other : Fault) → FailsInGroup s group fault → FailsInGroup s group other → IsOneFault fault other
+one_in_group : (s : Sections) (group : Group) (fault other : Fault) → FailsInGroup s group fault
+    → FailsInGroup s group other → IsOneFault fault other
 one_in_group s group fault other p q = search (rules, one_list_of, one_named)
 
-one_in_groups : (s : Sections) (group later : Group) (fault other : Fault) → FailsInGroup s group fault → FailsInGroup s later other → IsOneFault fault other
+one_in_groups : (s : Sections) (group later : Group) (fault other : Fault) → FailsInGroup s group fault
+    → FailsInGroup s later other → IsOneFault fault other
 one_in_groups s group later fault other p q =
     elim (three_ways (turn_of group) (turn_of later)) [
       | inl (inl less) ↦ absurd (no_earlier s group later fault other p q less)
-      | inl (inr same) ↦ one_in_group s later fault other (subst (λ g. FailsInGroup s g fault) (one_group group later same) p) q
+      | inl (inr same) ↦ one_in_group s later fault other
+          (subst (λ g. FailsInGroup s g fault) (one_group group later same) p) q
       | inr more ↦ absurd (no_earlier s later group other fault q p more)
     ]
 
 -- the trees fail, or a group of rules after them
-apart : (s : Sections) (group : Group) (fault other : Fault) → FailsInTrees s (broken_of fault) → FailsInGroup s group other → ⊥
+apart : (s : Sections) (group : Group) (fault other : Fault) → FailsInTrees s (broken_of fault)
+    → FailsInGroup s group other → ⊥
 apart s group fault other p q = no_list s.«abbrev».now s.info.now q.units (broken_of fault) q.spelled p
 
 -- two first faults are one
-pub one_first_fault_of : (s : Sections) (fault other : Fault) → IsFirstFault s fault → IsFirstFault s other → IsOneFault fault other
+pub one_first_fault_of : (s : Sections) (fault other : Fault) → IsFirstFault s fault → IsFirstFault s other
+    → IsOneFault fault other
 one_first_fault_of s fault other (in_trees p c) (in_trees q d) =
-    inl (record { broken = one_fault s.«abbrev».now s.info.now (broken_of fault) (broken_of other) p q; cycle = c ∙ sym d })
+    inl (record {
+      broken = one_fault s.«abbrev».now s.info.now (broken_of fault) (broken_of other) p q;
+      cycle = c ∙ sym d;
+    })
 one_first_fault_of s fault other (in_trees p c) (in_group later q) = absurd (apart s later fault other p q)
 one_first_fault_of s fault other (in_group group p) (in_trees q d) = absurd (apart s group other fault q p)
 one_first_fault_of s fault other (in_group group p) (in_group later q) = one_in_groups s group later fault other p q
 
 -- each entry is spelled
-spelled_of : (s : Sections) (units : List DebugUnit) → SpellsInfo s units → EachEntry (IsSpelled s units) (entries_of units)
+spelled_of : (s : Sections) (units : List DebugUnit) → SpellsInfo s units
+    → EachEntry (IsSpelled s units) (entries_of units)
 spelled_of s units spells = λ id e there.
     let stands = head_stands s.«abbrev».now s.info.now units id e spells there in
-    record { unit = stands.unit; in_unit = stands.is_unit; head = stands.is; rest = stands.after; stands = stands.parts }
+    record {
+      unit = stands.unit;
+      in_unit = stands.is_unit;
+      head = stands.is;
+      rest = stands.after;
+      stands = stands.parts;
+    }
 
 -- the sections of an image are valid
 valid_by : (image : Image) → IsValidBy (sections_in image) (units_in image)
@@ -155,13 +183,19 @@ abbrev StringsHold : Entries → Type 0
 StringsHold entries = HasNone (StringFailures (sections_of entries) (units_of entries))
 
 before_strings : (entries : Entries) → ClassesHold entries → HoldBefore (sections_of entries) (units_of entries) 3
-before_strings entries none = one_more (sections_of entries) (units_of entries) classes (none_before (sections_of entries) (units_of entries)) none
+before_strings entries none =
+    one_more (sections_of entries) (units_of entries) classes (none_before (sections_of entries) (units_of entries))
+    none
 
-before_references : (entries : Entries) → ClassesHold entries → StringsHold entries → HoldBefore (sections_of entries) (units_of entries) 4
-before_references entries none nor = one_more (sections_of entries) (units_of entries) strings (before_strings entries none) nor
+before_references : (entries : Entries) → ClassesHold entries → StringsHold entries
+    → HoldBefore (sections_of entries) (units_of entries) 4
+before_references entries none nor =
+    one_more (sections_of entries) (units_of entries) strings (before_strings entries none) nor
 
-before_types : (entries : Entries) → ClassesHold entries → StringsHold entries → HasNone (ReferenceFailures (units_of entries)) → HoldBefore (sections_of entries) (units_of entries) 5
-before_types entries none nor neither = one_more (sections_of entries) (units_of entries) references (before_references entries none nor) neither
+before_types : (entries : Entries) → ClassesHold entries → StringsHold entries
+    → HasNone (ReferenceFailures (units_of entries)) → HoldBefore (sections_of entries) (units_of entries) 5
+before_types entries none nor neither =
+    one_more (sections_of entries) (units_of entries) references (before_references entries none nor) neither
 
 -- the first value whose class is wrong
 pub wrong_class : (s : Sections) (entries : Entries) (turn : ℕ) (fault : Fault) → 2 < turn → entries.sections ≡ s

@@ -37,12 +37,15 @@ no_cycle_holds facts none f fails = none fails.nodes fails.is_cycle.closed
 
 -- a cycle fails where it begins
 abbrev pub cycle_failure : List Facts → List ℕ → Failure
-cycle_failure facts nodes = record { rule = ContainsItself; place = at_entry (offset_at facts (slice_index nodes 0)); attribute = 0 }
+cycle_failure facts nodes =
+    record { rule = ContainsItself; place = at_entry (offset_at facts (slice_index nodes 0)); attribute = 0 }
 
-pub cycle_fails : (facts : List Facts) (nodes : List ℕ) → IsCycle (by_value facts) nodes → ContainsItselfAt facts (cycle_failure facts nodes)
+pub cycle_fails : (facts : List Facts) (nodes : List ℕ) → IsCycle (by_value facts) nodes
+    → ContainsItselfAt facts (cycle_failure facts nodes)
 cycle_fails facts nodes cycle = record { nodes = nodes; is_cycle = cycle; rule = refl; place = refl; attribute = refl }
 
-pub contained_of : (units : List DebugUnit) → HasNone (ShapeFailures (facts_in units)) → HasNoCycle (by_value (facts_in units)) → HoldsNoneOfItself units
+pub contained_of : (units : List DebugUnit) → HasNone (ShapeFailures (facts_in units))
+    → HasNoCycle (by_value (facts_in units)) → HoldsNoneOfItself units
 contained_of units sound none = search (rules, by_value-from_step, step-from_by_value)
 
 -- ---- the nodes of a cycle are entries
@@ -50,21 +53,25 @@ contained_of units sound none = search (rules, by_value-from_step, step-from_by_
 from_below : (graph : Graph) (from to : ℕ) → IsStep graph from to → from < length graph
 from_below graph from to step = search (rules, get_or_past)
 
-pub node_below : (graph : Graph) (nodes : List ℕ) → IsCycle graph nodes → (k : ℕ) → k < length nodes → slice_index nodes k < length graph
+pub node_below : (graph : Graph) (nodes : List ℕ) → IsCycle graph nodes → (k : ℕ) → k < length nodes
+    → slice_index nodes k < length graph
 node_below graph nodes cycle k within =
     let two = cycle.closed.two in
     let two_ways : (k + 1 < length nodes) ⊎ (k ≡ length nodes - 1) = grind (arith, within) in
-    let first = from_below graph (slice_index nodes 0) (slice_index nodes 1) (cycle.closed.steps 0 (omega (arith, two))) in
+    let first = from_below graph (slice_index nodes 0) (slice_index nodes 1) (cycle.closed.steps 0 (omega (arith, two)))
+    in
     elim two_ways [
       | inl more ↦ from_below graph (slice_index nodes k) (slice_index nodes (k + 1)) (cycle.closed.steps k more)
       | inr last ↦ subst (λ n. n < length graph) (cycle.closed.closed ∙ ap (slice_index nodes) (sym last)) first
     ]
 
-pub entry_below : (units : List DebugUnit) (nodes : List ℕ) → IsCycle (by_value (facts_in units)) nodes → (k : ℕ) → k < length nodes → slice_index nodes k < length (entries_of units)
+pub entry_below : (units : List DebugUnit) (nodes : List ℕ) → IsCycle (by_value (facts_in units)) nodes → (k : ℕ)
+    → k < length nodes → slice_index nodes k < length (entries_of units)
 entry_below units nodes cycle k within = search (rules, node_below, length-by_value, length-facts_of)
 
 -- where an entry begins
-pub offset_told : (units : List DebugUnit) (number offset : ℕ) → number < length (entries_of units) → IfSome (slice_get (entries_of units) number) (λ e. offset ≡ e.at)
+pub offset_told : (units : List DebugUnit) (number offset : ℕ) → number < length (entries_of units)
+    → IfSome (slice_get (entries_of units) number) (λ e. offset ≡ e.at)
     → offset ≡ offset_at (facts_in units) number
 offset_told units number offset below tells =
     let (e, is) = there (entries_of units) number below in
@@ -73,27 +80,33 @@ offset_told units number offset below tells =
 
 module _ (facts : List Facts) (parents : ParentsComeFirst facts) (targets : TargetsAreEntries facts) where
   -- two size tables are one at each entry
-  same_at : (table other : ℕ → Size) → IsSizeTable facts table → IsSizeTable facts other → (node : ℕ) → node < length facts → other node ≡ table node
+  same_at : (table other : ℕ → Size) → IsSizeTable facts table → IsSizeTable facts other → (node : ℕ)
+      → node < length facts → other node ≡ table node
   same_at table other one two node below = one.only other two.obeys node below
 
-  same_to : (table other : ℕ → Size) → IsSizeTable facts table → IsSizeTable facts other → (target : Option ℕ) → ((to : ℕ) → target ≡ Some to → to < length facts)
+  same_to : (table other : ℕ → Size) → IsSizeTable facts table → IsSizeTable facts other → (target : Option ℕ)
+      → ((to : ℕ) → target ≡ Some to → to < length facts)
       → size_to other target ≡ size_to table target
   same_to table other one two None within = refl
   same_to table other one two (Some to) within = same_at table other one two to (within to refl)
 
-  same_fails : (table other : ℕ → Size) → IsSizeTable facts table → IsSizeTable facts other → (node : ℕ) → node < length facts → (rule : Rule)
+  same_fails : (table other : ℕ → Size) → IsSizeTable facts table → IsSizeTable facts other → (node : ℕ)
+      → node < length facts → (rule : Rule)
       → fails_size facts other node rule ≡ fails_size facts table node rule
   same_fails table other one two node below rule =
       let here = same_at table other one two node below in
-      let above = same_to table other one two (entry_of facts node).parent (λ to is. let p = parents node to is in omega (arith, p, below)) in
+      let above = same_to table other one two (entry_of facts node).parent
+      (λ to is. let p = parents node to is in omega (arith, p, below)) in
       let under = same_to table other one two (entry_of facts node).type_target (λ to is. (targets node to).0 is) in
       cc
 
   -- what fails by one fails by the other
-  pub same_failures : (table other : ℕ → Size) → IsSizeTable facts table → IsSizeTable facts other → (f : Failure) → SizeFailures facts other f → SizeFailures facts table f
+  pub same_failures : (table other : ℕ → Size) → IsSizeTable facts table → IsSizeTable facts other → (f : Failure)
+      → SizeFailures facts other f → SizeFailures facts table f
   same_failures table other one two f fails = grind (arith, common_steps, slice_get_within, same_fails)
 
-  pub none_by_size : (table : ℕ → Size) → IsSizeTable facts table → HasNone (SizeFailures facts table) → HasNone (FailsBySize facts)
+  pub none_by_size : (table : ℕ → Size) → IsSizeTable facts table → HasNone (SizeFailures facts table)
+      → HasNone (FailsBySize facts)
   none_by_size table one none f fails = none f (same_failures table fails.table one fails.one f fails.fails)
 
   pub first_by_size : (broken : Broken) → IsFirstSizeFault facts broken → IsFirst (FailsBySize facts) broken
@@ -101,17 +114,23 @@ module _ (facts : List Facts) (parents : ParentsComeFirst facts) (targets : Targ
     failure = fault.first.failure;
     fails = record { table = fault.table; one = fault.is_table; fails = fault.first.fails };
     named = fault.first.named;
-    first = λ g fails precedes. fault.first.first g (same_failures fault.table fails.table fault.is_table fails.one g fails.fails) precedes;
+    first =
+        λ g fails precedes. fault.first.first g
+        (same_failures fault.table fails.table fault.is_table fails.one g fails.fails) precedes;
   }
 
-none_late : (s : Sections) (us : List DebugUnit) (earlier : Group) → 4 < turn_of earlier → turn_of earlier < 5 → HasNone (failures_of s us earlier)
+none_late : (s : Sections) (us : List DebugUnit) (earlier : Group) → 4 < turn_of earlier → turn_of earlier < 5
+    → HasNone (failures_of s us earlier)
 none_late s us earlier late less = absurd (omega (arith, late, less))
 
-shapes_late : (s : Sections) (us : List DebugUnit) → HasNone (ShapeFailures (facts_in us)) → (earlier : Group) → 4 < turn_of earlier → turn_of earlier < 6 → HasNone (failures_of s us earlier)
+shapes_late : (s : Sections) (us : List DebugUnit) → HasNone (ShapeFailures (facts_in us)) → (earlier : Group)
+    → 4 < turn_of earlier → turn_of earlier < 6 → HasNone (failures_of s us earlier)
 shapes_late s us none shapes late less = none
 shapes_late s us none _ late less = absurd (omega (arith, late, less))
 
-cycles_late : (s : Sections) (us : List DebugUnit) → HasNone (ShapeFailures (facts_in us)) → HasNoCycle (by_value (facts_in us)) → (earlier : Group) → 4 < turn_of earlier → turn_of earlier < 7 → HasNone (failures_of s us earlier)
+cycles_late : (s : Sections) (us : List DebugUnit) → HasNone (ShapeFailures (facts_in us))
+    → HasNoCycle (by_value (facts_in us)) → (earlier : Group) → 4 < turn_of earlier → turn_of earlier < 7
+    → HasNone (failures_of s us earlier)
 cycles_late s us none nor shapes late less = none
 cycles_late s us none nor cycles late less = no_cycle_holds (facts_in us) nor
 cycles_late s us none nor _ late less = absurd (omega (arith, late, less))
@@ -138,7 +157,11 @@ wrong_size s us fault none nor first = record {
   late = omega arith;
   early = omega arith;
   before = cycles_late s us none nor;
-  first = record { holds = first_by_size (facts_in us) (facts-parents_first us) (facts-targets us) _ first.holds; cycle = first.cycle };
+  first =
+      record {
+        holds = first_by_size (facts_in us) (facts-parents_first us) (facts-targets us) _ first.holds;
+        cycle = first.cycle;
+      };
 }
 
 pub wrong_before : (s : Sections) (us : List DebugUnit) (fault : Fault) → FailsInTypes s us 7 fault

@@ -18,7 +18,8 @@ use Rattle.dw_links.proofs.TargetLaws.{reached_entry}
 module _ (it : References) (offset target : ℕ) (reaches : entry_after it offset ≡ Some target) where
   pub after_within : target < length (all_entries (entries_in it))
   after_within =
-      let (e, is) = reached_entry (all_entries (entries_in it)) (all_units (entries_in it)) it.texts.unit (ref_unit offset) target reaches in
+      let (e, is) = reached_entry (all_entries (entries_in it)) (all_units (entries_in it)) it.texts.unit
+      (ref_unit offset) target reaches in
       slice_get_within (all_entries (entries_in it)) target e is
 
   module _ (d : Declaration) (told : IfSome (entry_with it target) (λ e. d ≡ e.head.decl)) where
@@ -26,26 +27,40 @@ module _ (it : References) (offset target : ℕ) (reaches : entry_after it offse
     decl_is e is = rw is at told
 
     pub type_is_after : true ≡ is_type_tag d.tag → IsTypeAfter it offset target
-    type_is_after typed = record { reaches = reaches; is_type = λ e is. ap (λ (x : Declaration). is_type_tag x.tag) (sym (decl_is e is)) ∙ sym typed }
+    type_is_after typed =
+        record {
+          reaches = reaches;
+          is_type = λ e is. ap (λ (x : Declaration). is_type_tag x.tag) (sym (decl_is e is))
+              ∙ sym typed;
+        }
 
-    pub declared_is_after : (id : ℕ) → target ≢ id → flag_in DW_AT_declaration d.attributes ≡ Some true → IsDeclaredAfter it id offset
+    pub declared_is_after : (id : ℕ) → target ≢ id → flag_in DW_AT_declaration d.attributes ≡ Some true
+        → IsDeclaredAfter it id offset
     declared_is_after id other known = record {
       target = target;
       reaches = reaches;
       other = other;
-      declared = λ e is. declared_entry (entries_in it) target e is (ap (λ (x : Declaration). flag_in DW_AT_declaration x.attributes) (sym (decl_is e is)) ∙ known);
+      declared =
+          λ e is. declared_entry (entries_in it) target e is
+          (ap (λ (x : Declaration). flag_in DW_AT_declaration x.attributes) (sym (decl_is e is)) ∙ known);
     }
 
-pub type_after : (it : References) (offset target : ℕ) → entry_after it offset ≡ Some target → (d : Declaration) → IfSome (entry_with it target) (λ e. d ≡ e.head.decl) → true ≡ is_type_tag d.tag → IsTypeAfter it offset target
+pub type_after : (it : References) (offset target : ℕ) → entry_after it offset ≡ Some target → (d : Declaration)
+    → IfSome (entry_with it target) (λ e. d ≡ e.head.decl) → true ≡ is_type_tag d.tag → IsTypeAfter it offset target
 type_after it offset target reaches d told typed = type_is_after it offset target reaches d told typed
 
-pub declared_after : (it : References) (id offset target : ℕ) → entry_after it offset ≡ Some target → target ≢ id → (d : Declaration) → IfSome (entry_with it target) (λ e. d ≡ e.head.decl)
-    → (known : Option Bool) → known ≡ flag_in DW_AT_declaration d.attributes → OnTrue (unwrap_or known false) (IsDeclaredAfter it id offset)
-declared_after it id offset target reaches other d told (Some true) known = declared_is_after it offset target reaches d told id other (sym known)
+pub declared_after : (it : References) (id offset target : ℕ) → entry_after it offset ≡ Some target → target ≢ id
+    → (d : Declaration) → IfSome (entry_with it target) (λ e. d ≡ e.head.decl)
+    → (known : Option Bool) → known ≡ flag_in DW_AT_declaration d.attributes
+    → OnTrue (unwrap_or known false) (IsDeclaredAfter it id offset)
+declared_after it id offset target reaches other d told (Some true) known =
+    declared_is_after it offset target reaches d told id other (sym known)
 declared_after it id offset target reaches other d told (Some false) known = tt
 declared_after it id offset target reaches other d told None known = tt
 
-pub sibling_after : (it : References) (id offset next : ℕ) (found : Option ℕ) → IfSome (entry_with it id) (λ e. Some next ≡ e.next) → IfSome found (λ t. entry_after it offset ≡ Some t) → IfSome found (λ t. t ≡ next)
+pub sibling_after : (it : References) (id offset next : ℕ) (found : Option ℕ)
+    → IfSome (entry_with it id) (λ e. Some next ≡ e.next) → IfSome found (λ t. entry_after it offset ≡ Some t)
+    → IfSome found (λ t. t ≡ next)
     → OnTrue (is_some found) (IsSiblingAfter it id offset)
 sibling_after it id offset next (Some t) told reaches same = record {
   target = t;
@@ -54,11 +69,14 @@ sibling_after it id offset next (Some t) told reaches same = record {
 }
 sibling_after it id offset next None told reaches same = tt
 
-pub entry_is_after : (it : References) (offset : ℕ) (found : Option ℕ) → IfSome found (λ t. entry_after it offset ≡ Some t) → OnTrue (is_some found) ((t : ℕ) × (entry_after it offset ≡ Some t))
+pub entry_is_after : (it : References) (offset : ℕ) (found : Option ℕ)
+    → IfSome found (λ t. entry_after it offset ≡ Some t)
+    → OnTrue (is_some found) ((t : ℕ) × (entry_after it offset ≡ Some t))
 entry_is_after it offset (Some t) reaches = (t, reaches)
 entry_is_after it offset None reaches = tt
 
 -- what was found has this number
-pub if_number : (found : Option ℕ) (number next : ℕ) → number ≡ next → IfSome found (λ t. t ≡ number) → IfSome found (λ t. t ≡ next)
+pub if_number : (found : Option ℕ) (number next : ℕ) → number ≡ next → IfSome found (λ t. t ≡ number)
+    → IfSome found (λ t. t ≡ next)
 if_number None number next same is = tt
 if_number (Some t) number next same is = is ∙ same

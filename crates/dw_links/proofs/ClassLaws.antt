@@ -41,7 +41,8 @@ use Rattle.dw_links.proofs.Skips.{there}
 
 -- ---- its class
 
-pub class_by_form : (version size : ℕ) (f : Form) (bytes : List ℕ) (v : Datum) (c : Class) → form_class f ≡ Some c → Val version f size bytes v → class_of v ≡ c
+pub class_by_form : (version size : ℕ) (f : Form) (bytes : List ℕ) (v : Datum) (c : Class) → form_class f ≡ Some c
+    → Val version f size bytes v → class_of v ≡ c
 class_by_form version size form.FlagPresent bytes v c is p = search rules
 class_by_form version size _ bytes v c is p = search rules
 
@@ -63,15 +64,20 @@ pub leads : (spec : AttributeSpec) → DoesNotLead spec → Leads spec
 leads spec not = search (rules, neither)
 
 pub other_code : (a b : ℕ) → (a == b) ≡ false → a ≡ b → ⊥
-other_code a b not same = let both : (a == b) ≡ true = ap (λ (n : ℕ). n == b) same ∙ eq-eqb b b refl in let no : true ≡ false = sym both ∙ not in cc
+other_code a b not same =
+    let both : (a == b) ≡ true = ap (λ (n : ℕ). n == b) same ∙ eq-eqb b b refl in
+    let no : true ≡ false = sym both ∙ not in cc
 
 -- it is no string, no address and no base
-module _ (sections : Sections) (header : UnitHeader) (strings addresses : Option ℕ) (head : EntryHead) (a : ℕ) (rule : Rule) where
+module _ (sections : Sections) (header : UnitHeader) (strings addresses : Option ℕ) (head : EntryHead) (a : ℕ)
+    (rule : Rule) where
   abbrev Fails : Datum → Type 0
   Fails v = StringFailsIn sections header strings addresses head a v rule
 
-  no_text : (version size : ℕ) (f : Form) (bytes : List ℕ) (v : Datum) → may_lead_out f ≡ false → ((a ≡ DW_AT_str_offsets_base) ⊎ (a ≡ DW_AT_addr_base) → ⊥) → Val version f size bytes v → Fails v → ⊥
-  no_text version size form.SecOffset bytes v none no_base p fails = elim (subst Fails p.2 fails).2 [ inl str ↦ no_base (inl str.0) | inr addr ↦ no_base (inr addr.0) ]
+  no_text : (version size : ℕ) (f : Form) (bytes : List ℕ) (v : Datum) → may_lead_out f ≡ false
+      → ((a ≡ DW_AT_str_offsets_base) ⊎ (a ≡ DW_AT_addr_base) → ⊥) → Val version f size bytes v → Fails v → ⊥
+  no_text version size form.SecOffset bytes v none no_base p fails =
+      elim (subst Fails p.2 fails).2 [ inl str ↦ no_base (inl str.0) | inr addr ↦ no_base (inr addr.0) ]
   no_text version size _ bytes v none no_base p fails = search rules
 
 pub passes_texts : (entries : Entries) (spec : AttributeSpec) → DoesNotLead spec → Passes (FailsByText entries) spec
@@ -79,18 +85,25 @@ passes_texts entries spec not x a is head rule fails =
     let l = leads spec not in
     let unit = fails.unit in
     ∥∥₁_elim is.value (λ p q. absurd p)
-    (λ v. no_text (sections_of entries) unit.unit.header (base_in (all_entries entries) unit DW_AT_str_offsets_base) (base_in (all_entries entries) unit DW_AT_addr_base) head a.code rule x.version x.address_size spec.form a.bytes a.value l.no_way_out
-    (λ base. elim base [ inl str ↦ other_code _ _ l.no_str_base (sym is.code ∙ str) | inr addr ↦ other_code _ _ l.no_addr_base (sym is.code ∙ addr) ]) v fails.fails)
+    (λ v. no_text (sections_of entries) unit.unit.header (base_in (all_entries entries) unit DW_AT_str_offsets_base)
+    (base_in (all_entries entries) unit DW_AT_addr_base) head a.code rule x.version x.address_size spec.form a.bytes
+    a.value l.no_way_out
+    (λ base. elim base [
+      | inl str ↦ other_code _ _ l.no_str_base (sym is.code ∙ str)
+      | inr addr ↦ other_code _ _ l.no_addr_base (sym is.code ∙ addr)
+    ]) v fails.fails)
 
 -- it is no reference
-no_reference : (version size : ℕ) (f : Form) (bytes : List ℕ) (v : Datum) → may_refer f ≡ false → Val version f size bytes v → is_reference_value v ≡ false
+no_reference : (version size : ℕ) (f : Form) (bytes : List ℕ) (v : Datum) → may_refer f ≡ false
+    → Val version f size bytes v → is_reference_value v ≡ false
 no_reference version size form.FlagPresent bytes v none p = ap is_reference_value p.1
 no_reference version size _ bytes v none p = search rules
 
 pub passes_targets : (entries : Entries) (spec : AttributeSpec) → DoesNotLead spec → Passes (FailsByTarget entries) spec
 passes_targets entries spec not x a is head rule fails =
     ∥∥₁_elim is.value (λ p q. absurd p)
-    (λ v. let both : true ≡ false = sym fails.0 ∙ no_reference x.version x.address_size spec.form a.bytes a.value (leads spec not).no_reference v in cc)
+    (λ v. let both : true ≡ false = sym fails.0
+    ∙ no_reference x.version x.address_size spec.form a.bytes a.value (leads spec not).no_reference v in cc)
 
 true_by_both : (b d e : Bool) → e ≡ true → (if b then (if d then true else e) else e) ≡ true
 true_by_both true true e is = refl
@@ -101,24 +114,31 @@ allowed_in : (version attribute : ℕ) (c : Class) → allows attribute c ≡ tr
 allowed_in version attribute c is = true_by_both (nat_eq version 4) _ (allows attribute c) is
 
 -- an attribute whose form has a permitted class
-pub class_passes : (units : List PlacedUnit) (spec : AttributeSpec) (c : Class) → form_class spec.form ≡ Some c → allows spec.attribute c ≡ true → Passes (ClassFails units) spec
+pub class_passes : (units : List PlacedUnit) (spec : AttributeSpec) (c : Class) → form_class spec.form ≡ Some c
+    → allows spec.attribute c ≡ true → Passes (ClassFails units) spec
 class_passes units spec c form ok x a is head rule fails =
     ∥∥₁_elim is.value (λ p q. absurd p)
     (λ v.
     let class : class_of a.value ≡ c = class_by_form x.version x.address_size spec.form a.bytes a.value c form v in
     let both : allows_in (version_of fails.unit.unit.header.kind) spec.attribute c ≡ false =
     ap (λ (k : Class). allows_in (version_of fails.unit.unit.header.kind) spec.attribute k) (sym class)
-    ∙ ap (λ (code : ℕ). allows_in (version_of fails.unit.unit.header.kind) code (class_of a.value)) (sym is.code) ∙ fails.class in
+    ∙ ap (λ (code : ℕ). allows_in (version_of fails.unit.unit.header.kind) code (class_of a.value)) (sym is.code)
+    ∙ fails.class in
     let no : true ≡ false = sym (allowed_in (version_of fails.unit.unit.header.kind) spec.attribute c ok) ∙ both in cc)
 
 -- ---- a search stops at values that take no bytes, if their class is none of the attribute's
 
-no_one : (all codes : List ℕ) (a : ℕ) → is_one_of all a ≡ false → list_all (is_one_of all) codes ≡ true → is_one_of codes a ≡ false
+no_one : (all codes : List ℕ) (a : ℕ) → is_one_of all a ≡ false → list_all (is_one_of all) codes ≡ true
+    → is_one_of codes a ≡ false
 no_one all [] a none within = refl
-no_one all (code ∷ codes) a none within = by_code (is_one_of all code) refl within (λ others. no_one all codes a none others)
+no_one all (code ∷ codes) a none within =
+    by_code (is_one_of all code) refl within (λ others. no_one all codes a none others)
   where
-    by_code : (b : Bool) → is_one_of all code ≡ b → (b && list_all (is_one_of all) codes) ≡ true → (list_all (is_one_of all) codes ≡ true → is_one_of codes a ≡ false) → is_one_of (code ∷ codes) a ≡ false
-    by_code true is others rest = rw (ne_eqb a code (λ same. let both : true ≡ false = sym is ∙ ap (is_one_of all) (sym same) ∙ none in cc)) (rest others)
+    by_code : (b : Bool) → is_one_of all code ≡ b → (b && list_all (is_one_of all) codes) ≡ true
+        → (list_all (is_one_of all) codes ≡ true → is_one_of codes a ≡ false) → is_one_of (code ∷ codes) a ≡ false
+    by_code true is others rest =
+        rw (ne_eqb a code (λ same. let both : true ≡ false = sym is ∙ ap (is_one_of all) (sym same) ∙ none in cc))
+        (rest others)
     by_code false is others rest = absurd (let both : false ≡ true = others in cc)
 
 or_else : (b x y : Bool) → b ≡ false → y ≡ true → (if b then x else y) ≡ true
@@ -145,17 +165,21 @@ others_pass spec is units =
     class_passes units spec c class ok
 
 -- a value of another class
-pub class_least : (units : List PlacedUnit) (head : EntryHead) (a : ℕ) (v : Datum) (p : PlacedUnit) → slice_get units head.unit ≡ Some p → allows_in (version_of p.unit.header.kind) a (class_of v) ≡ false
+pub class_least : (units : List PlacedUnit) (head : EntryHead) (a : ℕ) (v : Datum) (p : PlacedUnit)
+    → slice_get units head.unit ≡ Some p → allows_in (version_of p.unit.header.kind) a (class_of v) ≡ false
     → IsLeast (ClassFails units head a v) (Some WrongClass)
 class_least units head a v p is not_allowed = search (rules)
 
 -- the unit with this number, as it was told
-pub unit_there : (us : List DebugUnit) (number : ℕ) (told : UnitHead) → number < length us → IfSome (slice_get (placed us) number) (λ p. told ≡ unit_head p)
+pub unit_there : (us : List DebugUnit) (number : ℕ) (told : UnitHead) → number < length us
+    → IfSome (slice_get (placed us) number) (λ p. told ≡ unit_head p)
     → (p : PlacedUnit) × (slice_get (placed us) number ≡ Some p) × (told ≡ unit_head p)
 unit_there us number told below tells =
     let (p, is) = there (placed us) number (omega (arith, below, length-placed_from 0 0 us)) in
     (p, is, rw is at tells)
 
 -- each entry is in a unit
-pub in_units : («abbrev» info : List ℕ) (us : List DebugUnit) (id : ℕ) (e : Entry) → Spells «abbrev» us info → slice_get (entries_of us) id ≡ Some e → e.unit < length us
-in_units «abbrev» info us id e spells is = let stands = head_stands «abbrev» info us id e spells is in slice_get_within us e.unit stands.unit stands.is_unit
+pub in_units : («abbrev» info : List ℕ) (us : List DebugUnit) (id : ℕ) (e : Entry) → Spells «abbrev» us info
+    → slice_get (entries_of us) id ≡ Some e → e.unit < length us
+in_units «abbrev» info us id e spells is =
+    let stands = head_stands «abbrev» info us id e spells is in slice_get_within us e.unit stands.unit stands.is_unit

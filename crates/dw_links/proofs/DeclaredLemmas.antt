@@ -11,21 +11,27 @@ use Rattle.dw_links.specs.References.{is_declared}
 use Rattle.dw_links.specs.DeclaredEntries.{KeepsDeclared}
 
 -- an item of a list of which one was set is the new one, or was there
-set_get : {X : Type 0} (xs : List X) (i j : ℕ) (x y : X) → slice_get (set xs i x) j ≡ Some y → ((i ≡ j) × (x ≡ y)) ⊎ (slice_get xs j ≡ Some y)
+set_get : {X : Type 0} (xs : List X) (i j : ℕ) (x y : X) → slice_get (set xs i x) j ≡ Some y
+    → ((i ≡ j) × (x ≡ y)) ⊎ (slice_get xs j ≡ Some y)
 set_get [] i j x y is = inr is
 set_get (z ∷ xs) zero zero x y is = inl (refl, cc)
 set_get (z ∷ xs) zero (suc j) x y is = inr is
 set_get (z ∷ xs) (suc i) zero x y is = inr is
-set_get (z ∷ xs) (suc i) (suc j) x y is = elim (set_get xs i j x y is) [ inl here ↦ inl (ap suc here.0, here.1) | inr there ↦ inr there ]
+set_get (z ∷ xs) (suc i) (suc j) x y is =
+    elim (set_get xs i j x y is) [ inl here ↦ inl (ap suc here.0, here.1) | inr there ↦ inr there ]
 
 -- one entry more is known
-pub one_more_known : (entries : Entries) (kept new : List (Option Bool)) (id number : ℕ) (declared : Bool) → KeepsDeclared entries kept → id < length (all_entries entries) → number ≡ id
-    → IfSome (slice_get (all_entries entries) id) (λ e. declared ≡ is_declared e) → new ≡ set kept number (Some declared) → KeepsDeclared entries new
+pub one_more_known : (entries : Entries) (kept new : List (Option Bool)) (id number : ℕ) (declared : Bool)
+    → KeepsDeclared entries kept → id < length (all_entries entries) → number ≡ id
+    → IfSome (slice_get (all_entries entries) id) (λ e. declared ≡ is_declared e)
+    → new ≡ set kept number (Some declared) → KeepsDeclared entries new
 one_more_known entries kept new id number declared keeps below is read same = search (rules, length-set, set_get, there)
 
 -- what is known of an entry is true of it
-pub known_right : (entries : Entries) (kept : List (Option Bool)) (id number : ℕ) (declared : Bool) → KeepsDeclared entries kept → id < length (all_entries entries) → number ≡ id
-    → get_or kept number None ≡ Some declared → IfSome (slice_get (all_entries entries) id) (λ e. declared ≡ is_declared e)
+pub known_right : (entries : Entries) (kept : List (Option Bool)) (id number : ℕ) (declared : Bool)
+    → KeepsDeclared entries kept → id < length (all_entries entries) → number ≡ id
+    → get_or kept number None ≡ Some declared
+    → IfSome (slice_get (all_entries entries) id) (λ e. declared ≡ is_declared e)
 known_right entries kept id number declared keeps below is read = search (rules, there, slice_get-get_or)
 
 -- none is known of any entry
@@ -34,11 +40,14 @@ none_known zero j known is = absurd cc
 none_known (suc n) zero known is = absurd cc
 none_known (suc n) (suc j) known is = none_known n j known is
 
-pub keeps_none : (entries : Entries) (kept : List (Option Bool)) (n : ℕ) → n ≡ length (all_entries entries) → kept ≡ replicate n None → KeepsDeclared entries kept
+pub keeps_none : (entries : Entries) (kept : List (Option Bool)) (n : ℕ) → n ≡ length (all_entries entries)
+    → kept ≡ replicate n None → KeepsDeclared entries kept
 keeps_none entries kept n all same = search (rules, length-replicate, none_known)
 
 -- the list after its slice has changed
-pub keeps_whole : (entries : Entries) (old new : List (Option Bool)) (len : ℕ) → len ≡ length old → KeepsDeclared entries old → KeepsDeclared entries new → KeepsDeclared entries (take len (new ++ drop (length new) old))
+pub keeps_whole : (entries : Entries) (old new : List (Option Bool)) (len : ℕ) → len ≡ length old
+    → KeepsDeclared entries old → KeepsDeclared entries new
+    → KeepsDeclared entries (take len (new ++ drop (length new) old))
 keeps_whole entries old new len is kept keeps =
     let all : len ≡ length new = is ∙ kept.all ∙ sym keeps.all in
     rw (all, take-append_seam new (drop (length new) old)) keeps

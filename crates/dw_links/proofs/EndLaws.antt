@@ -31,10 +31,21 @@ decide_ends section (suc left) offset at =
     elim (decide_eq (slice_index section offset) 0) [
       | inl is ↦ inl (record { last = offset; behind = omega arith; within = omega (arith, at); is_zero = is })
       | inr other ↦ elim (decide_ends section left (suc offset) (omega (arith, at))) [
-        | inl e ↦ inl (record { last = e.last; behind = let p = e.behind in omega (arith, p); within = e.within; is_zero = e.is_zero })
+        | inl e ↦ inl (record {
+          last = e.last;
+          behind = let p = e.behind in omega (arith, p);
+          within = e.within;
+          is_zero = e.is_zero;
+        })
         | inr none ↦ inr (λ e. elim (decide_eq e.last offset) [
           | inl same ↦ other (ap (slice_index section) (sym same) ∙ e.is_zero)
-          | inr more ↦ none (record { last = e.last; behind = let p = e.behind in let q = not_eq_lt offset e.last p (λ s. more (sym s)) in q; within = e.within; is_zero = e.is_zero })
+          | inr more ↦ none (record {
+            last = e.last;
+            behind = let p = e.behind in
+                let q = not_eq_lt offset e.last p (λ s. more (sym s)) in q;
+            within = e.within;
+            is_zero = e.is_zero;
+          })
         ])
       ]
     ]
@@ -69,5 +80,7 @@ text_begins bytes n t is = record {
   last = n + length t;
   behind = omega arith;
   within = text_within bytes n t is;
-  is_zero = sym (get_or-drop n bytes (length t) 0) ∙ ap (λ (xs : List ℕ). get_or xs (length t) 0) is.parts ∙ get_or-append_seam t 0 is.rest 0;
+  is_zero =
+      sym (get_or-drop n bytes (length t) 0) ∙ ap (λ (xs : List ℕ). get_or xs (length t) 0) is.parts
+      ∙ get_or-append_seam t 0 is.rest 0;
 }

@@ -41,20 +41,26 @@ use Rattle.dw_links.proofs.Transfers.{least_by_texts}
 
 -- ---- a result, as it is told of the next value
 
-module _ (it : References) (id attribute : ℕ) (value : Datum) (left behind : List (ℕ × Datum)) (next : IsNextOf DoesNotLead left (attribute, value) behind) where
-  pub links : (before after : Option (Option ℕ)) → KeepsAt it id attribute value before after → LinksAt it id left behind before after
+module _ (it : References) (id attribute : ℕ) (value : Datum) (left behind : List (ℕ × Datum))
+    (next : IsNextOf DoesNotLead left (attribute, value) behind) where
+  pub links : (before after : Option (Option ℕ)) → KeepsAt it id attribute value before after
+      → LinksAt it id left behind before after
   links before after keeps = λ e is. record { attribute = attribute; value = value; next = next; keeps = keeps e is }
 
-  pub linked : (before : Option (Option ℕ)) (result : Result (Option (Option ℕ)) Broken) → IfOk result (KeepsAt it id attribute value before) → IfOk result (LinksAt it id left behind before)
+  pub linked : (before : Option (Option ℕ)) (result : Result (Option (Option ℕ)) Broken)
+      → IfOk result (KeepsAt it id attribute value before) → IfOk result (LinksAt it id left behind before)
   linked before (Ok after) keeps = links before after keeps
   linked before (Err broken) keeps = tt
 
-  pub failed : (result : Result (Option (Option ℕ)) Broken) → IfErr result (HasFailedAt it id attribute value) → IfErr result (FailsNextAt it id left)
+  pub failed : (result : Result (Option (Option ℕ)) Broken) → IfErr result (HasFailedAt it id attribute value)
+      → IfErr result (FailsNextAt it id left)
   failed (Ok after) fails = tt
-  failed (Err broken) fails = λ e is. record { attribute = attribute; value = value; behind = behind; next = next; fails = fails e is }
+  failed (Err broken) fails =
+      λ e is. record { attribute = attribute; value = value; behind = behind; next = next; fails = fails e is }
 
 -- nothing is kept of an attribute that is no type
-kept_same : (before : Option (Option ℕ)) (attribute : ℕ) (reached : Option ℕ) → attribute ≢ DW_AT_type → before ≡ kept_after before attribute reached
+kept_same : (before : Option (Option ℕ)) (attribute : ℕ) (reached : Option ℕ) → attribute ≢ DW_AT_type
+    → before ≡ kept_after before attribute reached
 kept_same (Some target) attribute reached other = refl
 kept_same None attribute reached other = rw (ne_eqb attribute DW_AT_type other) refl
 
@@ -65,43 +71,53 @@ second_index lead.Index1 is other = absurd (other refl)
 second_index lead.Index2 is other = refl
 second_index _ is other = absurd cc
 
-pub index_says : (spec : AttributeSpec) (l : Lead) → lead_of spec ≡ l → is_index_lead l ≡ true → spec.attribute ≢ DW_AT_type
+pub index_says : (spec : AttributeSpec) (l : Lead) → lead_of spec ≡ l → is_index_lead l ≡ true
+    → spec.attribute ≢ DW_AT_type
 index_says spec lead.Index1 says is = (lead_says spec lead.Index1 says).1
 index_says spec lead.Index2 says is = (lead_says spec lead.Index2 says).1
 index_says spec _ says is = absurd cc
 
 -- ---- a flag that is known without a value
 
-flag_value : (version size : ℕ) (f : Form) (bytes : List ℕ) (v : Datum) → known_flag f ≡ Some true → Val version f size bytes v → is_true (Some v) ≡ true
+flag_value : (version size : ℕ) (f : Form) (bytes : List ℕ) (v : Datum) → known_flag f ≡ Some true
+    → Val version f size bytes v → is_true (Some v) ≡ true
 flag_value version size form.FlagPresent bytes v known p = ap (λ (d : Datum). is_true (Some d)) p.1
 flag_value version size _ bytes v known p = absurd cc
 
-never_false : (x : Context) (specs : List AttributeSpec) (bs : List Attribute) → AreAttributes x specs bs → flag_in DW_AT_declaration specs ≡ Some true → is_true (value_in (map value_of bs) DW_AT_declaration) ≡ false → ⊥
+never_false : (x : Context) (specs : List AttributeSpec) (bs : List Attribute) → AreAttributes x specs bs
+    → flag_in DW_AT_declaration specs ≡ Some true → is_true (value_in (map value_of bs) DW_AT_declaration) ≡ false → ⊥
 never_false x [] bs are known not_true = absurd cc
 never_false x (s ∷ specs) [] are known not_true = are
-never_false x (s ∷ specs) (b ∷ bs) are known not_true = by_code (never_false x specs bs are.1) (s.attribute == DW_AT_declaration) refl
+never_false x (s ∷ specs) (b ∷ bs) are known not_true =
+    by_code (never_false x specs bs are.1) (s.attribute == DW_AT_declaration) refl
   where
-    by_code : (flag_in DW_AT_declaration specs ≡ Some true → is_true (value_in (map value_of bs) DW_AT_declaration) ≡ false → ⊥) → (t : Bool) → (s.attribute == DW_AT_declaration) ≡ t → ⊥
+    by_code : (flag_in DW_AT_declaration specs ≡ Some true
+        → is_true (value_in (map value_of bs) DW_AT_declaration) ≡ false → ⊥) → (t : Bool)
+        → (s.attribute == DW_AT_declaration) ≡ t → ⊥
     by_code others true e =
         let code : (b.code == DW_AT_declaration) ≡ true = ap (λ (n : ℕ). n == DW_AT_declaration) are.0.code ∙ e in
         let flag : known_flag s.form ≡ Some true = rw e at known in
         let value : is_true (Some b.value) ≡ false = rw code at not_true in
         ∥∥₁_elim are.0.value (λ p q. absurd p)
-        (λ v. let both : true ≡ false = sym (flag_value x.version x.address_size s.form b.bytes b.value flag v) ∙ value in cc)
+        (λ v. let both : true ≡ false = sym (flag_value x.version x.address_size s.form b.bytes b.value flag v)
+        ∙ value in cc)
     by_code others false e =
         let code : (b.code == DW_AT_declaration) ≡ false = ap (λ (n : ℕ). n == DW_AT_declaration) are.0.code ∙ e in
         others (rw e at known) (rw code at not_true)
 
 -- an entry is a declaration where its own declaration says so
-pub declared_entry : (entries : Entries) (t : ℕ) (e : Entry) → slice_get (all_entries entries) t ≡ Some e → flag_in DW_AT_declaration e.head.decl.attributes ≡ Some true → is_declared e ≡ true
+pub declared_entry : (entries : Entries) (t : ℕ) (e : Entry) → slice_get (all_entries entries) t ≡ Some e
+    → flag_in DW_AT_declaration e.head.decl.attributes ≡ Some true → is_declared e ≡ true
 declared_entry entries t e is known =
     let stands = head_stands _ _ (units_of entries) t e entries.scanned.1.spells is in
-    true_unless (is_declared e) (never_false (context_of stands.unit) e.head.decl.attributes e.head.attributes stands.is.attributes known)
+    true_unless (is_declared e) (never_false (context_of stands.unit) e.head.decl.attributes e.head.attributes
+    stands.is.attributes known)
 
 -- ---- usual values, at which no rule fails
 
 -- two entries begin at two offsets
-other_offset : (entries : List Entry) → OffsetsRise entries → (i j : ℕ) (d e : Entry) → slice_get entries i ≡ Some d → slice_get entries j ≡ Some e → i ≢ j → d.at ≢ e.at
+other_offset : (entries : List Entry) → OffsetsRise entries → (i j : ℕ) (d e : Entry) → slice_get entries i ≡ Some d
+    → slice_get entries j ≡ Some e → i ≢ j → d.at ≢ e.at
 other_offset entries rise i j d e is_d is_e other same =
     elim (three_ways i j) [
       | inl (inl less) ↦ omega (arith, rise i j d e less is_d is_e, same)
@@ -116,76 +132,115 @@ both_true true b is_a is_b = absurd cc
 
 module _ (it : References) (id : ℕ) (may : MayLink it id) (before : Option (Option ℕ)) where
   -- a string or an address
-  pub text_keeps : (attribute : ℕ) (v : Datum) → ((head : EntryHead) → IsLeast (FailsByTexts it.texts head attribute v) None) → is_reference_value v ≡ false → attribute ≢ DW_AT_type → KeepsAt it id attribute v before before
+  pub text_keeps : (attribute : ℕ) (v : Datum)
+      → ((head : EntryHead) → IsLeast (FailsByTexts it.texts head attribute v) None) → is_reference_value v ≡ false
+      → attribute ≢ DW_AT_type → KeepsAt it id attribute v before before
   text_keeps attribute v none no_reference other = λ e is. record {
     passes = record {
-      strings = least_by_texts (entries_in it) it.texts (entry_head e) may.linkable.texts (may.in_unit e is) attribute v None (none (entry_head e));
+      strings =
+          least_by_texts (entries_in it) it.texts (entry_head e) may.linkable.texts (may.in_unit e is) attribute v None
+          (none (entry_head e));
       references = λ rule fails. let both : true ≡ false = sym fails.0 ∙ no_reference in cc;
     };
     is_kept = kept_same before attribute (target_by (entries_in it) (entry_head e) v) other;
   }
 
   -- a reference to an entry that is permitted
-  reference_keeps : (attribute offset t : ℕ) (after : Option (Option ℕ)) → entry_after it offset ≡ Some t → after ≡ kept_after before attribute (Some t)
+  reference_keeps : (attribute offset t : ℕ) (after : Option (Option ℕ)) → entry_after it offset ≡ Some t
+      → after ≡ kept_after before attribute (Some t)
       → ((e : Entry) → entry_with it id ≡ Some e → true ≡ permits_form (entry_head e) attribute (ref_unit offset))
-      → ((e target : Entry) → entry_with it id ≡ Some e → entry_with it t ≡ Some target → true ≡ permits (entry_head e) attribute target)
+      → ((e target : Entry) → entry_with it id ≡ Some e → entry_with it t ≡ Some target
+      → true ≡ permits (entry_head e) attribute target)
       → ((e : Entry) → entry_with it id ≡ Some e → attribute ≡ DW_AT_sibling → e.next ≡ Some t)
       → KeepsAt it id attribute (ref_unit offset) before after
   reference_keeps attribute offset t after reaches kept formed kind next = λ e is.
       let entries = entries_in it in
-      let there : target_by entries (entry_head e) (ref_unit offset) ≡ Some t = ap (λ (u : ℕ). reach_in_unit (all_entries entries) (all_units entries) u offset) (may.in_unit e is) ∙ reaches in
+      let there : target_by entries (entry_head e) (ref_unit offset)
+      ≡ Some t = ap (λ (u : ℕ). reach_in_unit (all_entries entries) (all_units entries) u offset) (may.in_unit e is)
+      ∙ reaches in
       record {
         passes = record {
           strings = λ rule fails. fails.fails;
-          references = least_none (all_entries entries) (all_units entries) (entry_head e) attribute (ref_unit offset) t there (formed e is) (λ target at. kind e target is at)
-              (λ p. right_sibling e.next (target_by entries (entry_head e) (ref_unit offset)) t there (next e is p.0) p.1);
+          references =
+              least_none (all_entries entries) (all_units entries) (entry_head e) attribute (ref_unit offset) t there
+              (formed e is) (λ target at. kind e target is at)
+              (λ p. right_sibling e.next (target_by entries (entry_head e) (ref_unit offset)) t there (next e is p.0)
+              p.1);
         };
         is_kept = kept ∙ ap (kept_after before attribute) (sym there);
       }
 
-  pub type_keeps : (attribute offset t : ℕ) (after : Option (Option ℕ)) → attribute ≡ DW_AT_type → IsTypeAfter it offset t → after ≡ kept_after before DW_AT_type (Some t) → KeepsAt it id attribute (ref_unit offset) before after
+  pub type_keeps : (attribute offset t : ℕ) (after : Option (Option ℕ)) → attribute ≡ DW_AT_type
+      → IsTypeAfter it offset t → after ≡ kept_after before DW_AT_type (Some t)
+      → KeepsAt it id attribute (ref_unit offset) before after
   type_keeps attribute offset t after same has kept =
       let P : ℕ → Type 0 = λ a. KeepsAt it id a (ref_unit offset) before after in
-      subst P (sym same) (reference_keeps DW_AT_type offset t after has.reaches kept (λ e is. refl) (λ e target is at. sym (has.is_type target at)) (λ e is no. absurd (omega (arith, no))))
+      subst P (sym same) (reference_keeps DW_AT_type offset t after has.reaches kept (λ e is. refl)
+      (λ e target is at. sym (has.is_type target at)) (λ e is no. absurd (omega (arith, no))))
 
-  pub sibling_keeps : (attribute offset : ℕ) → attribute ≡ DW_AT_sibling → IsSiblingAfter it id offset → KeepsAt it id attribute (ref_unit offset) before before
+  pub sibling_keeps : (attribute offset : ℕ) → attribute ≡ DW_AT_sibling → IsSiblingAfter it id offset
+      → KeepsAt it id attribute (ref_unit offset) before before
   sibling_keeps attribute offset same has =
       let P : ℕ → Type 0 = λ a. KeepsAt it id a (ref_unit offset) before before in
-      subst P (sym same) (reference_keeps DW_AT_sibling offset has.target before has.reaches (kept_same before DW_AT_sibling (Some has.target) (λ no. omega (arith, no))) (λ e is. refl) (λ e target is at. refl) (λ e is no. has.is_next e is))
+      subst P (sym same) (reference_keeps DW_AT_sibling offset has.target before has.reaches
+      (kept_same before DW_AT_sibling (Some has.target) (λ no. omega (arith, no))) (λ e is. refl)
+      (λ e target is at. refl) (λ e is no. has.is_next e is))
 
-  pub specification_keeps : (attribute offset : ℕ) → attribute ≡ DW_AT_specification → IsDeclaredAfter it id offset → KeepsAt it id attribute (ref_unit offset) before before
+  pub specification_keeps : (attribute offset : ℕ) → attribute ≡ DW_AT_specification → IsDeclaredAfter it id offset
+      → KeepsAt it id attribute (ref_unit offset) before before
   specification_keeps attribute offset same has =
       let P : ℕ → Type 0 = λ a. KeepsAt it id a (ref_unit offset) before before in
       let rise = entries_rise _ (units_of (entries_in it)) (entries_in it).scanned.1.spells.are in
-      subst P (sym same) (reference_keeps DW_AT_specification offset has.target before has.reaches (kept_same before DW_AT_specification (Some has.target) (λ no. omega (arith, no))) (λ e is. refl)
-      (λ e target is at. both_true (target.at == e.at) (is_declared target) (ne_eqb target.at e.at (other_offset (all_entries (entries_in it)) rise has.target id target e at is has.other)) (has.declared target at)) (λ e is no. absurd (omega (arith, no))))
+      subst P (sym same) (reference_keeps DW_AT_specification offset has.target before has.reaches
+      (kept_same before DW_AT_specification (Some has.target) (λ no. omega (arith, no))) (λ e is. refl)
+      (λ e target is at. both_true (target.at == e.at) (is_declared target)
+      (ne_eqb target.at e.at (other_offset (all_entries (entries_in it)) rise has.target id target e at is
+      has.other)) (has.declared target at)) (λ e is no. absurd (omega (arith, no))))
 
-  pub entry_keeps : (attribute offset t : ℕ) → attribute ≢ DW_AT_type → attribute ≢ DW_AT_sibling → attribute ≢ DW_AT_specification → attribute ≢ DW_AT_import → attribute ≢ DW_AT_signature → entry_after it offset ≡ Some t
+  pub entry_keeps : (attribute offset t : ℕ) → attribute ≢ DW_AT_type → attribute ≢ DW_AT_sibling
+      → attribute ≢ DW_AT_specification → attribute ≢ DW_AT_import → attribute ≢ DW_AT_signature
+      → entry_after it offset ≡ Some t
       → KeepsAt it id attribute (ref_unit offset) before before
   entry_keeps attribute offset t no_type no_sibling no_specification no_import no_signature reaches =
-      reference_keeps attribute offset t before reaches (kept_same before attribute (Some t) no_type) (λ e is. rw (ne_eqb attribute DW_AT_signature no_signature) refl)
-      (λ e target is at. rw (ne_eqb attribute DW_AT_type no_type, ne_eqb attribute DW_AT_specification no_specification, ne_eqb attribute DW_AT_signature no_signature, ne_eqb attribute DW_AT_import no_import) refl)
+      reference_keeps attribute offset t before reaches (kept_same before attribute (Some t) no_type)
+      (λ e is. rw (ne_eqb attribute DW_AT_signature no_signature) refl)
+      (λ e target is at. rw (
+        ne_eqb attribute DW_AT_type no_type,
+        ne_eqb attribute DW_AT_specification no_specification,
+        ne_eqb attribute DW_AT_signature no_signature,
+        ne_eqb attribute DW_AT_import no_import,
+      ) refl)
       (λ e is sibling. absurd (no_sibling sibling))
 
   -- a reference with a usual lead
-  pub reference_passes : (left behind : List (ℕ × Datum)) (attribute offset : ℕ) (l : Lead) → IsTaken l left (attribute, ref_unit offset) behind → LeadsWell it id offset l → KeepsAt it id attribute (ref_unit offset) before before
+  pub reference_passes : (left behind : List (ℕ × Datum)) (attribute offset : ℕ) (l : Lead)
+      → IsTaken l left (attribute, ref_unit offset) behind → LeadsWell it id offset l
+      → KeepsAt it id attribute (ref_unit offset) before before
   reference_passes left behind attribute offset lead.Sibling taken well =
-      sibling_keeps attribute offset (lead_says (record { attribute = attribute; form = taken.form }) lead.Sibling taken.has_lead).1 well
+      sibling_keeps attribute offset
+      (lead_says (record { attribute = attribute; form = taken.form }) lead.Sibling taken.has_lead).1 well
   reference_passes left behind attribute offset lead.Specification taken well =
-      specification_keeps attribute offset (lead_says (record { attribute = attribute; form = taken.form }) lead.Specification taken.has_lead).1 well
+      specification_keeps attribute offset
+      (lead_says (record { attribute = attribute; form = taken.form }) lead.Specification taken.has_lead).1 well
   reference_passes left behind attribute offset lead.Entry taken well =
-      let (is_form, no_type, no_sibling, no_specification, no_import, no_signature) = lead_says (record { attribute = attribute; form = taken.form }) lead.Entry taken.has_lead in
+      let (is_form, no_type, no_sibling, no_specification, no_import, no_signature) = lead_says
+      (record { attribute = attribute; form = taken.form }) lead.Entry taken.has_lead in
       entry_keeps attribute offset well.0 no_type no_sibling no_specification no_import no_signature well.1
   reference_passes left behind attribute offset _ taken well = absurd well
 
   -- a reference to a type
-  pub type_passes : (left behind : List (ℕ × Datum)) (attribute offset t : ℕ) (l : Lead) (after : Option (Option ℕ)) → IsTaken l left (attribute, ref_unit offset) behind → l ≡ lead.TypeEntry → IsTypeAfter it offset t → after ≡ kept_after before DW_AT_type (Some t)
+  pub type_passes : (left behind : List (ℕ × Datum)) (attribute offset t : ℕ) (l : Lead) (after : Option (Option ℕ))
+      → IsTaken l left (attribute, ref_unit offset) behind → l ≡ lead.TypeEntry → IsTypeAfter it offset t
+      → after ≡ kept_after before DW_AT_type (Some t)
       → KeepsAt it id attribute (ref_unit offset) before after
   type_passes left behind attribute offset t l after taken is_l has kept =
-      type_keeps attribute offset t after (lead_says (record { attribute = attribute; form = taken.form }) lead.TypeEntry (taken.has_lead ∙ is_l)).1 has kept
+      type_keeps attribute offset t after
+      (lead_says (record { attribute = attribute; form = taken.form }) lead.TypeEntry (taken.has_lead ∙ is_l)).1 has
+      kept
 
   -- a value that leads nowhere
-  pub passed_links : (left behind : List (ℕ × Datum)) (l : Lead) → l ≡ lead.Passed → IsPassedBy l left behind → LinksAt it id left behind before before
+  pub passed_links : (left behind : List (ℕ × Datum)) (l : Lead) → l ≡ lead.Passed → IsPassedBy l left behind
+      → LinksAt it id left behind before before
   passed_links left behind l is_l passed = λ e is.
       let entries = entries_in it in
       let p = passed.declared in
@@ -197,9 +252,16 @@ module _ (it : References) (id : ℕ) (may : MayLink it id) (before : Option (Op
         next = passed.next;
         keeps = record {
           passes = record {
-            strings = λ rule fails. passes_texts entries p.spec quiet p.context p.declared p.is_attribute (entry_head e) rule (subst (λ (y : ℕ × Datum). FailsByText entries (entry_head e) y.0 y.1 rule) (sym p.is_item) fails);
-            references = λ rule fails. passes_targets entries p.spec quiet p.context p.declared p.is_attribute (entry_head e) rule (subst (λ (y : ℕ × Datum). FailsByTarget entries (entry_head e) y.0 y.1 rule) (sym p.is_item) fails);
+            strings =
+                λ rule fails. passes_texts entries p.spec quiet p.context p.declared p.is_attribute (entry_head e) rule
+                (subst (λ (y : ℕ × Datum). FailsByText entries (entry_head e) y.0 y.1 rule) (sym p.is_item) fails);
+            references =
+                λ rule fails. passes_targets entries p.spec quiet p.context p.declared p.is_attribute (entry_head e)
+                rule (subst (λ (y : ℕ × Datum). FailsByTarget entries (entry_head e) y.0 y.1 rule) (sym p.is_item)
+                fails);
           };
-          is_kept = kept_same before passed.found.0 (target_by entries (entry_head e) passed.found.1) (λ same. other_code p.spec.attribute DW_AT_type (leads p.spec quiet).no_type (code ∙ same));
+          is_kept =
+              kept_same before passed.found.0 (target_by entries (entry_head e) passed.found.1)
+              (λ same. other_code p.spec.attribute DW_AT_type (leads p.spec quiet).no_type (code ∙ same));
         };
       }

@@ -20,11 +20,13 @@ use Rattle.dw_links.proofs.RuleSteps.{Checked, none_checked, checked_more, check
 
 -- ---- the first type
 
-front_value : (xs ys : List (ℕ × Datum)) (attribute : ℕ) (v : Datum) → value_in xs attribute ≡ Some v → value_in (xs ++ ys) attribute ≡ Some v
+front_value : (xs ys : List (ℕ × Datum)) (attribute : ℕ) (v : Datum) → value_in xs attribute ≡ Some v
+    → value_in (xs ++ ys) attribute ≡ Some v
 front_value [] ys attribute v is = absurd cc
 front_value (x ∷ xs) ys attribute v is = search (rules, (front_value xs ys attribute v))
 
-back_value : (xs ys : List (ℕ × Datum)) (attribute : ℕ) → value_in xs attribute ≡ None → value_in (xs ++ ys) attribute ≡ value_in ys attribute
+back_value : (xs ys : List (ℕ × Datum)) (attribute : ℕ) → value_in xs attribute ≡ None
+    → value_in (xs ++ ys) attribute ≡ value_in ys attribute
 back_value [] ys attribute is = refl
 back_value (x ∷ xs) ys attribute is = search (rules, (back_value xs ys attribute))
 
@@ -33,7 +35,8 @@ passed_value [] passed = refl
 passed_value (x ∷ items) passed =
     let p = passed 0 x refl in
     let code : p.spec.attribute ≡ x.0 = sym p.is_attribute.code ∙ ap (λ (y : ℕ × Datum). y.0) p.is_item in
-    let other : (x.0 == DW_AT_type) ≡ false = ap (λ (n : ℕ). n == DW_AT_type) (sym code) ∙ (leads p.spec p.passes).no_type in
+    let other : (x.0 == DW_AT_type)
+    ≡ false = ap (λ (n : ℕ). n == DW_AT_type) (sym code) ∙ (leads p.spec p.passes).no_type in
     rw other (passed_value items (λ k y is. passed (suc k) y is))
 
 -- this is kept of the first type of what was read, and these are left
@@ -43,28 +46,46 @@ pub record HasKept (reach : Datum → Option ℕ) (items left : List (ℕ × Dat
   pub is_kept : kept ≡ option_map reach (value_in done DW_AT_type)
 
 -- after one attribute more
-keeps_more : (reach : Datum → Option ℕ) (items left behind : List (ℕ × Datum)) (kept : Option (Option ℕ)) (a : ℕ) (v : Datum) → HasKept reach items left kept → IsNextOf DoesNotLead left (a, v) behind → HasKept reach items behind (kept_after kept a (reach v))
+keeps_more : (reach : Datum → Option ℕ) (items left behind : List (ℕ × Datum)) (kept : Option (Option ℕ)) (a : ℕ)
+    (v : Datum) → HasKept reach items left kept → IsNextOf DoesNotLead left (a, v) behind
+    → HasKept reach items behind (kept_after kept a (reach v))
 keeps_more reach items left behind kept a v k n = record {
   done = k.done ++ (n.passed ++ (a, v) ∷ []);
-  parts = k.parts ∙ ap (λ (xs : List (ℕ × Datum)). k.done ++ xs) (n.parts ∙ sym (append_assoc n.passed ((a, v) ∷ []) behind)) ∙ sym (append_assoc k.done (n.passed ++ (a, v) ∷ []) behind);
-  is_kept = ap (λ (o : Option (Option ℕ)). kept_after o a (reach v)) k.is_kept ∙ by_value (value_in k.done DW_AT_type) refl;
+  parts =
+      k.parts ∙ ap (λ (xs : List (ℕ × Datum)). k.done ++ xs)
+      (n.parts ∙ sym (append_assoc n.passed ((a, v) ∷ []) behind))
+      ∙ sym (append_assoc k.done (n.passed ++ (a, v) ∷ []) behind);
+  is_kept =
+      ap (λ (o : Option (Option ℕ)). kept_after o a (reach v)) k.is_kept ∙ by_value (value_in k.done DW_AT_type) refl;
 }
   where
-    by_code : (b : Bool) → (a == DW_AT_type) ≡ b → kept_after None a (reach v) ≡ option_map reach (value_in ((a, v) ∷ []) DW_AT_type)
+    by_code : (b : Bool) → (a == DW_AT_type) ≡ b
+        → kept_after None a (reach v) ≡ option_map reach (value_in ((a, v) ∷ []) DW_AT_type)
     by_code true q = rw q refl
     by_code false q = rw q refl
 
-    by_value : (o : Option Datum) → value_in k.done DW_AT_type ≡ o → kept_after (option_map reach o) a (reach v) ≡ option_map reach (value_in (k.done ++ (n.passed ++ (a, v) ∷ [])) DW_AT_type)
+    by_value : (o : Option Datum) → value_in k.done DW_AT_type ≡ o
+        → kept_after (option_map reach o) a (reach v)
+        ≡ option_map reach (value_in (k.done ++ (n.passed ++ (a, v) ∷ [])) DW_AT_type)
     by_value (Some d) is = ap (option_map reach) (sym (front_value k.done (n.passed ++ (a, v) ∷ []) DW_AT_type d is))
-    by_value None is = by_code (a == DW_AT_type) refl ∙ ap (option_map reach) (sym (back_value k.done (n.passed ++ (a, v) ∷ []) DW_AT_type is ∙ back_value n.passed ((a, v) ∷ []) DW_AT_type (passed_value n.passed n.are_passed)))
+    by_value None is =
+        by_code (a == DW_AT_type) refl
+        ∙ ap (option_map reach) (sym (back_value k.done (n.passed ++ (a, v) ∷ []) DW_AT_type is
+        ∙ back_value n.passed ((a, v) ∷ []) DW_AT_type (passed_value n.passed n.are_passed)))
 
 -- at the end it is that of the entry's type
-keeps_all : (reach : Datum → Option ℕ) (items left : List (ℕ × Datum)) (kept : Option (Option ℕ)) → HasKept reach items left kept → ArePassed DoesNotLead left → unwrap_or kept None ≡ option_and_then reach (value_in items DW_AT_type)
-keeps_all reach items left kept k passed = ap (λ (o : Option (Option ℕ)). unwrap_or o None) k.is_kept ∙ by_value (value_in k.done DW_AT_type) refl ∙ ap (λ (xs : List (ℕ × Datum)). option_and_then reach (value_in xs DW_AT_type)) (sym k.parts)
+keeps_all : (reach : Datum → Option ℕ) (items left : List (ℕ × Datum)) (kept : Option (Option ℕ))
+    → HasKept reach items left kept → ArePassed DoesNotLead left
+    → unwrap_or kept None ≡ option_and_then reach (value_in items DW_AT_type)
+keeps_all reach items left kept k passed =
+    ap (λ (o : Option (Option ℕ)). unwrap_or o None) k.is_kept ∙ by_value (value_in k.done DW_AT_type) refl
+    ∙ ap (λ (xs : List (ℕ × Datum)). option_and_then reach (value_in xs DW_AT_type)) (sym k.parts)
   where
-    by_value : (o : Option Datum) → value_in k.done DW_AT_type ≡ o → unwrap_or (option_map reach o) None ≡ option_and_then reach (value_in (k.done ++ left) DW_AT_type)
+    by_value : (o : Option Datum) → value_in k.done DW_AT_type ≡ o
+        → unwrap_or (option_map reach o) None ≡ option_and_then reach (value_in (k.done ++ left) DW_AT_type)
     by_value (Some d) is = ap (option_and_then reach) (sym (front_value k.done left DW_AT_type d is))
-    by_value None is = ap (option_and_then reach) (sym (back_value k.done left DW_AT_type is ∙ passed_value left passed))
+    by_value None is =
+        ap (option_and_then reach) (sym (back_value k.done left DW_AT_type is ∙ passed_value left passed))
 
 -- ---- the loop
 
@@ -79,7 +100,8 @@ module _ (entries : Entries) (e : Entry) (left : List (ℕ × Datum)) where
   none_so_far same = search (rules, none_checked)
 
   -- at the end
-  pub linked_at_end : (kept : Option (Option ℕ)) (target : Option ℕ) → target ≡ unwrap_or kept None → SoFar entries e left kept → ArePassed DoesNotLead left → IsLinked entries e target
+  pub linked_at_end : (kept : Option (Option ℕ)) (target : Option ℕ) → target ≡ unwrap_or kept None
+      → SoFar entries e left kept → ArePassed DoesNotLead left → IsLinked entries e target
   unfolding target_of
   linked_at_end kept target is s passed = record {
     strings = checked_all (FailsByText entries) DoesNotLead (passes_texts entries) e left s.strings passed;
@@ -89,17 +111,26 @@ module _ (entries : Entries) (e : Entry) (left : List (ℕ × Datum)) where
 
   module _ (kept : Option (Option ℕ)) (s : SoFar entries e left kept) where
     -- one attribute more
-    pub more_so_far : (behind : List (ℕ × Datum)) (after : Option (Option ℕ)) → LinksNext entries left behind kept after (entry_head e) → SoFar entries e behind after
+    pub more_so_far : (behind : List (ℕ × Datum)) (after : Option (Option ℕ))
+        → LinksNext entries left behind kept after (entry_head e) → SoFar entries e behind after
     more_so_far behind after n = record {
-      strings = checked_more (FailsByText entries) DoesNotLead (passes_texts entries) e left behind n.attribute n.value s.strings n.next (entry_head e) refl n.keeps.passes.strings;
-      references = checked_more (FailsByTarget entries) DoesNotLead (passes_targets entries) e left behind n.attribute n.value s.references n.next (entry_head e) refl n.keeps.passes.references;
-      keeps = rw n.keeps.is_kept (keeps_more (target_by entries (entry_head e)) (values_of e.head) left behind kept n.attribute n.value s.keeps n.next);
+      strings =
+          checked_more (FailsByText entries) DoesNotLead (passes_texts entries) e left behind n.attribute n.value
+          s.strings n.next (entry_head e) refl n.keeps.passes.strings;
+      references =
+          checked_more (FailsByTarget entries) DoesNotLead (passes_targets entries) e left behind n.attribute n.value
+          s.references n.next (entry_head e) refl n.keeps.passes.references;
+      keeps =
+          rw n.keeps.is_kept (keeps_more (target_by entries (entry_head e)) (values_of e.head) left behind kept
+          n.attribute n.value s.keeps n.next);
     }
 
     -- where a rule fails, that is the first failure of its group
     pub fails_so_far : (broken : Broken) → HasFailedNext entries left broken (entry_head e) → HasFailed entries e broken
     fails_so_far broken n =
         elim n.fails [
-          | inl f ↦ inl (checked_fails (FailsByText entries) DoesNotLead (passes_texts entries) e left n.behind n.attribute n.value s.strings n.next (entry_head e) refl f.rule broken f.least f.named)
-          | inr f ↦ inr (checked_fails (FailsByTarget entries) DoesNotLead (passes_targets entries) e left n.behind n.attribute n.value s.references n.next (entry_head e) refl f.rule broken f.least f.named)
+          | inl f ↦ inl (checked_fails (FailsByText entries) DoesNotLead (passes_texts entries) e left n.behind
+              n.attribute n.value s.strings n.next (entry_head e) refl f.rule broken f.least f.named)
+          | inr f ↦ inr (checked_fails (FailsByTarget entries) DoesNotLead (passes_targets entries) e left n.behind
+              n.attribute n.value s.references n.next (entry_head e) refl f.rule broken f.least f.named)
         ]

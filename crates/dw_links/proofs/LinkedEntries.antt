@@ -35,33 +35,46 @@ is_told None never = absurd (never refl)
 is_told (Some n) never = (n, refl)
 
 -- an indexed string is in a unit that has a base, and so is an indexed address
-told_text : (sections : Sections) (base : Option ℕ) (index : ℕ) → (StringIndexFails sections base index BadStrBase → ⊥) → IsSome (indexed_text sections base index)
+told_text : (sections : Sections) (base : Option ℕ) (index : ℕ) → (StringIndexFails sections base index BadStrBase → ⊥)
+    → IsSome (indexed_text sections base index)
 told_text sections None index never = absurd (never tt)
 told_text sections (Some base) index never = refl
 
-told_address : (sections : Sections) (header : UnitHeader) (base : Option ℕ) (index : ℕ) → (AddressIndexFails sections header base index BadAddrBase → ⊥) → IsSome (indexed_address sections header base index)
+told_address : (sections : Sections) (header : UnitHeader) (base : Option ℕ) (index : ℕ)
+    → (AddressIndexFails sections header base index BadAddrBase → ⊥)
+    → IsSome (indexed_address sections header base index)
 told_address sections header None index never = absurd (never tt)
 told_address sections header (Some base) index never = refl
 
-has_text : (sections : Sections) (us : List DebugUnit) (id : ℕ) (e : Entry) (p : PlacedUnit) (attribute : ℕ) (v : Datum) → HasNone (StringFailures sections us) → slice_get (entries_of us) id ≡ Some e → slice_get (placed us) e.unit ≡ Some p
-    → value_at_entry e attribute ≡ Some v → class_of v ≡ String → IsSome (text_of sections (base_in (entries_of us) p DW_AT_str_offsets_base) v)
+has_text : (sections : Sections) (us : List DebugUnit) (id : ℕ) (e : Entry) (p : PlacedUnit) (attribute : ℕ) (v : Datum)
+    → HasNone (StringFailures sections us) → slice_get (entries_of us) id ≡ Some e
+    → slice_get (placed us) e.unit ≡ Some p
+    → value_at_entry e attribute ≡ Some v → class_of v ≡ String
+    → IsSome (text_of sections (base_in (entries_of us) p DW_AT_str_offsets_base) v)
 has_text sections us id e p attribute (str_index index) none is is_unit value class =
-    told_text sections (base_in (entries_of us) p DW_AT_str_offsets_base) index (passes_string sections us id e p attribute (str_index index) none is is_unit value BadStrBase)
+    told_text sections (base_in (entries_of us) p DW_AT_str_offsets_base) index
+    (passes_string sections us id e p attribute (str_index index) none is is_unit value BadStrBase)
 has_text sections us id e p attribute _ none is is_unit value class = search rules
 
-has_address : (sections : Sections) (us : List DebugUnit) (id : ℕ) (e : Entry) (p : PlacedUnit) (attribute : ℕ) (v : Datum) → HasNone (StringFailures sections us) → slice_get (entries_of us) id ≡ Some e → slice_get (placed us) e.unit ≡ Some p
-    → value_at_entry e attribute ≡ Some v → class_of v ≡ Address → IsSome (address_of sections p.unit.header (base_in (entries_of us) p DW_AT_addr_base) v)
+has_address : (sections : Sections) (us : List DebugUnit) (id : ℕ) (e : Entry) (p : PlacedUnit) (attribute : ℕ)
+    (v : Datum) → HasNone (StringFailures sections us) → slice_get (entries_of us) id ≡ Some e
+    → slice_get (placed us) e.unit ≡ Some p
+    → value_at_entry e attribute ≡ Some v → class_of v ≡ Address
+    → IsSome (address_of sections p.unit.header (base_in (entries_of us) p DW_AT_addr_base) v)
 has_address sections us id e p attribute (addr_index index) none is is_unit value class =
-    told_address sections p.unit.header (base_in (entries_of us) p DW_AT_addr_base) index (passes_string sections us id e p attribute (addr_index index) none is is_unit value BadAddrBase)
+    told_address sections p.unit.header (base_in (entries_of us) p DW_AT_addr_base) index
+    (passes_string sections us id e p attribute (addr_index index) none is is_unit value BadAddrBase)
 has_address sections us id e p attribute _ none is is_unit value class = search rules
 
-pub have_texts : (sections : Sections) (us : List DebugUnit) → Spells sections.«abbrev».now us sections.info.now → HasNone (StringFailures sections us) → HaveTexts sections us
+pub have_texts : (sections : Sections) (us : List DebugUnit) → Spells sections.«abbrev».now us sections.info.now
+    → HasNone (StringFailures sections us) → HaveTexts sections us
 unfolding text_at
 have_texts sections us spells none id e is attribute v value class =
     let (p, is_p) = unit_of_entry sections.«abbrev».now sections.info.now us id e spells is in
     rw (is_p, value) (has_text sections us id e p attribute v none is is_p value class)
 
-pub have_addresses : (sections : Sections) (us : List DebugUnit) → Spells sections.«abbrev».now us sections.info.now → HasNone (StringFailures sections us) → HaveAddresses sections us
+pub have_addresses : (sections : Sections) (us : List DebugUnit) → Spells sections.«abbrev».now us sections.info.now
+    → HasNone (StringFailures sections us) → HaveAddresses sections us
 unfolding address_at
 have_addresses sections us spells none id e is attribute v value class =
     let (p, is_p) = unit_of_entry sections.«abbrev».now sections.info.now us id e spells is in
@@ -74,7 +87,9 @@ reference_value _ is = search rules
 -- ---- what no failure says
 
 -- no rule fails at the attribute
-pub passes_reference : (us : List DebugUnit) (id : ℕ) (e : Entry) (attribute : ℕ) (v : Datum) → HasNone (ReferenceFailures us) → slice_get (entries_of us) id ≡ Some e → value_at_entry e attribute ≡ Some v → is_reference_value v ≡ true
+pub passes_reference : (us : List DebugUnit) (id : ℕ) (e : Entry) (attribute : ℕ) (v : Datum)
+    → HasNone (ReferenceFailures us) → slice_get (entries_of us) id ≡ Some e → value_at_entry e attribute ≡ Some v
+    → is_reference_value v ≡ true
     → (rule : Rule) → ReferenceFailsBy (entries_of us) (placed us) (entry_head e) attribute v rule → ⊥
 passes_reference us id e attribute v none is value reference rule fails =
     let (position, here) = found_value (values_of e.head) attribute v value in
@@ -87,7 +102,9 @@ passes_reference us id e attribute v none is value reference rule fails =
     }))
 
 -- nor at the header of a type unit
-passes_header : (us : List DebugUnit) (number signature type_offset : ℕ) (p : PlacedUnit) → HasNone (ReferenceFailures us) → slice_get (placed us) number ≡ Some p → type_in p.unit.header.kind ≡ Some (signature, type_offset)
+passes_header : (us : List DebugUnit) (number signature type_offset : ℕ) (p : PlacedUnit)
+    → HasNone (ReferenceFailures us) → slice_get (placed us) number ≡ Some p
+    → type_in p.unit.header.kind ≡ Some (signature, type_offset)
     → (rule : Rule) → TypeUnitFails (entries_of us) (placed us) number p.at signature type_offset rule → ⊥
 passes_header us number signature type_offset p none is kind rule fails =
     none (record { rule = rule; place = at_header p.at; attribute = 0 })
@@ -102,12 +119,17 @@ no_answer : (o : Option ℕ) (k : ℕ) → o ≡ None → o ≡ Some k → ⊥
 no_answer o k none some = let both : ◌≡◌ {A = Option ℕ} None (Some k) = sym none ∙ some in cc
 
 -- the type of a type unit
-type_reached : (us : List DebugUnit) (number signature type_offset : ℕ) (p : PlacedUnit) → OffsetsRise (entries_of us) → HasNone (ReferenceFailures us) → slice_get (placed us) number ≡ Some p → type_in p.unit.header.kind ≡ Some (signature, type_offset)
+type_reached : (us : List DebugUnit) (number signature type_offset : ℕ) (p : PlacedUnit) → OffsetsRise (entries_of us)
+    → HasNone (ReferenceFailures us) → slice_get (placed us) number ≡ Some p
+    → type_in p.unit.header.kind ≡ Some (signature, type_offset)
     → (id : ℕ) × (reach_in_unit (entries_of us) (placed us) number type_offset ≡ Some id)
 type_reached us number signature type_offset p rise none is kind =
-    is_told (reach_in_unit (entries_of us) (placed us) number type_offset) (λ nowhere. passes_header us number signature type_offset p none is kind BadTypeOffset (inr (
+    is_told (reach_in_unit (entries_of us) (placed us) number type_offset)
+    (λ nowhere. passes_header us number signature type_offset p none is kind BadTypeOffset (inr (
       refl,
-      λ has. no_answer (reach_in_unit (entries_of us) (placed us) number type_offset) has.id nowhere (reach_in_unit_is (entries_of us) (placed us) number type_offset has.id rise (record { unit = p; is_unit = is; target = has.is_type })),
+      λ has. no_answer (reach_in_unit (entries_of us) (placed us) number type_offset) has.id nowhere
+          (reach_in_unit_is (entries_of us) (placed us) number type_offset has.id rise
+          (record { unit = p; is_unit = is; target = has.is_type })),
     )))
 
 -- ---- each reference reaches an entry
@@ -116,22 +138,31 @@ type_reached us number signature type_offset p rise none is kind =
 abbrev Reached : List DebugUnit → Entry → Datum → Type 0
 Reached us e v = (id : ℕ) × (reach_of (entries_of us) (placed us) e.unit v ≡ Some id)
 
-by_signature : (us : List DebugUnit) (e : Entry) (signature : ℕ) (o : Option ℕ) → first_signed (placed us) signature ≡ o → OffsetsRise (entries_of us) → HasNone (ReferenceFailures us)
+by_signature : (us : List DebugUnit) (e : Entry) (signature : ℕ) (o : Option ℕ) → first_signed (placed us) signature ≡ o
+    → OffsetsRise (entries_of us) → HasNone (ReferenceFailures us)
     → (((number : ℕ) → HasSignature (placed us) signature number → ⊥) → ⊥) → Reached us e (ref_sig signature)
 by_signature us e signature None is rise none never = search (rules, none_signed)
 by_signature us e signature (Some number) is rise none never =
     let has = (at_first_signed (placed us) signature number is).1 in
-    let (id, reached) = type_reached us number signature has.type_offset has.unit rise none has.is_unit has.signed in
-    (id, rw is (type_of_unit_is (entries_of us) (placed us) number signature has.type_offset has.unit (Some id) has.is_unit has.signed reached))
+    let (id, reached) = type_reached us number signature has.type_offset has.unit rise none has.is_unit has.signed in (
+      id,
+      rw is (type_of_unit_is (entries_of us) (placed us) number signature has.type_offset has.unit (Some id)
+          has.is_unit has.signed reached),
+    )
 
-reached : (us : List DebugUnit) (id : ℕ) (e : Entry) (attribute : ℕ) (v : Datum) → OffsetsRise (entries_of us) → HasNone (ReferenceFailures us) → slice_get (entries_of us) id ≡ Some e → value_at_entry e attribute ≡ Some v → class_of v ≡ Reference
+reached : (us : List DebugUnit) (id : ℕ) (e : Entry) (attribute : ℕ) (v : Datum) → OffsetsRise (entries_of us)
+    → HasNone (ReferenceFailures us) → slice_get (entries_of us) id ≡ Some e → value_at_entry e attribute ≡ Some v
+    → class_of v ≡ Reference
     → Reached us e v
 reached us id e attribute (ref_info offset) rise none is value class =
-    is_told (entry_at (entries_of us) offset) (λ nowhere. passes_reference us id e attribute (ref_info offset) none is value refl NoEntry (refl, nowhere))
+    is_told (entry_at (entries_of us) offset)
+    (λ nowhere. passes_reference us id e attribute (ref_info offset) none is value refl NoEntry (refl, nowhere))
 reached us id e attribute (ref_unit offset) rise none is value class =
-    is_told (reach_in_unit (entries_of us) (placed us) e.unit offset) (λ nowhere. passes_reference us id e attribute (ref_unit offset) none is value refl NoEntry (refl, nowhere))
+    is_told (reach_in_unit (entries_of us) (placed us) e.unit offset)
+    (λ nowhere. passes_reference us id e attribute (ref_unit offset) none is value refl NoEntry (refl, nowhere))
 reached us id e attribute (ref_sig signature) rise none is value class =
-    by_signature us e signature (first_signed (placed us) signature) refl rise none (λ unsigned. passes_reference us id e attribute (ref_sig signature) none is value refl NoSignature unsigned)
+    by_signature us e signature (first_signed (placed us) signature) refl rise none
+    (λ unsigned. passes_reference us id e attribute (ref_sig signature) none is value refl NoSignature unsigned)
 reached us id e attribute _ rise none is value class = absurd cc
 
 pub true_unless : (b : Bool) → (b ≡ false → ⊥) → b ≡ true
@@ -145,7 +176,8 @@ the_next (Some n) reached id here never =
     let two : (id ≡ n → ⊥) → ⊥ = λ other. never (id, here, other) in
     ap Some (grind (arith, two))
 
-pub have_targets : («abbrev» info : List ℕ) (us : List DebugUnit) → Spells «abbrev» us info → HasNone (ReferenceFailures us) → HaveTargets us
+pub have_targets : («abbrev» info : List ℕ) (us : List DebugUnit) → Spells «abbrev» us info
+    → HasNone (ReferenceFailures us) → HaveTargets us
 unfolding target_of
 have_targets «abbrev» info us spells none id e is attribute v value class =
     let rise = entries_rise «abbrev» us spells.are in
@@ -160,18 +192,30 @@ have_targets «abbrev» info us spells none id e is attribute v value class =
       is_target = rw value reaches;
       reaches = reaches;
       form = true_unless (permits_form (entry_head e) attribute v) (λ wrong. passes WrongKind (inl wrong));
-      kind = true_unless (permits (entry_head e) attribute target) (λ wrong. passes WrongKind (inr (record { id = t; reaches = reaches; target = target; is_target = is_target; wrong = wrong })));
-      sibling = λ sibling. the_next e.next (reach_of (entries_of us) (placed us) e.unit v) t reaches (λ other. passes NotNextSibling (sibling, other));
+      kind =
+          true_unless (permits (entry_head e) attribute target)
+          (λ wrong. passes WrongKind (inr
+          (record { id = t; reaches = reaches; target = target; is_target = is_target; wrong = wrong })));
+      sibling =
+          λ sibling. the_next e.next (reach_of (entries_of us) (placed us) e.unit v) t reaches
+          (λ other. passes NotNextSibling (sibling, other));
     }
 
-pub have_types : («abbrev» info : List ℕ) (us : List DebugUnit) → Spells «abbrev» us info → HasNone (ReferenceFailures us) → HaveTypes us
+pub have_types : («abbrev» info : List ℕ) (us : List DebugUnit) → Spells «abbrev» us info
+    → HasNone (ReferenceFailures us) → HaveTypes us
 have_types «abbrev» info us spells none = record {
   distinct = distinct_from (entries_of us) (placed us) (λ f fails. none f (inl fails));
   types = λ number signature type_offset p is kind.
       let rise = entries_rise «abbrev» us spells.are in
       let (id, gives) = type_reached us number signature type_offset p rise none is kind in
-      let found = in_place (entries_of us) (placed us) number type_offset p id is (at_reach_in_unit (entries_of us) (placed us) number type_offset id gives) in
+      let found = in_place (entries_of us) (placed us) number type_offset p id is
+      (at_reach_in_unit (entries_of us) (placed us) number type_offset id gives) in
       typed (entries_of us) number (p.at + type_offset) id found.entry found found.is_entry
-      (true_unless (is_type_tag found.entry.head.decl.tag) (λ other. passes_header us number signature type_offset p none is kind BadTypeOffset
-      (inr (refl, not_typed (entries_of us) number (p.at + type_offset) id found.entry rise found found.is_entry other))));
+      (true_unless (is_type_tag found.entry.head.decl.tag)
+      (λ other. passes_header us number signature type_offset p none is kind BadTypeOffset
+      (inr (
+        refl,
+        not_typed (entries_of us) number (p.at + type_offset) id found.entry rise found found.is_entry
+            other,
+      ))));
 }

@@ -14,7 +14,8 @@ use Rattle.dw_links.specs.Linking.{IsFirstOfGroup}
 use Rattle.dw_links.specs.Strings.{StringFailsIn, StringFailures}
 use Rattle.dw_links.specs.References.{ReferenceFailures}
 
-string_group : (s : Sections) (h : UnitHeader) (b c : Option ℕ) (head : EntryHead) (a : ℕ) (v : Datum) (rule : Rule) → StringFailsIn s h b c head a v rule → group_of rule ≡ 3
+string_group : (s : Sections) (h : UnitHeader) (b c : Option ℕ) (head : EntryHead) (a : ℕ) (v : Datum) (rule : Rule)
+    → StringFailsIn s h b c head a v rule → group_of rule ≡ 3
 string_group s h b c head a (str offset) rule fails = search rules
 string_group s h b c head a _ rule fails = search rules
 
@@ -26,10 +27,22 @@ reference_failures us f fails = search rules
 
 -- ---- the first of its group, by its rule
 
-pub string_first : (s : Sections) (us : List DebugUnit) (broken : Broken) → IsFirstOfGroup s us broken → (group_of broken.rule == 3) ≡ true → IsFirst (StringFailures s us) broken
+pub string_first : (s : Sections) (us : List DebugUnit) (broken : Broken) → IsFirstOfGroup s us broken
+    → (group_of broken.rule == 3) ≡ true → IsFirst (StringFailures s us) broken
 string_first s us broken (inl first) is = first
-string_first s us broken (inr first) is = absurd (omega (arith, eqb-true (group_of broken.rule) 3 is, ap group_of first.named.rule, reference_failures us first.failure first.fails))
+string_first s us broken (inr first) is =
+    absurd (omega (
+      arith,
+      eqb-true (group_of broken.rule) 3 is,
+      ap group_of first.named.rule,
+      reference_failures us
+          first.failure first.fails,
+    ))
 
-pub reference_first : (s : Sections) (us : List DebugUnit) (broken : Broken) → IsFirstOfGroup s us broken → (group_of broken.rule == 3) ≡ false → IsFirst (ReferenceFailures us) broken
-reference_first s us broken (inl first) is = absurd (let both : true ≡ false = sym (eq-eqb (group_of broken.rule) 3 (ap group_of first.named.rule ∙ string_failures s us first.failure first.fails)) ∙ is in cc)
+pub reference_first : (s : Sections) (us : List DebugUnit) (broken : Broken) → IsFirstOfGroup s us broken
+    → (group_of broken.rule == 3) ≡ false → IsFirst (ReferenceFailures us) broken
+reference_first s us broken (inl first) is =
+    absurd (let both : true ≡ false = sym
+    (eq-eqb (group_of broken.rule) 3 (ap group_of first.named.rule ∙ string_failures s us first.failure first.fails))
+    ∙ is in cc)
 reference_first s us broken (inr first) is = first

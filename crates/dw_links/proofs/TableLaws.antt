@@ -28,55 +28,73 @@ use Rattle.dw_links.proofs.ClassLaws.{in_units, unit_there}
 -- ---- what is kept of an entry
 
 -- a target is an entry
-pub target_within : (entries : List Entry) (units : List PlacedUnit) (e : Entry) (attribute t : ℕ) → target_of entries units e attribute ≡ Some t → t < length entries
+pub target_within : (entries : List Entry) (units : List PlacedUnit) (e : Entry) (attribute t : ℕ)
+    → target_of entries units e attribute ≡ Some t → t < length entries
 unfolding target_of
 target_within entries units e attribute t is = search (rules, option_and_then_some, reached_entry, slice_get_within)
 
 -- what was read of a list that is the map of another
-pub mapped : {X Y : Type 0} (f : X → Y) (xs : List X) (items : List Y) (i : ℕ) (x : X) (found : Y) → items ≡ map f xs → slice_get xs i ≡ Some x → found ≡ get_or items i found → found ≡ f x
+pub mapped : {X Y : Type 0} (f : X → Y) (xs : List X) (items : List Y) (i : ℕ) (x : X) (found : Y) → items ≡ map f xs
+    → slice_get xs i ≡ Some x → found ≡ get_or items i found → found ≡ f x
 mapped {X} {Y} f xs items i x found all is read =
-    let kept : slice_get items i ≡ Some (f x) = ap (λ (ys : List Y). slice_get ys i) all ∙ slice_get-map f xs i ∙ ap (option_map f) is in
+    let kept : slice_get items i ≡ Some (f x) = ap (λ (ys : List Y). slice_get ys i) all ∙ slice_get-map f xs i
+    ∙ ap (option_map f) is in
     read ∙ get_or_from_slice_get items i (f x) found kept
 
 -- the target that is kept of an entry's type
-pub kept_target : (entries : Entries) (tables : LinkTables) (id number : ℕ) (found : Option ℕ) → AreTables entries tables → id < length (all_entries entries) → number ≡ id → found ≡ get_or tables.types.items number found
-    → (e : Entry) × (slice_get (all_entries entries) id ≡ Some e) × (found ≡ type_target (all_entries entries) (all_units entries) e)
+pub kept_target : (entries : Entries) (tables : LinkTables) (id number : ℕ) (found : Option ℕ)
+    → AreTables entries tables → id < length (all_entries entries) → number ≡ id
+    → found ≡ get_or tables.types.items number found
+    → (e : Entry) × (slice_get (all_entries entries) id ≡ Some e)
+    × (found ≡ type_target (all_entries entries) (all_units entries) e)
 kept_target entries tables id number found are below same read =
-    let (e, is) = there (all_entries entries) id below in
-    (e, is, mapped (type_target (all_entries entries) (all_units entries)) (all_entries entries) tables.types.items id e found are.types is (read ∙ ap (λ (n : ℕ). get_or tables.types.items n found) same))
+    let (e, is) = there (all_entries entries) id below in (
+      e,
+      is,
+      mapped (type_target (all_entries entries) (all_units entries)) (all_entries entries) tables.types.items id e
+          found are.types is (read ∙ ap (λ (n : ℕ). get_or tables.types.items n found) same),
+    )
 
 -- the base that is kept of a unit
-pub kept_base : (entries : List Entry) (units : List PlacedUnit) (attribute : ℕ) (bases : List (Option ℕ)) (number : ℕ) (p : PlacedUnit) (found : Option ℕ) → bases ≡ bases_in entries units attribute → slice_get units number ≡ Some p → found ≡ option_and_then (λ base. base) (slice_get bases number)
+pub kept_base : (entries : List Entry) (units : List PlacedUnit) (attribute : ℕ) (bases : List (Option ℕ)) (number : ℕ)
+    (p : PlacedUnit) (found : Option ℕ) → bases ≡ bases_in entries units attribute → slice_get units number ≡ Some p
+    → found ≡ option_and_then (λ base. base) (slice_get bases number)
     → found ≡ base_in entries p attribute
 kept_base entries units attribute bases number p found all is read = search (rules, slice_get-map)
 
 -- one item more
-pub map_one_more : {X Y : Type 0} (f : X → Y) (xs : List X) (ys : List Y) (i : ℕ) (x : X) (y : Y) → slice_get xs i ≡ Some x → ys ≡ map f (take i xs) → y ≡ f x → ys ++ y ∷ [] ≡ map f (take (i + 1) xs)
+pub map_one_more : {X Y : Type 0} (f : X → Y) (xs : List X) (ys : List Y) (i : ℕ) (x : X) (y : Y)
+    → slice_get xs i ≡ Some x → ys ≡ map f (take i xs) → y ≡ f x → ys ++ y ∷ [] ≡ map f (take (i + 1) xs)
 map_one_more {X} {Y} f xs ys i x y is before here =
     let below = slice_get_within xs i x is in
     let same : get_or xs i x ≡ x = get_or_from_slice_get xs i x x is in
     rw (map_more f xs i x below, same, before, here) refl
 
 -- all items
-pub map_all : {X Y : Type 0} (f : X → Y) (xs : List X) (ys : List Y) (i : ℕ) → length xs ≤ i → ys ≡ map f (take i xs) → ys ≡ map f xs
+pub map_all : {X Y : Type 0} (f : X → Y) (xs : List X) (ys : List Y) (i : ℕ) → length xs ≤ i → ys ≡ map f (take i xs)
+    → ys ≡ map f xs
 map_all f xs ys i all before = before ∙ ap (map f) (take_all i xs all)
 
 -- ---- what is kept of an entry's unit
 
 -- the unit of an entry
-pub unit_of_entry : («abbrev» info : List ℕ) (us : List DebugUnit) (id : ℕ) (e : Entry) → Spells «abbrev» us info → slice_get (entries_of us) id ≡ Some e → (p : PlacedUnit) × (slice_get (placed us) e.unit ≡ Some p)
-unit_of_entry «abbrev» info us id e spells is = there (placed us) e.unit (omega (arith, in_units «abbrev» info us id e spells is, length-placed_from 0 0 us))
+pub unit_of_entry : («abbrev» info : List ℕ) (us : List DebugUnit) (id : ℕ) (e : Entry) → Spells «abbrev» us info
+    → slice_get (entries_of us) id ≡ Some e → (p : PlacedUnit) × (slice_get (placed us) e.unit ≡ Some p)
+unit_of_entry «abbrev» info us id e spells is =
+    there (placed us) e.unit (omega (arith, in_units «abbrev» info us id e spells is, length-placed_from 0 0 us))
 
 -- an entry and its unit
 pub entry_unit : (entries : Entries) (id : ℕ) → id < length (all_entries entries)
-    → (e : Entry) × (p : PlacedUnit) × (slice_get (all_entries entries) id ≡ Some e) × (slice_get (all_units entries) e.unit ≡ Some p)
+    → (e : Entry) × (p : PlacedUnit) × (slice_get (all_entries entries) id ≡ Some e)
+    × (slice_get (all_units entries) e.unit ≡ Some p)
 entry_unit entries id below =
     let (e, is) = there (all_entries entries) id below in
     let (p, is_p) = unit_of_entry _ _ (units_of entries) id e entries.scanned.1.spells is in
     (e, p, is, is_p)
 
 -- the size of an address in a unit
-pub sized : («abbrev» info : List ℕ) (us : List DebugUnit) (number : ℕ) (p : PlacedUnit) → Spells «abbrev» us info → number < length us → slice_get (placed us) number ≡ Some p → IsSize p.unit.header.address_size
+pub sized : («abbrev» info : List ℕ) (us : List DebugUnit) (number : ℕ) (p : PlacedUnit) → Spells «abbrev» us info
+    → number < length us → slice_get (placed us) number ≡ Some p → IsSize p.unit.header.address_size
 sized «abbrev» info us number p spells below is =
     let (u, is_u) = there us number below in
     let (q, is_q, same) = placed_get 0 0 us number u is_u in
@@ -89,18 +107,22 @@ pub size_above : (size : ℕ) → IsSize size → 0 < size
 size_above size is = elim is [ inl four ↦ omega (arith, four) | inr eight ↦ omega (arith, eight) ]
 
 -- a unit with a number is one of the units
-pub number_within : (us : List DebugUnit) (number : ℕ) (p : PlacedUnit) → slice_get (placed us) number ≡ Some p → number < length us
+pub number_within : (us : List DebugUnit) (number : ℕ) (p : PlacedUnit) → slice_get (placed us) number ≡ Some p
+    → number < length us
 number_within us number p is = omega (arith, slice_get_within (placed us) number p is, length-placed_from 0 0 us)
 
 -- its header is that of the unit
-pub unit_header : (us : List DebugUnit) (number : ℕ) (p : PlacedUnit) → slice_get (placed us) number ≡ Some p → IfSome (slice_get us number) (λ u. p.unit.header ≡ u.header)
+pub unit_header : (us : List DebugUnit) (number : ℕ) (p : PlacedUnit) → slice_get (placed us) number ≡ Some p
+    → IfSome (slice_get us number) (λ u. p.unit.header ≡ u.header)
 unit_header us number p is =
     let (u, is_u) = there us number (number_within us number p is) in
     let (q, is_q, same) = placed_get 0 0 us number u is_u in
-    rw is_u (ap (λ (x : PlacedUnit). x.unit.header) (same_some (slice_get (placed us) number) p q is is_q) ∙ ap (λ (x : DebugUnit). x.header) same)
+    rw is_u (ap (λ (x : PlacedUnit). x.unit.header) (same_some (slice_get (placed us) number) p q is is_q)
+    ∙ ap (λ (x : DebugUnit). x.header) same)
 
 -- a unit's first entry
-pub first_within : (us : List DebugUnit) (number : ℕ) (told : UnitHead) → number < length us → IfSome (slice_get (placed us) number) (λ p. told ≡ unit_head p) → told.first < length (entries_of us)
+pub first_within : (us : List DebugUnit) (number : ℕ) (told : UnitHead) → number < length us
+    → IfSome (slice_get (placed us) number) (λ p. told ≡ unit_head p) → told.first < length (entries_of us)
 first_within us number told below tells =
     let (p, is, same) = unit_there us number told below tells in
     let has = first_entry us number p is in
@@ -112,16 +134,21 @@ not_same : (n m : ℕ) → (n ≡ m → ⊥) → (n == m) ≡ false
 not_same n m other = grind (arith, nat_tests, other)
 
 -- the base that was read
-pub base_read : (us : List DebugUnit) (number attribute : ℕ) (told : UnitHead) (v : Option Value) → number < length us → IfSome (slice_get (placed us) number) (λ p. told ≡ unit_head p) → (version_of told.header.kind ≡ 4 → ⊥)
+pub base_read : (us : List DebugUnit) (number attribute : ℕ) (told : UnitHead) (v : Option Value) → number < length us
+    → IfSome (slice_get (placed us) number) (λ p. told ≡ unit_head p) → (version_of told.header.kind ≡ 4 → ⊥)
     → IfSome (slice_get (entries_of us) told.first) (λ e. option_map view v ≡ value_at_entry e attribute)
-    → (p : PlacedUnit) → slice_get (placed us) number ≡ Some p → option_and_then section_offset_in (option_map view v) ≡ base_in (entries_of us) p attribute
+    → (p : PlacedUnit) → slice_get (placed us) number ≡ Some p
+    → option_and_then section_offset_in (option_map view v) ≡ base_in (entries_of us) p attribute
 base_read us number attribute told v below tells not_4 read p is =
     let (q, is_q, same) = unit_there us number told below tells in
     let one : q ≡ p = same_some (slice_get (placed us) number) q p is_q is in
     let told_is : told ≡ unit_head p = same ∙ ap unit_head one in
     let has = first_entry us number p is in
     let first : told.first ≡ p.first = ap (λ (x : UnitHead). x.first) told_is in
-    let at_first : slice_get (entries_of us) told.first ≡ Some has.entry = ap (slice_get (entries_of us)) first ∙ has.is_entry in
+    let at_first : slice_get (entries_of us) told.first
+    ≡ Some has.entry = ap (slice_get (entries_of us)) first ∙ has.is_entry in
     let value : option_map view v ≡ value_at_entry has.entry attribute = rw at_first at read in
-    let version : version_of p.unit.header.kind ≡ 4 → ⊥ = λ four. not_4 (ap (λ (x : UnitHead). version_of x.header.kind) told_is ∙ four) in
-    ap (option_and_then section_offset_in) value ∙ (rw (not_same (version_of p.unit.header.kind) 4 version, has.is_entry) refl)
+    let version : version_of p.unit.header.kind ≡ 4
+    → ⊥ = λ four. not_4 (ap (λ (x : UnitHead). version_of x.header.kind) told_is ∙ four) in
+    ap (option_and_then section_offset_in) value
+    ∙ (rw (not_same (version_of p.unit.header.kind) 4 version, has.is_entry) refl)

@@ -39,7 +39,8 @@ past true p n q e = absurd cc
 past false p n q e = ltb-false p n q
 
 -- the place of the first such item is the position
-pub position_is : {X : Type 0} (test : X → Bool) (xs : List X) (i : ℕ) → IsFirstAt test xs i → position_from test 0 xs ≡ Some i
+pub position_is : {X : Type 0} (test : X → Bool) (xs : List X) (i : ℕ) → IsFirstAt test xs i
+    → position_from test 0 xs ≡ Some i
 position_is test xs i first =
     let within = slice_get_within xs i first.item first.is_item in
     let is_i : position_or_len test xs ≡ i = position_or_len_is test xs i first.item (omega (arith, within))
@@ -48,32 +49,43 @@ position_is test xs i first =
     sym (position_from-zero test xs) ∙ rw (is_i, lt-ltb i (length xs) within) refl
 
 -- at the position is such an item
-pub place_is : {X : Type 0} (test : X → Bool) (xs : List X) (k : ℕ) → position_from test 0 xs ≡ Some k → IsFirstAt test xs k
+pub place_is : {X : Type 0} (test : X → Bool) (xs : List X) (k : ℕ) → position_from test 0 xs ≡ Some k
+    → IsFirstAt test xs k
 place_is test xs k is =
-    let (same, within) = below (ltb (position_or_len test xs) (length xs)) (position_or_len test xs) (length xs) k refl (position_from-zero test xs ∙ is) in
+    let (same, within) = below (ltb (position_or_len test xs) (length xs)) (position_or_len test xs) (length xs) k refl
+    (position_from-zero test xs ∙ is) in
     let (x, is_x) = there xs k (omega (arith, same, within)) in
     record {
       item = x;
       is_item = is_x;
-      passes = ap test (sym (get_or_from_slice_get xs k x x is_x) ∙ ap (λ (n : ℕ). get_or xs n x) (sym same)) ∙ passes_at_first test xs x within;
-      before = λ j y lt at. ap test (sym (get_or_from_slice_get xs j y y at)) ∙ fails_before_first test xs j y (omega (arith, lt, same));
+      passes =
+          ap test (sym (get_or_from_slice_get xs k x x is_x) ∙ ap (λ (n : ℕ). get_or xs n x) (sym same))
+          ∙ passes_at_first test xs x within;
+      before =
+          λ j y lt at. ap test (sym (get_or_from_slice_get xs j y y at))
+          ∙ fails_before_first test xs j y (omega (arith, lt, same));
     }
 
 -- where there is no position, no item passes
-pub none_passes : {X : Type 0} (test : X → Bool) (xs : List X) → position_from test 0 xs ≡ None → (j : ℕ) (y : X) → slice_get xs j ≡ Some y → test y ≡ false
+pub none_passes : {X : Type 0} (test : X → Bool) (xs : List X) → position_from test 0 xs ≡ None → (j : ℕ) (y : X)
+    → slice_get xs j ≡ Some y → test y ≡ false
 none_passes test xs none j y at =
-    let all = past (ltb (position_or_len test xs) (length xs)) (position_or_len test xs) (length xs) refl (position_from-zero test xs ∙ none) in
-    ap test (sym (get_or_from_slice_get xs j y y at)) ∙ fails_before_first test xs j y (omega (arith, all, slice_get_within xs j y at))
+    let all = past (ltb (position_or_len test xs) (length xs)) (position_or_len test xs) (length xs) refl
+    (position_from-zero test xs ∙ none) in
+    ap test (sym (get_or_from_slice_get xs j y y at))
+    ∙ fails_before_first test xs j y (omega (arith, all, slice_get_within xs j y at))
 
 -- an answer that is exact both ways is the one that a function gives
-pub answer_is : (Is : ℕ → Type 0) (given answer : Option ℕ) → ((i : ℕ) → given ≡ Some i → Is i) → ((i : ℕ) → Is i → given ≡ Some i) → IfSome answer Is → IfNone answer ((i : ℕ) → Is i → ⊥) → answer ≡ given
+pub answer_is : (Is : ℕ → Type 0) (given answer : Option ℕ) → ((i : ℕ) → given ≡ Some i → Is i)
+    → ((i : ℕ) → Is i → given ≡ Some i) → IfSome answer Is → IfNone answer ((i : ℕ) → Is i → ⊥) → answer ≡ given
 answer_is Is given (Some i) back over some none = sym (over i some)
 answer_is Is None None back over some none = refl
 answer_is Is (Some k) None back over some none = absurd (none k (back k refl))
 
 -- ---- entries by their offsets
 
-pub entry_at_is : (entries : List Entry) (offset id : ℕ) → OffsetsRise entries → IsEntryAt entries offset id → entry_at entries offset ≡ Some id
+pub entry_at_is : (entries : List Entry) (offset id : ℕ) → OffsetsRise entries → IsEntryAt entries offset id
+    → entry_at entries offset ≡ Some id
 unfolding entry_at
 entry_at_is entries offset id rise found =
     let begins = found.begins in
@@ -82,10 +94,13 @@ entry_at_is entries offset id rise found =
       item = found.entry;
       is_item = found.is_entry;
       passes = eq-eqb found.entry.at offset begins;
-      before = λ j d lt at. ne_eqb d.at offset (λ same. omega (arith, rise j id d found.entry lt at found.is_entry, same, begins));
+      before =
+          λ j d lt at. ne_eqb d.at offset
+          (λ same. omega (arith, rise j id d found.entry lt at found.is_entry, same, begins));
     })
 
-pub at_entry_at : (entries : List Entry) (offset id : ℕ) → entry_at entries offset ≡ Some id → IsEntryAt entries offset id
+pub at_entry_at : (entries : List Entry) (offset id : ℕ) → entry_at entries offset ≡ Some id
+    → IsEntryAt entries offset id
 unfolding entry_at
 at_entry_at entries offset id is =
     let first = place_is (λ (e : Entry). e.at == offset) entries id is in
@@ -95,7 +110,8 @@ each_true : (a b : Bool) → (a && b) ≡ true → (a ≡ true) × (b ≡ true)
 each_true true b is = (refl, is)
 each_true false b is = absurd cc
 
-pub entry_in_is : (entries : List Entry) (unit offset id : ℕ) → OffsetsRise entries → IsEntryIn entries unit offset id → entry_in entries unit offset ≡ Some id
+pub entry_in_is : (entries : List Entry) (unit offset id : ℕ) → OffsetsRise entries → IsEntryIn entries unit offset id
+    → entry_in entries unit offset ≡ Some id
 unfolding entry_in
 entry_in_is entries unit offset id rise found =
     let begins = found.begins in
@@ -104,75 +120,109 @@ entry_in_is entries unit offset id rise found =
       item = found.entry;
       is_item = found.is_entry;
       passes = rw (eq-eqb found.entry.unit unit found.in_unit, eq-eqb found.entry.at offset begins) refl;
-      before = λ j d lt at. rw (ne_eqb d.at offset (λ same. omega (arith, rise j id d found.entry lt at found.is_entry, same, begins))) (and-false (d.unit == unit));
+      before =
+          λ j d lt at. rw (ne_eqb d.at offset
+          (λ same. omega (arith, rise j id d found.entry lt at found.is_entry, same, begins)))
+          (and-false (d.unit == unit));
     })
 
-pub at_entry_in : (entries : List Entry) (unit offset id : ℕ) → entry_in entries unit offset ≡ Some id → IsEntryIn entries unit offset id
+pub at_entry_in : (entries : List Entry) (unit offset id : ℕ) → entry_in entries unit offset ≡ Some id
+    → IsEntryIn entries unit offset id
 unfolding entry_in
 at_entry_in entries unit offset id is =
     let first = place_is (λ (e : Entry). e.unit == unit && e.at == offset) entries id is in
     let both = each_true (first.item.unit == unit) (first.item.at == offset) first.passes in
-    record { entry = first.item; is_entry = first.is_item; begins = eqb-true first.item.at offset both.1; in_unit = eqb-true first.item.unit unit both.0 }
+    record {
+      entry = first.item;
+      is_entry = first.is_item;
+      begins = eqb-true first.item.at offset both.1;
+      in_unit = eqb-true first.item.unit unit both.0;
+    }
 
 -- what a search by offset answers
-entry_at_answer : (entries : List Entry) (offset : ℕ) (answer : Option ℕ) → OffsetsRise entries → IfSome answer (IsEntryAt entries offset) → IfNone answer ((id : ℕ) → IsEntryAt entries offset id → ⊥) → answer ≡ entry_at entries offset
-entry_at_answer entries offset answer rise = answer_is (IsEntryAt entries offset) (entry_at entries offset) answer (at_entry_at entries offset) (λ id. entry_at_is entries offset id rise)
+entry_at_answer : (entries : List Entry) (offset : ℕ) (answer : Option ℕ) → OffsetsRise entries
+    → IfSome answer (IsEntryAt entries offset) → IfNone answer ((id : ℕ) → IsEntryAt entries offset id → ⊥)
+    → answer ≡ entry_at entries offset
+entry_at_answer entries offset answer rise =
+    answer_is (IsEntryAt entries offset) (entry_at entries offset) answer (at_entry_at entries offset)
+    (λ id. entry_at_is entries offset id rise)
 
-pub entry_found : (entries : List Entry) (offset : ℕ) (answer : Option ℕ) → OffsetsRise entries → IfSome answer (λ id. IfSome (slice_get entries id) (λ e. e.at ≡ offset)) → IfSome answer (λ id. id < length entries)
+pub entry_found : (entries : List Entry) (offset : ℕ) (answer : Option ℕ) → OffsetsRise entries
+    → IfSome answer (λ id. IfSome (slice_get entries id) (λ e. e.at ≡ offset))
+    → IfSome answer (λ id. id < length entries)
     → IfNone answer (All (λ e. e.at ≢ offset) entries) → answer ≡ entry_at entries offset
-entry_found entries offset None rise found within none = entry_at_answer entries offset None rise tt (no_entry entries offset none)
-entry_found entries offset (Some id) rise found within none = entry_at_answer entries offset (Some id) rise (found_entry entries offset id found within) tt
+entry_found entries offset None rise found within none =
+    entry_at_answer entries offset None rise tt (no_entry entries offset none)
+entry_found entries offset (Some id) rise found within none =
+    entry_at_answer entries offset (Some id) rise (found_entry entries offset id found within) tt
 
 -- ---- entries by their offsets from a header
 
-pub reach_in_unit_is : (entries : List Entry) (units : List PlacedUnit) (unit offset id : ℕ) → OffsetsRise entries → ReachesInUnit entries units unit offset id → reach_in_unit entries units unit offset ≡ Some id
-reach_in_unit_is entries units unit offset id rise reached = rw reached.is_unit (entry_in_is entries unit (reached.unit.at + offset) id rise reached.target)
+pub reach_in_unit_is : (entries : List Entry) (units : List PlacedUnit) (unit offset id : ℕ) → OffsetsRise entries
+    → ReachesInUnit entries units unit offset id → reach_in_unit entries units unit offset ≡ Some id
+reach_in_unit_is entries units unit offset id rise reached =
+    rw reached.is_unit (entry_in_is entries unit (reached.unit.at + offset) id rise reached.target)
 
-pub at_reach_in_unit : (entries : List Entry) (units : List PlacedUnit) (unit offset id : ℕ) → reach_in_unit entries units unit offset ≡ Some id → ReachesInUnit entries units unit offset id
+pub at_reach_in_unit : (entries : List Entry) (units : List PlacedUnit) (unit offset id : ℕ)
+    → reach_in_unit entries units unit offset ≡ Some id → ReachesInUnit entries units unit offset id
 at_reach_in_unit entries units unit offset id is = search (rules, option_and_then_some, at_entry_in)
 
-pub reach_in_unit_answer : (entries : List Entry) (units : List PlacedUnit) (unit offset : ℕ) (answer : Option ℕ) → OffsetsRise entries → IfSome answer (ReachesInUnit entries units unit offset)
-    → IfNone answer ((id : ℕ) → ReachesInUnit entries units unit offset id → ⊥) → answer ≡ reach_in_unit entries units unit offset
+pub reach_in_unit_answer : (entries : List Entry) (units : List PlacedUnit) (unit offset : ℕ) (answer : Option ℕ)
+    → OffsetsRise entries → IfSome answer (ReachesInUnit entries units unit offset)
+    → IfNone answer ((id : ℕ) → ReachesInUnit entries units unit offset id → ⊥)
+    → answer ≡ reach_in_unit entries units unit offset
 reach_in_unit_answer entries units unit offset answer rise =
     search (rules, answer_is, at_reach_in_unit, reach_in_unit_is)
 
 -- ---- type units by their signatures
 
-is_signed : (signature type_offset : ℕ) (o : Option (ℕ × ℕ)) → o ≡ Some (signature, type_offset) → is_signature_of signature o ≡ true
+is_signed : (signature type_offset : ℕ) (o : Option (ℕ × ℕ)) → o ≡ Some (signature, type_offset)
+    → is_signature_of signature o ≡ true
 is_signed signature type_offset o is = rw is (eq-eqb signature signature refl)
 
-signed_with : (signature : ℕ) (o : Option (ℕ × ℕ)) → is_signature_of signature o ≡ true → (type_offset : ℕ) × (o ≡ Some (signature, type_offset))
+signed_with : (signature : ℕ) (o : Option (ℕ × ℕ)) → is_signature_of signature o ≡ true
+    → (type_offset : ℕ) × (o ≡ Some (signature, type_offset))
 signed_with signature None is = absurd cc
-signed_with signature (Some (other, type_offset)) is = let same : other ≡ signature = eqb-true other signature is in (type_offset, rw same refl)
+signed_with signature (Some (other, type_offset)) is =
+    let same : other ≡ signature = eqb-true other signature is in (type_offset, rw same refl)
 
 abbrev signs : ℕ → PlacedUnit → Bool
 signs signature u = is_signature_of signature (type_in u.unit.header.kind)
 
-signature_here : (units : List PlacedUnit) (signature number : ℕ) (u : PlacedUnit) → slice_get units number ≡ Some u → signs signature u ≡ true → HasSignature units signature number
+signature_here : (units : List PlacedUnit) (signature number : ℕ) (u : PlacedUnit) → slice_get units number ≡ Some u
+    → signs signature u ≡ true → HasSignature units signature number
 signature_here units signature number u is passes = search (rules, signed_with)
 
 -- the first unit that is found has the signature, and none before it
-pub at_first_signed : (units : List PlacedUnit) (signature number : ℕ) → first_signed units signature ≡ Some number → IsFirstSigned units signature (length units) (Some number)
+pub at_first_signed : (units : List PlacedUnit) (signature number : ℕ) → first_signed units signature ≡ Some number
+    → IsFirstSigned units signature (length units) (Some number)
 unfolding first_signed
 at_first_signed units signature number is =
-    let first = place_is (signs signature) units number is in
-    (slice_get_within units number first.item first.is_item, signature_here units signature number first.item first.is_item first.passes, λ j less has. none_before j first less has)
+    let first = place_is (signs signature) units number is in (
+      slice_get_within units number first.item first.is_item,
+      signature_here units signature number first.item
+          first.is_item first.passes,
+      λ j less has. none_before j first less has,
+    )
   where
     none_before : (j : ℕ) → IsFirstAt (signs signature) units number → j < number → HasSignature units signature j → ⊥
     none_before j first less has =
-        let both : true ≡ false = sym (is_signed signature has.type_offset (type_in has.unit.unit.header.kind) has.signed) ∙ first.before j has.unit less has.is_unit in cc
+        let both : true ≡ false = sym (is_signed signature has.type_offset (type_in has.unit.unit.header.kind)
+        has.signed) ∙ first.before j has.unit less has.is_unit in cc
 
 false_unless : (b : Bool) → (b ≡ true → ⊥) → b ≡ false
 false_unless true never = absurd (never refl)
 false_unless false never = refl
 
-pub first_signed_is : (units : List PlacedUnit) (signature below number : ℕ) → IsFirstSigned units signature below (Some number) → first_signed units signature ≡ Some number
+pub first_signed_is : (units : List PlacedUnit) (signature below number : ℕ)
+    → IsFirstSigned units signature below (Some number) → first_signed units signature ≡ Some number
 unfolding first_signed
 first_signed_is units signature below number (within, has, none) =
     search (rules, position_is, is_signed, false_unless, signature_here)
 
 -- the first unit of those that have a signature, of all units
-first_signed_answer : (units : List PlacedUnit) (signature below : ℕ) (answer : Option ℕ) → below ≡ length units → IsFirstSigned units signature below answer → answer ≡ first_signed units signature
+first_signed_answer : (units : List PlacedUnit) (signature below : ℕ) (answer : Option ℕ) → below ≡ length units
+    → IsFirstSigned units signature below answer → answer ≡ first_signed units signature
 first_signed_answer units signature below (Some number) all is = sym (first_signed_is units signature below number is)
 first_signed_answer units signature below None all none = go (first_signed units signature) refl
   where
@@ -183,32 +233,46 @@ first_signed_answer units signature below None all none = go (first_signed units
         absurd (none number (omega (arith, found.0, all)) found.1)
 
 -- where none is found, none has the signature
-pub none_signed : (units : List PlacedUnit) (signature : ℕ) → first_signed units signature ≡ None → (number : ℕ) → HasSignature units signature number → ⊥
+pub none_signed : (units : List PlacedUnit) (signature : ℕ) → first_signed units signature ≡ None → (number : ℕ)
+    → HasSignature units signature number → ⊥
 unfolding first_signed
 none_signed units signature none number has = search (rules, is_signed, none_passes)
 
 -- ---- types by signatures
 
-pub type_of_unit_is : (entries : List Entry) (units : List PlacedUnit) (unit signature type_offset : ℕ) (u : PlacedUnit) (target : Option ℕ) → slice_get units unit ≡ Some u → type_in u.unit.header.kind ≡ Some (signature, type_offset)
+pub type_of_unit_is : (entries : List Entry) (units : List PlacedUnit) (unit signature type_offset : ℕ) (u : PlacedUnit)
+    (target : Option ℕ) → slice_get units unit ≡ Some u → type_in u.unit.header.kind ≡ Some (signature, type_offset)
     → reach_in_unit entries units unit type_offset ≡ target → type_of_unit entries units unit ≡ target
 type_of_unit_is entries units unit signature type_offset u target is kind reached = search (rules)
 
 -- at the type offset of the first type unit that has the signature
-pub at_type : (entries : List Entry) (units : List PlacedUnit) (signature id : ℕ) → option_and_then (type_of_unit entries units) (first_signed units signature) ≡ Some id → ReachesBySignature entries units signature id
+pub at_type : (entries : List Entry) (units : List PlacedUnit) (signature id : ℕ)
+    → option_and_then (type_of_unit entries units) (first_signed units signature) ≡ Some id
+    → ReachesBySignature entries units signature id
 at_type entries units signature id is =
     option_and_then_some (type_of_unit entries units) (first_signed units signature) id is
     (λ number found typed.
     let has = (at_first_signed units signature number found).1 in
-    let reached = at_reach_in_unit entries units number has.type_offset id (sym (type_of_unit_is entries units number signature has.type_offset has.unit (reach_in_unit entries units number has.type_offset) has.is_unit has.signed refl) ∙ typed) in
-    let same = ap (λ (x : PlacedUnit). x.at) (same_some (slice_get units number) reached.unit has.unit reached.is_unit has.is_unit) in
+    let reached = at_reach_in_unit entries units number has.type_offset id
+    (sym (type_of_unit_is entries units number signature has.type_offset has.unit
+    (reach_in_unit entries units number has.type_offset) has.is_unit has.signed refl) ∙ typed) in
+    let same = ap (λ (x : PlacedUnit). x.at)
+    (same_some (slice_get units number) reached.unit has.unit reached.is_unit has.is_unit) in
     let begins = reached.target.begins in
     record {
       number = number;
       has = has;
-      target = record { entry = reached.target.entry; is_entry = reached.target.is_entry; begins = omega (arith, begins, same); in_unit = reached.target.in_unit };
+      target =
+          record {
+            entry = reached.target.entry;
+            is_entry = reached.target.is_entry;
+            begins = omega (arith, begins, same);
+            in_unit = reached.target.in_unit;
+          };
     })
 
-pub type_is : (entries : List Entry) (units : List PlacedUnit) (signature id : ℕ) → OffsetsRise entries → AreDistinct units → ReachesBySignature entries units signature id
+pub type_is : (entries : List Entry) (units : List PlacedUnit) (signature id : ℕ) → OffsetsRise entries
+    → AreDistinct units → ReachesBySignature entries units signature id
     → option_and_then (type_of_unit entries units) (first_signed units signature) ≡ Some id
 type_is entries units signature id rise distinct reached =
     let first : IsFirstSigned units signature (length units) (Some reached.number) = (
@@ -217,30 +281,44 @@ type_is entries units signature id rise distinct reached =
       λ j less has. let same = distinct signature j reached.number has reached.has in omega (arith, same, less),
     ) in
     rw (first_signed_is units signature (length units) reached.number first)
-    (type_of_unit_is entries units reached.number signature reached.has.type_offset reached.has.unit (Some id) reached.has.is_unit reached.has.signed
-    (reach_in_unit_is entries units reached.number reached.has.type_offset id rise (record { unit = reached.has.unit; is_unit = reached.has.is_unit; target = reached.target })))
+    (type_of_unit_is entries units reached.number signature reached.has.type_offset reached.has.unit (Some id)
+    reached.has.is_unit reached.has.signed
+    (reach_in_unit_is entries units reached.number reached.has.type_offset id rise
+    (record { unit = reached.has.unit; is_unit = reached.has.is_unit; target = reached.target })))
 
 -- what is read of all units is the type of a signature
-pub signed_type_is : (entries : List Entry) (units : List PlacedUnit) (signature : ℕ) (o : Option ℕ) → IsSignedType entries units signature (length units) o → o ≡ signed_type entries units signature
-signed_type_is entries units signature None none = ap (option_and_then (type_of_unit entries units)) (first_signed_answer units signature (length units) None refl none)
+pub signed_type_is : (entries : List Entry) (units : List PlacedUnit) (signature : ℕ) (o : Option ℕ)
+    → IsSignedType entries units signature (length units) o → o ≡ signed_type entries units signature
+signed_type_is entries units signature None none =
+    ap (option_and_then (type_of_unit entries units))
+    (first_signed_answer units signature (length units) None refl none)
 signed_type_is entries units signature (Some id) found =
     sym (rw (first_signed_is units signature (length units) found.0 found.1) found.2)
 
 -- each signature has a type
-pub signed_some : (entries : List Entry) (units : List PlacedUnit) (signature number : ℕ) (o : Option ℕ) → IsSignedType entries units signature (length units) o → HasSignature units signature number → IsSome (signed_type entries units signature)
-signed_some entries units signature number None none has = absurd (none number (slice_get_within units number has.unit has.is_unit) has)
-signed_some entries units signature number (Some id) found has = subst (λ (o : Option ℕ). IsSome o) (signed_type_is entries units signature (Some id) found) refl
+pub signed_some : (entries : List Entry) (units : List PlacedUnit) (signature number : ℕ) (o : Option ℕ)
+    → IsSignedType entries units signature (length units) o → HasSignature units signature number
+    → IsSome (signed_type entries units signature)
+signed_some entries units signature number None none has =
+    absurd (none number (slice_get_within units number has.unit has.is_unit) has)
+signed_some entries units signature number (Some id) found has =
+    subst (λ (o : Option ℕ). IsSome o) (signed_type_is entries units signature (Some id) found) refl
 
 -- ---- what a value reaches
 
 -- what is reached is an entry
-pub reached_entry : (entries : List Entry) (units : List PlacedUnit) (unit : ℕ) (v : Datum) (id : ℕ) → reach_of entries units unit v ≡ Some id → (e : Entry) × (slice_get entries id ≡ Some e)
-reached_entry entries units unit (ref_info offset) id is = let found = at_entry_at entries offset id is in (found.entry, found.is_entry)
-reached_entry entries units unit (ref_unit offset) id is = let found = at_reach_in_unit entries units unit offset id is in (found.target.entry, found.target.is_entry)
-reached_entry entries units unit (ref_sig signature) id is = let found = at_type entries units signature id is in (found.target.entry, found.target.is_entry)
+pub reached_entry : (entries : List Entry) (units : List PlacedUnit) (unit : ℕ) (v : Datum) (id : ℕ)
+    → reach_of entries units unit v ≡ Some id → (e : Entry) × (slice_get entries id ≡ Some e)
+reached_entry entries units unit (ref_info offset) id is =
+    let found = at_entry_at entries offset id is in (found.entry, found.is_entry)
+reached_entry entries units unit (ref_unit offset) id is =
+    let found = at_reach_in_unit entries units unit offset id is in (found.target.entry, found.target.is_entry)
+reached_entry entries units unit (ref_sig signature) id is =
+    let found = at_type entries units signature id is in (found.target.entry, found.target.is_entry)
 reached_entry entries units unit _ id is = absurd cc
 
 -- its number is below their count
-pub reach_within : (entries : List Entry) (units : List PlacedUnit) (unit : ℕ) (v : Datum) (answer : Option ℕ) → answer ≡ reach_of entries units unit v → IfSome answer (λ t. t < length entries)
+pub reach_within : (entries : List Entry) (units : List PlacedUnit) (unit : ℕ) (v : Datum) (answer : Option ℕ)
+    → answer ≡ reach_of entries units unit v → IfSome answer (λ t. t < length entries)
 reach_within entries units unit v None is = tt
 reach_within entries units unit v (Some t) is = search (rules, reached_entry, slice_get_within)

@@ -10,10 +10,12 @@ use Rattle.dw_entries.specs.Lookups.{IsTextAt}
 use Rattle.dw_links.specs.Contributions.{string_at}
 
 -- what is before a first zero byte
-pub take_before_first : (xs : List ℕ) (k : ℕ) → NoneBefore (Passes (is_byte 0) xs) 0 (length xs) k → Passes (is_byte 0) xs k → take k xs ≡ before_first (λ b. b == 0) xs
+pub take_before_first : (xs : List ℕ) (k : ℕ) → NoneBefore (Passes (is_byte 0) xs) 0 (length xs) k
+    → Passes (is_byte 0) xs k → take k xs ≡ before_first (λ b. b == 0) xs
 take_before_first xs k none here = search (rules, position_or_len_is, cases_Bool)
 
-pub whole_before_first : (xs : List ℕ) → Nowhere (Passes (is_byte 0) xs) 0 (length xs) → xs ≡ before_first (λ b. b == 0) xs
+pub whole_before_first : (xs : List ℕ) → Nowhere (Passes (is_byte 0) xs) 0 (length xs)
+    → xs ≡ before_first (λ b. b == 0) xs
 whole_before_first xs none =
     let is_k : position_or_len (λ b. b == 0) xs ≡ length xs =
     position_or_len_is (λ b. b == 0) xs (length xs) 0 (omega arith)

@@ -23,11 +23,14 @@ pub record StartsAt (us : List DebugUnit) (unit number : ℕ) : Type 0 where
   pub begins : (p : PlacedUnit) → slice_get (placed us) unit ≡ Some p → number ≡ p.first
   pub ends : length us ≤ unit → length (entries_of us) ≤ number
 
-pub unit_there : (us : List DebugUnit) (unit : ℕ) → unit < length us → (p : PlacedUnit) × (slice_get (placed us) unit ≡ Some p)
+pub unit_there : (us : List DebugUnit) (unit : ℕ) → unit < length us
+    → (p : PlacedUnit) × (slice_get (placed us) unit ≡ Some p)
 unit_there us unit below = there (placed us) unit (omega (arith, below, length-placed_from 0 0 us))
 
 -- a unit ends with one of the entries
-ends_from : (unit id at : ℕ) (us : List DebugUnit) (n : ℕ) (p : PlacedUnit) → slice_get (placed_from at id us) n ≡ Some p → p.first + node_count p.unit.root ≤ id + length (entries_from unit id at us)
+ends_from : (unit id at : ℕ) (us : List DebugUnit) (n : ℕ) (p : PlacedUnit)
+    → slice_get (placed_from at id us) n ≡ Some p
+    → p.first + node_count p.unit.root ≤ id + length (entries_from unit id at us)
 ends_from unit id at [] n p is = absurd cc
 ends_from unit id at (u ∷ us) zero p is =
     let es : List Entry = node_entries unit None 0 None id (at + header_size u.header.kind) u.root in
@@ -46,7 +49,8 @@ ends_from unit id at (u ∷ us) (suc n) p is =
     let more = ends_from (suc unit) (id + node_count u.root) (at + length (unit_bytes u)) us n p is in
     omega (arith, count, len, more)
 
-pub ends_within : (us : List DebugUnit) (unit : ℕ) (p : PlacedUnit) → slice_get (placed us) unit ≡ Some p → p.first + node_count p.unit.root ≤ length (entries_of us)
+pub ends_within : (us : List DebugUnit) (unit : ℕ) (p : PlacedUnit) → slice_get (placed us) unit ≡ Some p
+    → p.first + node_count p.unit.root ≤ length (entries_of us)
 ends_within us unit p is = let all = ends_from 0 0 0 us unit p is in omega (arith, all)
 
 pub starts_first : (us : List DebugUnit) → StartsAt us 0 0
@@ -63,13 +67,15 @@ starts_first us = record { begins = λ p is. first us p is; ends = λ none. no_e
         let same : ◌≡◌ {A = PlacedUnit} (record { at = 0; first = 0; unit = u }) p = cc in
         ap (λ (q : PlacedUnit). q.first) same
 
-pub starts_next : (us : List DebugUnit) (unit number : ℕ) (p : PlacedUnit) → slice_get (placed us) unit ≡ Some p → number ≡ p.first + node_count p.unit.root → StartsAt us (unit + 1) number
+pub starts_next : (us : List DebugUnit) (unit number : ℕ) (p : PlacedUnit) → slice_get (placed us) unit ≡ Some p
+    → number ≡ p.first + node_count p.unit.root → StartsAt us (unit + 1) number
 starts_next us unit number p is after =
     let next : unit + 1 ≡ suc unit = omega arith in
     let within = slice_get_within (placed us) unit p is in
     record {
       begins = λ q is_q. after ∙ sym (next_first us unit p q is (ap (slice_get (placed us)) (sym next) ∙ is_q));
-      ends = λ past. omega (arith, after, last_ends us unit p is (omega (arith, past, within, length-placed_from 0 0 us)));
+      ends =
+          λ past. omega (arith, after, last_ends us unit p is (omega (arith, past, within, length-placed_from 0 0 us)));
     }
 
 -- no rule fails at the entries before this one, and these are the targets of their types
@@ -77,20 +83,34 @@ pub record LinkedBelow (entries : Entries) (types : List (Option ℕ)) (number :
   pub strings : NoneBelow entries (FailsByText entries) number
   pub references : NoneBelow entries (FailsByTarget entries) number
   pub long : length types ≡ length (all_entries entries)
-  pub types_are : take number types ≡ map (type_target (all_entries entries) (all_units entries)) (take number (all_entries entries))
+  pub types_are : take number types
+      ≡ map (type_target (all_entries entries) (all_units entries)) (take number (all_entries entries))
 
 -- of the units before this one, these are the bases
 pub record BasesBelow (entries : Entries) (str_bases addr_bases : List (Option ℕ)) (number : ℕ) : Type 0 where
-  pub str : str_bases ≡ map (λ unit. base_in (all_entries entries) unit DW_AT_str_offsets_base) (take number (all_units entries))
-  pub addr : addr_bases ≡ map (λ unit. base_in (all_entries entries) unit DW_AT_addr_base) (take number (all_units entries))
+  pub str : str_bases ≡ map (λ unit. base_in (all_entries entries) unit DW_AT_str_offsets_base)
+      (take number (all_units entries))
+  pub addr : addr_bases ≡ map (λ unit. base_in (all_entries entries) unit DW_AT_addr_base)
+      (take number (all_units entries))
 
-pub none_below : (entries : Entries) (types : List (Option ℕ)) → length types ≡ length (all_entries entries) → LinkedBelow entries types 0
-none_below entries types long = record { strings = λ j below. absurd (omega (arith, below)); references = λ j below. absurd (omega (arith, below)); long = long; types_are = refl }
+pub none_below : (entries : Entries) (types : List (Option ℕ)) → length types ≡ length (all_entries entries)
+    → LinkedBelow entries types 0
+none_below entries types long =
+    record {
+      strings = λ j below. absurd (omega (arith, below));
+      references = λ j below. absurd (omega (arith, below));
+      long = long;
+      types_are = refl;
+    }
 
 -- the target of one type more
-pub types_more : (entries : Entries) (types : List (Option ℕ)) (number : ℕ) (e : Entry) (target : Option ℕ) → slice_get (all_entries entries) number ≡ Some e → length types ≡ length (all_entries entries)
-    → take number types ≡ map (type_target (all_entries entries) (all_units entries)) (take number (all_entries entries)) → target ≡ type_target (all_entries entries) (all_units entries) e
-    → take (number + 1) (set types number target) ≡ map (type_target (all_entries entries) (all_units entries)) (take (number + 1) (all_entries entries))
+pub types_more : (entries : Entries) (types : List (Option ℕ)) (number : ℕ) (e : Entry) (target : Option ℕ)
+    → slice_get (all_entries entries) number ≡ Some e → length types ≡ length (all_entries entries)
+    → take number types ≡ map (type_target (all_entries entries) (all_units entries))
+    (take number (all_entries entries)) → target ≡ type_target (all_entries entries) (all_units entries) e
+    → take (number + 1) (set types number target)
+    ≡ map (type_target (all_entries entries) (all_units entries)) (take (number + 1) (all_entries entries))
 types_more entries types number e target is long before here =
     take_more_set types number target (omega (arith, long, slice_get_within (all_entries entries) number e is))
-    ∙ map_one_more (type_target (all_entries entries) (all_units entries)) (all_entries entries) (take number types) number e target is before here
+    ∙ map_one_more (type_target (all_entries entries) (all_units entries)) (all_entries entries) (take number types)
+    number e target is before here

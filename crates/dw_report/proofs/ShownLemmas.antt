@@ -57,8 +57,10 @@ pub entry_line_told : (i : Image) (number : ℕ) (found : Option Entry) (offset 
     → mid ≡ old ++ entry_part offset depth tag → new ≡ mid ++ line (name_part name ++ size_part size)
     → IfSome found (λ e. new ≡ old ++ entry_line i (number, e))
 unfolding entry_line
-entry_line_told i number None offset depth tag name size old mid new is_at is_deep is_tag is_name is_size first last = tt
-entry_line_told i number (Some e) offset depth tag name size old mid new is_at is_deep is_tag is_name is_size first last =
+entry_line_told i number None offset depth tag name size old mid new is_at is_deep is_tag is_name is_size first last =
+    tt
+entry_line_told i number (Some e) offset depth tag name size old mid new is_at is_deep is_tag is_name is_size first last
+    =
     line_in_parts offset depth tag name size old mid new first last
     ∙ ap (λ u. old ++ shown_line u depth tag name size) is_at
     ∙ ap (λ u. old ++ shown_line e.at u tag name size) is_deep
@@ -73,7 +75,8 @@ more_lines f [] n k e there = absurd cc
 more_lines f (x ∷ es) n zero e there = search (rules, append-nil)
 more_lines f (x ∷ es) n (suc k) e there =
     let at : n + 1 + k ≡ n + suc k = omega arith in
-    ap (λ l. f (n, x) ++ l) (more_lines f es (n + 1) k e there ∙ ap (λ m. flat_map f (take k (enumerate_from (n + 1) es)) ++ f (m, e)) at)
+    ap (λ l. f (n, x) ++ l) (more_lines f es (n + 1) k e there
+    ∙ ap (λ m. flat_map f (take k (enumerate_from (n + 1) es)) ++ f (m, e)) at)
     ∙ sym (append_assoc (f (n, x)) _ _)
 
 -- the line of the entry with the number k comes after those before it
@@ -82,9 +85,12 @@ pub one_more_line : (f : ℕ × Entry → List ℕ) (es : List Entry) (k : ℕ) 
     → new ≡ first ++ flat_map f (take (k + 1) (enumerate_from 0 es))
 one_more_line f es k first old new below says is = go (slice_get es k) refl says
   where
-    go : (found : Option Entry) → slice_get es k ≡ found → IfSome found (λ e. new ≡ old ++ f (k, e)) → new ≡ first ++ flat_map f (take (k + 1) (enumerate_from 0 es))
+    go : (found : Option Entry) → slice_get es k ≡ found → IfSome found (λ e. new ≡ old ++ f (k, e))
+        → new ≡ first ++ flat_map f (take (k + 1) (enumerate_from 0 es))
     go None gone says = absurd (omega (arith, below, slice_get_none es k gone))
     go (Some e) there says =
         let next : k + 1 ≡ suc k = omega arith in
         let at : 0 + k ≡ k = omega arith in
-        rw next (says ∙ ap (λ xs. xs ++ f (k, e)) is ∙ append_assoc first _ _ ∙ ap (λ xs. first ++ xs) (sym (more_lines f es 0 k e there ∙ ap (λ m. flat_map f (take k (enumerate_from 0 es)) ++ f (m, e)) at)))
+        rw next (says ∙ ap (λ xs. xs ++ f (k, e)) is ∙ append_assoc first _ _
+        ∙ ap (λ xs. first ++ xs) (sym (more_lines f es 0 k e there
+        ∙ ap (λ m. flat_map f (take k (enumerate_from 0 es)) ++ f (m, e)) at)))

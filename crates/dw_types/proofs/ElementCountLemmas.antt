@@ -9,7 +9,8 @@ use Rattle.dw_types.specs.Entries.{Facts}
 use Rattle.dw_types.specs.Sizes.{is_subrange, factor_of, product_of, times}
 
 -- a capped size below the limit is the size itself
-pub uncapped : (limit : ℕ) (found size : Size) → found ≡ cap_size limit size → ((n : ℕ) → found ≡ Some n → n < limit) → found ≡ size
+pub uncapped : (limit : ℕ) (found size : Size) → found ≡ cap_size limit size → ((n : ℕ) → found ≡ Some n → n < limit)
+    → found ≡ size
 uncapped limit found None is small = is
 uncapped limit found (Some n) is small = search (rules)
 
@@ -29,7 +30,8 @@ cap-right (Some a) None = refl
 cap-right (Some a) (Some b) = search (rules, cap-product, mul_comm)
 
 -- and two
-pub cap-both : (a b : Size) → cap_size (2 ^ 63) (times (cap_size (2 ^ 63) a) (cap_size (2 ^ 63) b)) ≡ cap_size (2 ^ 63) (times a b)
+pub cap-both : (a b : Size) → cap_size (2 ^ 63) (times (cap_size (2 ^ 63) a) (cap_size (2 ^ 63) b))
+    ≡ cap_size (2 ^ 63) (times a b)
 cap-both None b = refl
 cap-both (Some a) b = cap-right (Some (min (2 ^ 63) a)) b ∙ cap-left b
   where
@@ -53,12 +55,16 @@ one-times (Some a) = ap Some (omega arith)
 
 product-push : (sizes : List Size) (last : Size) → product_of (sizes ++ last ∷ []) ≡ times (product_of sizes) last
 product-push [] last = times-one last ∙ sym (one-times last)
-product-push (size ∷ sizes) last = ap (times size) (product-push sizes last) ∙ sym (times-assoc size (product_of sizes) last)
+product-push (size ∷ sizes) last =
+    ap (times size) (product-push sizes last) ∙ sym (times-assoc size (product_of sizes) last)
 
 -- one more child
-pub factors-push : (parts : List Facts) (part : Facts) → product_of (map factor_of (parts ++ part ∷ [])) ≡ times (product_of (map factor_of parts)) (factor_of part)
-factors-push parts part = ap product_of (map_push factor_of parts part) ∙ product-push (map factor_of parts) (factor_of part)
+pub factors-push : (parts : List Facts) (part : Facts)
+    → product_of (map factor_of (parts ++ part ∷ [])) ≡ times (product_of (map factor_of parts)) (factor_of part)
+factors-push parts part =
+    ap product_of (map_push factor_of parts part) ∙ product-push (map factor_of parts) (factor_of part)
 
-pub subranges-push : (parts : List Facts) (part : Facts) → list_any is_subrange (parts ++ part ∷ []) ≡ (list_any is_subrange parts || is_subrange part)
+pub subranges-push : (parts : List Facts) (part : Facts)
+    → list_any is_subrange (parts ++ part ∷ []) ≡ (list_any is_subrange parts || is_subrange part)
 subranges-push [] part = search (rules)
 subranges-push (first ∷ parts) part = search (rules, (subranges-push parts part))

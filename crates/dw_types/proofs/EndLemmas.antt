@@ -16,7 +16,11 @@ use Rattle.dw_types.proofs.ListLemmas.{at_set}
 use Rattle.dw_types.proofs.WalkLemmas.{in-graph, turns-all}
 
 pub get_or-same : {X : Type 0} (n k : ℕ) (x : X) → get_or (replicate n x) k x ≡ x
-get_or-same n k x = elim (cases_lt k n) [ inl below ↦ get_or-replicate n k x x below | inr above ↦ get_or_past (replicate n x) k x (let e = length-replicate n x in omega arith) ]
+get_or-same n k x =
+    elim (cases_lt k n) [
+      | inl below ↦ get_or-replicate n k x x below
+      | inr above ↦ get_or_past (replicate n x) k x (let e = length-replicate n x in omega arith)
+    ]
 
 pub sum-zeros : (n : ℕ) → sum (replicate n 0) ≡ 0
 sum-zeros zero = refl
@@ -24,52 +28,79 @@ sum-zeros (suc n) = let first = sum_by-cons (λ (x : ℕ). x) 0 (replicate n 0) 
 
 count-fresh : (n : ℕ) → count_by is_taken (replicate n Fresh) ≡ 0
 count-fresh zero = refl
-count-fresh (suc n) = let first = sum_by-cons (λ (m : Mark). cond {A = ℕ} (is_taken m) 1 0) Fresh (replicate n Fresh) in let rest = count-fresh n in omega arith
+count-fresh (suc n) =
+    let first = sum_by-cons (λ (m : Mark). cond {A = ℕ} (is_taken m) 1 0) Fresh (replicate n Fresh) in
+    let rest = count-fresh n in omega arith
 
 -- what a walk keeps before its first turn
 abbrev pub start : ℕ → Kept
-start n = record { marks = replicate n Fresh; ranks = replicate n 0; by_rank = []; stack = []; looked = []; turns = 0; gave_up = false }
+start n =
+    record {
+      marks = replicate n Fresh;
+      ranks = replicate n 0;
+      by_rank = [];
+      stack = [];
+      looked = [];
+      turns = 0;
+      gave_up = false;
+    }
 
-start-walk : (graph : Graph) → length graph < 2 ^ 64 → IsWalk graph (counted (start (length graph)) (replicate (length graph) 0))
+start-walk : (graph : Graph) → length graph < 2 ^ 64
+    → IsWalk graph (counted (start (length graph)) (replicate (length graph) 0))
 start-walk graph few = search (rules, get_or-same, length-replicate, sum-zeros, count-fresh)
 
 pub start-kept : (graph : Graph) → length graph < 2 ^ 64 → IsKept graph (start (length graph))
-start-kept graph few = record { next = replicate (length graph) 0; walk = start-walk graph few; long = refl; looked = λ k below. absurd (omega arith) }
+start-kept graph few =
+    record {
+      next = replicate (length graph) 0;
+      walk = start-walk graph few;
+      long = refl;
+      looked = λ k below. absurd (omega arith);
+    }
 
 -- with an empty stack, a node that was taken up was ranked, or given up
-end-by_mark : (graph : Graph) (s : State) (node : ℕ) → IsWalk graph s → s.stack ≡ [] → mark_of s node ≢ Fresh → (m : Mark) → mark_of s node ≡ m → (m ≡ Ranked) ⊎ ((s.gave_up ≡ true) × ReachesCycle graph node)
+end-by_mark : (graph : Graph) (s : State) (node : ℕ) → IsWalk graph s → s.stack ≡ [] → mark_of s node ≢ Fresh
+    → (m : Mark) → mark_of s node ≡ m → (m ≡ Ranked) ⊎ ((s.gave_up ≡ true) × ReachesCycle graph node)
 end-by_mark graph s node h empty taken Fresh e = absurd (taken e)
 end-by_mark graph s node h empty taken Open e = search (rules)
 end-by_mark graph s node h empty taken Ranked e = inl refl
 
-end-of_taken : (graph : Graph) (s : State) (node : ℕ) → IsWalk graph s → s.stack ≡ [] → mark_of s node ≢ Fresh → (mark_of s node ≡ Ranked) ⊎ ((s.gave_up ≡ true) × ReachesCycle graph node)
+end-of_taken : (graph : Graph) (s : State) (node : ℕ) → IsWalk graph s → s.stack ≡ [] → mark_of s node ≢ Fresh
+    → (mark_of s node ≡ Ranked) ⊎ ((s.gave_up ≡ true) × ReachesCycle graph node)
 end-of_taken graph s node h empty taken = end-by_mark graph s node h empty taken (mark_of s node) refl
 
 -- so it was ranked, if none was given up
-ranked-from_taken : (graph : Graph) (s : State) (node : ℕ) → IsWalk graph s → s.stack ≡ [] → s.gave_up ≡ false → mark_of s node ≢ Fresh → mark_of s node ≡ Ranked
+ranked-from_taken : (graph : Graph) (s : State) (node : ℕ) → IsWalk graph s → s.stack ≡ [] → s.gave_up ≡ false
+    → mark_of s node ≢ Fresh → mark_of s node ≡ Ranked
 ranked-from_taken graph s node h empty kept taken = search (rules, end-of_taken)
 
 -- once each node was ranked, each step leads to a smaller rank
-falls-from_ranked : (graph : Graph) (s : State) → IsWalk graph s → ((node : ℕ) → node < length graph → mark_of s node ≡ Ranked) → FallsAlong graph s.ranks
+falls-from_ranked : (graph : Graph) (s : State) → IsWalk graph s
+    → ((node : ℕ) → node < length graph → mark_of s node ≡ Ranked) → FallsAlong graph s.ranks
 falls-from_ranked graph s h all node k in_steps = search (rules, cases_lt, get_or_past)
 
 -- where a node was taken up, and no node that was is fresh again, none up to it is fresh
-pub taken-more : (old new : List Mark) (node : ℕ) → node < length old → KeepsTaken (set old node Open) new → ((k : ℕ) → k < node → mark_in old k ≢ Fresh) → (k : ℕ) → k < node + 1 → mark_in new k ≢ Fresh
+pub taken-more : (old new : List Mark) (node : ℕ) → node < length old → KeepsTaken (set old node Open) new
+    → ((k : ℕ) → k < node → mark_in old k ≢ Fresh) → (k : ℕ) → k < node + 1 → mark_in new k ≢ Fresh
 taken-more old new node inside keeps before = search (rules, at_set)
 
 -- the order at the end of a walk in which each node was taken up, and none given up
-pub order-at_end : (graph : Graph) (it : Kept) → IsKept graph it → it.stack ≡ [] → it.gave_up ≡ false → ((node : ℕ) → node < length graph → mark_in it.marks node ≢ Fresh)
+pub order-at_end : (graph : Graph) (it : Kept) → IsKept graph it → it.stack ≡ [] → it.gave_up ≡ false
+    → ((node : ℕ) → node < length graph → mark_in it.marks node ≢ Fresh)
     → IsOrderOf graph (record { ranks = it.ranks; by_rank = it.by_rank; turns = it.turns })
 order-at_end graph it h empty kept taken =
     let s = counted it h.next in
-    let all : (node : ℕ) → node < length graph → mark_of s node ≡ Ranked = λ node below. ranked-from_taken graph s node h.walk empty kept (taken node below) in
+    let all : (node : ℕ) → node < length graph
+    → mark_of s node ≡ Ranked = λ node below. ranked-from_taken graph s node h.walk empty kept (taken node below) in
     let ranks = h.walk.coherent.ranks in
     record {
       nodes = h.walk.coherent.places.ranks;
       falls = falls-from_ranked graph s h.walk all;
       turns = turns-all graph s h.walk.coherent all;
       listed = λ node below. (ranks.below node (all node below), ranks.listed node (all node below));
-      ranked = λ k below. let here = ranks.ranked k below in (in-graph graph s _ h.walk.coherent.places (λ fresh. cc), here.1);
+      ranked =
+          λ k below. let here = ranks.ranked k below in
+          (in-graph graph s _ h.walk.coherent.places (λ fresh. cc), here.1);
     }
 
 -- one step more at the end
@@ -85,12 +116,18 @@ reaches-back graph (suc k) from to (next, step, led) reaches =
     (suc n, end, (next, step, way), cycle)
 
 -- from a node of the stack to a later one
-along : (graph : Graph) (stack : List ℕ) (d i : ℕ) → FollowsSteps graph stack → i + d < length stack → Leads graph d (get_or stack i 0) (get_or stack (i + d) 0)
+along : (graph : Graph) (stack : List ℕ) (d i : ℕ) → FollowsSteps graph stack → i + d < length stack
+    → Leads graph d (get_or stack i 0) (get_or stack (i + d) 0)
 along graph stack zero i chain within = ap (λ (n : ℕ). get_or stack n 0) (let e : i ≡ i + 0 = omega arith in e)
 along graph stack (suc d) i chain within =
     let there : i + 1 + d ≡ i + suc d = omega arith in
-    let rest : Leads graph d (get_or stack (i + 1) 0) (get_or stack (i + 1 + d) 0) = along graph stack d (i + 1) chain (omega arith) in
-    (get_or stack (i + 1) 0, chain i (omega arith), subst (λ (n : ℕ). Leads graph d (get_or stack (i + 1) 0) (get_or stack n 0)) there rest)
+    let rest : Leads graph d (get_or stack (i + 1) 0) (get_or stack (i + 1 + d) 0) = along graph stack d (i + 1) chain
+    (omega arith) in (
+      get_or stack (i + 1) 0,
+      chain i (omega arith),
+      subst
+          (λ (n : ℕ). Leads graph d (get_or stack (i + 1) 0) (get_or stack n 0)) there rest,
+    )
 
 module _ (graph : Graph) (s : State) (to : ℕ) (h : IsAtCycle graph s to) where
   -- each node of the stack leads to the one that the step goes to
@@ -98,7 +135,8 @@ module _ (graph : Graph) (s : State) (to : ℕ) (h : IsAtCycle graph s to) where
   leads-on k within =
       let top = length s.stack - 1 in
       let sum : k + (top - k) ≡ top = omega arith in
-      let way : Leads graph (top - k) (get_or s.stack k 0) (get_or s.stack (k + (top - k)) 0) = along graph s.stack (top - k) k h.coherent.stack.steps (omega arith) in
+      let way : Leads graph (top - k) (get_or s.stack k 0) (get_or s.stack (k + (top - k)) 0) = along graph s.stack
+      (top - k) k h.coherent.stack.steps (omega arith) in
       leads-more graph (top - k) (get_or s.stack k 0) (get_or s.stack top 0) to (rw sum at way) h.closes
 
   -- where none was given up, that one is on the stack
@@ -108,13 +146,22 @@ module _ (graph : Graph) (s : State) (to : ℕ) (h : IsAtCycle graph s to) where
   to-reaches : ReachesCycle graph to
   to-reaches = elim (h.coherent.stack.stacked to h.opened) [
     | inl (i, within, same) ↦
-        let led = leads-on i within in
-        (0, to, refl, (length s.stack - 1 - i, subst (λ (x : ℕ). Leads graph (suc (length s.stack - 1 - i)) x to) same led))
+        let led = leads-on i within in (
+          0,
+          to,
+          refl,
+          (
+            length s.stack - 1 - i,
+            subst (λ (x : ℕ). Leads graph (suc (length s.stack - 1 - i)) x to) same
+                led,
+          ),
+        )
     | inr lost ↦ lost.1
   ]
 
   stacked-reaches : (k : ℕ) → k < length s.stack → ReachesCycle graph (get_or s.stack k 0)
-  stacked-reaches k within = reaches-back graph (suc (length s.stack - 1 - k)) (get_or s.stack k 0) to (leads-on k within) to-reaches
+  stacked-reaches k within =
+      reaches-back graph (suc (length s.stack - 1 - k)) (get_or s.stack k 0) to (leads-on k within) to-reaches
 
   given_up-walk : IsWalk graph (given_up s)
   given_up-walk =
@@ -134,11 +181,19 @@ module _ (graph : Graph) (s : State) (to : ℕ) (h : IsAtCycle graph s to) where
       search (rules)
 
 -- what is kept once the nodes on the stack are given up
-pub without_stack-kept : (graph : Graph) (it : Kept) (to : ℕ) → ((next : List ℕ) × IsAtCycle graph (counted it next) to) → IsKept graph (without_stack it)
-without_stack-kept graph it to at = record { next = at.0; walk = given_up-walk graph (counted it at.0) to at.1; long = refl; looked = λ k below. absurd (omega arith) }
+pub without_stack-kept : (graph : Graph) (it : Kept) (to : ℕ) → ((next : List ℕ) × IsAtCycle graph (counted it next) to)
+    → IsKept graph (without_stack it)
+without_stack-kept graph it to at =
+    record {
+      next = at.0;
+      walk = given_up-walk graph (counted it at.0) to at.1;
+      long = refl;
+      looked = λ k below. absurd (omega arith);
+    }
 
 -- once each node was taken up, those that have ranks are the clear ones
-pub clear-at_end : (graph : Graph) (s : State) → IsWalk graph s → s.stack ≡ [] → ((node : ℕ) → node < length graph → mark_of s node ≢ Fresh) → AreClear graph s.by_rank
+pub clear-at_end : (graph : Graph) (s : State) → IsWalk graph s → s.stack ≡ []
+    → ((node : ℕ) → node < length graph → mark_of s node ≢ Fresh) → AreClear graph s.by_rank
 clear-at_end graph s h empty taken =
     let ranks = h.coherent.ranks in
     record {
@@ -150,7 +205,13 @@ clear-at_end graph s h empty taken =
           let falls = ranks.falls node k here.0 below in
           (get_or s.ranks to 0, omega (arith, falls, here.1), ranks.listed to (ranks.leads node k here.0 below));
       others = λ node w missing. elim (end-of_taken graph s node h empty (taken node w)) [
-        | inl done ↦ absurd (missing (get_or s.ranks node 0, ranks.below node done, sym (get_or_default s.by_rank (get_or s.ranks node 0) 0 node (ranks.below node done)) ∙ ranks.listed node done))
+        | inl done ↦ absurd (missing (
+          get_or s.ranks node 0,
+          ranks.below node done,
+          sym
+              (get_or_default s.by_rank (get_or s.ranks node 0) 0 node (ranks.below node done))
+              ∙ ranks.listed node done,
+        ))
         | inr lost ↦ lost.1
       ];
     }

@@ -14,21 +14,28 @@ use Rattle.dw_types.proofs.ChildLemmas.{parent-before}
 use Rattle.dw_types.specs.FactsOf.{facts_at, facts_in, facts_of}
 
 -- there are as many facts as entries
-pub length-facts_of : (entries : List Entry) (units : List PlacedUnit) → length (facts_of entries units) ≡ length entries
+pub length-facts_of : (entries : List Entry) (units : List PlacedUnit)
+    → length (facts_of entries units) ≡ length entries
 unfolding facts_of
 length-facts_of entries units = length-map entries (facts_at entries units)
 
 -- the facts of the entry with a number
-pub facts-get : (entries : List Entry) (units : List PlacedUnit) (id : ℕ) (e : Entry) → slice_get entries id ≡ Some e → entry_of (facts_of entries units) id ≡ facts_at entries units e
+pub facts-get : (entries : List Entry) (units : List PlacedUnit) (id : ℕ) (e : Entry) → slice_get entries id ≡ Some e
+    → entry_of (facts_of entries units) id ≡ facts_at entries units e
 unfolding facts_of
 facts-get entries units id e is =
-    get_or_from_slice_get (map (facts_at entries units) entries) id (facts_at entries units e) no_entry (slice_get-map (facts_at entries units) entries id ∙ ap (option_map (facts_at entries units)) is)
+    get_or_from_slice_get (map (facts_at entries units) entries) id (facts_at entries units e) no_entry
+    (slice_get-map (facts_at entries units) entries id ∙ ap (option_map (facts_at entries units)) is)
 
-facts-past : (entries : List Entry) (units : List PlacedUnit) (id : ℕ) → length entries ≤ id → entry_of (facts_of entries units) id ≡ no_entry
-facts-past entries units id over = get_or_past (facts_of entries units) id no_entry (let long = length-facts_of entries units in omega arith)
+facts-past : (entries : List Entry) (units : List PlacedUnit) (id : ℕ) → length entries ≤ id
+    → entry_of (facts_of entries units) id ≡ no_entry
+facts-past entries units id over =
+    get_or_past (facts_of entries units) id no_entry (let long = length-facts_of entries units in omega arith)
 
 -- what holds of the facts of each entry, and where there is no entry, holds at each number
-by_number : (entries : List Entry) (units : List PlacedUnit) (P : ℕ → Facts → Type 0) → ((id : ℕ) (e : Entry) → slice_get entries id ≡ Some e → P id (facts_at entries units e)) → ((id : ℕ) → P id no_entry)
+by_number : (entries : List Entry) (units : List PlacedUnit) (P : ℕ → Facts → Type 0)
+    → ((id : ℕ) (e : Entry) → slice_get entries id ≡ Some e → P id (facts_at entries units e))
+    → ((id : ℕ) → P id no_entry)
     → (id : ℕ) → P id (entry_of (facts_of entries units) id)
 by_number entries units P inside past id = elim (slice_get_cases entries id).1 [
   | inl here ↦ rw (facts-get entries units id here.0 here.2) (inside id here.0 here.2)
@@ -43,8 +50,11 @@ facts-parents_first us child above =
 pub facts-targets : (us : List DebugUnit) → TargetsAreEntries (facts_in us)
 facts-targets us node to =
     let long = length-facts_of (entries_of us) (placed us) in
-    rw long (by_number (entries_of us) (placed us) (λ id facts. (facts.type_target ≡ Some to → to < length (entries_of us)) × (facts.signature_target ≡ Some to → to < length (entries_of us)))
-    (λ id e is. (target_within (entries_of us) (placed us) e _ to, target_within (entries_of us) (placed us) e _ to)) (λ id. (λ is. absurd cc, λ is. absurd cc)) node)
+    rw long (by_number (entries_of us) (placed us)
+    (λ id facts. (facts.type_target ≡ Some to → to < length (entries_of us))
+    × (facts.signature_target ≡ Some to → to < length (entries_of us)))
+    (λ id e is. (target_within (entries_of us) (placed us) e _ to, target_within (entries_of us) (placed us) e _ to))
+    (λ id. (λ is. absurd cc, λ is. absurd cc)) node)
 
 pub facts-rise : (a : List ℕ) (us : List DebugUnit) → AreUnits a us → OffsetsRise (facts_in us)
 facts-rise a us are earlier later before inside =
@@ -62,19 +72,24 @@ facts-rise a us are earlier later before inside =
     ]
 
 -- what is read of the entry with a number is its facts
-pub known : (us : List DebugUnit) (id : ℕ) (o : Option Entry) → o ≡ slice_get (entries_of us) id → id < length (entries_of us) → (P : Facts → Type 0)
+pub known : (us : List DebugUnit) (id : ℕ) (o : Option Entry) → o ≡ slice_get (entries_of us) id
+    → id < length (entries_of us) → (P : Facts → Type 0)
     → IfSome o (λ e. P (facts_at (entries_of us) (placed us) e)) → P (entry_of (facts_in us) id)
 known us id o there below P is = search (rules, slice_get_cases, facts-get)
 
-same-type : (o : Option Entry) (decl : Declaration) → IfSome o (λ e. decl ≡ e.head.decl) → IfSome o (λ e. is_type_tag decl.tag ≡ is_type_tag e.head.decl.tag)
+same-type : (o : Option Entry) (decl : Declaration) → IfSome o (λ e. decl ≡ e.head.decl)
+    → IfSome o (λ e. is_type_tag decl.tag ≡ is_type_tag e.head.decl.tag)
 same-type None decl is = is
 same-type (Some e) decl is = ap (λ (d : Declaration). is_type_tag d.tag) is
 
 -- whether the entry with a number is a type, by its declaration
-pub known-type : (us : List DebugUnit) (id : ℕ) (decl : Declaration) → id < length (entries_of us) → IfSome (slice_get (entries_of us) id) (λ e. decl ≡ e.head.decl)
+pub known-type : (us : List DebugUnit) (id : ℕ) (decl : Declaration) → id < length (entries_of us)
+    → IfSome (slice_get (entries_of us) id) (λ e. decl ≡ e.head.decl)
     → is_type_tag decl.tag ≡ is_type_tag (entry_of (facts_in us) id).tag
 known-type us id decl below is =
-    known us id (slice_get (entries_of us) id) refl below (λ (facts : Facts). is_type_tag decl.tag ≡ is_type_tag facts.tag) (same-type (slice_get (entries_of us) id) decl is)
+    known us id (slice_get (entries_of us) id) refl below
+    (λ (facts : Facts). is_type_tag decl.tag ≡ is_type_tag facts.tag)
+    (same-type (slice_get (entries_of us) id) decl is)
 
 module _ (us : List DebugUnit) (facts : List Facts) (same : facts_in us ≡ facts) where
   pub facts-count : length facts ≡ length (entries_of us)

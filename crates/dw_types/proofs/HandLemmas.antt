@@ -26,24 +26,35 @@ work_left graph it (Some _) = 2 * (length graph + step_count graph - it.turns) +
 
 -- how many steps were looked at of each node on the stack
 abbrev pub AreLooked : Kept → List ℕ → Type 0
-AreLooked it next = (length it.looked ≡ length it.stack) × ((k : ℕ) → k < length it.stack → get_or it.looked k 0 ≡ get_or next (get_or it.stack k 0) 0)
+AreLooked it next =
+    (length it.looked ≡ length it.stack)
+    × ((k : ℕ) → k < length it.stack → get_or it.looked k 0 ≡ get_or next (get_or it.stack k 0) 0)
 
-looked-push : (it : Kept) (next : List ℕ) (node looked : ℕ) → AreLooked it next → get_or next node 0 ≡ looked → AreLooked (with_hand it node looked) next
+looked-push : (it : Kept) (next : List ℕ) (node looked : ℕ) → AreLooked it next → get_or next node 0 ≡ looked
+    → AreLooked (with_hand it node looked) next
 looked-push it next node looked known here = (
   (let a = length_push it.looked looked in let b = length_push it.stack node in let c = known.0 in omega arith),
   λ k below. elim (at_push it.stack k node 0 below) [
     | inl p ↦ rw (p.1, p.0, ← known.0, get_or_push it.looked looked 0 (length it.looked) refl) (sym here)
-    | inr p ↦ rw (p.1, get_or_append_left it.looked (looked ∷ []) 0 k (let c = known.0 in let b = p.0 in omega arith)) (known.1 k p.0)
+    | inr p ↦ rw (p.1, get_or_append_left it.looked (looked ∷ []) 0 k (let c = known.0 in let b = p.0 in omega arith))
+        (known.1 k p.0)
   ],
 )
 
-looked-pop : (it : Kept) (next : List ℕ) (node looked : ℕ) → AreLooked (with_hand it node looked) next → AreLooked it next
+looked-pop : (it : Kept) (next : List ℕ) (node looked : ℕ) → AreLooked (with_hand it node looked) next
+    → AreLooked it next
 looked-pop it next node looked known = (
   (let a = length_push it.looked looked in let b = length_push it.stack node in let c = known.0 in omega arith),
   λ k below.
-      let long : length it.looked ≡ length it.stack = (let a = length_push it.looked looked in let b = length_push it.stack node in let c = known.0 in omega arith) in
+      let long : length it.looked ≡ length it.stack =
+      (let a = length_push it.looked looked in let b = length_push it.stack node in let c = known.0 in omega arith)
+      in
       let here = known.1 k (let b = length_push it.stack node in omega arith) in
-      rw (get_or_append_left it.stack (node ∷ []) 0 k below, get_or_append_left it.looked (looked ∷ []) 0 k (omega arith)) at here,
+      rw (
+        get_or_append_left it.stack (node ∷ []) 0 k below,
+        get_or_append_left it.looked (looked ∷ []) 0 k
+            (omega arith),
+      ) at here,
 )
 
 module _ (graph : Graph) (it : Kept) (node from : ℕ) (h : IsKept graph (with_hand it node from)) where
@@ -53,21 +64,31 @@ module _ (graph : Graph) (it : Kept) (node from : ℕ) (h : IsKept graph (with_h
   hand-top : IsTop (counted (with_hand it node from) h.next) node
   hand-top = record {
     some = (let a = length_push it.stack node in omega arith);
-    top = get_or_push it.stack node 0 (length (it.stack ++ node ∷ []) - 1) (let a = length_push it.stack node in omega arith);
+    top =
+        get_or_push it.stack node 0 (length (it.stack ++ node ∷ []) - 1)
+        (let a = length_push it.stack node in omega arith);
   }
 
   pub hand-in : node < length graph
-  hand-in = in-graph graph (counted (with_hand it node from) h.next) node h.walk.coherent.places (λ fresh. let opened = top-opened graph (counted (with_hand it node from) h.next) node h.walk.coherent.stack hand-top in cc)
+  hand-in =
+      in-graph graph (counted (with_hand it node from) h.next) node h.walk.coherent.places
+      (λ fresh. let opened = top-opened graph (counted (with_hand it node from) h.next) node h.walk.coherent.stack
+      hand-top in cc)
 
   hand-looked : get_or h.next node 0 ≡ from
   hand-looked =
       let here = h.looked (length it.stack) (let a = length_push it.stack node in omega arith) in
-      sym (rw (get_or_push it.stack node 0 (length it.stack) refl, get_or_push it.looked from 0 (length it.stack) hand-long) at here)
+      sym (rw (
+        get_or_push it.stack node 0 (length it.stack) refl,
+        get_or_push it.looked from 0 (length it.stack)
+            hand-long,
+      ) at here)
 
   pub hand-within : from ≤ length (steps_of graph node)
   hand-within = let within = h.walk.coherent.counters.within node in let same = hand-looked in omega arith
 
-  module _ (looked : ℕ) (after : from ≤ looked) (within : looked ≤ length (steps_of graph node)) (small : looked < 2 ^ 64) where
+  module _ (looked : ℕ) (after : from ≤ looked) (within : looked ≤ length (steps_of graph node))
+      (small : looked < 2 ^ 64) where
     -- the steps of each node that were looked at then
     abbrev next-on : List ℕ
     next-on = set h.next node (get_or h.next node 0 + (looked - from))
@@ -79,35 +100,51 @@ module _ (graph : Graph) (it : Kept) (node from : ℕ) (h : IsKept graph (with_h
     on-in = let long = h.walk.coherent.places.next in let below = hand-in in omega arith
 
     pub on-coherent : IsCoherent graph (counted kept-on next-on)
-    on-coherent = look-coherent graph (counted (with_hand it node from) h.next) node (looked - from) h.walk.coherent hand-top on-in (let same = hand-looked in omega arith) (let same = hand-looked in omega arith)
+    on-coherent =
+        look-coherent graph (counted (with_hand it node from) h.next) node (looked - from) h.walk.coherent hand-top
+        on-in (let same = hand-looked in omega arith) (let same = hand-looked in omega arith)
 
     on-top : IsTop (counted kept-on next-on) node
     on-top = record { some = hand-top.some; top = hand-top.top }
 
     on-here : get_or next-on node 0 ≡ looked
-    on-here = rw (get_or-set_same h.next node (get_or h.next node 0 + (looked - from)) 0 on-in) (let same = hand-looked in omega arith)
+    on-here =
+        rw (get_or-set_same h.next node (get_or h.next node 0 + (looked - from)) 0 on-in)
+        (let same = hand-looked in omega arith)
 
     on-waiting : AreLooked it next-on
     on-waiting =
         let known = looked-pop it h.next node from (h.long, h.looked) in (
           known.0,
           λ k below.
-              let other : get_or it.stack k 0 ≢ node = λ same. h.walk.coherent.stack.once k (length it.stack) below (let a = length_push it.stack node in omega arith)
-              (get_or_append_left it.stack (node ∷ []) 0 k below ∙ (same ∙ sym (get_or_push it.stack node 0 (length it.stack) refl))) in
-              rw (get_or-set_other h.next node (get_or it.stack k 0) (get_or h.next node 0 + (looked - from)) 0 other) (known.1 k below),
+              let other : get_or it.stack k 0 ≢ node = λ same. h.walk.coherent.stack.once k (length it.stack) below
+              (let a = length_push it.stack node in omega arith)
+              (get_or_append_left it.stack (node ∷ []) 0 k below
+              ∙ (same ∙ sym (get_or_push it.stack node 0 (length it.stack) refl))) in
+              rw (get_or-set_other h.next node (get_or it.stack k 0) (get_or h.next node 0 + (looked - from)) 0 other)
+              (known.1 k below),
         )
 
     on-looked : AreLooked kept-on next-on
     on-looked = looked-push (turned it (looked - from)) next-on node looked on-waiting on-here
 
     -- all its steps lead to ranked nodes, so it is ranked
-    pub ranked-kept : looked ≡ length (steps_of graph node) → GoToRanked graph it.marks node from looked → IsKept graph (ranked (turned it (looked - from)) node)
+    pub ranked-kept : looked ≡ length (steps_of graph node) → GoToRanked graph it.marks node from looked
+        → IsKept graph (ranked (turned it (looked - from)) node)
     ranked-kept all known =
-        let but : LooksUpBut graph (counted kept-on next-on) None = look-but graph (counted (with_hand it node from) h.next) node (looked - from) None h.walk on-in
-        (λ k above below. inl (known k (let same = hand-looked in omega arith) (let same = hand-looked in omega arith))) in
-        let walk : IsWalk graph (counted kept-on next-on) = record { coherent = on-coherent; looks_up = looked-all graph (counted kept-on next-on) but } in
+        let but : LooksUpBut graph (counted kept-on next-on) None = look-but graph
+        (counted (with_hand it node from) h.next) node (looked - from) None h.walk on-in
+        (λ k above below. inl (known k (let same = hand-looked in omega arith) (let same = hand-looked in omega arith)))
+        in
+        let walk : IsWalk graph (counted kept-on next-on) =
+        record { coherent = on-coherent; looks_up = looked-all graph (counted kept-on next-on) but } in
         let done = done-walk graph (counted kept-on next-on) node walk on-top (on-here ∙ all) in
-        record { next = next-on; walk = rw (take-push it.stack node) at done; long = on-waiting.0; looked = on-waiting.1 }
+        record {
+          next = next-on;
+          walk = rw (take-push it.stack node) at done;
+          long = on-waiting.0;
+          looked = on-waiting.1;
+        }
 
     module _ (last to : ℕ) (one : looked ≡ last + 1) (first : IsFirstOther graph it.marks node from last to) where
       other-but : LooksUpBut graph (counted kept-on next-on) (Some to)
@@ -115,14 +152,16 @@ module _ (graph : Graph) (it : Kept) (node from : ℕ) (h : IsKept graph (with_h
           look-but graph (counted (with_hand it node from) h.next) node (looked - from) (Some to) h.walk on-in
           (λ k above below. elim (cases_lt k last) [
             | inl earlier ↦ inl (first.earlier k (let same = hand-looked in omega arith) earlier)
-            | inr later ↦ inr (ap Some (first.leads ∙ ap (step_at graph node) (let same = hand-looked in let e : last ≡ k = omega arith in e)))
+            | inr later ↦ inr (ap Some (first.leads
+                ∙ ap (step_at graph node) (let same = hand-looked in let e : last ≡ k = omega arith in e)))
           ])
 
       other-link : IsStep graph (get_or (it.stack ++ node ∷ []) (length (it.stack ++ node ∷ []) - 1) 0) to
       other-link = rw hand-top.top (last, first.step_in, sym first.leads)
 
       -- its last step leads to a fresh node, which is taken up
-      pub fresh-kept : mark_in it.marks to ≡ Fresh → to < length graph → IsKept graph (with_hand (opened kept-on to) to 0)
+      pub fresh-kept : mark_in it.marks to ≡ Fresh → to < length graph
+          → IsKept graph (with_hand (opened kept-on to) to 0)
       fresh-kept fresh inside =
           let in_marks : to < length it.marks = (let long = on-coherent.places.marks in omega arith) in
           let known = looked-push (opened kept-on to) next-on to 0 on-looked (on-coherent.counters.fresh to fresh) in
@@ -130,7 +169,8 @@ module _ (graph : Graph) (it : Kept) (node from : ℕ) (h : IsKept graph (with_h
             next = next-on;
             walk = record {
               coherent = up-coherent graph (counted kept-on next-on) to on-coherent in_marks fresh (λ _. other-link);
-              looks_up = up-looks_up graph (counted kept-on next-on) to on-coherent in_marks fresh (λ _. other-link) other-but;
+              looks_up =
+                  up-looks_up graph (counted kept-on next-on) to on-coherent in_marks fresh (λ _. other-link) other-but;
             };
             long = known.0;
             looked = known.1;
@@ -138,29 +178,42 @@ module _ (graph : Graph) (it : Kept) (node from : ℕ) (h : IsKept graph (with_h
 
       -- its last step leads to an open node
       pub open-kept : mark_in it.marks to ≡ Open → (next : List ℕ) × IsAtCycle graph (counted kept-on next) to
-      open-kept is = (next-on, record { coherent = on-coherent; some = hand-top.some; closes = other-link; opened = is })
+      open-kept is =
+          (next-on, record { coherent = on-coherent; some = hand-top.some; closes = other-link; opened = is })
 
 -- a walk with an empty stack takes up a fresh node
-pub first-kept : (graph : Graph) (it : Kept) (node : ℕ) → IsKept graph it → it.stack ≡ [] → node < length graph → mark_in it.marks node ≡ Fresh → IsKept graph (with_hand (opened it node) node 0)
+pub first-kept : (graph : Graph) (it : Kept) (node : ℕ) → IsKept graph it → it.stack ≡ [] → node < length graph
+    → mark_in it.marks node ≡ Fresh → IsKept graph (with_hand (opened it node) node 0)
 first-kept graph it node h empty inside fresh =
-    let known = looked-push (opened it node) h.next node 0 (h.long, h.looked) (h.walk.coherent.counters.fresh node fresh) in
-    record { next = h.next; walk = first-walk graph (counted it h.next) node h.walk empty inside fresh; long = known.0; looked = known.1 }
+    let known = looked-push (opened it node) h.next node 0 (h.long, h.looked)
+    (h.walk.coherent.counters.fresh node fresh) in
+    record {
+      next = h.next;
+      walk = first-walk graph (counted it h.next) node h.walk empty inside fresh;
+      long = known.0;
+      looked = known.1;
+    }
 
 -- a mark other than `Fresh` is written
-pub keeps-set : (old marks : List Mark) (node : ℕ) (mark : Mark) → node < length marks → mark ≢ Fresh → KeepsTaken old marks → KeepsTaken old (set marks node mark)
+pub keeps-set : (old marks : List Mark) (node : ℕ) (mark : Mark) → node < length marks → mark ≢ Fresh
+    → KeepsTaken old marks → KeepsTaken old (set marks node mark)
 keeps-set old marks node mark inside taken keeps a fresh = elim (at_set marks node a mark Fresh inside) [
   | inl p ↦ absurd (taken (sym p.1 ∙ fresh))
   | inr p ↦ keeps a (sym p.1 ∙ fresh)
 ]
 
 -- the steps that are looked at are those from one on
-pub looks-after : (graph : Graph) (marks : List Mark) (node from looked : ℕ) (stop : Option ℕ) → from ≤ length (steps_of graph node) → LooksOn graph marks node from looked stop → from ≤ looked
+pub looks-after : (graph : Graph) (marks : List Mark) (node from looked : ℕ) (stop : Option ℕ)
+    → from ≤ length (steps_of graph node) → LooksOn graph marks node from looked stop → from ≤ looked
 looks-after graph marks node from looked None within looks = let all = looks.0 in omega arith
-looks-after graph marks node from looked (Some to) within looks = let one = looks.1 in let last = looks.2.after in omega arith
+looks-after graph marks node from looked (Some to) within looks =
+    let one = looks.1 in let last = looks.2.after in omega arith
 
-pub looks-within : (graph : Graph) (marks : List Mark) (node from looked : ℕ) (stop : Option ℕ) → LooksOn graph marks node from looked stop → looked ≤ length (steps_of graph node)
+pub looks-within : (graph : Graph) (marks : List Mark) (node from looked : ℕ) (stop : Option ℕ)
+    → LooksOn graph marks node from looked stop → looked ≤ length (steps_of graph node)
 looks-within graph marks node from looked None looks = let all = looks.0 in omega arith
-looks-within graph marks node from looked (Some to) looks = let one = looks.1 in let last = looks.2.step_in in omega arith
+looks-within graph marks node from looked (Some to) looks =
+    let one = looks.1 in let last = looks.2.step_in in omega arith
 
 -- a mark that is no other is `Open`
 is-open : (mark : Mark) → mark ≢ Fresh → mark ≢ Ranked → mark ≡ Open
@@ -175,17 +228,21 @@ pub record GoesOn (graph : Graph) (old : Kept) (hand : Hand) (new : Kept) (at : 
   pub gave_up : new.gave_up ≡ old.gave_up
   pub less : work_left graph new at < work_left graph old (Some hand)
 
-module _ (graph : Graph) (old : Kept) (hand : Hand) (looked : ℕ) (small : looked < 2 ^ 64) (h : IsKept graph (with_hand old hand.node hand.looked)) where
+module _ (graph : Graph) (old : Kept) (hand : Hand) (looked : ℕ) (small : looked < 2 ^ 64)
+    (h : IsKept graph (with_hand old hand.node hand.looked)) where
   hand-in_marks : hand.node < length old.marks
-  hand-in_marks = let long = h.walk.coherent.places.marks in let below = hand-in graph old hand.node hand.looked h in omega arith
+  hand-in_marks =
+      let long = h.walk.coherent.places.marks in let below = hand-in graph old hand.node hand.looked h in omega arith
 
   -- the node at hand is ranked, and the one on top of the stack is at hand next
   pub goes-ranked : (new : Kept) (at : Option Hand) → LooksOn graph old.marks hand.node hand.looked looked None
-      → MatchOption at ((old.stack ≡ []) × (new ≡ ranked (turned old (looked - hand.looked)) hand.node)) (λ next. ranked (turned old (looked - hand.looked)) hand.node ≡ with_hand new next.node next.looked)
+      → MatchOption at ((old.stack ≡ []) × (new ≡ ranked (turned old (looked - hand.looked)) hand.node))
+      (λ next. ranked (turned old (looked - hand.looked)) hand.node ≡ with_hand new next.node next.looked)
       → GoesOn graph old hand new at
   goes-ranked new None looks e =
       let within = hand-within graph old hand.node hand.looked h in
-      let kept = ranked-kept graph old hand.node hand.looked h looked (let all = looks.0 in omega arith) (let all = looks.0 in omega arith) small looks.0 looks.1 in
+      let kept = ranked-kept graph old hand.node hand.looked h looked (let all = looks.0 in omega arith)
+      (let all = looks.0 in omega arith) small looks.0 looks.1 in
       rw e.1 record {
         kept = (kept, e.0);
         taken = keeps-set old.marks old.marks hand.node Ranked hand-in_marks (λ same. cc) (λ a fresh. fresh);
@@ -194,34 +251,52 @@ module _ (graph : Graph) (old : Kept) (hand : Hand) (looked : ℕ) (small : look
       }
   goes-ranked new (Some next) looks e =
       let within = hand-within graph old hand.node hand.looked h in
-      let kept = ranked-kept graph old hand.node hand.looked h looked (let all = looks.0 in omega arith) (let all = looks.0 in omega arith) small looks.0 looks.1 in
+      let kept = ranked-kept graph old hand.node hand.looked h looked (let all = looks.0 in omega arith)
+      (let all = looks.0 in omega arith) small looks.0 looks.1 in
       let stack : old.stack ≡ new.stack ++ next.node ∷ [] = ap (λ (it : Kept). it.stack) e in
       let turns : old.turns + (looked - hand.looked) ≡ new.turns = ap (λ (it : Kept). it.turns) e in
       let marks : set old.marks hand.node Ranked ≡ new.marks = ap (λ (it : Kept). it.marks) e in
       let gave : old.gave_up ≡ new.gave_up = ap (λ (it : Kept). it.gave_up) e in
       record {
         kept = rw e at kept;
-        taken = rw (← marks) (keeps-set old.marks old.marks hand.node Ranked hand-in_marks (λ same. cc) (λ a fresh. fresh));
+        taken =
+            rw (← marks) (keeps-set old.marks old.marks hand.node Ranked hand-in_marks (λ same. cc) (λ a fresh. fresh));
         gave_up = sym gave;
-        less = let long = ap (λ (xs : List ℕ). length xs) stack in let one = length_push new.stack next.node in omega arith;
+        less =
+            let long = ap (λ (xs : List ℕ). length xs) stack in let one = length_push new.stack next.node in
+            omega arith;
       }
 
   module _ (to : ℕ) (looks : LooksOn graph old.marks hand.node hand.looked looked (Some to)) where
     -- the node at hand is put on the stack, and a fresh node is at hand next
     pub goes-fresh : LeadsToNodes graph → mark_in old.marks to ≡ Fresh
-        → GoesOn graph old hand (opened (with_hand (turned old (looked - hand.looked)) hand.node looked) to) (Some (record { node = to; looked = 0 }))
+        → GoesOn graph old hand (opened (with_hand (turned old (looked - hand.looked)) hand.node looked) to)
+        (Some (record { node = to; looked = 0 }))
     goes-fresh inside fresh =
         let below : to < length graph = rw looks.2.leads (inside hand.node looks.0 looks.2.step_in) in
-        let kept = fresh-kept graph old hand.node hand.looked h looked (looks-after graph old.marks hand.node hand.looked looked (Some to) (hand-within graph old hand.node hand.looked h) looks) (looks-within graph old.marks hand.node hand.looked looked (Some to) looks) small looks.0 to looks.1 looks.2 fresh below in
+        let kept = fresh-kept graph old hand.node hand.looked h looked
+        (looks-after graph old.marks hand.node hand.looked looked (Some to)
+        (hand-within graph old hand.node hand.looked h) looks)
+        (looks-within graph old.marks hand.node hand.looked looked (Some to) looks) small looks.0 to looks.1 looks.2
+        fresh below in
         let few = turns-le graph _ kept.walk.coherent in
         let in_marks : to < length old.marks = (let long = h.walk.coherent.places.marks in omega arith) in
         record {
           kept = kept;
           taken = keeps-set old.marks old.marks to Open in_marks (λ same. cc) (λ a fresh. fresh);
           gave_up = refl;
-          less = let one = looks.1 in let last = looks.2.after in let long = length_push old.stack hand.node in omega arith;
+          less =
+              let one = looks.1 in let last = looks.2.after in let long = length_push old.stack hand.node in
+              omega arith;
         }
 
     -- the node at hand is put on the stack, and its last step leads to an open node
-    pub goes-open : mark_in old.marks to ≢ Fresh → (next : List ℕ) × IsAtCycle graph (counted (with_hand (turned old (looked - hand.looked)) hand.node looked) next) to
-    goes-open taken = open-kept graph old hand.node hand.looked h looked (looks-after graph old.marks hand.node hand.looked looked (Some to) (hand-within graph old hand.node hand.looked h) looks) (looks-within graph old.marks hand.node hand.looked looked (Some to) looks) small looks.0 to looks.1 looks.2 (is-open (mark_in old.marks to) taken looks.2.other)
+    pub goes-open : mark_in old.marks to ≢ Fresh
+        → (next : List ℕ) × IsAtCycle graph
+        (counted (with_hand (turned old (looked - hand.looked)) hand.node looked) next) to
+    goes-open taken =
+        open-kept graph old hand.node hand.looked h looked
+        (looks-after graph old.marks hand.node hand.looked looked (Some to)
+        (hand-within graph old hand.node hand.looked h) looks)
+        (looks-within graph old.marks hand.node hand.looked looked (Some to) looks) small looks.0 to looks.1 looks.2
+        (is-open (mark_in old.marks to) taken looks.2.other)

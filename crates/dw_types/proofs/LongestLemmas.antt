@@ -11,11 +11,13 @@ use Rattle.dw_types.specs.LongestRows.{HasRow, IsLongest, AreLongest, IsOneMore}
 -- a node by the nodes that its steps lead to
 module _ (graph : Graph) (counts : List ℕ) (node : ℕ) where
   pub longest-above : (count : ℕ) → IsOneMore graph counts node count
-      → ((k : ℕ) → k < length (steps_of graph node) → IsLongest graph (step_at graph node k) (get_or counts (step_at graph node k) 0))
+      → ((k : ℕ) → k < length (steps_of graph node)
+      → IsLongest graph (step_at graph node k) (get_or counts (step_at graph node k) 0))
       → IsLongest graph node count
   longest-above count above known = record { has_row = has_row above.tight; none_longer = bound }
     where
-      has_row : (count ≡ 0) ⊎ ((k : ℕ) × (k < length (steps_of graph node)) × (count ≡ get_or counts (step_at graph node k) 0 + 1)) → HasRow graph node count
+      has_row : (count ≡ 0) ⊎ ((k : ℕ) × (k < length (steps_of graph node))
+          × (count ≡ get_or counts (step_at graph node k) 0 + 1)) → HasRow graph node count
       has_row (inl e) = let P : ℕ → Type 0 = λ n. HasRow graph node n in subst P (sym e) tt
       has_row (inr (k, within, e)) =
           let next = step_at graph node k in
@@ -31,7 +33,8 @@ module _ (graph : Graph) (counts : List ℕ) (node : ℕ) where
 
 -- the longest rows from the first nodes are known
 abbrev pub KnownUpTo : Graph → List ℕ → List ℕ → ℕ → Type 0
-KnownUpTo graph clear counts place = (k : ℕ) → k < place → IsLongest graph (get_or clear k 0) (get_or counts (get_or clear k 0) 0)
+KnownUpTo graph clear counts place =
+    (k : ℕ) → k < place → IsLongest graph (get_or clear k 0) (get_or counts (get_or clear k 0) 0)
 
 -- no row has more steps than there are nodes before a place
 abbrev pub AreFew : List ℕ → ℕ → Type 0
@@ -39,8 +42,10 @@ AreFew counts place = (node : ℕ) → get_or counts node 0 ≤ place
 
 module _ (graph : Graph) (clear : List ℕ) (h : AreClear graph clear) (counts : List ℕ) (place : ℕ) where
   -- what is known at the steps of the node at this place
-  known-step : KnownUpTo graph clear counts place → place < length clear → (k : ℕ) → k < length (steps_of graph (get_or clear place 0))
-      → IsLongest graph (step_at graph (get_or clear place 0) k) (get_or counts (step_at graph (get_or clear place 0) k) 0)
+  known-step : KnownUpTo graph clear counts place → place < length clear → (k : ℕ)
+      → k < length (steps_of graph (get_or clear place 0))
+      → IsLongest graph (step_at graph (get_or clear place 0) k)
+      (get_or counts (step_at graph (get_or clear place 0) k) 0)
   known-step known below k within =
       let (before, less, same) = h.ordered place k below within in
       let P : ℕ → Type 0 = λ n. IsLongest graph n (get_or counts n 0) in
@@ -49,37 +54,45 @@ module _ (graph : Graph) (clear : List ℕ) (h : AreClear graph clear) (counts :
   in-counts : length counts ≡ length graph → place < length clear → get_or clear place 0 < length counts
   in-counts long below = search (rules)
 
-  pub known-more : (count : ℕ) → length counts ≡ length graph → place < length clear → KnownUpTo graph clear counts place
-      → IsOneMore graph counts (get_or clear place 0) count → KnownUpTo graph clear (set counts (get_or clear place 0) count) (place + 1)
+  pub known-more : (count : ℕ) → length counts ≡ length graph → place < length clear
+      → KnownUpTo graph clear counts place
+      → IsOneMore graph counts (get_or clear place 0) count
+      → KnownUpTo graph clear (set counts (get_or clear place 0) count) (place + 1)
   known-more count long below known above k within = elim (cases_eq (get_or clear k 0) node) [
     | inl same ↦
         let P : ℕ → Type 0 = λ n. IsLongest graph n (get_or (set counts node count) n 0) in
-        subst P (sym same) (rw (get_or-set_same counts node count 0 (in-counts long below)) (longest-above graph counts node count above (known-step known below)))
+        subst P (sym same) (rw (get_or-set_same counts node count 0 (in-counts long below))
+        (longest-above graph counts node count above (known-step known below)))
     | inr other ↦ search (rules, cases_lt, get_or-set_other)
   ]
     where
       node : ℕ
       node = get_or clear place 0
 
-  few-above : (node count : ℕ) → AreFew counts place → (count ≡ 0) ⊎ ((k : ℕ) × (k < length (steps_of graph node)) × (count ≡ get_or counts (step_at graph node k) 0 + 1)) → count ≤ place + 1
+  few-above : (node count : ℕ) → AreFew counts place
+      → (count ≡ 0) ⊎ ((k : ℕ) × (k < length (steps_of graph node))
+      × (count ≡ get_or counts (step_at graph node k) 0 + 1)) → count ≤ place + 1
   few-above node count few (inl e) = omega arith
   few-above node count few (inr (k, within, e)) = omega (arith, few (step_at graph node k), e)
 
-  pub few-more : (count : ℕ) → length counts ≡ length graph → place < length clear → AreFew counts place → IsOneMore graph counts (get_or clear place 0) count
+  pub few-more : (count : ℕ) → length counts ≡ length graph → place < length clear → AreFew counts place
+      → IsOneMore graph counts (get_or clear place 0) count
       → AreFew (set counts (get_or clear place 0) count) (place + 1)
   few-more count long below few above n = elim (at_set counts (get_or clear place 0) n count 0 (in-counts long below)) [
     | inl same ↦ omega (arith, same.1, few-above (get_or clear place 0) count few above.tight)
     | inr other ↦ omega (arith, other.1, few n)
   ]
 
-  pub known-all : length clear ≤ place → KnownUpTo graph clear counts place → AreLongest graph clear (λ node. get_or counts node 0)
+  pub known-all : length clear ≤ place → KnownUpTo graph clear counts place
+      → AreLongest graph clear (λ node. get_or counts node 0)
   known-all over known node (k, w, e) =
       let same : get_or clear k 0 ≡ node = get_or_default clear k 0 node w ∙ e in
       let P : ℕ → Type 0 = λ n. IsLongest graph n (get_or counts n 0) in
       subst P same (known k (omega arith))
 
 -- a row that goes on where some steps lead
-pub row-after : (graph : Graph) (k n from to : ℕ) → Leads graph k from to → HasRow graph to n → HasRow graph from (k + n)
+pub row-after : (graph : Graph) (k n from to : ℕ) → Leads graph k from to → HasRow graph to n
+    → HasRow graph from (k + n)
 row-after graph zero n from to same row = search (rules)
 row-after graph (suc k) n from to (next, step, led) row =
     let P : ℕ → Type 0 = λ m. HasRow graph from m in

@@ -20,11 +20,13 @@ pub record AreEnds (steps ends : List ℕ) : Type 0 where
   pub last : begin_of ends (length ends) ≡ length steps
   pub in_order : CutsInOrder steps ends
 
-pub ends-more : (steps row ends : List ℕ) → AreEnds steps ends → AreEnds (steps ++ row) (ends ++ length (steps ++ row) ∷ [])
+pub ends-more : (steps row ends : List ℕ) → AreEnds steps ends
+    → AreEnds (steps ++ row) (ends ++ length (steps ++ row) ∷ [])
 ends-more steps row ends h =
     grind (arith, common_steps, length-append, length_push, get_or_push, get_or_append_left, at_push)
 
-pub packs-more : (graph : Graph) (steps ends : List ℕ) (node : ℕ) → node < length graph → PacksUpTo graph steps ends node
+pub packs-more : (graph : Graph) (steps ends : List ℕ) (node : ℕ) → node < length graph
+    → PacksUpTo graph steps ends node
     → PacksUpTo graph (steps ++ get_or graph node []) (ends ++ length (steps ++ get_or graph node []) ∷ []) (node + 1)
 packs-more graph steps ends node below h =
     let row = get_or graph node [] in
@@ -38,9 +40,12 @@ packs-more graph steps ends node below h =
     }
 
 -- one more step of a row
-pub row-more : (steps all row : List ℕ) (k : ℕ) → k < length row → all ≡ steps ++ take k row → all ++ get_or row k 0 ∷ [] ≡ steps ++ take (k + 1) row
+pub row-more : (steps all row : List ℕ) (k : ℕ) → k < length row → all ≡ steps ++ take k row
+    → all ++ get_or row k 0 ∷ [] ≡ steps ++ take (k + 1) row
 row-more steps all row k below is = search (rules, append_assoc, take_more)
 
 -- one more step that leads to a node
-pub leads-more : (steps : List ℕ) (to nodes : ℕ) → LeadsBelow steps nodes → to < nodes → LeadsBelow (steps ++ to ∷ []) nodes
-leads-more steps to nodes leads below k within = elim (at_push steps k to 0 within) [ inl last ↦ rw last.1 below | inr before ↦ rw before.1 (leads k before.0) ]
+pub leads-more : (steps : List ℕ) (to nodes : ℕ) → LeadsBelow steps nodes → to < nodes
+    → LeadsBelow (steps ++ to ∷ []) nodes
+leads-more steps to nodes leads below k within =
+    elim (at_push steps k to 0 within) [ inl last ↦ rw last.1 below | inr before ↦ rw before.1 (leads k before.0) ]

@@ -41,7 +41,8 @@ module _ (entry : Facts) (untyped : is_type_tag entry.tag ≡ false) where
 
 -- a child is among the children
 
-kept-more : (p : ℕ → Bool) (y : ℕ) (xs : List ℕ) (x : ℕ) (b : Bool) → p y ≡ b → Contains (filter p xs) x → Contains (filter p (y ∷ xs)) x
+kept-more : (p : ℕ → Bool) (y : ℕ) (xs : List ℕ) (x : ℕ) (b : Bool) → p y ≡ b → Contains (filter p xs) x
+    → Contains (filter p (y ∷ xs)) x
 kept-more p y xs x true same rest = let inside = rest.1 in rw same (suc rest.0, (omega arith), rest.2)
 kept-more p y xs x false same rest = rw same rest
 
@@ -50,7 +51,8 @@ kept p [] x (k, below, is) passes = absurd (omega arith)
 kept p (y ∷ xs) x (zero, below, is) passes = let same : p y ≡ true = ap p is ∙ passes in rw same (0, (omega arith), is)
 kept p (y ∷ xs) x (suc k, below, is) passes = kept-more p y xs x (p y) refl (kept p xs x (k, (omega arith), is) passes)
 
-pub child-in : (entries : List Facts) (parent child : ℕ) → IsChildOf entries parent child → Contains (children entries parent) child
+pub child-in : (entries : List Facts) (parent child : ℕ) → IsChildOf entries parent child
+    → Contains (children entries parent) child
 child-in entries parent child h =
     let inside = h.inside in
     let long = length-range_with_len 0 (length entries) in
@@ -71,7 +73,9 @@ pub plain-other : (role : Role) (entry : Facts) → is_members role ≡ false �
 plain-other role entry other = and_right (nat_eq entry.tag DW_TAG_member && not entry.declared) (is_members role) other
 
 pub counted-other : (role : Role) (entry : Facts) → is_dimensions role ≡ false → has_bad_count role entry ≡ false
-counted-other role entry other = let dimension : is_dimension role entry ≡ false = and_right (is_subrange_tag entry.tag) (is_dimensions role) other in rw dimension refl
+counted-other role entry other =
+    let dimension : is_dimension role entry
+    ≡ false = and_right (is_subrange_tag entry.tag) (is_dimensions role) other in rw dimension refl
 
 pub members-role : (entry : Facts) → has_members entry ≡ true → role_of entry ≡ Members
 members-role entry is = rw is refl

@@ -38,7 +38,8 @@ past-same : (n : ℕ) (start : ℤ) (k : ℕ) → n < 2 ^ 63 → end_past n star
 past-same n (pos start) k small = grind arith
 past-same n (negsuc start) k small = refl
 
-bytes-same : (n : ℕ) (start : Option ℤ) (size : Size) → n < 2 ^ 63 → bytes_end_past n start (cap_size (2 ^ 63) size) ≡ bytes_end_past n start size
+bytes-same : (n : ℕ) (start : Option ℤ) (size : Size) → n < 2 ^ 63
+    → bytes_end_past n start (cap_size (2 ^ 63) size) ≡ bytes_end_past n start size
 bytes-same n None size small = refl
 bytes-same n (Some start) None small = refl
 bytes-same n (Some start) (Some k) small = past-same n start k small
@@ -55,14 +56,16 @@ cap-small : (size : Size) → is_too_great size ≡ false → cap_size (2 ^ 63) 
 cap-small None small = refl
 cap-small (Some n) small = let below : n < 2 ^ 63 = grind arith in ap Some (omega arith)
 
-ends-same : (own : Size) (member : Facts) (size : Size) → is_too_great own ≡ false → ends_past_container own member (cap_size (2 ^ 63) size) ≡ ends_past_container own member size
+ends-same : (own : Size) (member : Facts) (size : Size) → is_too_great own ≡ false
+    → ends_past_container own member (cap_size (2 ^ 63) size) ≡ ends_past_container own member size
 ends-same None member size small = refl
 ends-same (Some n) member size small = search (rules, if-same, bytes-same)
 
 enumeration-kind : (entry : Facts) → is_enumeration entry ≡ true → kind_of entry ≡ Enumeration
 enumeration-kind entry is = grind arith
 
-constant-small : (constant : Constant) (other : Size) → is_too_great (constant_or constant other) ≡ false → is_too_great (natural_of constant) ≡ false
+constant-small : (constant : Constant) (other : Size) → is_too_great (constant_or constant other) ≡ false
+    → is_too_great (natural_of constant) ≡ false
 constant-small Absent other small = refl
 constant-small NotNumber other small = refl
 constant-small (Unsigned n) other small = small
@@ -73,83 +76,109 @@ and-same true a b same = same refl
 and-same false a b same = refl
 
 -- a rule on sizes that is broken has one of four numbers
-number-few : (parent : Role) (entry : Facts) (size container type_size : Size) (rule : Rule) → breaks_size parent entry size container type_size rule ≡ true → number_of rule ≤ 4
+number-few : (parent : Role) (entry : Facts) (size container type_size : Size) (rule : Rule)
+    → breaks_size parent entry size container type_size rule ≡ true → number_of rule ≤ 4
 number-few parent entry size container type_size NoSize breaks = omega arith
 number-few parent entry size container type_size SizeTooGreat breaks = omega arith
 number-few parent entry size container type_size MemberOutside breaks = omega arith
 number-few parent entry size container type_size EnumSize breaks = omega arith
 number-few parent entry size container type_size _ breaks = absurd cc
 
-module _ (entries : List Facts) (parents : ParentsComeFirst entries) (targets : TargetsAreEntries entries) (exact found : ℕ → Size) (obeys : ObeysSizeLines entries exact)
+module _ (entries : List Facts) (parents : ParentsComeFirst entries) (targets : TargetsAreEntries entries)
+    (exact found : ℕ → Size) (obeys : ObeysSizeLines entries exact)
     (caps : (node : ℕ) → node < length entries → found node ≡ cap_size (2 ^ 63) (exact node)) where
   -- the same entries have a size that is too great
   great-at : (node : ℕ) → node < length entries → is_too_great (found node) ≡ is_too_great (exact node)
   great-at node below = ap is_too_great (caps node below) ∙ great-same (exact node)
 
-  to-found : (target : Option ℕ) → ((to : ℕ) → target ≡ Some to → to < length entries) → size_to found target ≡ cap_size (2 ^ 63) (size_to exact target)
+  to-found : (target : Option ℕ) → ((to : ℕ) → target ≡ Some to → to < length entries)
+      → size_to found target ≡ cap_size (2 ^ 63) (size_to exact target)
   to-found None inside = refl
   to-found (Some to) inside = caps to (inside to refl)
 
   abbrev pub NoneGreatBefore : ℕ → Type 0
   NoneGreatBefore node = (k : ℕ) → k < node → is_too_great (exact k) ≡ false
 
-  parent-small : (node : ℕ) → NoneGreatBefore node → (parent : Option ℕ) → ((p : ℕ) → parent ≡ Some p → p < node) → is_too_great (size_to exact parent) ≡ false
+  parent-small : (node : ℕ) → NoneGreatBefore node → (parent : Option ℕ) → ((p : ℕ) → parent ≡ Some p → p < node)
+      → is_too_great (size_to exact parent) ≡ false
   parent-small node none None before = refl
   parent-small node none (Some p) before = none p (before p refl)
 
   outside-same : (node : ℕ) → node < length entries → NoneGreatBefore node
-      → is_outside (parent_role entries node) (entry_of entries node) (size_to found (entry_of entries node).parent) (size_to found (entry_of entries node).type_target)
-      ≡ is_outside (parent_role entries node) (entry_of entries node) (size_to exact (entry_of entries node).parent) (size_to exact (entry_of entries node).type_target)
+      → is_outside (parent_role entries node) (entry_of entries node) (size_to found (entry_of entries node).parent)
+      (size_to found (entry_of entries node).type_target)
+      ≡ is_outside (parent_role entries node) (entry_of entries node) (size_to exact (entry_of entries node).parent)
+      (size_to exact (entry_of entries node).type_target)
   outside-same node below none =
       let member = entry_of entries node in
       let small = parent-small node none member.parent (parents node) in
       let container : size_to found member.parent ≡ size_to exact member.parent =
-      to-found member.parent (λ p is. let before = parents node p is in omega arith) ∙ cap-small (size_to exact member.parent) small in
+      to-found member.parent (λ p is. let before = parents node p is in omega arith)
+      ∙ cap-small (size_to exact member.parent) small in
       let type = to-found member.type_target (λ to is. (targets node to).0 is) in
-      rw (container, type) (ap (λ (b : Bool). is_plain (parent_role entries node) member && b) (ends-same (size_to exact member.parent) member (size_to exact member.type_target) small))
+      rw (container, type) (ap (λ (b : Bool). is_plain (parent_role entries node) member && b)
+      (ends-same (size_to exact member.parent) member (size_to exact member.type_target) small))
 
   wrong-same : (node : ℕ) → node < length entries → is_too_great (exact node) ≡ false
-      → has_wrong_size (entry_of entries node) (size_to found (entry_of entries node).type_target) ≡ has_wrong_size (entry_of entries node) (size_to exact (entry_of entries node).type_target)
+      → has_wrong_size (entry_of entries node) (size_to found (entry_of entries node).type_target)
+      ≡ has_wrong_size (entry_of entries node) (size_to exact (entry_of entries node).type_target)
   wrong-same node below small =
       let entry = entry_of entries node in
       and-same (is_enumeration entry) _ _ (λ is.
-      let line : exact node ≡ constant_or (byte_size entry) (size_to exact entry.type_target) = obeys node below ∙ ap (λ (kind : Kind). size_of_kind kind entries exact node) (enumeration-kind entry is) in
+      let line : exact node ≡ constant_or (byte_size entry) (size_to exact entry.type_target) = obeys node below
+      ∙ ap (λ (kind : Kind). size_of_kind kind entries exact node) (enumeration-kind entry is) in
       let own = constant-small (byte_size entry) (size_to exact entry.type_target) (rw line at small) in
-      ap (λ (b : Bool). (not (is_present (byte_size entry)) && (not (is_some entry.type_target) && stands_alone entry)) || b)
-      (ap (differ (natural_of (byte_size entry))) (to-found entry.type_target (λ to target. (targets node to).0 target)) ∙ differ-same (natural_of (byte_size entry)) (size_to exact entry.type_target) own))
+      ap (λ (b : Bool). (not (is_present (byte_size entry)) && (not (is_some entry.type_target) && stands_alone entry))
+      || b)
+      (ap (differ (natural_of (byte_size entry))) (to-found entry.type_target (λ to target. (targets node to).0 target))
+      ∙ differ-same (natural_of (byte_size entry)) (size_to exact entry.type_target) own))
 
-  fails-same : (node : ℕ) → node < length entries → NoneGreatBefore node → (rule : Rule) → (rule ≡ EnumSize → is_too_great (exact node) ≡ false)
+  fails-same : (node : ℕ) → node < length entries → NoneGreatBefore node → (rule : Rule)
+      → (rule ≡ EnumSize → is_too_great (exact node) ≡ false)
       → fails_size entries found node rule ≡ fails_size entries exact node rule
   fails-same node below none SizeTooGreat small = great-at node below
   fails-same node below none MemberOutside small = outside-same node below none
   fails-same node below none EnumSize small = wrong-same node below (small refl)
   fails-same node below none _ small = refl
 
-  not-great : (node : ℕ) → node < length entries → ¬ (fails_size entries found node SizeTooGreat ≡ true) → is_too_great (exact node) ≡ false
+  not-great : (node : ℕ) → node < length entries → ¬ (fails_size entries found node SizeTooGreat ≡ true)
+      → is_too_great (exact node) ≡ false
   not-great node below never = sym (great-at node below) ∙ false_from_ne_true (is_too_great (found node)) never
 
   -- the first entry that breaks a rule by the capped sizes is the first by the sizes
-  pub first-same : (node : ℕ) (rule : Rule) → IsFirstAt entries (fails_size entries found) node rule → IsFirstAt entries (fails_size entries exact) node rule
+  pub first-same : (node : ℕ) (rule : Rule) → IsFirstAt entries (fails_size entries found) node rule
+      → IsFirstAt entries (fails_size entries exact) node rule
   first-same node rule h =
       let inside : node < length entries = h.inside in
       let none : NoneGreatBefore node = λ k earlier. not-great k (omega arith) (h.before k earlier SizeTooGreat) in
       record {
         inside = h.inside;
-        breaks = sym (fails-same node inside none rule (λ is. not-great node inside (λ great. h.least SizeTooGreat great (rw is (omega arith))))) ∙ h.breaks;
-        least = λ other fails lower. h.least other (fails-same node inside none other (λ is. absurd (let few = number-few (parent_role entries node) (entry_of entries node) (found node) (size_to found (entry_of entries node).parent) (size_to found (entry_of entries node).type_target) rule h.breaks in let more : 4 < number_of rule = rw is at lower in omega arith)) ∙ fails) lower;
-        before = λ earlier lt other fails. h.before earlier lt other (fails-same earlier (omega arith) (λ k before. none k (omega arith)) other (λ is. none earlier lt) ∙ fails);
+        breaks =
+            sym (fails-same node inside none rule
+            (λ is. not-great node inside (λ great. h.least SizeTooGreat great (rw is (omega arith))))) ∙ h.breaks;
+        least =
+            λ other fails lower. h.least other
+            (fails-same node inside none other
+            (λ is. absurd (let few = number-few (parent_role entries node) (entry_of entries node) (found node)
+            (size_to found (entry_of entries node).parent) (size_to found (entry_of entries node).type_target) rule
+            h.breaks in let more : 4 < number_of rule = rw is at lower in omega arith)) ∙ fails) lower;
+        before =
+            λ earlier lt other fails. h.before earlier lt other
+            (fails-same earlier (omega arith) (λ k before. none k (omega arith)) other (λ is. none earlier lt) ∙ fails);
       }
 
 -- an entry that has a size reads no negative byte size, and where it has no byte size it wants none
 
-natural-own : (constant : Constant) (n : ℕ) → natural_of constant ≡ Some n → (is_present constant ≡ true) × (is_negative constant ≡ false)
+natural-own : (constant : Constant) (n : ℕ) → natural_of constant ≡ Some n
+    → (is_present constant ≡ true) × (is_negative constant ≡ false)
 natural-own Absent n is = absurd cc
 natural-own NotNumber n is = absurd cc
 natural-own (Unsigned m) n is = (refl, refl)
 natural-own (Signed (pos m)) n is = (refl, refl)
 natural-own (Signed (negsuc m)) n is = absurd cc
 
-not-negative : (constant : Constant) (other : Size) (n : ℕ) → constant_or constant other ≡ Some n → is_negative constant ≡ false
+not-negative : (constant : Constant) (other : Size) (n : ℕ) → constant_or constant other ≡ Some n
+    → is_negative constant ≡ false
 not-negative (Signed (negsuc m)) other n is = absurd cc
 not-negative (Signed (pos m)) other n is = refl
 not-negative _ other n is = refl
@@ -165,14 +194,17 @@ times-some (Some a) b n is = (a, refl)
 kind-wants : (entry : Facts) → (kind_of entry ≡ OwnSized → ⊥) → (kind_of entry ≡ Array → ⊥) → wants_own entry ≡ false
 kind-wants entry own array = search (rules)
 
-array-wants : (entry : Facts) → kind_of entry ≡ Array → is_negative (constant entry DW_AT_byte_stride) ≡ false → wants_own entry ≡ false
+array-wants : (entry : Facts) → kind_of entry ≡ Array → is_negative (constant entry DW_AT_byte_stride) ≡ false
+    → wants_own entry ≡ false
 array-wants entry is stride = search (rules)
 
 -- with a byte size of its own, or by other sizes where nothing is wanted
-own-part : (entry : Facts) (other : Size) (n : ℕ) → constant_or (byte_size entry) other ≡ Some n → (other ≡ Some n → wants_own entry ≡ false) → has_no_size entry ≡ false
+own-part : (entry : Facts) (other : Size) (n : ℕ) → constant_or (byte_size entry) other ≡ Some n
+    → (other ≡ Some n → wants_own entry ≡ false) → has_no_size entry ≡ false
 own-part entry other n is wants = search (rules)
 
-sized-kind : (entries : List Facts) (table : ℕ → Size) (node : ℕ) (kind : Kind) → kind_of (entry_of entries node) ≡ kind → (n : ℕ) → size_of_kind kind entries table node ≡ Some n
+sized-kind : (entries : List Facts) (table : ℕ → Size) (node : ℕ) (kind : Kind) → kind_of (entry_of entries node) ≡ kind
+    → (n : ℕ) → size_of_kind kind entries table node ≡ Some n
     → has_no_size (entry_of entries node) ≡ false
 sized-kind entries table node Declared is n sized = search (rules, kind-wants)
 sized-kind entries table node OwnSized is n sized = search (rules, natural-own)
@@ -184,18 +216,24 @@ sized-kind entries table node Array is n sized =
 sized-kind entries table node Subroutine is n sized = absurd cc
 sized-kind entries table node NoType is n sized = absurd cc
 
-cap-some : {P : Type 0} (line found : Size) → found ≡ cap_size (2 ^ 63) line → ((n : ℕ) → line ≡ Some n → P) → IfSome found (λ _. P)
+cap-some : {P : Type 0} (line found : Size) → found ≡ cap_size (2 ^ 63) line → ((n : ℕ) → line ≡ Some n → P)
+    → IfSome found (λ _. P)
 cap-some None found is holds = rw is tt
 cap-some (Some n) found is holds = rw is (holds n refl)
 
 -- so the capped size of an entry tells whether its byte size is not to be asked again
-pub sized-line : (entries : List Facts) (table : ℕ → Size) (node : ℕ) (size : Size) → size ≡ cap_size (2 ^ 63) (size_line entries table node) → IfSome size (λ _. has_no_size (entry_of entries node) ≡ false)
-sized-line entries table node size is = cap-some (size_line entries table node) size is (λ n sized. sized-kind entries table node (kind_of (entry_of entries node)) refl n sized)
+pub sized-line : (entries : List Facts) (table : ℕ → Size) (node : ℕ) (size : Size)
+    → size ≡ cap_size (2 ^ 63) (size_line entries table node)
+    → IfSome size (λ _. has_no_size (entry_of entries node) ≡ false)
+sized-line entries table node size is =
+    cap-some (size_line entries table node) size is
+    (λ n sized. sized-kind entries table node (kind_of (entry_of entries node)) refl n sized)
 
 below-limit : (size : Size) (n : ℕ) → is_too_great size ≡ false → size ≡ Some n → n < 2 ^ 63
 below-limit size n small is = let e : is_too_great (Some n) ≡ false = rw is at small in grind arith
 
-module _ (entries : List Facts) (targets : TargetsAreEntries entries) (ranks : List ℕ) (falls : FallsAlong (by_value entries) ranks) where
+module _ (entries : List Facts) (targets : TargetsAreEntries entries) (ranks : List ℕ)
+    (falls : FallsAlong (by_value entries) ranks) where
   leads : LeadsToNodes (by_value entries)
   leads = by_value-leads entries targets
 
@@ -211,7 +249,8 @@ module _ (entries : List Facts) (targets : TargetsAreEntries entries) (ranks : L
     obeys = obeys;
     only = λ other right node below.
         only-one (by_value entries) ranks falls leads (size_line entries) (size_line-local entries) other table
-        (λ k within. right k (let long = length-by_value entries in omega arith)) (λ k within. obeys k (let long = length-by_value entries in omega arith)) node
+        (λ k within. right k (let long = length-by_value entries in omega arith))
+        (λ k within. obeys k (let long = length-by_value entries in omega arith)) node
         (let long = length-by_value entries in omega arith);
   }
 
@@ -219,27 +258,37 @@ module _ (entries : List Facts) (targets : TargetsAreEntries entries) (ranks : L
   exact-lines node below = exact-obeys node (let long = length-by_value entries in omega arith)
 
   -- the capped table has the capped sizes
-  found-caps : (found : ℕ → Size) → ObeysCappedLines entries found → (node : ℕ) → node < length entries → found node ≡ cap_size (2 ^ 63) (sizes_by_rank node)
+  found-caps : (found : ℕ → Size) → ObeysCappedLines entries found → (node : ℕ) → node < length entries
+      → found node ≡ cap_size (2 ^ 63) (sizes_by_rank node)
   found-caps found capped node below =
-      capped-table (by_value entries) ranks falls leads (size_line entries) (size_line-local entries) (2 ^ 63) (size_line-caps (2 ^ 63) entries) sizes_by_rank found exact-obeys
-      (λ k within. capped k (let long = length-by_value entries in omega arith)) node (let long = length-by_value entries in omega arith)
+      capped-table (by_value entries) ranks falls leads (size_line entries) (size_line-local entries) (2 ^ 63)
+      (size_line-caps (2 ^ 63) entries) sizes_by_rank found exact-obeys
+      (λ k within. capped k (let long = length-by_value entries in omega arith)) node
+      (let long = length-by_value entries in omega arith)
 
   -- where no size is too great, the capped table is the table
-  pub found-is_table : (found : ℕ → Size) → ObeysCappedLines entries found → PassAll entries (fails_size entries found) → IsSizeTable entries found
+  pub found-is_table : (found : ℕ → Size) → ObeysCappedLines entries found → PassAll entries (fails_size entries found)
+      → IsSizeTable entries found
   found-is_table found capped pass =
       is-size_table found (λ node below.
-      same-obeys (by_value entries) ranks falls leads (size_line entries) (size_line-local entries) sizes_by_rank found exact-obeys
+      same-obeys (by_value entries) ranks falls leads (size_line entries) (size_line-local entries) sizes_by_rank found
+      exact-obeys
       (λ k within.
       let inside : k < length entries = let long = length-by_value entries in omega arith in
       let small = false_from_ne_true (is_too_great (found k)) (pass k inside SizeTooGreat) in
-      uncapped (2 ^ 63) (found k) (sizes_by_rank k) (found-caps found capped k inside) (λ n is. below-limit (found k) n small is))
+      uncapped (2 ^ 63) (found k) (sizes_by_rank k) (found-caps found capped k inside)
+      (λ n is. below-limit (found k) n small is))
       node (let long = length-by_value entries in omega arith))
 
   -- the first entry that breaks a rule by the capped table has the first failure
-  pub first-is_first : ParentsComeFirst entries → OffsetsRise entries → (found : ℕ → Size) → ObeysCappedLines entries found → (node : ℕ) (rule : Rule)
-      → IsFirstAt entries (fails_size entries found) node rule → IsFirstSizeFault entries (broken_at rule (entry_of entries node).offset)
+  pub first-is_first : ParentsComeFirst entries → OffsetsRise entries → (found : ℕ → Size)
+      → ObeysCappedLines entries found → (node : ℕ) (rule : Rule)
+      → IsFirstAt entries (fails_size entries found) node rule
+      → IsFirstSizeFault entries (broken_at rule (entry_of entries node).offset)
   first-is_first parents rise found capped node rule first = record {
     table = sizes_by_rank;
     is_table = is-size_table sizes_by_rank exact-lines;
-    first = first-of_entries entries rise (fails_size entries sizes_by_rank) node rule (first-same entries parents targets sizes_by_rank found exact-lines (found-caps found capped) node rule first);
+    first =
+        first-of_entries entries rise (fails_size entries sizes_by_rank) node rule
+        (first-same entries parents targets sizes_by_rank found exact-lines (found-caps found capped) node rule first);
   }

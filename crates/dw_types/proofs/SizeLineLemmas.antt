@@ -29,28 +29,42 @@ pub declared-is : (entry : Facts) → kind_of entry ≡ Declared → is_declared
 declared-is entry is = search (rules)
 
 -- the sizes at a target are the same, where a target that there is is a step
-pub to-same : (table other : ℕ → Size) (target : Option ℕ) → ((to : ℕ) → target ≡ Some to → table to ≡ other to) → size_to table target ≡ size_to other target
+pub to-same : (table other : ℕ → Size) (target : Option ℕ) → ((to : ℕ) → target ≡ Some to → table to ≡ other to)
+    → size_to table target ≡ size_to other target
 to-same table other None same = refl
 to-same table other (Some to) same = same to refl
 
 module _ (entries : List Facts) where
-  at-step : (table other : ℕ → Size) (node to : ℕ) → SameAtSteps (by_value entries) table other node → IsStep (by_value entries) node to → table to ≡ other to
+  at-step : (table other : ℕ → Size) (node to : ℕ) → SameAtSteps (by_value entries) table other node
+      → IsStep (by_value entries) node to → table to ≡ other to
   at-step table other node to same (k, below, is) = rw is at (same k below)
 
-  by-kind : (table other : ℕ → Size) (node : ℕ) (kind : Kind) → kind_of (entry_of entries node) ≡ kind → SameAtSteps (by_value entries) table other node
+  by-kind : (table other : ℕ → Size) (node : ℕ) (kind : Kind) → kind_of (entry_of entries node) ≡ kind
+      → SameAtSteps (by_value entries) table other node
       → size_of_kind kind entries table node ≡ size_of_kind kind entries other node
   by-kind table other node Declared is same =
-      to-same table other (entry_of entries node).signature_target (λ to target. at-step table other node to same (step-from_by_value entries node to (by_signature (declared-is (entry_of entries node) is) target)))
+      to-same table other (entry_of entries node).signature_target
+      (λ to target. at-step table other node to same
+      (step-from_by_value entries node to (by_signature (declared-is (entry_of entries node) is) target)))
   by-kind table other node OwnSized is same = refl
   by-kind table other node Pointer is same = refl
   by-kind table other node Alias is same =
-      to-same table other (entry_of entries node).type_target (λ to target. at-step table other node to same (step-from_by_value entries node to (by_type (alias-passes (entry_of entries node) is) target)))
+      to-same table other (entry_of entries node).type_target
+      (λ to target. at-step table other node to same
+      (step-from_by_value entries node to (by_type (alias-passes (entry_of entries node) is) target)))
   by-kind table other node Enumeration is same =
       ap (constant_or (byte_size (entry_of entries node)))
-      (to-same table other (entry_of entries node).type_target (λ to target. at-step table other node to same (step-from_by_value entries node to (by_type (enumeration-passes (entry_of entries node) is) target))))
+      (to-same table other (entry_of entries node).type_target
+      (λ to target. at-step table other node to same
+      (step-from_by_value entries node to (by_type (enumeration-passes (entry_of entries node) is) target))))
   by-kind table other node Array is same =
-      let e = to-same table other (entry_of entries node).type_target (λ to target. at-step table other node to same (step-from_by_value entries node to (by_type (array-passes (entry_of entries node) is) target))) in
-      ap (λ (size : Size). constant_or (byte_size (entry_of entries node)) (if is_present (constant (entry_of entries node) DW_AT_bit_stride) then None else times (constant_or (constant (entry_of entries node) DW_AT_byte_stride) size) (element_count (parts_of entries node)))) e
+      let e = to-same table other (entry_of entries node).type_target
+      (λ to target. at-step table other node to same
+      (step-from_by_value entries node to (by_type (array-passes (entry_of entries node) is) target))) in
+      ap (λ (size : Size). constant_or (byte_size (entry_of entries node))
+      (if is_present (constant (entry_of entries node) DW_AT_bit_stride) then None else times
+      (constant_or (constant (entry_of entries node) DW_AT_byte_stride) size)
+      (element_count (parts_of entries node)))) e
   by-kind table other node Subroutine is same = refl
   by-kind table other node NoType is same = refl
 
@@ -64,51 +78,62 @@ cap-twice : (limit : ℕ) (size : Size) → cap_size limit (cap_size limit size)
 cap-twice limit None = refl
 cap-twice limit (Some n) = ap Some (omega arith)
 
-cap-to : (limit : ℕ) (table : ℕ → Size) (target : Option ℕ) → cap_size limit (size_to table target) ≡ cap_size limit (size_to (λ n. cap_size limit (table n)) target)
+cap-to : (limit : ℕ) (table : ℕ → Size) (target : Option ℕ)
+    → cap_size limit (size_to table target) ≡ cap_size limit (size_to (λ n. cap_size limit (table n)) target)
 cap-to limit table None = refl
 cap-to limit table (Some to) = sym (cap-twice limit (table to))
 
-cap-constant : (limit : ℕ) (constant : Constant) (a b : Size) → cap_size limit a ≡ cap_size limit b → cap_size limit (constant_or constant a) ≡ cap_size limit (constant_or constant b)
+cap-constant : (limit : ℕ) (constant : Constant) (a b : Size) → cap_size limit a ≡ cap_size limit b
+    → cap_size limit (constant_or constant a) ≡ cap_size limit (constant_or constant b)
 cap-constant limit Absent a b same = same
 cap-constant limit NotNumber a b same = refl
 cap-constant limit (Unsigned n) a b same = refl
 cap-constant limit (Signed n) a b same = refl
 
 cap-factor : (limit a b p : ℕ) → min limit a ≡ min limit b → min limit (a * p) ≡ min limit (b * p)
-cap-factor limit a b p same = cap-product limit a p ∙ (ap (λ (n : ℕ). min limit (n * p)) same ∙ sym (cap-product limit b p))
+cap-factor limit a b p same =
+    cap-product limit a p ∙ (ap (λ (n : ℕ). min limit (n * p)) same ∙ sym (cap-product limit b p))
 
-cap-times : (limit : ℕ) (a b p : Size) → cap_size limit a ≡ cap_size limit b → cap_size limit (times a p) ≡ cap_size limit (times b p)
+cap-times : (limit : ℕ) (a b p : Size) → cap_size limit a ≡ cap_size limit b
+    → cap_size limit (times a p) ≡ cap_size limit (times b p)
 cap-times limit None None p same = refl
 cap-times limit None (Some b) p same = cc
 cap-times limit (Some a) None p same = cc
 cap-times limit (Some a) (Some b) None same = refl
-cap-times limit (Some a) (Some b) (Some p) same = let e : min limit a ≡ min limit b = cc in ap Some (cap-factor limit a b p e)
+cap-times limit (Some a) (Some b) (Some p) same =
+    let e : min limit a ≡ min limit b = cc in ap Some (cap-factor limit a b p e)
 
-cap-if : (limit : ℕ) (test : Bool) (a b : Size) → cap_size limit a ≡ cap_size limit b → cap_size limit (if test then None else a) ≡ cap_size limit (if test then None else b)
+cap-if : (limit : ℕ) (test : Bool) (a b : Size) → cap_size limit a ≡ cap_size limit b
+    → cap_size limit (if test then None else a) ≡ cap_size limit (if test then None else b)
 cap-if limit true a b same = refl
 cap-if limit false a b same = same
 
 cap-kind : (limit : ℕ) (entries : List Facts) (table : ℕ → Size) (node : ℕ) (kind : Kind)
-    → cap_size limit (size_of_kind kind entries table node) ≡ cap_size limit (size_of_kind kind entries (λ n. cap_size limit (table n)) node)
+    → cap_size limit (size_of_kind kind entries table node)
+    ≡ cap_size limit (size_of_kind kind entries (λ n. cap_size limit (table n)) node)
 cap-kind limit entries table node Declared = cap-to limit table (entry_of entries node).signature_target
 cap-kind limit entries table node OwnSized = refl
 cap-kind limit entries table node Pointer = refl
 cap-kind limit entries table node Alias = cap-to limit table (entry_of entries node).type_target
-cap-kind limit entries table node Enumeration = cap-constant limit (byte_size (entry_of entries node)) _ _ (cap-to limit table (entry_of entries node).type_target)
+cap-kind limit entries table node Enumeration =
+    cap-constant limit (byte_size (entry_of entries node)) _ _ (cap-to limit table (entry_of entries node).type_target)
 cap-kind limit entries table node Array = search (rules, cap-constant, cap-if, cap-times, cap-to)
 cap-kind limit entries table node Subroutine = refl
 cap-kind limit entries table node NoType = refl
 
 -- a capped line may take capped sizes
 pub size_line-caps : (limit : ℕ) (entries : List Facts) (table : ℕ → Size) (node : ℕ)
-    → cap_size limit (size_line entries table node) ≡ cap_size limit (size_line entries (λ n. cap_size limit (table n)) node)
+    → cap_size limit (size_line entries table node)
+    ≡ cap_size limit (size_line entries (λ n. cap_size limit (table n)) node)
 size_line-caps limit entries table node = cap-kind limit entries table node (kind_of (entry_of entries node))
 
 -- a target is a place of a table of all entries
-pub type-in : (entries : List Facts) (sizes : List Size) (node : ℕ) → TargetsAreEntries entries → length sizes ≡ length entries → (to : ℕ) → (entry_of entries node).type_target ≡ Some to → to < length sizes
+pub type-in : (entries : List Facts) (sizes : List Size) (node : ℕ) → TargetsAreEntries entries
+    → length sizes ≡ length entries → (to : ℕ) → (entry_of entries node).type_target ≡ Some to → to < length sizes
 type-in entries sizes node targets long to is = let below = (targets node to).0 is in omega arith
 
-pub signature-in : (entries : List Facts) (sizes : List Size) (node : ℕ) → TargetsAreEntries entries → length sizes ≡ length entries → (to : ℕ) → (entry_of entries node).signature_target ≡ Some to → to < length sizes
+pub signature-in : (entries : List Facts) (sizes : List Size) (node : ℕ) → TargetsAreEntries entries
+    → length sizes ≡ length entries → (to : ℕ) → (entry_of entries node).signature_target ≡ Some to → to < length sizes
 signature-in entries sizes node targets long to is = let below = (targets node to).1 is in omega arith
 
 -- the capped lines
@@ -116,4 +141,5 @@ abbrev pub capped_line : List Facts → Lines
 capped_line entries table node = cap_size (2 ^ 63) (size_line entries table node)
 
 pub capped_line-local : (entries : List Facts) → IsLocal (by_value entries) (capped_line entries)
-capped_line-local entries table other node in_graph same = ap (cap_size (2 ^ 63)) (size_line-local entries table other node in_graph same)
+capped_line-local entries table other node in_graph same =
+    ap (cap_size (2 ^ 63)) (size_line-local entries table other node in_graph same)

@@ -10,10 +10,13 @@ abbrev pub Lines : Type 0
 Lines = (ℕ → Size) → ℕ → Size
 
 abbrev pub SameAtSteps : Graph → (ℕ → Size) → (ℕ → Size) → ℕ → Type 0
-SameAtSteps graph table other node = (k : ℕ) → k < length (steps_of graph node) → table (step_at graph node k) ≡ other (step_at graph node k)
+SameAtSteps graph table other node =
+    (k : ℕ) → k < length (steps_of graph node) → table (step_at graph node k) ≡ other (step_at graph node k)
 
 abbrev pub IsLocal : Graph → Lines → Type 0
-IsLocal graph line = (table other : ℕ → Size) (node : ℕ) → node < length graph → SameAtSteps graph table other node → line table node ≡ line other node
+IsLocal graph line =
+    (table other : ℕ → Size) (node : ℕ) → node < length graph → SameAtSteps graph table other node
+    → line table node ≡ line other node
 
 abbrev pub ObeysLines : Graph → Lines → (ℕ → Size) → Type 0
 ObeysLines graph line table = (node : ℕ) → node < length graph → table node ≡ line table node
@@ -31,7 +34,8 @@ abbrev pub size_by_rank : Lines → List ℕ → ℕ → Size
 size_by_rank line ranks node = size_by line (suc (get_or ranks node 0)) node
 
 module _ (graph : Graph) (ranks : List ℕ) (falls : FallsAlong graph ranks) (leads : LeadsToNodes graph) where
-  below-same : (line : Lines) → IsLocal graph line → (table other : ℕ → Size) → ObeysLines graph line table → ObeysLines graph line other
+  below-same : (line : Lines) → IsLocal graph line → (table other : ℕ → Size) → ObeysLines graph line table
+      → ObeysLines graph line other
       → (bound node : ℕ) → node < length graph → get_or ranks node 0 < bound → table node ≡ other node
   below-same line local table other left right zero node in_graph below = absurd (omega arith)
   below-same line local table other left right (suc bound) node in_graph below =
@@ -42,10 +46,13 @@ module _ (graph : Graph) (ranks : List ℕ) (falls : FallsAlong graph ranks) (le
       ∙ sym (right node in_graph))
 
   -- two tables that obey the lines are the same
-  pub only-one : (line : Lines) → IsLocal graph line → (table other : ℕ → Size) → ObeysLines graph line table → ObeysLines graph line other → SameAt graph table other
-  only-one line local table other left right node in_graph = below-same line local table other left right (suc (get_or ranks node 0)) node in_graph (omega arith)
+  pub only-one : (line : Lines) → IsLocal graph line → (table other : ℕ → Size) → ObeysLines graph line table
+      → ObeysLines graph line other → SameAt graph table other
+  only-one line local table other left right node in_graph =
+      below-same line local table other left right (suc (get_or ranks node 0)) node in_graph (omega arith)
 
-  uses-same : (line : Lines) → IsLocal graph line → (f g node : ℕ) → node < length graph → get_or ranks node 0 < f → get_or ranks node 0 < g → size_by line f node ≡ size_by line g node
+  uses-same : (line : Lines) → IsLocal graph line → (f g node : ℕ) → node < length graph → get_or ranks node 0 < f
+      → get_or ranks node 0 < g → size_by line f node ≡ size_by line g node
   uses-same line local zero g node in_graph left right = absurd (omega arith)
   uses-same line local (suc f) zero node in_graph left right = absurd (omega arith)
   uses-same line local (suc f) (suc g) node in_graph left right =
@@ -59,37 +66,50 @@ module _ (graph : Graph) (ranks : List ℕ) (falls : FallsAlong graph ranks) (le
 
   -- a table that obeys capped lines is the capped table
   pub capped-table : (line : Lines) → IsLocal graph line → (limit : ℕ)
-      → ((table : ℕ → Size) (node : ℕ) → cap_size limit (line table node) ≡ cap_size limit (line (λ n. cap_size limit (table n)) node))
-      → (exact found : ℕ → Size) → ObeysLines graph line exact → ObeysLines graph (λ table node. cap_size limit (line table node)) found
+      → ((table : ℕ → Size) (node : ℕ)
+      → cap_size limit (line table node) ≡ cap_size limit (line (λ n. cap_size limit (table n)) node))
+      → (exact found : ℕ → Size) → ObeysLines graph line exact
+      → ObeysLines graph (λ table node. cap_size limit (line table node)) found
       → SameAt graph found (λ node. cap_size limit (exact node))
   capped-table line local limit caps exact found left right =
       let capped : Lines = λ table node. cap_size limit (line table node) in
-      let capped_local : IsLocal graph capped = λ table other node in_graph same. ap (cap_size limit) (local table other node in_graph same) in
-      let capped_exact : ObeysLines graph capped (λ node. cap_size limit (exact node)) = λ node in_graph. ap (cap_size limit) (left node in_graph) ∙ caps exact node in
+      let capped_local : IsLocal graph capped = λ table other node in_graph same. ap (cap_size limit)
+      (local table other node in_graph same) in
+      let capped_exact : ObeysLines graph capped (λ node. cap_size limit (exact node)) = λ node in_graph. ap
+      (cap_size limit) (left node in_graph) ∙ caps exact node in
       only-one capped capped_local found (λ node. cap_size limit (exact node)) right capped_exact
 
   -- a table that is the same as one that obeys the lines obeys them too
-  pub same-obeys : (line : Lines) → IsLocal graph line → (exact found : ℕ → Size) → ObeysLines graph line exact → SameAt graph found exact → ObeysLines graph line found
+  pub same-obeys : (line : Lines) → IsLocal graph line → (exact found : ℕ → Size) → ObeysLines graph line exact
+      → SameAt graph found exact → ObeysLines graph line found
   same-obeys line local exact found obeys same node in_graph = search (rules)
 
 -- the lines of the first nodes by rank hold
 abbrev pub HasFilled : Graph → Ranking → Lines → List Size → ℕ → Type 0
-HasFilled graph order line sizes count = (k : ℕ) → k < count → size_at sizes (get_or order.by_rank k 0) ≡ line (size_at sizes) (get_or order.by_rank k 0)
+HasFilled graph order line sizes count =
+    (k : ℕ) → k < count → size_at sizes (get_or order.by_rank k 0) ≡ line (size_at sizes) (get_or order.by_rank k 0)
 
 module _ (graph : Graph) (order : Ranking) (h : IsOrderOf graph order) (line : Lines) (local : IsLocal graph line) where
   -- a step of a node with a rank up to some place leads to none that stands there by rank
-  other-step : (place node k : ℕ) → get_or order.ranks node 0 ≤ place → place < length order.by_rank → k < length (steps_of graph node)
+  other-step : (place node k : ℕ) → get_or order.ranks node 0 ≤ place → place < length order.by_rank
+      → k < length (steps_of graph node)
       → step_at graph node k ≢ get_or order.by_rank place 0
   other-step place node k rank below in_steps same = search (rules)
 
-  line-kept : (sizes : List Size) (place node : ℕ) (size : Size) → node < length graph → get_or order.ranks node 0 ≤ place → place < length order.by_rank
+  line-kept : (sizes : List Size) (place node : ℕ) (size : Size) → node < length graph
+      → get_or order.ranks node 0 ≤ place → place < length order.by_rank
       → line (size_at (set sizes (get_or order.by_rank place 0) size)) node ≡ line (size_at sizes) node
   line-kept sizes place node size in_graph rank below = search (rules, get_or-set_other, other-step)
 
-  pub has-filled_more : (sizes : List Size) (count : ℕ) → length sizes ≡ length graph → count < length order.by_rank → HasFilled graph order line sizes count
-      → HasFilled graph order line (set sizes (get_or order.by_rank count 0) (line (size_at sizes) (get_or order.by_rank count 0))) (count + 1)
+  pub has-filled_more : (sizes : List Size) (count : ℕ) → length sizes ≡ length graph → count < length order.by_rank
+      → HasFilled graph order line sizes count
+      → HasFilled graph order line (set sizes (get_or order.by_rank count 0)
+      (line (size_at sizes) (get_or order.by_rank count 0))) (count + 1)
   has-filled_more sizes count long below filled k within =
       search (rules, line-kept, cases_lt, get_or-set_other, get_or-set_same)
 
-  pub has-filled_all : (sizes : List Size) (count : ℕ) → length order.by_rank ≤ count → HasFilled graph order line sizes count → ObeysLines graph line (size_at sizes)
-  has-filled_all sizes count all filled node in_graph = let place = h.listed node in_graph in rw place.1 at (filled (get_or order.ranks node 0) (let p = place.0 in omega arith))
+  pub has-filled_all : (sizes : List Size) (count : ℕ) → length order.by_rank ≤ count
+      → HasFilled graph order line sizes count → ObeysLines graph line (size_at sizes)
+  has-filled_all sizes count all filled node in_graph =
+      let place = h.listed node in_graph in
+      rw place.1 at (filled (get_or order.ranks node 0) (let p = place.0 in omega arith))

@@ -25,7 +25,8 @@ placed-unit us k below = elim (slice_get_cases us k).1 [
 ]
 
 -- its first entry is one of the entries
-pub first-below : (us : List DebugUnit) (k : ℕ) (head : UnitHead) → k < length us → IfSome (slice_get (placed us) k) (λ u. head ≡ unit_head u) → head.first < length (entries_of us)
+pub first-below : (us : List DebugUnit) (k : ℕ) (head : UnitHead) → k < length us
+    → IfSome (slice_get (placed us) k) (λ u. head ≡ unit_head u) → head.first < length (entries_of us)
 first-below us k head below is =
     let p = placed-unit us k below in
     let same : head ≡ unit_head p.0 = rw p.1 at is in
@@ -33,8 +34,10 @@ first-below us k head below is =
     rw same (slice_get_within (entries_of us) p.0.first has.entry has.is_entry)
 
 -- and has its language
-pub language-read : (us : List DebugUnit) (k : ℕ) (head : UnitHead) (language : Constant) → k < length us → IfSome (slice_get (placed us) k) (λ u. head ≡ unit_head u)
-    → IfSome (slice_get (entries_of us) head.first) (λ e. language ≡ constant_at e DW_AT_language) → IfSome (slice_get (placed us) k) (λ u. language ≡ language_of u)
+pub language-read : (us : List DebugUnit) (k : ℕ) (head : UnitHead) (language : Constant) → k < length us
+    → IfSome (slice_get (placed us) k) (λ u. head ≡ unit_head u)
+    → IfSome (slice_get (entries_of us) head.first) (λ e. language ≡ constant_at e DW_AT_language)
+    → IfSome (slice_get (placed us) k) (λ u. language ≡ language_of u)
 language-read us k head language below is value =
     let p = placed-unit us k below in
     let same : head ≡ unit_head p.0 = rw p.1 at is in
@@ -42,8 +45,10 @@ language-read us k head language below is value =
     let found : language ≡ constant_at has.entry DW_AT_language = rw (same, has.is_entry) at value in
     rw p.1 (found ∙ ap (λ (h : Head). constant_of (value_in (values_of h) DW_AT_language)) has.is_first.head)
 
-module _ (a info : List ℕ) (us : List DebugUnit) (spells : Spells a us info) (id : ℕ) (below : id < length (entries_of us))
-    (o : Option Entry) (there : o ≡ slice_get (entries_of us) id) (number : ℕ) (is_unit : IfSome o (λ e. number ≡ e.unit)) where
+module _ (a info : List ℕ) (us : List DebugUnit) (spells : Spells a us info) (id : ℕ)
+    (below : id < length (entries_of us))
+    (o : Option Entry) (there : o ≡ slice_get (entries_of us) id) (number : ℕ)
+    (is_unit : IfSome o (λ e. number ≡ e.unit)) where
   -- the unit of an entry is one of the units
   pub unit-below : number < length us
   unit-below = elim (slice_get_cases (entries_of us) id).1 [
@@ -55,7 +60,8 @@ module _ (a info : List ℕ) (us : List DebugUnit) (spells : Spells a us info) (
   ]
 
   -- what is read of it
-  pub unit-known : {X : Type 0} (f : PlacedUnit → X) (none found : X) → IfSome (slice_get (placed us) number) (λ u. found ≡ f u)
+  pub unit-known : {X : Type 0} (f : PlacedUnit → X) (none found : X)
+      → IfSome (slice_get (placed us) number) (λ u. found ≡ f u)
       → IfSome o (λ e. found ≡ option_map_or f (slice_get (placed us) e.unit) none)
   unit-known f none found is =
       let p = placed-unit us number unit-below in
@@ -68,10 +74,13 @@ pub languages-long : (us : List DebugUnit) → length (languages_in us) ≡ leng
 languages-long us = length-map (placed us) language_of ∙ length-placed_from 0 0 us
 
 -- the one of a number is that of the unit with this number
-pub language-there : (us : List DebugUnit) (number : ℕ) (language : Constant) → slice_get (languages_in us) number ≡ Some language → IfSome (slice_get (placed us) number) (λ u. language ≡ language_of u)
+pub language-there : (us : List DebugUnit) (number : ℕ) (language : Constant)
+    → slice_get (languages_in us) number ≡ Some language
+    → IfSome (slice_get (placed us) number) (λ u. language ≡ language_of u)
 language-there us number language at = search (rules, slice_get-map, same_Some)
 
-pub languages-more : (us : List DebugUnit) (number : ℕ) (language : Constant) → number < length us → IfSome (slice_get (placed us) number) (λ u. language ≡ language_of u)
+pub languages-more : (us : List DebugUnit) (number : ℕ) (language : Constant) → number < length us
+    → IfSome (slice_get (placed us) number) (λ u. language ≡ language_of u)
     → map language_of (take number (placed us)) ++ language ∷ [] ≡ map language_of (take (number + 1) (placed us))
 languages-more us number language below is =
     let u = placed-unit us number below in
@@ -79,7 +88,11 @@ languages-more us number language below is =
     let inside = slice_get_within (placed us) number u.0 u.1 in
     let there = get_or_from_slice_get (placed us) number u.0 u.0 u.1 in
     ap (λ (x : Constant). map language_of (take number (placed us)) ++ x ∷ []) same
-    ∙ (sym (map_push language_of (take number (placed us)) u.0) ∙ ap (map language_of) (ap (λ (x : PlacedUnit). take number (placed us) ++ x ∷ []) (sym there) ∙ sym (take_more (placed us) number u.0 inside)))
+    ∙ (sym (map_push language_of (take number (placed us)) u.0)
+    ∙ ap (map language_of) (ap (λ (x : PlacedUnit). take number (placed us) ++ x ∷ []) (sym there)
+    ∙ sym (take_more (placed us) number u.0 inside)))
 
-pub languages-all : (us : List DebugUnit) (number : ℕ) → length us ≤ number → map language_of (take number (placed us)) ≡ languages_in us
-languages-all us number over = let long = length-placed_from 0 0 us in ap (map language_of) (take_all number (placed us) (omega arith))
+pub languages-all : (us : List DebugUnit) (number : ℕ) → length us ≤ number
+    → map language_of (take number (placed us)) ≡ languages_in us
+languages-all us number over =
+    let long = length-placed_from 0 0 us in ap (map language_of) (take_all number (placed us) (omega arith))

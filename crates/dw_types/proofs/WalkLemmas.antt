@@ -14,7 +14,8 @@ use Rattle.dw_types.specs.WalkStates.{State, mark_of, taken_up, with_steps}
 use Rattle.dw_types.proofs.ListLemmas.{at_set, at_push}
 
 -- a count of a list each of whose elements passes
-count_by-all : {X : Type 0} (p : X → Bool) (xs : List X) (d : X) → ((k : ℕ) → k < length xs → p (get_or xs k d) ≡ true) → count_by p xs ≡ length xs
+count_by-all : {X : Type 0} (p : X → Bool) (xs : List X) (d : X) → ((k : ℕ) → k < length xs → p (get_or xs k d) ≡ true)
+    → count_by p xs ≡ length xs
 count_by-all p [] d all = refl
 count_by-all {X} p (x ∷ xs) d all =
     let step = sum_by-cons (λ (y : X). cond (p y) 1 0) x xs in
@@ -34,7 +35,8 @@ LooksUpBut graph s stop = (place k : ℕ) → place < length s.stack → k < get
     ⊎ (stop ≡ Some (stack_step graph s place k))
 
 -- two sums, by their terms
-sum-le : (counts : List ℕ) (graph : Graph) → length counts ≡ length graph → ((k : ℕ) → get_or counts k 0 ≤ length (get_or graph k [])) → sum counts ≤ sum_by length graph
+sum-le : (counts : List ℕ) (graph : Graph) → length counts ≡ length graph
+    → ((k : ℕ) → get_or counts k 0 ≤ length (get_or graph k [])) → sum counts ≤ sum_by length graph
 sum-le [] [] e le = omega arith
 sum-le [] (steps ∷ graph) e le = absurd (omega arith)
 sum-le (n ∷ counts) [] e le = absurd (omega arith)
@@ -45,7 +47,8 @@ sum-le (n ∷ counts) (steps ∷ graph) e le =
     let rest = sum-le counts graph (omega arith) (λ k. le (suc k)) in
     omega arith
 
-sum-same : (counts : List ℕ) (graph : Graph) → length counts ≡ length graph → ((k : ℕ) → k < length graph → get_or counts k 0 ≡ length (get_or graph k [])) → sum counts ≡ sum_by length graph
+sum-same : (counts : List ℕ) (graph : Graph) → length counts ≡ length graph
+    → ((k : ℕ) → k < length graph → get_or counts k 0 ≡ length (get_or graph k [])) → sum counts ≡ sum_by length graph
 sum-same [] [] e same = refl
 sum-same [] (steps ∷ graph) e same = absurd (omega arith)
 sum-same (n ∷ counts) [] e same = absurd (omega arith)
@@ -68,11 +71,14 @@ turns-room graph s h =
     let marks = h.places.marks in
     let next = h.places.next in
     let few = h.places.few in
-    let looked = sum_by-le (λ (x : ℕ). x) 18446744073709551615 s.next (All-from_get_or (λ (x : ℕ). x ≤ 18446744073709551615) s.next 0 (λ k below. let small = h.counters.small k in omega arith)) in
+    let looked = sum_by-le (λ (x : ℕ). x) 18446744073709551615 s.next
+    (All-from_get_or (λ (x : ℕ). x ≤ 18446744073709551615) s.next 0
+    (λ k below. let small = h.counters.small k in omega arith)) in
     omega arith
 
 -- once each node was ranked, each node was taken up and each step looked at
-pub turns-all : (graph : Graph) (s : State) → IsCoherent graph s → ((node : ℕ) → node < length graph → mark_of s node ≡ Ranked) → s.turns ≡ length graph + step_count graph
+pub turns-all : (graph : Graph) (s : State) → IsCoherent graph s
+    → ((node : ℕ) → node < length graph → mark_of s node ≡ Ranked) → s.turns ≡ length graph + step_count graph
 turns-all graph s h all =
     let turns = h.turns in
     let marks = h.places.marks in
@@ -84,42 +90,51 @@ pub top-opened : (graph : Graph) (s : State) (node : ℕ) → HasStack graph s �
 top-opened graph s node h t = rw (← t.top) (h.opened (length s.stack - 1) (let some = t.some in omega arith))
 
 -- a node with a mark other than `Fresh` is one of the graph
-pub in-graph : (graph : Graph) (s : State) (node : ℕ) → HasPlaces graph s → (mark_of s node ≡ Fresh → ⊥) → node < length graph
+pub in-graph : (graph : Graph) (s : State) (node : ℕ) → HasPlaces graph s → (mark_of s node ≡ Fresh → ⊥)
+    → node < length graph
 in-graph graph s node h ne = search (rules, cases_lt, get_or_past)
 
 -- looking at steps of the node on top
 
 look-counters : (graph : Graph) (s : State) (node count : ℕ) → IsCoherent graph s → IsTop s node → node < length s.next
-    → get_or s.next node 0 + count ≤ length (steps_of graph node) → get_or s.next node 0 + count < 2 ^ 64 → HasCounters graph (with_steps s node count)
+    → get_or s.next node 0 + count ≤ length (steps_of graph node) → get_or s.next node 0 + count < 2 ^ 64
+    → HasCounters graph (with_steps s node count)
 look-counters graph s node count h t in_graph more small = search (rules, top-opened, at_set)
 
-pub look-coherent : (graph : Graph) (s : State) (node count : ℕ) → IsCoherent graph s → IsTop s node → node < length s.next
-    → get_or s.next node 0 + count ≤ length (steps_of graph node) → get_or s.next node 0 + count < 2 ^ 64 → IsCoherent graph (with_steps s node count)
+pub look-coherent : (graph : Graph) (s : State) (node count : ℕ) → IsCoherent graph s → IsTop s node
+    → node < length s.next
+    → get_or s.next node 0 + count ≤ length (steps_of graph node) → get_or s.next node 0 + count < 2 ^ 64
+    → IsCoherent graph (with_steps s node count)
 look-coherent graph s node count h t in_graph more small = search (rules, length-set, look-counters, sum_by-set)
 
 -- each step that is looked at goes to a node that was ranked, or to the one that stops
 pub look-but : (graph : Graph) (s : State) (node count : ℕ) (stop : Option ℕ) → IsWalk graph s → node < length s.next
-    → ((k : ℕ) → get_or s.next node 0 ≤ k → k < get_or s.next node 0 + count → (mark_of s (step_at graph node k) ≡ Ranked) ⊎ (stop ≡ Some (step_at graph node k)))
+    → ((k : ℕ) → get_or s.next node 0 ≤ k → k < get_or s.next node 0 + count
+    → (mark_of s (step_at graph node k) ≡ Ranked) ⊎ (stop ≡ Some (step_at graph node k)))
     → LooksUpBut graph (with_steps s node count) stop
 look-but graph s node count stop h in_graph known place k in_stack seen =
     elim (at_set s.next node (get_or s.stack place 0) (get_or s.next node 0 + count) 0 in_graph) [
       | inl p ↦ elim (cases_lt k (get_or s.next node 0)) [
         | inl below ↦ inl (h.looks_up place k in_stack (rw p.0 below))
-        | inr above ↦ rw p.0 (elim (known k above (rw p.1 at seen)) [ inl done ↦ inl (inl done) | inr stops ↦ inr stops ])
+        | inr above ↦ rw p.0 (elim (known k above (rw p.1 at seen))
+            [ inl done ↦ inl (inl done) | inr stops ↦ inr stops ])
       ]
       | inr p ↦ inl (h.looks_up place k in_stack (rw p.1 at seen))
     ]
 
 -- where none stops, that is all
 pub looked-all : (graph : Graph) (s : State) → LooksUpBut graph s None → LooksUp graph s
-looked-all graph s but place k in_stack seen = elim (but place k in_stack seen) [ inl known ↦ known | inr stops ↦ absurd cc ]
+looked-all graph s but place k in_stack seen =
+    elim (but place k in_stack seen) [ inl known ↦ known | inr stops ↦ absurd cc ]
 
 -- taking up a fresh node
 
-module _ (graph : Graph) (s : State) (node : ℕ) (h : IsCoherent graph s) (in_graph : node < length s.marks) (new : mark_of s node ≡ Fresh)
+module _ (graph : Graph) (s : State) (node : ℕ) (h : IsCoherent graph s) (in_graph : node < length s.marks)
+    (new : mark_of s node ≡ Fresh)
     (link : 0 < length s.stack → IsStep graph (get_or s.stack (length s.stack - 1) 0) node) where
   -- a mark afterwards is the one before, but for the node's own
-  up-mark : (a : ℕ) → ((a ≡ node) × (mark_of (taken_up s node) a ≡ Open)) ⊎ ((a ≢ node) × (mark_of (taken_up s node) a ≡ mark_of s a))
+  up-mark : (a : ℕ) → ((a ≡ node) × (mark_of (taken_up s node) a ≡ Open))
+      ⊎ ((a ≢ node) × (mark_of (taken_up s node) a ≡ mark_of s a))
   up-mark a = at_set s.marks node a Open Fresh in_graph
 
   up-ranked : (a : ℕ) → mark_of s a ≡ Ranked → mark_of (taken_up s node) a ≡ Ranked
@@ -138,7 +153,12 @@ module _ (graph : Graph) (s : State) (node : ℕ) (h : IsCoherent graph s) (in_g
   up-stack = record {
     opened = search (rules, at_push, get_or-set_same, up-mark);
     stacked = λ a opened. elim (up-mark a) [
-      | inl p ↦ inl (length s.stack, (let e = up-length in omega arith), get_or_push s.stack node 0 (length s.stack) refl ∙ sym p.0)
+      | inl p ↦ inl (
+        length s.stack,
+        (let e = up-length in omega arith),
+        get_or_push s.stack node 0 (length s.stack)
+            refl ∙ sym p.0,
+      )
       | inr p ↦ search (rules, up-length, get_or_append_left)
     ];
     once = search (rules, at_push, get_or_append_left);
@@ -161,12 +181,19 @@ module _ (graph : Graph) (s : State) (node : ℕ) (h : IsCoherent graph s) (in_g
         | inr p ↦
             rw p.1 (elim (but place k p.0 (rw p.1 at seen)) [
               | inl known ↦ search (rules, up-ranked, up-length, get_or_append_left)
-              | inr here ↦ inr (length s.stack, p.0, (let e = up-length in omega arith), get_or_push s.stack node 0 (length s.stack) refl ∙ (let same : node ≡ stack_step graph s place k = cc in same))
+              | inr here ↦ inr (
+                length s.stack,
+                p.0,
+                (let e = up-length in omega arith),
+                get_or_push s.stack node 0
+                    (length s.stack) refl ∙ (let same : node ≡ stack_step graph s place k = cc in same),
+              )
             ])
       ]
 
 -- a walk with an empty stack takes up a fresh node
-module _ (graph : Graph) (s : State) (node : ℕ) (h : IsWalk graph s) (empty : s.stack ≡ []) (in_graph : node < length graph) (new : mark_of s node ≡ Fresh) where
+module _ (graph : Graph) (s : State) (node : ℕ) (h : IsWalk graph s) (empty : s.stack ≡ [])
+    (in_graph : node < length graph) (new : mark_of s node ≡ Fresh) where
   first-in_marks : node < length s.marks
   first-in_marks = let e = h.coherent.places.marks in omega arith
 

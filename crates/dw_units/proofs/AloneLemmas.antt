@@ -55,7 +55,8 @@ one_alone entries one kind stays =
     record {
       unit = u;
       one = is;
-      no_type_unit = kind (record { at = 0; first = 0; unit = u }) (ap (λ (us : List DebugUnit). slice_get (placed us) 0) is);
+      no_type_unit =
+          kind (record { at = 0; first = 0; unit = u }) (ap (λ (us : List DebugUnit). slice_get (placed us) 0) is);
       stays = stays;
     }
 
@@ -69,18 +70,24 @@ pub record Shares (s own : Sections) : Type 0 where
   pub addr_same : own.addr.now ≡ s.addr.now
 
 module _ (s own : Sections) (shares : Shares s own) where
-  string_index_in : (base : Option ℕ) (index : ℕ) (rule : Rule) → StringIndexFails s base index rule → StringIndexFails own base index rule
+  string_index_in : (base : Option ℕ) (index : ℕ) (rule : Rule) → StringIndexFails s base index rule
+      → StringIndexFails own base index rule
   string_index_in base index rule fails = search rules
 
-  address_index_in : (header : UnitHeader) (base : Option ℕ) (index : ℕ) (rule : Rule) → AddressIndexFails s header base index rule → AddressIndexFails own header base index rule
+  address_index_in : (header : UnitHeader) (base : Option ℕ) (index : ℕ) (rule : Rule)
+      → AddressIndexFails s header base index rule → AddressIndexFails own header base index rule
   address_index_in header base index rule fails = search rules
 
-  base_in_own : (header : UnitHeader) (attribute base : ℕ) (rule : Rule) → BaseFails s header attribute base rule → BaseFails own header attribute base rule
+  base_in_own : (header : UnitHeader) (attribute base : ℕ) (rule : Rule) → BaseFails s header attribute base rule
+      → BaseFails own header attribute base rule
   base_in_own header attribute base rule is = search rules
 
-  string_in_own : (header : UnitHeader) (texts addresses : Option ℕ) (head : EntryHead) (attribute : ℕ) (v : Datum) (rule : Rule)
-      → StringFailsIn s header texts addresses head attribute v rule → StringFailsIn own header texts addresses head attribute v rule
-  string_in_own header texts addresses head attribute v rule fails = search (rules, string_index_in, address_index_in, base_in_own)
+  string_in_own : (header : UnitHeader) (texts addresses : Option ℕ) (head : EntryHead) (attribute : ℕ) (v : Datum)
+      (rule : Rule)
+      → StringFailsIn s header texts addresses head attribute v rule
+      → StringFailsIn own header texts addresses head attribute v rule
+  string_in_own header texts addresses head attribute v rule fails =
+      search (rules, string_index_in, address_index_in, base_in_own)
 
   strings_own : (us : List DebugUnit) (f : Failure) → StringFailures s us f → StringFailures own us f
   strings_own us f fails = record {
@@ -95,13 +102,17 @@ module _ (s own : Sections) (shares : Shares s own) where
       fails = record {
         unit = fails.fails.fails.unit;
         in_unit = fails.fails.fails.in_unit;
-        fails = string_in_own fails.fails.fails.unit.unit.header (base_in (entries_of us) fails.fails.fails.unit DW_AT_str_offsets_base)
-            (base_in (entries_of us) fails.fails.fails.unit DW_AT_addr_base) (entry_head fails.item) f.attribute fails.fails.value f.rule fails.fails.fails.fails;
+        fails =
+            string_in_own fails.fails.fails.unit.unit.header
+            (base_in (entries_of us) fails.fails.fails.unit DW_AT_str_offsets_base)
+            (base_in (entries_of us) fails.fails.fails.unit DW_AT_addr_base) (entry_head fails.item) f.attribute
+            fails.fails.value f.rule fails.fails.fails.fails;
       };
     };
   }
 
-pub shares_by : (s own : Sections) → own.«abbrev» ≡ s.«abbrev» → own.str ≡ s.str → own.line_str ≡ s.line_str → own.str_offsets ≡ s.str_offsets
+pub shares_by : (s own : Sections) → own.«abbrev» ≡ s.«abbrev» → own.str ≡ s.str → own.line_str ≡ s.line_str
+    → own.str_offsets ≡ s.str_offsets
     → own.addr ≡ s.addr → Shares s own
 shares_by s own a b c d e = record {
   abbrev_same = ap (λ (bytes : Bor (List ℕ)). bytes.now) a;
@@ -130,7 +141,8 @@ module _ (s own : Sections) (shares : Shares s own) where
   measured_by cycles fault u first = tt
 
   -- the groups ask the same of both
-  none_own : (us : List DebugUnit) (group : Group) → HasNone (failures_of own us group) → HasNone (failures_of s us group)
+  none_own : (us : List DebugUnit) (group : Group) → HasNone (failures_of own us group)
+      → HasNone (failures_of s us group)
   none_own us strings none = λ f fails. none f (strings_own s own shares us f fails)
   none_own us classes none = none
   none_own us references none = none
@@ -138,7 +150,8 @@ module _ (s own : Sections) (shares : Shares s own) where
   none_own us cycles none = none
   none_own us sizes none = none
 
-  first_own : (us : List DebugUnit) (group : Group) (fault : Fault) → IsFirstIn own us group fault → IsFirstIn s us group fault
+  first_own : (us : List DebugUnit) (group : Group) (fault : Fault) → IsFirstIn own us group fault
+      → IsFirstIn s us group fault
   first_own us strings fault first = record {
     holds = record {
       failure = first.holds.failure;
@@ -155,7 +168,8 @@ module _ (s own : Sections) (shares : Shares s own) where
   first_own us sizes fault first = first
 
   -- the fault of trees in sections of their own
-  pub trees_own : (part : List ℕ) (stop : Stop Fault) → own.info.now ≡ part → IfPlainFault (Fails own.«abbrev».now own.info.now) stop
+  pub trees_own : (part : List ℕ) (stop : Stop Fault) → own.info.now ≡ part
+      → IfPlainFault (Fails own.«abbrev».now own.info.now) stop
       → IfPlainFault (Fails s.«abbrev».now part) stop
   trees_own part stop info fails =
       subst (λ (xs : List ℕ). IfPlainFault (Fails xs part) stop) shares.abbrev_same

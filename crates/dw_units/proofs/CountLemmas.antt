@@ -47,9 +47,15 @@ use Rattle.dw_units.proofs.AloneLemmas.{one_unit}
 
 -- the entries of one unit more, in its place, come after the others
 entries_more : (unit id at : ℕ) (us : List DebugUnit) (u : DebugUnit) → (n : ℕ) × (first : ℕ) × (place : ℕ)
-    × (entries_from unit id at (us ++ u ∷ []) ≡ entries_from unit id at us ++ map (moved n first place) (entries_of (u ∷ [])))
-entries_more unit id at [] u =
-    (unit, id, at, append-nil (node_entries unit None 0 None id (at + header_size u.header.kind) u.root) ∙ unit_moved unit id at u)
+    × (entries_from unit id at (us ++ u ∷ [])
+    ≡ entries_from unit id at us ++ map (moved n first place) (entries_of (u ∷ [])))
+entries_more unit id at [] u = (
+  unit,
+  id,
+  at,
+  append-nil (node_entries unit None 0 None id (at + header_size u.header.kind) u.root)
+      ∙ unit_moved unit id at u,
+)
 entries_more unit id at (v ∷ us) u =
     let (n, first, place, same) = entries_more (suc unit) (id + node_count v.root) (at + length (unit_bytes v)) us u in
     let es : List Entry = node_entries unit None 0 None id (at + header_size v.header.kind) v.root in (
@@ -57,12 +63,14 @@ entries_more unit id at (v ∷ us) u =
       first,
       place,
       ap (λ (xs : List Entry). es ++ xs) same
-          ∙ sym (append_assoc es (entries_from (suc unit) (id + node_count v.root) (at + length (unit_bytes v)) us) (map (moved n first place) (entries_of (u ∷ [])))),
+          ∙ sym (append_assoc es (entries_from (suc unit) (id + node_count v.root) (at + length (unit_bytes v)) us)
+          (map (moved n first place) (entries_of (u ∷ [])))),
     )
 
 -- ---- one unit more
 
-types_moved : (n first place : ℕ) (es : List Entry) → count_by is_type_entry (map (moved n first place) es) ≡ count_by is_type_entry es
+types_moved : (n first place : ℕ) (es : List Entry)
+    → count_by is_type_entry (map (moved n first place) es) ≡ count_by is_type_entry es
 types_moved n first place [] = refl
 types_moved n first place (e ∷ es) = search (rules, sum_by-cons, moved, (types_moved n first place es))
 
@@ -112,138 +120,175 @@ all_of : (P : DebugUnit → Type 0) (us : List DebugUnit) → ((u : DebugUnit) �
 all_of P [] holds = tt
 all_of P (u ∷ us) holds = (holds u, all_of P us holds)
 
-module _ (s : Sections) (rest : List ℕ) (size : ℕ) (st : SoFar) (so : AreSoFar s rest st) (within : size ≤ length rest) where
-  long_next : (u : DebugUnit) → take size rest ≡ unit_bytes u → st.at + size ≡ length (units_bytes (so.units ++ u ∷ []))
-  long_next u bytes =
-      let here = so.at in
-      let taken = ap length bytes in
-      omega (
-        arith,
-        here,
-        length-take-le size rest within,
-        taken,
-        ap length (flat_map-append unit_bytes so.units (u ∷ [])),
-        length-append (units_bytes so.units) (units_bytes (u ∷ [])),
-        length-append (unit_bytes u) [],
-      )
+module _ (s : Sections) (rest : List ℕ) (size : ℕ) (st : SoFar) (so : AreSoFar s rest st) (within : size ≤ length rest)
+  where
+    long_next : (u : DebugUnit) → take size rest ≡ unit_bytes u
+        → st.at + size ≡ length (units_bytes (so.units ++ u ∷ []))
+    long_next u bytes =
+        let here = so.at in
+        let taken = ap length bytes in
+        omega (
+          arith,
+          here,
+          length-take-le size rest within,
+          taken,
+          ap length (flat_map-append unit_bytes so.units (u ∷ [])),
+          length-append (units_bytes so.units) (units_bytes (u ∷ [])),
+          length-append (unit_bytes u) [],
+        )
 
-  next : (u : DebugUnit) (c : Counts) (least : Option Fault) (at : ℕ) → at ≡ st.at + size → take size rest ≡ unit_bytes u → StaysAlone s u
-      → AreVerified s (so.units ++ u ∷ []) c least → AreSoFar s (drop size rest) (record { at = at; counts = c; least = least })
-  next u c least at is bytes stays verified =
-      let split : rest ≡ unit_bytes u ++ drop size rest = sym (take-append-drop size rest) ∙ ap (λ (xs : List ℕ). xs ++ drop size rest) bytes in
-      record {
-        units = so.units ++ u ∷ [];
-        stay = all-append (StaysAlone s) so.units (u ∷ []) so.stay (stays, tt);
-        bytes = so.bytes ∙ ap (λ (xs : List ℕ). units_bytes so.units ++ xs) split
-            ∙ rw (flat_map-append unit_bytes so.units (u ∷ []), append-nil (unit_bytes u), append_assoc (units_bytes so.units) (unit_bytes u) (drop size rest));
-        at = is ∙ long_next u bytes;
-        verified = verified;
-      }
+    next : (u : DebugUnit) (c : Counts) (least : Option Fault) (at : ℕ) → at ≡ st.at + size
+        → take size rest ≡ unit_bytes u → StaysAlone s u
+        → AreVerified s (so.units ++ u ∷ []) c least
+        → AreSoFar s (drop size rest) (record { at = at; counts = c; least = least })
+    next u c least at is bytes stays verified =
+        let split : rest ≡ unit_bytes u ++ drop size rest = sym (take-append-drop size rest)
+        ∙ ap (λ (xs : List ℕ). xs ++ drop size rest) bytes in
+        record {
+          units = so.units ++ u ∷ [];
+          stay = all-append (StaysAlone s) so.units (u ∷ []) so.stay (stays, tt);
+          bytes = so.bytes ∙ ap (λ (xs : List ℕ). units_bytes so.units ++ xs) split
+              ∙ rw (
+                flat_map-append unit_bytes so.units (u ∷ []),
+                append-nil (unit_bytes u),
+                append_assoc
+                    (units_bytes so.units) (unit_bytes u) (drop size rest),
+              );
+          at = is ∙ long_next u bytes;
+          verified = verified;
+        }
 
-  -- the unit is sound, or its fault is not less
-  keeps : (fault : Fault) (u : DebugUnit) (holds : HasLeast s so.units fault) → PassesBelow s holds.group u → IsMeasured holds.group u
-      → HasLeast s (so.units ++ u ∷ []) fault
-  keeps fault u least passes measured = record {
-    before = least.before;
-    unit = least.unit;
-    behind = least.behind ++ u ∷ [];
-    group = least.group;
-    alone = least.alone;
-    are = ap (λ (xs : List DebugUnit). xs ++ u ∷ []) least.are ∙ append_assoc least.before (least.unit ∷ least.behind) (u ∷ []);
-    measured = all-append (IsMeasured least.group) so.units (u ∷ []) least.measured (measured, tt);
-    passed = least.passed;
-    fails = least.fails;
-    below = all-append (PassesBelow s least.group) least.behind (u ∷ []) least.below (passes, tt);
-    place = least.place;
-    rank = least.rank;
-  }
+    -- the unit is sound, or its fault is not less
+    keeps : (fault : Fault) (u : DebugUnit) (holds : HasLeast s so.units fault) → PassesBelow s holds.group u
+        → IsMeasured holds.group u
+        → HasLeast s (so.units ++ u ∷ []) fault
+    keeps fault u least passes measured = record {
+      before = least.before;
+      unit = least.unit;
+      behind = least.behind ++ u ∷ [];
+      group = least.group;
+      alone = least.alone;
+      are =
+          ap (λ (xs : List DebugUnit). xs ++ u ∷ []) least.are
+          ∙ append_assoc least.before (least.unit ∷ least.behind) (u ∷ []);
+      measured = all-append (IsMeasured least.group) so.units (u ∷ []) least.measured (measured, tt);
+      passed = least.passed;
+      fails = least.fails;
+      below = all-append (PassesBelow s least.group) least.behind (u ∷ []) least.below (passes, tt);
+      place = least.place;
+      rank = least.rank;
+    }
 
-  counted : (u : DebugUnit) (a c : Counts) → StandsAlone s u → AreCounted s so.units st.counts → c.units ≡ st.counts.units + a.units
-      → c.entries ≡ st.counts.entries + a.entries → c.types ≡ st.counts.types + a.types → a.units ≡ 1 → a.entries ≡ length (entries_of (u ∷ []))
-      → a.types ≡ count_by is_type_entry (entries_of (u ∷ [])) → AreCounted s (so.units ++ u ∷ []) c
-  counted u a c alone are p q r one_unit one_entries one_types =
-      let (n, first, place, same) = entries_more 0 0 0 so.units u in
-      let unit_count = are.unit_count in
-      let entry_count = are.entry_count in
-      let type_count = are.type_count in
-      let types_in = ap (count_by is_type_entry) same
-      ∙ sum_by-append (λ (x : Entry). cond (is_type_entry x) 1 0) (entries_of so.units) (map (moved n first place) (entries_of (u ∷ []))) in
-      record {
-        alone = all-append (StandsAlone s) so.units (u ∷ []) are.alone (alone, tt);
-        unit_count = omega (arith, p, unit_count, one_unit, length-append so.units (u ∷ []));
-        entry_count = omega (arith, q, entry_count, one_entries, ap length same, length-append {A = Entry}, length-map (entries_of (u ∷ [])) (moved n first place));
-        type_count = omega (arith, r, type_count, one_types, types_in, types_moved n first place (entries_of (u ∷ [])));
-      }
+    counted : (u : DebugUnit) (a c : Counts) → StandsAlone s u → AreCounted s so.units st.counts
+        → c.units ≡ st.counts.units + a.units
+        → c.entries ≡ st.counts.entries + a.entries → c.types ≡ st.counts.types + a.types → a.units ≡ 1
+        → a.entries ≡ length (entries_of (u ∷ []))
+        → a.types ≡ count_by is_type_entry (entries_of (u ∷ [])) → AreCounted s (so.units ++ u ∷ []) c
+    counted u a c alone are p q r one_unit one_entries one_types =
+        let (n, first, place, same) = entries_more 0 0 0 so.units u in
+        let unit_count = are.unit_count in
+        let entry_count = are.entry_count in
+        let type_count = are.type_count in
+        let types_in = ap (count_by is_type_entry) same
+        ∙ sum_by-append (λ (x : Entry). cond (is_type_entry x) 1 0) (entries_of so.units)
+        (map (moved n first place) (entries_of (u ∷ []))) in
+        record {
+          alone = all-append (StandsAlone s) so.units (u ∷ []) are.alone (alone, tt);
+          unit_count = omega (arith, p, unit_count, one_unit, length-append so.units (u ∷ []));
+          entry_count =
+              omega (
+                arith,
+                q,
+                entry_count,
+                one_entries,
+                ap length same,
+                length-append {A = Entry},
+                length-map
+                    (entries_of (u ∷ [])) (moved n first place),
+              );
+          type_count =
+              omega (arith, r, type_count, one_types, types_in, types_moved n first place (entries_of (u ∷ [])));
+        }
 
-  pub next_sound : (a c : Counts) (at : ℕ) → at ≡ st.at + size → c.units ≡ st.counts.units + a.units → c.entries ≡ st.counts.entries + a.entries
-      → c.types ≡ st.counts.types + a.types → least_rule st.least ≡ None → IsAlone s (take size rest) a
-      → AreSoFar s (drop size rest) (record { at = at; counts = c; least = st.least })
-  next_sound a c at is p q r none one =
-      next one.unit c st.least at is one.bytes
-      (record { is_unit = one.alone.is_unit; no_type_unit = one.alone.no_type_unit; stays = one.alone.stays })
-      (go st.least none so.verified)
-    where
-      go : (least : Option Fault) → least_rule least ≡ None → AreVerified s so.units st.counts least
-          → AreVerified s (so.units ++ one.unit ∷ []) c least
-      go None none are = counted one.unit a c one.alone are p q r one.unit_count one.entry_count one.type_count
-      go (Some fault) none least = absurd cc
+    pub next_sound : (a c : Counts) (at : ℕ) → at ≡ st.at + size → c.units ≡ st.counts.units + a.units
+        → c.entries ≡ st.counts.entries + a.entries
+        → c.types ≡ st.counts.types + a.types → least_rule st.least ≡ None → IsAlone s (take size rest) a
+        → AreSoFar s (drop size rest) (record { at = at; counts = c; least = st.least })
+    next_sound a c at is p q r none one =
+        next one.unit c st.least at is one.bytes
+        (record { is_unit = one.alone.is_unit; no_type_unit = one.alone.no_type_unit; stays = one.alone.stays })
+        (go st.least none so.verified)
+      where
+        go : (least : Option Fault) → least_rule least ≡ None → AreVerified s so.units st.counts least
+            → AreVerified s (so.units ++ one.unit ∷ []) c least
+        go None none are = counted one.unit a c one.alone are p q r one.unit_count one.entry_count one.type_count
+        go (Some fault) none least = absurd cc
 
-  -- the unit has no less fault
-  pub next_passed : (at : ℕ) → at ≡ st.at + size → IsPassed s (least_rule st.least) (take size rest)
-      → AreSoFar s (drop size rest) (record { at = at; counts = st.counts; least = st.least })
-  next_passed at is one = next one.unit st.counts st.least at is one.bytes one.stays
-      (go st.least so.verified one.passes)
-    where
-      go : (least : Option Fault) → AreVerified s so.units st.counts least
-          → PassLess s (one.unit ∷ []) (least_rule least)
-          → AreVerified s (so.units ++ one.unit ∷ []) st.counts least
-      go None are passes = absurd passes
-      go (Some fault) least passes =
-          let rank = least.rank in
-          keeps fault one.unit least (λ earlier less. passes.hold earlier (omega (arith, less, rank)))
-          (measured_by s least.group (group_of fault.rule) one.unit rank passes)
+    -- the unit has no less fault
+    pub next_passed : (at : ℕ) → at ≡ st.at + size → IsPassed s (least_rule st.least) (take size rest)
+        → AreSoFar s (drop size rest) (record { at = at; counts = st.counts; least = st.least })
+    next_passed at is one = next one.unit st.counts st.least at is one.bytes one.stays
+        (go st.least so.verified one.passes)
+      where
+        go : (least : Option Fault) → AreVerified s so.units st.counts least
+            → PassLess s (one.unit ∷ []) (least_rule least)
+            → AreVerified s (so.units ++ one.unit ∷ []) st.counts least
+        go None are passes = absurd passes
+        go (Some fault) least passes =
+            let rank = least.rank in
+            keeps fault one.unit least (λ earlier less. passes.hold earlier (omega (arith, less, rank)))
+            (measured_by s least.group (group_of fault.rule) one.unit rank passes)
 
-  -- the unit's fault is less
-  pub next_less : (alone fault : Fault) (at : ℕ) → at ≡ st.at + size → IsLess (least_rule st.least) alone.rule
-      → IsMoved st.at alone fault
-      → IsFaultAlone s (take size rest) alone → AreSoFar s (drop size rest) (record { at = at; counts = st.counts; least = Some fault })
-  next_less alone fault at is less place one =
-      next one.unit st.counts (Some fault) at is one.bytes one.stays (record {
-        before = so.units;
-        unit = one.unit;
-        behind = [];
-        group = one.group;
-        alone = alone;
-        are = refl;
-        measured = all-append (IsMeasured one.group) so.units (one.unit ∷ []) (go st.least so.verified less).1 (one.measured, tt);
-        passed = (go st.least so.verified less).0;
-        fails = one.fails;
-        below = tt;
-        place = subst (λ (n : ℕ). IsMoved n alone fault) so.at place;
-        rank = ap (λ (b : Broken). group_of b.rule) place.broken ∙ one.rank;
-      })
-    where
-      go : (least : Option Fault) → AreVerified s so.units st.counts least → IsLess (least_rule least) alone.rule
-          → AllByRecursion (PassesThrough s one.group) so.units × AllByRecursion (IsMeasured one.group) so.units
-      go None are less = (
-        each_of (StandsAlone s) (PassesThrough s one.group) so.units
-            (λ u stands. (λ earlier before. passes_all s earlier u stands, passes_all s one.group u stands)) are.alone,
-        each_of (StandsAlone s) (IsMeasured one.group) so.units (measured_all s one.group) are.alone,
-      )
-      go (Some old) least less =
-          let rank = one.rank in
-          let old_rank = least.rank in
-          let turns : turn_of one.group < turn_of least.group = omega (arith, rank, old_rank, less) in
-          let through : (u : DebugUnit) → PassesBelow s least.group u → PassesThrough s one.group u =
-          λ u passes. (λ earlier before. passes earlier (omega (arith, before, turns)), passes one.group turns) in (
-            subst (AllByRecursion (PassesThrough s one.group)) (sym least.are)
-                (all-append (PassesThrough s one.group) least.before (least.unit ∷ least.behind)
-                (each_of (PassesThrough s least.group) (PassesThrough s one.group) least.before (λ u passes. through u passes.0) least.passed)
-                (through least.unit least.fails.below, each_of (PassesBelow s least.group) (PassesThrough s one.group) least.behind through least.below)),
-            all_of (IsMeasured one.group) so.units (measured_below one.group least.group turns),
-          )
+    -- the unit's fault is less
+    pub next_less : (alone fault : Fault) (at : ℕ) → at ≡ st.at + size → IsLess (least_rule st.least) alone.rule
+        → IsMoved st.at alone fault
+        → IsFaultAlone s (take size rest) alone
+        → AreSoFar s (drop size rest) (record { at = at; counts = st.counts; least = Some fault })
+    next_less alone fault at is less place one =
+        next one.unit st.counts (Some fault) at is one.bytes one.stays (record {
+          before = so.units;
+          unit = one.unit;
+          behind = [];
+          group = one.group;
+          alone = alone;
+          are = refl;
+          measured =
+              all-append (IsMeasured one.group) so.units (one.unit ∷ []) (go st.least so.verified less).1
+              (one.measured, tt);
+          passed = (go st.least so.verified less).0;
+          fails = one.fails;
+          below = tt;
+          place = subst (λ (n : ℕ). IsMoved n alone fault) so.at place;
+          rank = ap (λ (b : Broken). group_of b.rule) place.broken ∙ one.rank;
+        })
+      where
+        go : (least : Option Fault) → AreVerified s so.units st.counts least → IsLess (least_rule least) alone.rule
+            → AllByRecursion (PassesThrough s one.group) so.units × AllByRecursion (IsMeasured one.group) so.units
+        go None are less = (
+          each_of (StandsAlone s) (PassesThrough s one.group) so.units
+              (λ u stands. (λ earlier before. passes_all s earlier u stands, passes_all s one.group u stands))
+              are.alone,
+          each_of (StandsAlone s) (IsMeasured one.group) so.units (measured_all s one.group) are.alone,
+        )
+        go (Some old) least less =
+            let rank = one.rank in
+            let old_rank = least.rank in
+            let turns : turn_of one.group < turn_of least.group = omega (arith, rank, old_rank, less) in
+            let through : (u : DebugUnit) → PassesBelow s least.group u → PassesThrough s one.group u =
+            λ u passes. (λ earlier before. passes earlier (omega (arith, before, turns)), passes one.group turns) in (
+              subst (AllByRecursion (PassesThrough s one.group)) (sym least.are)
+                  (all-append (PassesThrough s one.group) least.before (least.unit ∷ least.behind)
+                  (each_of (PassesThrough s least.group) (PassesThrough s one.group) least.before
+                  (λ u passes. through u passes.0) least.passed) (
+                    through least.unit least.fails.below,
+                    each_of (PassesBelow s least.group) (PassesThrough s one.group)
+                        least.behind through least.below,
+                  )),
+              all_of (IsMeasured one.group) so.units (measured_below one.group least.group turns),
+            )
 
-pub found_sound : (s : Sections) (st : SoFar) (so : AreSoFar s [] st) → AreCounted s so.units st.counts → AreCounts s st.counts
+pub found_sound : (s : Sections) (st : SoFar) (so : AreSoFar s [] st) → AreCounted s so.units st.counts
+    → AreCounts s st.counts
 found_sound s st so are = record {
   units = so.units;
   sound = sound_by s so.units (join s so.units are.alone (so.bytes ∙ append-nil (units_bytes so.units)));
@@ -252,14 +297,18 @@ found_sound s st so are = record {
   type_count = are.type_count;
 }
 
-pub found_fault : (s : Sections) (st : SoFar) (fault : Fault) (so : AreSoFar s [] st) → HasLeast s so.units fault → IsFaultOf s fault
+pub found_fault : (s : Sections) (st : SoFar) (fault : Fault) (so : AreSoFar s [] st) → HasLeast s so.units fault
+    → IsFaultOf s fault
 found_fault s st fault so least =
     fault_of s fault (first_by_unit s least.before least.unit least.behind least.group least.alone fault
-    (subst (AllByRecursion (StaysAlone s)) least.are so.stay) (subst (AllByRecursion (IsMeasured least.group)) least.are least.measured)
-    least.passed least.fails least.below (so.bytes ∙ append-nil (units_bytes so.units) ∙ ap units_bytes least.are) least.place)
+    (subst (AllByRecursion (StaysAlone s)) least.are so.stay)
+    (subst (AllByRecursion (IsMeasured least.group)) least.are least.measured)
+    least.passed least.fails least.below (so.bytes ∙ append-nil (units_bytes so.units) ∙ ap units_bytes least.are)
+    least.place)
 
 -- the fault of trees in the bytes of one unit after those so far
-pub found_in_trees : (s : Sections) (rest : List ℕ) (size : ℕ) (st : SoFar) (so : AreSoFar s rest st) (alone fault : Fault) → IsWhole (take size rest)
+pub found_in_trees : (s : Sections) (rest : List ℕ) (size : ℕ) (st : SoFar) (so : AreSoFar s rest st)
+    (alone fault : Fault) → IsWhole (take size rest)
     → IsPlainFault (Fails s.«abbrev».now (take size rest)) alone → IsMoved st.at alone fault → IsFaultOf s fault
 found_in_trees s rest size st so alone fault whole plain place =
     let fails : Fails s.«abbrev».now rest (broken_of alone) =
@@ -273,11 +322,13 @@ found_in_trees s rest size st so alone fault whole plain place =
     (place.cycle ∙ ap (map (λ (offset : ℕ). st.at + offset)) plain.cycle))
 
 -- it is what is found
-pub found_by_trees : (s : Sections) (rest : List ℕ) (size : ℕ) (st : SoFar) (so : AreSoFar s rest st) (alone : Fault) → IsWhole (take size rest)
+pub found_by_trees : (s : Sections) (rest : List ℕ) (size : ℕ) (st : SoFar) (so : AreSoFar s rest st) (alone : Fault)
+    → IsWhole (take size rest)
     → IsPlainFault (Fails s.«abbrev».now (take size rest)) alone → (r : Result (Option Found) NoMemory)
     → IfOk r (λ there. IfSome there (IsFoundAt st.at alone)) → IfOk r (λ there. IfSome there (IsFound s))
 found_by_trees s rest size st so alone whole plain (Ok (Some (found.Sound c))) is = absurd is
-found_by_trees s rest size st so alone whole plain (Ok (Some (found.Fault fault))) is = found_in_trees s rest size st so alone fault whole plain is
+found_by_trees s rest size st so alone whole plain (Ok (Some (found.Fault fault))) is =
+    found_in_trees s rest size st so alone fault whole plain is
 found_by_trees s rest size st so alone whole plain (Ok None) is = tt
 found_by_trees s rest size st so alone whole plain (Err e) is = tt
 

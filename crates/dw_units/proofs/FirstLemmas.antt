@@ -50,7 +50,8 @@ before_moved at (at_attribute a j) (at_attribute b k) is = elim is [
 ]
 
 same_moved : (at : ℕ) (p q : Place) → moved_place at p ≡ moved_place at q → p ≡ q
-same_moved at (at_header a) (at_header b) is = let e : at + a ≡ at + b = ap offset_of is in ap at_header (omega (arith, e))
+same_moved at (at_header a) (at_header b) is =
+    let e : at + a ≡ at + b = ap offset_of is in ap at_header (omega (arith, e))
 same_moved at (at_entry a) (at_entry b) is = let e : at + a ≡ at + b = ap offset_of is in ap at_entry (omega (arith, e))
 same_moved at (at_attribute a j) (at_attribute b k) is =
     let e : at + a ≡ at + b = ap offset_of is in
@@ -82,7 +83,8 @@ precedes_moved at f g (inr same) = inr (same_moved at f.place g.place same.0, sa
 later_window : (a n b m : ℕ) (f g : Failure) → a + n ≤ b → IsInside n f.place → IsInside m g.place
     → Precedes (moved_failure b g) (moved_failure a f) → ⊥
 later_window a n b m f g apart in_f in_g (inl before) =
-    let le = before_offset (moved_place b g.place) (moved_place a f.place) (b + m) (a + n) (inside_moved b m g.place in_g) (inside_moved a n f.place in_f) before in
+    let le = before_offset (moved_place b g.place) (moved_place a f.place) (b + m) (a + n)
+    (inside_moved b m g.place in_g) (inside_moved a n f.place in_f) before in
     let below = inside_below n f.place in_f in
     omega (arith, le, offset_moved a f.place, offset_moved b g.place, below, apart)
 later_window a n b m f g apart in_f in_g (inr same) =
@@ -92,7 +94,8 @@ later_window a n b m f g apart in_f in_g (inr same) =
 
 -- ---- where units are placed
 
-pub all_placed : (P : DebugUnit → Type 0) (at first : ℕ) (us : List DebugUnit) (number : ℕ) (p : PlacedUnit) → AllByRecursion P us
+pub all_placed : (P : DebugUnit → Type 0) (at first : ℕ) (us : List DebugUnit) (number : ℕ) (p : PlacedUnit)
+    → AllByRecursion P us
     → slice_get (placed_from at first us) number ≡ Some p → P p.unit
 all_placed P at first [] number p all is = absurd cc
 all_placed P at first (u ∷ us) zero p (one, more) is = search (rules)
@@ -103,13 +106,15 @@ all_placed P at first (u ∷ us) (suc number) p (one, more) is =
 abbrev Stands : (DebugUnit → Type 0) → (at end : ℕ) → DebugUnit → PlacedUnit → Type 0
 Stands P at end u p = P p.unit ⊎ (((p.unit ≡ u) × (p.at ≡ at)) ⊎ (end ≤ p.at))
 
-at_least : (at first : ℕ) (us : List DebugUnit) (number : ℕ) (p : PlacedUnit) → slice_get (placed_from at first us) number ≡ Some p → at ≤ p.at
+at_least : (at first : ℕ) (us : List DebugUnit) (number : ℕ) (p : PlacedUnit)
+    → slice_get (placed_from at first us) number ≡ Some p → at ≤ p.at
 at_least at first [] number p is = absurd cc
 at_least at first (u ∷ us) zero p is = search (rules)
 at_least at first (u ∷ us) (suc number) p is =
     let more = at_least (at + length (unit_bytes u)) (first + node_count u.root) us number p is in omega (arith, more)
 
-stands_from : (P : DebugUnit → Type 0) (at first : ℕ) (before : List DebugUnit) (u : DebugUnit) (behind : List DebugUnit) (number : ℕ) (p : PlacedUnit)
+stands_from : (P : DebugUnit → Type 0) (at first : ℕ) (before : List DebugUnit) (u : DebugUnit)
+    (behind : List DebugUnit) (number : ℕ) (p : PlacedUnit)
     → AllByRecursion P before → slice_get (placed_from at first (before ++ u ∷ behind)) number ≡ Some p
     → Stands P (at + length (units_bytes before)) (at + length (units_bytes before) + length (unit_bytes u)) u p
 stands_from P at first [] u behind zero p all is =
@@ -145,7 +150,11 @@ placed_there at first (v ∷ before) u behind =
     let i = placed_there (at + length (unit_bytes v)) (first + node_count v.root) before u behind in
     let there : at + length (unit_bytes v) + length (units_bytes before) ≡ at + length (units_bytes (v ∷ before)) =
     omega (arith, length-append (unit_bytes v) (units_bytes before)) in
-    record { number = suc i.number; begins = i.begins; is = i.is ∙ ap (λ (n : ℕ). Some (record { at = n; first = i.begins; unit = u })) there }
+    record {
+      number = suc i.number;
+      begins = i.begins;
+      is = i.is ∙ ap (λ (n : ℕ). Some (record { at = n; first = i.begins; unit = u })) there;
+    }
 
 -- ---- failures of a group
 
@@ -159,23 +168,29 @@ pub record IsOfUnit (us : List DebugUnit) (Alone : DebugUnit → Failure → Typ
   pub same : moved_failure place.at failure ≡ f
 
 -- the failures among all are those of each unit alone, in its place, which are at its entries
-pub record AreOfUnits (us : List DebugUnit) (Fails : Failure → Type 0) (Alone : DebugUnit → Failure → Type 0) : Type 0 where
-  pub down : (f : Failure) → Fails f → IsOfUnit us Alone f
-  pub up : (number : ℕ) (p : PlacedUnit) → slice_get (placed us) number ≡ Some p → (g : Failure) → Alone p.unit g → Fails (moved_failure p.at g)
-  pub inside : (number : ℕ) (p : PlacedUnit) → slice_get (placed us) number ≡ Some p → (g : Failure) → Alone p.unit g
-      → IsInside (length (unit_bytes p.unit)) g.place
+pub record AreOfUnits (us : List DebugUnit) (Fails : Failure → Type 0) (Alone : DebugUnit → Failure → Type 0) : Type 0
+  where
+    pub down : (f : Failure) → Fails f → IsOfUnit us Alone f
+    pub up : (number : ℕ) (p : PlacedUnit) → slice_get (placed us) number ≡ Some p → (g : Failure) → Alone p.unit g
+        → Fails (moved_failure p.at g)
+    pub inside : (number : ℕ) (p : PlacedUnit) → slice_get (placed us) number ≡ Some p → (g : Failure) → Alone p.unit g
+        → IsInside (length (unit_bytes p.unit)) g.place
 
-module _ (us : List DebugUnit) (Fails : Failure → Type 0) (Alone : DebugUnit → Failure → Type 0) (are : AreOfUnits us Fails Alone) where
+module _ (us : List DebugUnit) (Fails : Failure → Type 0) (Alone : DebugUnit → Failure → Type 0)
+    (are : AreOfUnits us Fails Alone) where
   pub none_of_units : AllByRecursion (λ u. HasNone (Alone u)) us → HasNone Fails
   none_of_units all f fails =
       let i = are.down f fails in
       all_placed (λ u. HasNone (Alone u)) 0 0 us i.number i.place all i.is_place i.failure i.fails
 
-named_moved : (at : ℕ) (broken : Broken) (f : Failure) → Names broken f → Names (moved_broken at broken) (moved_failure at f)
+named_moved : (at : ℕ) (broken : Broken) (f : Failure) → Names broken f
+    → Names (moved_broken at broken) (moved_failure at f)
 named_moved at broken f named = search (rules, offset_moved)
 
-pub first_of_group : (before : List DebugUnit) (u : DebugUnit) (behind : List DebugUnit) (Fails : Failure → Type 0) (Alone : DebugUnit → Failure → Type 0)
-    (broken : Broken) → AreOfUnits (before ++ u ∷ behind) Fails Alone → AllByRecursion (λ v. HasNone (Alone v)) before → IsFirst (Alone u) broken
+pub first_of_group : (before : List DebugUnit) (u : DebugUnit) (behind : List DebugUnit) (Fails : Failure → Type 0)
+    (Alone : DebugUnit → Failure → Type 0)
+    (broken : Broken) → AreOfUnits (before ++ u ∷ behind) Fails Alone → AllByRecursion (λ v. HasNone (Alone v)) before
+    → IsFirst (Alone u) broken
     → IsFirst Fails (moved_broken (length (units_bytes before)) broken)
 first_of_group before u behind Fails Alone broken are none first = record {
   failure = moved_failure at first.failure;
@@ -197,19 +212,26 @@ first_of_group before u behind Fails Alone broken are none first = record {
     here = record { at = at; first = i.begins; unit = u }
 
     is_here : slice_get (placed us) i.number ≡ Some here
-    is_here = i.is ∙ (let e : 0 + at ≡ at = omega arith in ap (λ (n : ℕ). Some (record { at = n; first = i.begins; unit = u })) e)
+    is_here =
+        i.is ∙ (let e : 0 + at ≡ at = omega arith in
+        ap (λ (n : ℕ). Some (record { at = n; first = i.begins; unit = u })) e)
 
     not_before : (g : Failure) → IsOfUnit us Alone g → Precedes g (moved_failure at first.failure) → ⊥
     not_before g of precedes =
-        let moved_precedes = subst (λ (h : Failure). Precedes h (moved_failure at first.failure)) (sym of.same) precedes in
+        let moved_precedes = subst (λ (h : Failure). Precedes h (moved_failure at first.failure)) (sym of.same) precedes
+        in
         elim (stands_from (λ v. HasNone (Alone v)) 0 0 before u behind of.number of.place none of.is_place) [
           | inl passed ↦ passed of.failure of.fails
           | inr (inl (unit, there)) ↦
               let fails = subst (λ (v : DebugUnit). Alone v of.failure) unit of.fails in
               let offset : of.place.at ≡ at = omega (arith, there) in
               first.first of.failure fails
-              (precedes_moved at of.failure first.failure (subst (λ (n : ℕ). Precedes (moved_failure n of.failure) (moved_failure at first.failure)) offset moved_precedes))
+              (precedes_moved at of.failure first.failure
+              (subst (λ (n : ℕ). Precedes (moved_failure n of.failure) (moved_failure at first.failure)) offset
+              moved_precedes))
           | inr (inr behind_it) ↦
-              later_window at (length (unit_bytes u)) of.place.at (length (unit_bytes of.place.unit)) first.failure of.failure (omega (arith, behind_it))
-              (are.inside i.number here is_here first.failure first.fails) (are.inside of.number of.place of.is_place of.failure of.fails) moved_precedes
+              later_window at (length (unit_bytes u)) of.place.at (length (unit_bytes of.place.unit)) first.failure
+              of.failure (omega (arith, behind_it))
+              (are.inside i.number here is_here first.failure first.fails)
+              (are.inside of.number of.place of.is_place of.failure of.fails) moved_precedes
         ]

@@ -14,21 +14,24 @@ use Rattle.dw_links.specs.Concerns.{Passes}
 use Rattle.dw_links.proofs.Skips.{none_concerned}
 use Rattle.dw_units.specs.Alone.{leads_out, StaysInside, may_leave, Leaves}
 
-stays_by_form : (version size : ℕ) (f : Form) (bytes : List ℕ) (v : Datum) → may_leave f ≡ false → Val version f size bytes v → leads_out v ≡ false
+stays_by_form : (version size : ℕ) (f : Form) (bytes : List ℕ) (v : Datum) → may_leave f ≡ false
+    → Val version f size bytes v → leads_out v ≡ false
 stays_by_form version size f bytes v is p = search rules
 
 -- no value under such a declaration leaves its unit
 pub form_passes : (spec : AttributeSpec) → may_leave spec.form ≡ false → Passes Leaves spec
 form_passes spec stays x a is head rule leaves =
     ∥∥₁_elim is.value (λ p q. absurd p)
-    (λ v. let no : true ≡ false = sym leaves ∙ stays_by_form x.version x.address_size spec.form a.bytes a.value stays v in cc)
+    (λ v. let no : true ≡ false = sym leaves
+    ∙ stays_by_form x.version x.address_size spec.form a.bytes a.value stays v in cc)
 
 not_true : (b : Bool) → (b ≡ true → ⊥) → b ≡ false
 not_true true never = absurd (never refl)
 not_true false never = refl
 
 pub none_leaves : (a info : List ℕ) (us : List DebugUnit) (kept : List AttributeSpec) → Spells a us info
-    → ((id : ℕ) (e : Entry) → slice_get (entries_of us) id ≡ Some e → All (λ (spec : AttributeSpec). Contains kept spec) e.head.decl.attributes)
+    → ((id : ℕ) (e : Entry) → slice_get (entries_of us) id ≡ Some e
+    → All (λ (spec : AttributeSpec). Contains kept spec) e.head.decl.attributes)
     → ((k : ℕ) (spec : AttributeSpec) → slice_get kept k ≡ Some spec → Passes Leaves spec)
     → EachEntry StaysInside (entries_of us)
 none_leaves a info us kept spells declared pass id e is position attribute v has =

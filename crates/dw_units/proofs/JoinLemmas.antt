@@ -26,7 +26,8 @@ use Rattle.dw_units.proofs.WindowSizes.{line_moved, fails_moved}
 use Rattle.dw_units.proofs.TextLemmas.{stays_of, each_of, classes_join, strings_join}
 use Rattle.dw_units.proofs.ReferenceLemmas.{all_units, references_join}
 
-pub trees_join : (s : Sections) (us : List DebugUnit) → AllByRecursion (StandsAlone s) us → s.info.now ≡ units_bytes us → SpellsInfo s us
+pub trees_join : (s : Sections) (us : List DebugUnit) → AllByRecursion (StandsAlone s) us → s.info.now ≡ units_bytes us
+    → SpellsInfo s us
 trees_join s us all parts = record { are = all_units s us (stays_of s us all); parts = parts }
 
 count_alone : (u : DebugUnit) → length (facts_in (u ∷ [])) ≡ node_count u.root
@@ -37,7 +38,8 @@ abbrev Agrees : (ℕ → Size) → PlacedUnit → Type 0
 Agrees table p = (lone : ℕ → Size) × IsSizeTable (facts_in (p.unit ∷ [])) lone
     × ((k : ℕ) → k < node_count p.unit.root → table (p.first + k) ≡ lone k)
 
-first_low : (at first : ℕ) (us : List DebugUnit) (k : ℕ) (p : PlacedUnit) → slice_get (placed_from at first us) k ≡ Some p → first ≤ p.first
+first_low : (at first : ℕ) (us : List DebugUnit) (k : ℕ) (p : PlacedUnit)
+    → slice_get (placed_from at first us) k ≡ Some p → first ≤ p.first
 first_low at first [] k p is = absurd cc
 first_low at first (u ∷ us) zero p is = search (rules)
 first_low at first (u ∷ us) (suc k) p is =
@@ -56,7 +58,8 @@ table_join at first (u ∷ us) (one, more) =
     joined : (ℕ → Size) → ℕ → Size
     joined rest n = if nat_lt n (first + node_count u.root) then one.0 (n - first) else rest n
 
-    go : (rest : ℕ → Size) → ((k : ℕ) (p : PlacedUnit) → slice_get (placed_from (at + length (unit_bytes u)) (first + node_count u.root) us) k ≡ Some p
+    go : (rest : ℕ → Size) → ((k : ℕ) (p : PlacedUnit)
+        → slice_get (placed_from (at + length (unit_bytes u)) (first + node_count u.root) us) k ≡ Some p
         → Agrees rest p) → (k : ℕ) (p : PlacedUnit) → slice_get (placed_from at first (u ∷ us)) k ≡ Some p
         → Agrees (λ n. if nat_lt n (first + node_count u.root) then one.0 (n - first) else rest n) p
     go rest agrees zero p is =
@@ -91,10 +94,13 @@ module _ (s : Sections) (us : List DebugUnit) (all : AllByRecursion (StaysAlone 
       let w = in_window s us all node below in
       let (lone, one, same) = agrees w.number w.p w.is in
       let agree = λ (k : ℕ) (k_in : k < length (facts_in (w.p.unit ∷ []))). same k (inside_of w.p.unit k k_in) in
-      let line = line_moved (facts_in us) (facts_in (w.p.unit ∷ [])) w.p.first w.p.at w.window table lone agree w.inner w.inside in
-      ap table w.begins ∙ agree w.inner w.inside ∙ one.obeys w.inner w.inside ∙ sym line ∙ ap (size_line (facts_in us) table) (sym w.begins)
+      let line = line_moved (facts_in us) (facts_in (w.p.unit ∷ [])) w.p.first w.p.at w.window table lone agree w.inner
+      w.inside in
+      ap table w.begins ∙ agree w.inner w.inside ∙ one.obeys w.inner w.inside ∙ sym line
+      ∙ ap (size_line (facts_in us) table) (sym w.begins)
 
-  only : (other : ℕ → Size) → ObeysSizeLines (facts_in us) other → (node : ℕ) → node < length (facts_in us) → other node ≡ table node
+  only : (other : ℕ → Size) → ObeysSizeLines (facts_in us) other → (node : ℕ) → node < length (facts_in us)
+      → other node ≡ table node
   only other right node below =
       let w = in_window s us all node below in
       let (lone, one, same) = agrees w.number w.p w.is in
@@ -102,7 +108,8 @@ module _ (s : Sections) (us : List DebugUnit) (all : AllByRecursion (StaysAlone 
       let mine : ℕ → Size = λ k. other (w.p.first + k) in
       let lines : ObeysSizeLines (facts_in (w.p.unit ∷ [])) mine = λ k k_in.
       right (w.p.first + k) (omega (arith, k_in, inside))
-      ∙ line_moved (facts_in us) (facts_in (w.p.unit ∷ [])) w.p.first w.p.at w.window other mine (λ j j_in. refl) k k_in in
+      ∙ line_moved (facts_in us) (facts_in (w.p.unit ∷ [])) w.p.first w.p.at w.window other mine (λ j j_in. refl) k k_in
+      in
       let agree = same w.inner (inside_of w.p.unit w.inner w.inside) in
       ap other w.begins ∙ one.only mine lines w.inner w.inside ∙ sym agree ∙ ap table (sym w.begins)
 
@@ -119,31 +126,45 @@ module _ (s : Sections) (us : List DebugUnit) (all : AllByRecursion (StaysAlone 
       table lone (λ k k_in. same k (inside_of p.unit k k_in)) inner inside rule
 
   -- what fails by the table of a unit
-  by_lone : (p : PlacedUnit) (lone : ℕ → Size) → IsSizeTable (facts_in (p.unit ∷ [])) lone → (g : Failure) → FailsBySize (facts_in (p.unit ∷ [])) g
+  by_lone : (p : PlacedUnit) (lone : ℕ → Size) → IsSizeTable (facts_in (p.unit ∷ [])) lone → (g : Failure)
+      → FailsBySize (facts_in (p.unit ∷ [])) g
       → SizeFailures (facts_in (p.unit ∷ [])) lone g
   by_lone p lone one g fails =
-      same_failures (facts_in (p.unit ∷ [])) (facts-parents_first (p.unit ∷ [])) (facts-targets (p.unit ∷ [])) lone fails.table one fails.one g fails.fails
+      same_failures (facts_in (p.unit ∷ [])) (facts-parents_first (p.unit ∷ [])) (facts-targets (p.unit ∷ [])) lone
+      fails.table one fails.one g fails.fails
 
   sizes_of_units : AreOfUnits us (FailsBySize (facts_in us)) (λ u. FailsBySize (facts_in (u ∷ [])))
   sizes_of_units = record {
     down = λ f fails.
-        let here = same_failures (facts_in us) (facts-parents_first us) (facts-targets us) table fails.table is_table fails.one f fails.fails in
+        let here = same_failures (facts_in us) (facts-parents_first us) (facts-targets us) table fails.table is_table
+        fails.one f fails.fails in
         let w = in_window s us all here.number (slice_get_within (facts_in us) here.number here.item here.is_item) in
         let (lone, one, same) = agrees w.number w.p w.is in
-        let (g, alone, moved_is) = fact_down s us all w.number w.p w.is (fails_size (facts_in us) table) (fails_size (facts_in (w.p.unit ∷ [])) lone)
+        let (g, alone, moved_is) = fact_down s us all w.number w.p w.is (fails_size (facts_in us) table)
+        (fails_size (facts_in (w.p.unit ∷ [])) lone)
         (alike w.number w.p w.is lone same) w.inner w.inside f here w.begins in
-        record { number = w.number; place = w.p; is_place = w.is; failure = g; fails = record { table = lone; one = one; fails = alone }; same = moved_is };
+        record {
+          number = w.number;
+          place = w.p;
+          is_place = w.is;
+          failure = g;
+          fails = record { table = lone; one = one; fails = alone };
+          same = moved_is;
+        };
     up = λ number p is g fails.
         let (lone, one, same) = agrees number p is in
         record {
           table = table;
           one = is_table;
-          fails = fact_up s us all number p is (fails_size (facts_in us) table) (fails_size (facts_in (p.unit ∷ [])) lone) (alike number p is lone same) g
+          fails =
+              fact_up s us all number p is (fails_size (facts_in us) table) (fails_size (facts_in (p.unit ∷ [])) lone)
+              (alike number p is lone same) g
               (by_lone p lone one g fails);
         };
     inside = λ number p is g fails.
         let (lone, one, same) = agrees number p is in
-        fact_inside s us all number p is (fails_size (facts_in us) table) (fails_size (facts_in (p.unit ∷ [])) lone) (alike number p is lone same) g
+        fact_inside s us all number p is (fails_size (facts_in us) table) (fails_size (facts_in (p.unit ∷ [])) lone)
+        (alike number p is lone same) g
         (by_lone p lone one g fails);
   }
 
@@ -151,17 +172,22 @@ pub sizes_units : (s : Sections) (us : List DebugUnit) → AllByRecursion (Stays
     → AreOfUnits us (FailsBySize (facts_in us)) (λ u. FailsBySize (facts_in (u ∷ [])))
 sizes_units s us all tables = let (table, agrees) = table_join 0 0 us tables in sizes_of_units s us all table agrees
 
-pub none_by_table : (u : DebugUnit) → (table : ℕ → Size) × HasSizes (facts_in (u ∷ [])) table → HasNone (FailsBySize (facts_in (u ∷ [])))
-none_by_table u (table, has) = none_by_size (facts_in (u ∷ [])) (facts-parents_first (u ∷ [])) (facts-targets (u ∷ [])) table has.one has.none
+pub none_by_table : (u : DebugUnit) → (table : ℕ → Size) × HasSizes (facts_in (u ∷ [])) table
+    → HasNone (FailsBySize (facts_in (u ∷ [])))
+none_by_table u (table, has) =
+    none_by_size (facts_in (u ∷ [])) (facts-parents_first (u ∷ [])) (facts-targets (u ∷ [])) table has.one has.none
 
-pub sizes_join : (s : Sections) (us : List DebugUnit) → AllByRecursion (StandsAlone s) us → (table : ℕ → Size) × HasSizes (facts_in us) table
+pub sizes_join : (s : Sections) (us : List DebugUnit) → AllByRecursion (StandsAlone s) us
+    → (table : ℕ → Size) × HasSizes (facts_in us) table
 sizes_join s us all =
     let stays = stays_of s us all in
     let tables = each_of (StandsAlone s) HasTable us (λ u one. (one.sizes.0, one.sizes.1.one)) all in
     let (table, agrees) = table_join 0 0 us tables in
     let one = is_table s us stays table agrees in
-    let none = none_of_units us (FailsBySize (facts_in us)) (λ u. FailsBySize (facts_in (u ∷ []))) (sizes_of_units s us stays table agrees)
-    (each_of (StandsAlone s) (λ u. HasNone (FailsBySize (facts_in (u ∷ [])))) us (λ u lone. none_by_table u lone.sizes) all) in
+    let none = none_of_units us (FailsBySize (facts_in us)) (λ u. FailsBySize (facts_in (u ∷ [])))
+    (sizes_of_units s us stays table agrees)
+    (each_of (StandsAlone s) (λ u. HasNone (FailsBySize (facts_in (u ∷ [])))) us (λ u lone. none_by_table u lone.sizes)
+    all) in
     (table, record { one = one; none = λ f fails. none f (record { table = table; one = one; fails = fails }) })
 
 -- THE law

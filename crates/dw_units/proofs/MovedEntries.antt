@@ -60,32 +60,40 @@ module _ (number first at : ℕ) where
     node_moved above next above_to next_to depth id pos id_to to (parent h ns z) i p q r =
         rw (
           head_moved above next above_to next_to depth pos to h p q r,
-          nodes_moved id id_to (suc depth) (suc id) (pos + length (head_bytes h)) (suc id_to) (to + length (head_bytes h)) ns i (omega arith) (omega arith),
+          nodes_moved id id_to (suc depth) (suc id) (pos + length (head_bytes h)) (suc id_to)
+              (to + length (head_bytes h)) ns i (omega arith) (omega arith),
         )
 
-    nodes_moved : (above above_to depth id pos id_to to : ℕ) (ns : Nodes) → above_to ≡ first + above → id_to ≡ first + id
+    nodes_moved : (above above_to depth id pos id_to to : ℕ) (ns : Nodes) → above_to ≡ first + above
+        → id_to ≡ first + id
         → to ≡ at + pos
         → nodes_entries number above_to depth id_to to ns
         ≡ map (moved number first at) (nodes_entries 0 above depth id pos ns)
     nodes_moved above above_to depth id pos id_to to none a i p = refl
     nodes_moved above above_to depth id pos id_to to (n then ns) a i p =
         rw (
-          node_moved (Some above) (first_id ns (id + node_count n)) (Some above_to) (first_id ns (id_to + node_count n)) depth id pos id_to to n
+          node_moved (Some above) (first_id ns (id + node_count n)) (Some above_to) (first_id ns (id_to + node_count n))
+              depth id pos id_to to n
               i p (ap Some a) (first_moved ns first (id + node_count n) (id_to + node_count n) (omega arith)),
-          nodes_moved above above_to depth (id + node_count n) (pos + length (node_bytes n)) (id_to + node_count n) (to + length (node_bytes n)) ns
+          nodes_moved above above_to depth (id + node_count n) (pos + length (node_bytes n)) (id_to + node_count n)
+              (to + length (node_bytes n)) ns
               a (omega arith) (omega arith),
           map-append,
         )
 
 -- the entries of a unit in its place
-pub unit_moved : (number first at : ℕ) (u : DebugUnit) → node_entries number None 0 None first (at + header_size u.header.kind) u.root
+pub unit_moved : (number first at : ℕ) (u : DebugUnit)
+    → node_entries number None 0 None first (at + header_size u.header.kind) u.root
     ≡ map (moved number first at) (entries_of (u ∷ []))
 unit_moved number first at u =
-    node_moved number first at None None None None 0 0 (0 + header_size u.header.kind) first (at + header_size u.header.kind) u.root
+    node_moved number first at None None None None 0 0 (0 + header_size u.header.kind) first
+    (at + header_size u.header.kind) u.root
     (omega arith) (omega arith) refl refl
-    ∙ ap (map (moved number first at)) (sym (append-nil (node_entries 0 None 0 None 0 (0 + header_size u.header.kind) u.root)))
+    ∙ ap (map (moved number first at))
+    (sym (append-nil (node_entries 0 None 0 None 0 (0 + header_size u.header.kind) u.root)))
 
-map_some : {X Y : Type 0} (f : X → Y) (o : Option X) (y : Y) → option_map f o ≡ Some y → (x : X) × (o ≡ Some x) × (f x ≡ y)
+map_some : {X Y : Type 0} (f : X → Y) (o : Option X) (y : Y) → option_map f o ≡ Some y
+    → (x : X) × (o ≡ Some x) × (f x ≡ y)
 map_some f o y is = search rules
 
 -- an entry of the unit is one of the unit alone
@@ -96,7 +104,8 @@ front_get number first at u more i e below is =
     search (rules, length-node_entries, get_front, map_some, slice_get-map, unit_moved)
 
 get_moved : (number first at : ℕ) (u : DebugUnit) (i : ℕ) (d : Entry) → slice_get (entries_of (u ∷ [])) i ≡ Some d
-    → slice_get (node_entries number None 0 None first (at + header_size u.header.kind) u.root) i ≡ Some (moved number first at d)
+    → slice_get (node_entries number None 0 None first (at + header_size u.header.kind) u.root) i
+    ≡ Some (moved number first at d)
 get_moved number first at u i d is = search (rules, unit_moved, slice_get-map)
 
 -- an entry among all: the unit that it is of, and which entry of the unit alone
@@ -113,11 +122,13 @@ pub record Found (units : List PlacedUnit) (unit id i : ℕ) (e : Entry) : Type 
 two_ways : (i n : ℕ) → (i < n) ⊎ (n ≤ i)
 two_ways i n = grind arith
 
-found_from : (unit id at : ℕ) (us : List DebugUnit) (i : ℕ) (e : Entry) → slice_get (entries_from unit id at us) i ≡ Some e
+found_from : (unit id at : ℕ) (us : List DebugUnit) (i : ℕ) (e : Entry)
+    → slice_get (entries_from unit id at us) i ≡ Some e
     → Found (placed_from at id us) unit id i e
 found_from unit id at [] i e is = absurd cc
 found_from unit id at (u ∷ us) i e is =
-    go (λ j. found_from (suc unit) (id + node_count u.root) (at + length (unit_bytes u)) us j e) (two_ways i (node_count u.root))
+    go (λ j. found_from (suc unit) (id + node_count u.root) (at + length (unit_bytes u)) us j e)
+    (two_ways i (node_count u.root))
   where
     es : List Entry
     es = node_entries unit None 0 None id (at + header_size u.header.kind) u.root
@@ -126,7 +137,8 @@ found_from unit id at (u ∷ us) i e is =
     fs = entries_from (suc unit) (id + node_count u.root) (at + length (unit_bytes u)) us
 
     go : ((j : ℕ) → slice_get fs j ≡ Some e
-        → Found (placed_from (at + length (unit_bytes u)) (id + node_count u.root) us) (suc unit) (id + node_count u.root) j e)
+        → Found (placed_from (at + length (unit_bytes u)) (id + node_count u.root) us) (suc unit)
+        (id + node_count u.root) j e)
         → (i < node_count u.root) ⊎ (node_count u.root ≤ i) → Found (placed_from at id (u ∷ us)) unit id i e
     go in_rest (inl below) =
         let (d, is_d, same) = front_get unit id at u fs i e below is in
@@ -144,7 +156,8 @@ found_from unit id at (u ∷ us) i e is =
     go in_rest (inr behind) =
         let count = length-node_entries unit None 0 None id (at + header_size u.header.kind) u.root in
         let rest : slice_get fs (i - node_count u.root) ≡ Some e =
-        ap (λ (n : ℕ). slice_get fs (i - n)) (sym count) ∙ sym (get_behind es fs i (omega (arith, count, behind))) ∙ is in
+        ap (λ (n : ℕ). slice_get fs (i - n)) (sym count) ∙ sym (get_behind es fs i (omega (arith, count, behind)))
+        ∙ is in
         let f = in_rest (i - node_count u.root) rest in
         let begins = f.begins in
         let number : unit + suc f.number ≡ suc unit + f.number = omega arith in
@@ -162,13 +175,15 @@ found_from unit id at (u ∷ us) i e is =
 -- an entry of a unit alone is found in the unit's place
 get_from : (unit id at : ℕ) (us : List DebugUnit) (number : ℕ) (p : PlacedUnit) (inner : ℕ) (d : Entry)
     → slice_get (placed_from at id us) number ≡ Some p → slice_get (entries_of (p.unit ∷ [])) inner ≡ Some d
-    → (i : ℕ) × (id + i ≡ p.first + inner) × (slice_get (entries_from unit id at us) i ≡ Some (moved (unit + number) p.first p.at d))
+    → (i : ℕ) × (id + i ≡ p.first + inner)
+    × (slice_get (entries_from unit id at us) i ≡ Some (moved (unit + number) p.first p.at d))
 get_from unit id at [] number p inner d is is_d = absurd cc
 get_from unit id at (u ∷ us) zero p inner d is is_d =
     let some : ◌≡◌ {A = Option PlacedUnit} (Some (record { at = at; first = id; unit = u })) (Some p) = is in
     let same : ◌≡◌ {A = PlacedUnit} (record { at = at; first = id; unit = u }) p = cc in
     let P : PlacedUnit → Type 0 = λ q. slice_get (entries_of (q.unit ∷ [])) inner ≡ Some d
-    → (i : ℕ) × (id + i ≡ q.first + inner) × (slice_get (entries_from unit id at (u ∷ us)) i ≡ Some (moved (unit + 0) q.first q.at d)) in
+    → (i : ℕ) × (id + i ≡ q.first + inner)
+    × (slice_get (entries_from unit id at (u ∷ us)) i ≡ Some (moved (unit + 0) q.first q.at d)) in
     subst P same (λ here. (inner, refl, in_front here)) is_d
   where
     in_front : slice_get (entries_of (u ∷ [])) inner ≡ Some d
@@ -181,7 +196,8 @@ get_from unit id at (u ∷ us) zero p inner d is is_d =
         let number : unit ≡ unit + 0 = omega arith in
         get_front es fs inner below ∙ got ∙ ap (λ (n : ℕ). Some (moved n id at d)) number
 get_from unit id at (u ∷ us) (suc number) p inner d is is_d =
-    let (i, begins, got) = get_from (suc unit) (id + node_count u.root) (at + length (unit_bytes u)) us number p inner d is is_d in
+    let (i, begins, got) = get_from (suc unit) (id + node_count u.root) (at + length (unit_bytes u)) us number p inner d
+    is is_d in
     let es : List Entry = node_entries unit None 0 None id (at + header_size u.header.kind) u.root in
     let fs : List Entry = entries_from (suc unit) (id + node_count u.root) (at + length (unit_bytes u)) us in
     let count = length-node_entries unit None 0 None id (at + header_size u.header.kind) u.root in
@@ -189,7 +205,8 @@ get_from unit id at (u ∷ us) (suc number) p inner d is is_d =
     let same : suc unit + number ≡ unit + suc number = omega arith in (
       length es + i,
       omega (arith, begins, count),
-      get_behind es fs (length es + i) (omega arith) ∙ ap (slice_get fs) behind ∙ got ∙ ap (λ (n : ℕ). Some (moved n p.first p.at d)) same,
+      get_behind es fs (length es + i) (omega arith) ∙ ap (slice_get fs) behind ∙ got
+          ∙ ap (λ (n : ℕ). Some (moved n p.first p.at d)) same,
     )
 
 -- ---- the same of all entries

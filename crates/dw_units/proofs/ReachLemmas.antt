@@ -20,25 +20,32 @@ pub record IsIn (us : List DebugUnit) (number : ℕ) (p : PlacedUnit) (i : ℕ) 
   pub begins : i ≡ p.first + inner
   pub same : moved number p.first p.at entry ≡ e
 
-pub found_in : (us : List DebugUnit) (number : ℕ) (p : PlacedUnit) → slice_get (placed us) number ≡ Some p → (i : ℕ) (e : Entry)
+pub found_in : (us : List DebugUnit) (number : ℕ) (p : PlacedUnit) → slice_get (placed us) number ≡ Some p
+    → (i : ℕ) (e : Entry)
     → slice_get (entries_of us) i ≡ Some e → e.unit ≡ number → IsIn us number p i e
 found_in us number p is i e is_e of =
     let f = found us i e is_e in
     let n : f.number ≡ number = ap (λ (d : Entry). d.unit) f.same ∙ of in
-    let P : PlacedUnit → Type 0 = λ q. (d : Entry) × (slice_get (entries_of (q.unit ∷ [])) f.inner ≡ Some d) × (i ≡ q.first + f.inner)
+    let P : PlacedUnit → Type 0 = λ q. (d : Entry) × (slice_get (entries_of (q.unit ∷ [])) f.inner ≡ Some d)
+    × (i ≡ q.first + f.inner)
     × (moved number q.first q.at d ≡ e) in
-    let q : f.place ≡ p = same_some (slice_get (placed us) number) f.place p (ap (slice_get (placed us)) (sym n) ∙ f.is_place) is in
-    let (d, is_d, begins, same) = subst P q (f.entry, f.is_entry, f.begins, ap (λ (k : ℕ). moved k f.place.first f.place.at f.entry) (sym n) ∙ f.same) in
+    let q : f.place ≡ p = same_some (slice_get (placed us) number) f.place p
+    (ap (slice_get (placed us)) (sym n) ∙ f.is_place) is in
+    let (d, is_d, begins, same) = subst P q
+    (f.entry, f.is_entry, f.begins, ap (λ (k : ℕ). moved k f.place.first f.place.at f.entry) (sym n) ∙ f.same) in
     record { inner = f.inner; entry = d; is_entry = is_d; begins = begins; same = same }
 
-module _ (us : List DebugUnit) (rise : OffsetsRise (entries_of us)) (number : ℕ) (p : PlacedUnit) (is : slice_get (placed us) number ≡ Some p)
+module _ (us : List DebugUnit) (rise : OffsetsRise (entries_of us)) (number : ℕ) (p : PlacedUnit)
+    (is : slice_get (placed us) number ≡ Some p)
     (alone_rise : OffsetsRise (entries_of (p.unit ∷ []))) where
-  reached_in_place : (offset id : ℕ) → reach_in_unit (entries_of (p.unit ∷ [])) (placed (p.unit ∷ [])) 0 offset ≡ Some id
+  reached_in_place : (offset id : ℕ)
+      → reach_in_unit (entries_of (p.unit ∷ [])) (placed (p.unit ∷ [])) 0 offset ≡ Some id
       → reach_in_unit (entries_of us) (placed us) number offset ≡ Some (p.first + id)
   reached_in_place offset id reached =
       let r = at_reach_in_unit (entries_of (p.unit ∷ [])) (placed (p.unit ∷ [])) 0 offset id reached in
       let t = r.target in
-      let first : lone p.unit ≡ r.unit = same_some (slice_get (placed (p.unit ∷ [])) 0) (lone p.unit) r.unit refl r.is_unit in
+      let first : lone p.unit ≡ r.unit = same_some (slice_get (placed (p.unit ∷ [])) 0) (lone p.unit) r.unit refl
+      r.is_unit in
       let zero_at : 0 ≡ r.unit.at = ap (λ (q : PlacedUnit). q.at) first in
       let begins = t.begins in
       reach_in_unit_is (entries_of us) (placed us) number offset (p.first + id) rise

@@ -44,14 +44,17 @@ pub stays_at : (s : Sections) (us : List DebugUnit) (number : ℕ) (p : PlacedUn
     → slice_get (placed us) number ≡ Some p → StaysAlone s p.unit
 stays_at s us number p all is = all_placed (StaysAlone s) 0 0 us number p all is
 
-pub each_of : (P Q : DebugUnit → Type 0) (us : List DebugUnit) → ((u : DebugUnit) → P u → Q u) → AllByRecursion P us → AllByRecursion Q us
+pub each_of : (P Q : DebugUnit → Type 0) (us : List DebugUnit) → ((u : DebugUnit) → P u → Q u) → AllByRecursion P us
+    → AllByRecursion Q us
 each_of P Q [] holds all = tt
 each_of P Q (u ∷ us) holds (one, more) = (holds u one, each_of P Q us holds more)
 
 -- a unit that is valid alone stays alone
-pub stays_of : (s : Sections) (us : List DebugUnit) → AllByRecursion (StandsAlone s) us → AllByRecursion (StaysAlone s) us
+pub stays_of : (s : Sections) (us : List DebugUnit) → AllByRecursion (StandsAlone s) us
+    → AllByRecursion (StaysAlone s) us
 stays_of s us all =
-    each_of (StandsAlone s) (StaysAlone s) us (λ u one. record { is_unit = one.is_unit; no_type_unit = one.no_type_unit; stays = one.stays }) all
+    each_of (StandsAlone s) (StaysAlone s) us
+    (λ u one. record { is_unit = one.is_unit; no_type_unit = one.no_type_unit; stays = one.stays }) all
 
 -- ---- the entries of a unit are in its bytes
 
@@ -59,7 +62,8 @@ rises_between : (low high : ℕ) (rs : List Record) → Rises low high rs → lo
 rises_between low high [] p = p
 rises_between low high (q ∷ rs) p = let more = rises_between (suc q.at) high rs p.1 in omega (arith, more, p.0)
 
-rises_high : (low high : ℕ) (rs : List Record) (k : ℕ) (r : Record) → Rises low high rs → slice_get rs k ≡ Some r → r.at < high
+rises_high : (low high : ℕ) (rs : List Record) (k : ℕ) (r : Record) → Rises low high rs → slice_get rs k ≡ Some r
+    → r.at < high
 rises_high low high [] k r p is = absurd cc
 rises_high low high (q ∷ rs) zero r p is =
     let some : Some q ≡ Some r = is in
@@ -68,12 +72,14 @@ rises_high low high (q ∷ rs) zero r p is =
     subst (λ (x : Record). x.at < high) same (omega (arith, few))
 rises_high low high (q ∷ rs) (suc k) r p is = rises_high (suc q.at) high rs k r p.1 is
 
-pub entry_inside : (a : List ℕ) (u : DebugUnit) (k : ℕ) (e : Entry) → IsUnit a u → slice_get (entries_of (u ∷ [])) k ≡ Some e
+pub entry_inside : (a : List ℕ) (u : DebugUnit) (k : ℕ) (e : Entry) → IsUnit a u
+    → slice_get (entries_of (u ∷ [])) k ≡ Some e
     → e.at < length (unit_bytes u)
 entry_inside a u k e unit is =
     let any : ℕ → ℕ → ℕ = λ number code. 0 in
     let high = rises_high 0 (0 + length (units_bytes (u ∷ []))) (records_of any (u ∷ [])) k (record_of any e)
-    (subst (Rises 0 (0 + length (units_bytes (u ∷ [])))) (sym (records_kept any (u ∷ []))) (units_rise a any 0 0 0 (u ∷ []) (unit, tt)))
+    (subst (Rises 0 (0 + length (units_bytes (u ∷ [])))) (sym (records_kept any (u ∷ [])))
+    (units_rise a any 0 0 0 (u ∷ []) (unit, tt)))
     (kept_get any (u ∷ []) k e is) in
     omega (arith, high, length-append (unit_bytes u) [])
 
@@ -81,12 +87,14 @@ entry_inside a u k e unit is =
 
 -- a rule fails at an attribute of an entry in its place just where another does at the entry alone
 abbrev pub FailAlike : List DebugUnit → Rules → (DebugUnit → Rules) → Type 0
-FailAlike us Fails Alone = (number : ℕ) (p : PlacedUnit) → slice_get (placed us) number ≡ Some p → (inner : ℕ) (e : Entry)
+FailAlike us Fails Alone =
+    (number : ℕ) (p : PlacedUnit) → slice_get (placed us) number ≡ Some p → (inner : ℕ) (e : Entry)
     → slice_get (entries_of (p.unit ∷ [])) inner ≡ Some e → (position attribute : ℕ) (v : Datum) (rule : Rule)
     → HasAttribute e position attribute v
     → Fails (entry_head (moved number p.first p.at e)) attribute v rule ↔ Alone p.unit (entry_head e) attribute v rule
 
-pub heads_units : (s : Sections) (us : List DebugUnit) (Fails : Rules) (Alone : DebugUnit → Rules) → AllByRecursion (StaysAlone s) us
+pub heads_units : (s : Sections) (us : List DebugUnit) (Fails : Rules) (Alone : DebugUnit → Rules)
+    → AllByRecursion (StaysAlone s) us
     → FailAlike us Fails Alone
     → AreOfUnits us (AtEntries (entries_of us) (AtHead Fails)) (λ u. AtEntries (entries_of (u ∷ [])) (AtHead (Alone u)))
 heads_units s us Fails Alone all alike = record {
@@ -107,7 +115,9 @@ heads_units s us Fails Alone all alike = record {
             value = here.value;
             has = here.has;
             place = refl;
-            fails = (alike i.number i.place i.is_place i.inner i.entry i.is_entry here.position f.attribute here.value f.rule here.has).0 here.fails;
+            fails =
+                (alike i.number i.place i.is_place i.inner i.entry i.is_entry here.position f.attribute here.value
+                f.rule here.has).0 here.fails;
           };
         };
         same = ap (λ (q : Place). record { rule = f.rule; place = q; attribute = f.attribute }) (sym here.place);
@@ -122,38 +132,49 @@ heads_units s us Fails Alone all alike = record {
           value = fails.fails.value;
           has = fails.fails.has;
           place = ap (moved_place p.at) fails.fails.place;
-          fails = (alike number p is fails.number fails.item fails.is_item fails.fails.position g.attribute fails.fails.value g.rule fails.fails.has).1 fails.fails.fails;
+          fails =
+              (alike number p is fails.number fails.item fails.is_item fails.fails.position g.attribute
+              fails.fails.value g.rule fails.fails.has).1 fails.fails.fails;
         };
       };
   inside = λ number p is g fails.
       subst (IsInside (length (unit_bytes p.unit))) (sym fails.fails.place)
-      (entry_inside s.«abbrev».now p.unit fails.number fails.item (stays_at s us number p all is).is_unit fails.is_item);
+      (entry_inside s.«abbrev».now p.unit fails.number fails.item (stays_at s us number p all is).is_unit
+      fails.is_item);
 }
 
 -- ---- classes
 
-class_alone : (us : List DebugUnit) (number : ℕ) (p : PlacedUnit) → slice_get (placed us) number ≡ Some p → (e : Entry) → e.unit ≡ 0
-    → (attribute : ℕ) (v : Datum) (rule : Rule) → ClassFails (placed us) (entry_head (moved number p.first p.at e)) attribute v rule
+class_alone : (us : List DebugUnit) (number : ℕ) (p : PlacedUnit) → slice_get (placed us) number ≡ Some p → (e : Entry)
+    → e.unit ≡ 0
+    → (attribute : ℕ) (v : Datum) (rule : Rule)
+    → ClassFails (placed us) (entry_head (moved number p.first p.at e)) attribute v rule
     → ClassFails (placed (p.unit ∷ [])) (entry_head e) attribute v rule
 class_alone us number p is e of attribute v rule fails =
     let same : fails.unit ≡ p = same_some (slice_get (placed us) number) fails.unit p fails.in_unit is in
     record {
       unit = lone p.unit;
       in_unit = ap (slice_get (placed (p.unit ∷ []))) of;
-      class = subst (λ (q : PlacedUnit). allows_in (version_of q.unit.header.kind) attribute (class_of v) ≡ false) same fails.class;
+      class =
+          subst (λ (q : PlacedUnit). allows_in (version_of q.unit.header.kind) attribute (class_of v) ≡ false) same
+          fails.class;
       only = fails.only;
     }
 
-class_in_place : (us : List DebugUnit) (number : ℕ) (p : PlacedUnit) → slice_get (placed us) number ≡ Some p → (e : Entry) → e.unit ≡ 0
+class_in_place : (us : List DebugUnit) (number : ℕ) (p : PlacedUnit) → slice_get (placed us) number ≡ Some p
+    → (e : Entry) → e.unit ≡ 0
     → (attribute : ℕ) (v : Datum) (rule : Rule) → ClassFails (placed (p.unit ∷ [])) (entry_head e) attribute v rule
     → ClassFails (placed us) (entry_head (moved number p.first p.at e)) attribute v rule
 class_in_place us number p is e of attribute v rule fails =
-    let same : fails.unit ≡ lone p.unit = same_some (slice_get (placed (p.unit ∷ [])) e.unit) fails.unit (lone p.unit) fails.in_unit
+    let same : fails.unit ≡ lone p.unit = same_some (slice_get (placed (p.unit ∷ [])) e.unit) fails.unit (lone p.unit)
+    fails.in_unit
     (ap (slice_get (placed (p.unit ∷ []))) of) in
     record {
       unit = p;
       in_unit = is;
-      class = subst (λ (q : PlacedUnit). allows_in (version_of q.unit.header.kind) attribute (class_of v) ≡ false) same fails.class;
+      class =
+          subst (λ (q : PlacedUnit). allows_in (version_of q.unit.header.kind) attribute (class_of v) ≡ false) same
+          fails.class;
       only = fails.only;
     }
 
@@ -170,7 +191,8 @@ pub classes_units : (s : Sections) (us : List DebugUnit) → AllByRecursion (Sta
 classes_units s us all =
     heads_units s us (ClassFails (placed us)) (λ u. ClassFails (placed (u ∷ []))) all
     (λ number p is inner e is_e position attribute v rule has.
-    let of = unit_zero p.unit inner e is_e in (class_alone us number p is e of attribute v rule, class_in_place us number p is e of attribute v rule))
+    let of = unit_zero p.unit inner e is_e in
+    (class_alone us number p is e of attribute v rule, class_in_place us number p is e of attribute v rule))
 
 pub classes_join : (s : Sections) (us : List DebugUnit) → AllByRecursion (StandsAlone s) us → HasNone (ClassFailures us)
 classes_join s us all =
@@ -180,7 +202,8 @@ classes_join s us all =
 -- ---- strings and addresses
 
 -- the unit's bases are those of the unit alone
-pub base_same : (us : List DebugUnit) (number : ℕ) (p : PlacedUnit) (attribute : ℕ) → slice_get (placed us) number ≡ Some p
+pub base_same : (us : List DebugUnit) (number : ℕ) (p : PlacedUnit) (attribute : ℕ)
+    → slice_get (placed us) number ≡ Some p
     → base_in (entries_of us) p attribute ≡ base_in (entries_of (p.unit ∷ [])) (lone p.unit) attribute
 base_same us number p attribute is =
     let all = first_entry us number p is in
@@ -193,49 +216,61 @@ base_same us number p attribute is =
     ap F all.is_entry ∙ ap G heads ∙ sym (ap F alone.is_entry)
 
 -- of the head only its parent is asked
-strings_in : (s : Sections) (header : UnitHeader) (strings addresses : Option ℕ) (number first at : ℕ) (e : Entry) (attribute : ℕ) (v : Datum)
+strings_in : (s : Sections) (header : UnitHeader) (strings addresses : Option ℕ) (number first at : ℕ) (e : Entry)
+    (attribute : ℕ) (v : Datum)
     (rule : Rule) → StringFailsIn s header strings addresses (entry_head (moved number first at e)) attribute v rule
     → StringFailsIn s header strings addresses (entry_head e) attribute v rule
 strings_in s header strings addresses number first at e attribute v rule is = search (rules, none_moved)
 
-string_alone : (s : Sections) (us : List DebugUnit) (number : ℕ) (p : PlacedUnit) → slice_get (placed us) number ≡ Some p → (e : Entry)
+string_alone : (s : Sections) (us : List DebugUnit) (number : ℕ) (p : PlacedUnit)
+    → slice_get (placed us) number ≡ Some p → (e : Entry)
     → e.unit ≡ 0 → (attribute : ℕ) (v : Datum) (rule : Rule)
     → StringFails s (entries_of us) (placed us) (entry_head (moved number p.first p.at e)) attribute v rule
     → StringFails s (entries_of (p.unit ∷ [])) (placed (p.unit ∷ [])) (entry_head e) attribute v rule
 string_alone s us number p is e of attribute v rule fails =
     let same : fails.unit ≡ p = same_some (slice_get (placed us) number) fails.unit p fails.in_unit is in
     let head = entry_head (moved number p.first p.at e) in
-    let here = subst (λ (q : PlacedUnit). StringFailsIn s q.unit.header (base_in (entries_of us) q DW_AT_str_offsets_base)
+    let here = subst (λ (q : PlacedUnit). StringFailsIn s q.unit.header
+    (base_in (entries_of us) q DW_AT_str_offsets_base)
     (base_in (entries_of us) q DW_AT_addr_base) head attribute v rule) same fails.fails in
-    let strings = subst (λ (b : Option ℕ). StringFailsIn s p.unit.header b (base_in (entries_of us) p DW_AT_addr_base) head attribute v rule)
+    let strings = subst (λ (b : Option ℕ). StringFailsIn s p.unit.header b (base_in (entries_of us) p DW_AT_addr_base)
+    head attribute v rule)
     (base_same us number p DW_AT_str_offsets_base is) here in
-    let both = subst (λ (b : Option ℕ). StringFailsIn s p.unit.header (base_in (entries_of (p.unit ∷ [])) (lone p.unit) DW_AT_str_offsets_base) b head attribute v rule)
+    let both = subst (λ (b : Option ℕ). StringFailsIn s p.unit.header
+    (base_in (entries_of (p.unit ∷ [])) (lone p.unit) DW_AT_str_offsets_base) b head attribute v rule)
     (base_same us number p DW_AT_addr_base is) strings in
     record {
       unit = lone p.unit;
       in_unit = ap (slice_get (placed (p.unit ∷ []))) of;
       fails = strings_in s p.unit.header (base_in (entries_of (p.unit ∷ [])) (lone p.unit) DW_AT_str_offsets_base)
-          (base_in (entries_of (p.unit ∷ [])) (lone p.unit) DW_AT_addr_base) number p.first p.at e attribute v rule both;
+          (base_in (entries_of (p.unit ∷ [])) (lone p.unit) DW_AT_addr_base) number p.first p.at e attribute v rule
+          both;
     }
 
-strings_in_place : (s : Sections) (header : UnitHeader) (strings addresses : Option ℕ) (number first at : ℕ) (e : Entry) (attribute : ℕ) (v : Datum)
+strings_in_place : (s : Sections) (header : UnitHeader) (strings addresses : Option ℕ) (number first at : ℕ) (e : Entry)
+    (attribute : ℕ) (v : Datum)
     (rule : Rule) → StringFailsIn s header strings addresses (entry_head e) attribute v rule
     → StringFailsIn s header strings addresses (entry_head (moved number first at e)) attribute v rule
 strings_in_place s header strings addresses number first at e attribute v rule is = search (rules, moved_number)
 
-string_in_place : (s : Sections) (us : List DebugUnit) (number : ℕ) (p : PlacedUnit) → slice_get (placed us) number ≡ Some p → (e : Entry)
+string_in_place : (s : Sections) (us : List DebugUnit) (number : ℕ) (p : PlacedUnit)
+    → slice_get (placed us) number ≡ Some p → (e : Entry)
     → e.unit ≡ 0 → (attribute : ℕ) (v : Datum) (rule : Rule)
     → StringFails s (entries_of (p.unit ∷ [])) (placed (p.unit ∷ [])) (entry_head e) attribute v rule
     → StringFails s (entries_of us) (placed us) (entry_head (moved number p.first p.at e)) attribute v rule
 string_in_place s us number p is e of attribute v rule fails =
-    let same : fails.unit ≡ lone p.unit = same_some (slice_get (placed (p.unit ∷ [])) e.unit) fails.unit (lone p.unit) fails.in_unit
+    let same : fails.unit ≡ lone p.unit = same_some (slice_get (placed (p.unit ∷ [])) e.unit) fails.unit (lone p.unit)
+    fails.in_unit
     (ap (slice_get (placed (p.unit ∷ []))) of) in
     let head = entry_head e in
-    let here = subst (λ (q : PlacedUnit). StringFailsIn s q.unit.header (base_in (entries_of (p.unit ∷ [])) q DW_AT_str_offsets_base)
+    let here = subst (λ (q : PlacedUnit). StringFailsIn s q.unit.header
+    (base_in (entries_of (p.unit ∷ [])) q DW_AT_str_offsets_base)
     (base_in (entries_of (p.unit ∷ [])) q DW_AT_addr_base) head attribute v rule) same fails.fails in
-    let strings = subst (λ (b : Option ℕ). StringFailsIn s p.unit.header b (base_in (entries_of (p.unit ∷ [])) (lone p.unit) DW_AT_addr_base) head attribute v rule)
+    let strings = subst (λ (b : Option ℕ). StringFailsIn s p.unit.header b
+    (base_in (entries_of (p.unit ∷ [])) (lone p.unit) DW_AT_addr_base) head attribute v rule)
     (sym (base_same us number p DW_AT_str_offsets_base is)) here in
-    let both = subst (λ (b : Option ℕ). StringFailsIn s p.unit.header (base_in (entries_of us) p DW_AT_str_offsets_base) b head attribute v rule)
+    let both = subst (λ (b : Option ℕ). StringFailsIn s p.unit.header (base_in (entries_of us) p DW_AT_str_offsets_base)
+    b head attribute v rule)
     (sym (base_same us number p DW_AT_addr_base is)) strings in
     record {
       unit = p;
@@ -247,11 +282,14 @@ string_in_place s us number p is e of attribute v rule fails =
 pub strings_units : (s : Sections) (us : List DebugUnit) → AllByRecursion (StaysAlone s) us
     → AreOfUnits us (StringFailures s us) (λ u. StringFailures s (u ∷ []))
 strings_units s us all =
-    heads_units s us (StringFails s (entries_of us) (placed us)) (λ u. StringFails s (entries_of (u ∷ [])) (placed (u ∷ []))) all
+    heads_units s us (StringFails s (entries_of us) (placed us))
+    (λ u. StringFails s (entries_of (u ∷ [])) (placed (u ∷ []))) all
     (λ number p is inner e is_e position attribute v rule has.
-    let of = unit_zero p.unit inner e is_e in (string_alone s us number p is e of attribute v rule, string_in_place s us number p is e of attribute v rule))
+    let of = unit_zero p.unit inner e is_e in
+    (string_alone s us number p is e of attribute v rule, string_in_place s us number p is e of attribute v rule))
 
-pub strings_join : (s : Sections) (us : List DebugUnit) → AllByRecursion (StandsAlone s) us → HasNone (StringFailures s us)
+pub strings_join : (s : Sections) (us : List DebugUnit) → AllByRecursion (StandsAlone s) us
+    → HasNone (StringFailures s us)
 strings_join s us all =
     none_of_units us (StringFailures s us) (λ u. StringFailures s (u ∷ [])) (strings_units s us (stays_of s us all))
     (each_of (StandsAlone s) (λ u. HasNone (StringFailures s (u ∷ []))) us (λ u one. one.strings) all)

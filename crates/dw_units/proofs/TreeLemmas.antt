@@ -24,14 +24,17 @@ use Rattle.dw_units.specs.ByUnit.{moved_broken, TreesOfUnits}
 use Rattle.dw_units.specs.Parts.{IsWhole}
 
 module _ (at : ℕ) where
-  place_moved : (rule : Rule) (header offset there : ℕ) → there ≡ at + offset → place_of rule (at + header) there ≡ at + place_of rule header offset
+  place_moved : (rule : Rule) (header offset there : ℕ) → there ≡ at + offset
+      → place_of rule (at + header) there ≡ at + place_of rule header offset
   place_moved rule header offset there is = search rules
 
-  in_unit_moved : (f : Failing) (header offset there : ℕ) → there ≡ at + offset → moved_broken at (in_unit f header offset) ≡ in_unit f (at + header) there
+  in_unit_moved : (f : Failing) (header offset there : ℕ) → there ≡ at + offset
+      → moved_broken at (in_unit f header offset) ≡ in_unit f (at + header) there
   in_unit_moved f header offset there is =
       ap (λ (n : ℕ). record (in_unit f header offset) { at = n }) (sym (place_moved f.rule header offset there is))
 
-  behind_moved : (header : ℕ) (h : UnitHeader) (body : List ℕ) (table : Result (List Declaration) AbbrevFault) (broken : Broken)
+  behind_moved : (header : ℕ) (h : UnitHeader) (body : List ℕ) (table : Result (List Declaration) AbbrevFault)
+      (broken : Broken)
       → FailsBehind header h body table broken → FailsBehind (at + header) h body table (moved_broken at broken)
   behind_moved header h body (Ok table) broken fails = record {
     items = fails.items;
@@ -48,17 +51,21 @@ module _ (at : ℕ) where
 
   as_moved : («abbrev» : List ℕ) (header : ℕ) (read : Result (UnitHeader × List ℕ) Rule) (broken : Broken)
       → FailsAs «abbrev» header read broken → FailsAs «abbrev» (at + header) read (moved_broken at broken)
-  as_moved «abbrev» header (Ok u) broken fails = behind_moved header u.0 u.1 (table_at «abbrev» u.0.abbrev_offset) broken fails
+  as_moved «abbrev» header (Ok u) broken fails =
+      behind_moved header u.0 u.1 (table_at «abbrev» u.0.abbrev_offset) broken fails
   as_moved «abbrev» header (Err rule) broken is = ap (moved_broken at) is
 
-  here_moved : («abbrev» : List ℕ) (header : ℕ) (rest : List ℕ) (broken : Broken) → FailsHere «abbrev» header rest broken
+  here_moved : («abbrev» : List ℕ) (header : ℕ) (rest : List ℕ) (broken : Broken)
+      → FailsHere «abbrev» header rest broken
       → FailsHere «abbrev» (at + header) rest (moved_broken at broken)
-  here_moved «abbrev» header rest broken fails = as_moved «abbrev» header (header_at (length «abbrev») rest) broken fails
+  here_moved «abbrev» header rest broken fails =
+      as_moved «abbrev» header (header_at (length «abbrev») rest) broken fails
 
 pub trees_first : TreesOfUnits
 trees_first s before rest broken are parts fails =
     let at : ℕ = length (units_bytes before) in
-    let joined : units_bytes (before ++ fails.units) ≡ units_bytes before ++ units_bytes fails.units = flat_map-append unit_bytes before fails.units in
+    let joined : units_bytes (before ++ fails.units)
+    ≡ units_bytes before ++ units_bytes fails.units = flat_map-append unit_bytes before fails.units in
     let long : at + length (units_bytes fails.units) ≡ length (units_bytes (before ++ fails.units)) =
     sym (length-append (units_bytes before) (units_bytes fails.units)) ∙ ap length (sym joined) in
     record {
@@ -66,7 +73,8 @@ trees_first s before rest broken are parts fails =
       rest = fails.rest;
       are = all-append (IsUnit s.«abbrev».now) before fails.units are fails.are;
       parts = parts ∙ ap (λ (xs : List ℕ). units_bytes before ++ xs) fails.parts
-          ∙ sym (append_assoc (units_bytes before) (units_bytes fails.units) fails.rest) ∙ ap (λ (xs : List ℕ). xs ++ fails.rest) (sym joined);
+          ∙ sym (append_assoc (units_bytes before) (units_bytes fails.units) fails.rest)
+          ∙ ap (λ (xs : List ℕ). xs ++ fails.rest) (sym joined);
       more = fails.more;
       fails = subst (λ (n : ℕ). FailsHere s.«abbrev».now n fails.rest (moved_broken at broken)) long
           (here_moved at s.«abbrev».now (length (units_bytes fails.units)) fails.rest broken fails.fails);
@@ -88,7 +96,11 @@ four_before : (part more : List ℕ) → 4 ≤ length part
     → field_at 4 (part ++ more) ≡ Ok (little_number 4 (take 4 part), drop 4 part ++ more)
 unfolding field_at
 four_before part more four =
-    rw (le-ltb (length (part ++ more)) 4 (omega (arith, four, length-append part more)), take_front 4 part more four, drop_front 4 part more four)
+    rw (
+      le-ltb (length (part ++ more)) 4 (omega (arith, four, length-append part more)),
+      take_front 4 part more four,
+      drop_front 4 part more four,
+    )
 
 unit_before : (part more : List ℕ) → IsWhole part → little_number 4 (take 4 part) < 0xfffffff0
     → unit_at (part ++ more) ≡ Ok (little_number 4 (take 4 part), drop 4 part)
@@ -100,7 +112,8 @@ unit_before part more whole low =
     rw (
       four_before part more four,
       lt-ltb (little_number 4 (take 4 part)) 0xfffffff0 low,
-      le-ltb (length (drop 4 part ++ more)) (little_number 4 (take 4 part)) (omega (arith, body, length-append (drop 4 part) more)),
+      le-ltb (length (drop 4 part ++ more)) (little_number 4 (take 4 part))
+          (omega (arith, body, length-append (drop 4 part) more)),
       take_front (little_number 4 (take 4 part)) (drop 4 part) more (omega (arith, body)),
       sym body,
     )
@@ -129,29 +142,41 @@ header_alike size part more whole =
 pub here_with_more : («abbrev» part more : List ℕ) (broken : Broken) → IsWhole part → FailsHere «abbrev» 0 part broken
     → FailsHere «abbrev» 0 (part ++ more) broken
 here_with_more «abbrev» part more broken whole fails =
-    subst (λ (r : Result (UnitHeader × List ℕ) Rule). FailsAs «abbrev» 0 r broken) (sym (header_alike (length «abbrev») part more whole)) fails
+    subst (λ (r : Result (UnitHeader × List ℕ) Rule). FailsAs «abbrev» 0 r broken)
+    (sym (header_alike (length «abbrev») part more whole)) fails
 
 -- ---- such bytes are one unit, or begin with none
 
-first_four : («abbrev» : List ℕ) (u : DebugUnit) (x : List ℕ) → IsUnit «abbrev» u → little_number 4 (take 4 (unit_bytes u ++ x)) ≡ u.header.unit_length
+first_four : («abbrev» : List ℕ) (u : DebugUnit) (x : List ℕ) → IsUnit «abbrev» u
+    → little_number 4 (take 4 (unit_bytes u ++ x)) ≡ u.header.unit_length
 first_four «abbrev» u x unit =
     let n : ℕ = u.header.unit_length in
     let front : List ℕ = little_bytes 4 n in
     let len : length front ≡ 4 = length-bytes_low_first 0 4 n in
     let low = unit.header.format in
     let e : take 4 (unit_bytes u ++ x) ≡ front =
-    take_front 4 (unit_bytes u) x (omega (arith, len, length-append (header_bytes u.header) (body_bytes u), length-append front (header_fields u.header)))
-    ∙ take_front 4 (header_bytes u.header) (body_bytes u) (omega (arith, len, length-append front (header_fields u.header)))
+    take_front 4 (unit_bytes u) x (omega (
+      arith,
+      len,
+      length-append (header_bytes u.header) (body_bytes u),
+      length-append front
+          (header_fields u.header),
+    ))
+    ∙ take_front 4 (header_bytes u.header) (body_bytes u)
+    (omega (arith, len, length-append front (header_fields u.header)))
     ∙ take_front 4 front (header_fields u.header) (omega (arith, len))
     ∙ ap (λ (k : ℕ). take k front) (sym len) ∙ take-length front in
     ap (little_number 4) (e ∙ sym (append-nil front)) ∙ little_number-reads_back 4 n [] (omega (arith, low))
 
-nothing_behind : («abbrev» part : List ℕ) (u : DebugUnit) (x : List ℕ) → IsWhole part → IsUnit «abbrev» u → part ≡ unit_bytes u ++ x → length x ≡ 0
+nothing_behind : («abbrev» part : List ℕ) (u : DebugUnit) (x : List ℕ) → IsWhole part → IsUnit «abbrev» u
+    → part ≡ unit_bytes u ++ x → length x ≡ 0
 nothing_behind «abbrev» part u x whole unit parts =
     let long = whole.long in
     let counted = unit.unit_length in
     let front : List ℕ = little_bytes 4 u.header.unit_length in
-    let four : little_number 4 (take 4 part) ≡ u.header.unit_length = ap (λ (xs : List ℕ). little_number 4 (take 4 xs)) parts ∙ first_four «abbrev» u x unit in
+    let four : little_number 4 (take 4 part)
+    ≡ u.header.unit_length = ap (λ (xs : List ℕ). little_number 4 (take 4 xs)) parts
+    ∙ first_four «abbrev» u x unit in
     omega (
       arith,
       long,
@@ -170,7 +195,8 @@ no_elements [] is = refl
 no_elements (x ∷ xs) is = absurd (omega (arith, is))
 
 -- a rule of trees that fails in the bytes of one unit fails with more behind them
-pub fails_with_more : («abbrev» part more : List ℕ) (broken : Broken) → IsWhole part → Fails «abbrev» part broken → Fails «abbrev» (part ++ more) broken
+pub fails_with_more : («abbrev» part more : List ℕ) (broken : Broken) → IsWhole part → Fails «abbrev» part broken
+    → Fails «abbrev» (part ++ more) broken
 fails_with_more «abbrev» part more broken whole fails = go fails.units fails.are fails.parts fails.fails
   where
     go : (units : List DebugUnit) → AreUnits «abbrev» units → part ≡ units_bytes units ++ fails.rest
@@ -183,9 +209,13 @@ fails_with_more «abbrev» part more broken whole fails = go fails.units fails.a
           are = tt;
           parts = refl;
           more = λ none. (let e = ap length none in omega (arith, e, long, length-append part more));
-          fails = here_with_more «abbrev» part more broken whole (subst (λ (xs : List ℕ). FailsHere «abbrev» 0 xs broken) (sym parts) here);
+          fails =
+              here_with_more «abbrev» part more broken whole
+              (subst (λ (xs : List ℕ). FailsHere «abbrev» 0 xs broken) (sym parts) here);
         }
     go (u ∷ units) are parts here =
         let behind : List ℕ = units_bytes units ++ fails.rest in
-        let empty = nothing_behind «abbrev» part u behind whole are.0 (parts ∙ append_assoc (unit_bytes u) (units_bytes units) fails.rest) in
-        absurd (fails.more (no_elements fails.rest (omega (arith, empty, length-append (units_bytes units) fails.rest))))
+        let empty = nothing_behind «abbrev» part u behind whole are.0
+        (parts ∙ append_assoc (unit_bytes u) (units_bytes units) fails.rest) in
+        absurd (fails.more (no_elements fails.rest
+        (omega (arith, empty, length-append (units_bytes units) fails.rest))))

@@ -78,7 +78,8 @@ no_command forms ws m is matches none request file are =
 
 -- it has failed
 pub not_taken : (forms : Command) (ws : List Text) (e : Error) → app_of forms ≡ command_line
-    → (is_simple_and_free (app_of forms) ≡ true → HasKind (fault_of (app_of forms) ws) e) → (kind_of e ≡ kind.OutOfMemory → ⊥)
+    → (is_simple_and_free (app_of forms) ≡ true → HasKind (fault_of (app_of forms) ws) e)
+    → (kind_of e ≡ kind.OutOfMemory → ⊥)
     → (request : Request) (file : Text) → AreRequest ws request file → ⊥
 not_taken forms ws e is kinds other request file are = go (kinds (ap is_simple_and_free is ∙ forms_are_free))
   where
@@ -88,7 +89,8 @@ not_taken forms ws e is kinds other request file are = go (kinds (ap is_simple_a
 
 -- words are one command at most
 pub one_command : (ws : List Text) (name : Text) (rows : List Row) → HaveCommand ws name rows → (request : Request)
-    (file : Text) → AreRequest ws request file → IsRequest name rows request × (first_of (codes "FILE") rows ≡ Some file)
+    (file : Text) → AreRequest ws request file
+    → IsRequest name rows request × (first_of (codes "FILE") rows ≡ Some file)
 one_command ws name rows have request file are =
     let same : ◌≡◌ {A = Text × List Row} (are.name, are.rows) (name, rows) =
     some_is (sym are.have.command ∙ have.command) in (
@@ -102,7 +104,8 @@ pub no_file : (ws : List Text) (name : Text) (m : ArgMatches) → HaveCommand ws
     → (request : Request) (file : Text) → AreRequest ws request file → ⊥
 no_file ws name m have none request file are =
     let there = (one_command ws name (rows_of (found_of m)) have request file are).1 in
-    let not_there : None ≡ first_of (codes "FILE") (rows_of (found_of m)) = none ∙ first_value-rows (found_of m) (codes "FILE") in
+    let not_there : None ≡ first_of (codes "FILE") (rows_of (found_of m)) = none
+    ∙ first_value-rows (found_of m) (codes "FILE") in
     absurd cc
 
 -- all is found
@@ -118,7 +121,8 @@ are_request ws name m request file text have named is same = record {
 }
 
 -- what is read of a flag
-pub flag_read : (m : ArgMatches) (flag : Bool) → (one_text (found_of m) (codes "json") ≡ Some (codes "true") → flag ≡ true)
+pub flag_read : (m : ArgMatches) (flag : Bool)
+    → (one_text (found_of m) (codes "json") ≡ Some (codes "true") → flag ≡ true)
     → (one_text (found_of m) (codes "json") ≡ Some (codes "false") → flag ≡ false)
     → IsFlag (one_of (codes "json") (rows_of (found_of m))) flag
 flag_read m flag set unset = record {
@@ -130,7 +134,8 @@ flag_read m flag set unset = record {
 pub no_offset : (name : Text) (m : ArgMatches) → name ≡ codes "size" → None ≡ first_value (found_of m) (codes "OFFSET")
     → (request : Request) → IsRequest name (rows_of (found_of m)) request → ⊥
 no_offset name m size none (Check json) is = let no : codes "check" ≡ codes "size" = sym is.0 ∙ size in absurd cc
-no_offset name m size none Show is = let no : 104 ≡ 105 = ap (λ (word : Text). slice_index word 1) (sym is ∙ size) in absurd (omega (arith, no))
+no_offset name m size none Show is =
+    let no : 104 ≡ 105 = ap (λ (word : Text). slice_index word 1) (sym is ∙ size) in absurd (omega (arith, no))
 no_offset name m size none Types is = let no : codes "types" ≡ codes "size" = sym is ∙ size in absurd cc
 no_offset name m size none (Size offset) (named, word, given, good, same) =
     let no : None ≡ Some word = none ∙ first_value-rows (found_of m) (codes "OFFSET") ∙ given in absurd cc

@@ -11,7 +11,8 @@ use Rattle.dwv_c.specs.declared.verdict.Verdict.{Verdict}
 use Rattle.dwv_c.specs.Verdicts.{AreOfFile, IsSoundFile, AreCountsOfFile, AreCountsOfSix, Checks, HaveBytes, IsFaultOfFile, IsFaultOfSix, IsFaultOfSections, violates, sound, fault, memory}
 use Rattle.dwv_c.specs.Checked.{IsErrorOf, status_of, verdict_after}
 
-checked_by : {X : Type 0} (P Q : Verdict → Type 0) (A B : X → Type 0) → ((v : Verdict) → P v → Q v) → ((x : X) → A x → B x)
+checked_by : {X : Type 0} (P Q : Verdict → Type 0) (A B : X → Type 0) → ((v : Verdict) → P v → Q v)
+    → ((x : X) → A x → B x)
     → (r : Result X (Stop Verdict)) → MatchResult r A (IsErrorOf P) → MatchResult r B (IsErrorOf Q)
 checked_by P Q A B of_fault of_sound (Ok x) is = of_sound x is
 checked_by P Q A B of_fault of_sound (Err (Fault v)) is = of_fault v is

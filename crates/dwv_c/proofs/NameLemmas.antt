@@ -45,7 +45,8 @@ first_zero xs k below is =
 
     is_zero : (b : ℕ) → (b == 0) ≡ true → b ≡ 0
     is_zero zero passes = refl
-    is_zero (suc b) passes = let other : (suc b == 0) ≡ false = ne_eqb (suc b) 0 (λ same. omega (arith, same)) in absurd cc
+    is_zero (suc b) passes =
+        let other : (suc b == 0) ≡ false = ne_eqb (suc b) 0 (λ same. omega (arith, same)) in absurd cc
 
 -- the string at an offset, and the zero byte that ends it
 string_ends : (section : List ℕ) (offset : ℕ) → Ends section offset
@@ -62,4 +63,5 @@ pub string_in_file : (file section : List ℕ) (start offset : ℕ) → IsAt fil
     → IsAt file (start + offset) (string_at section offset ++ 0 ∷ [])
 string_in_file file section start offset is ends =
     subst (IsAt file (start + offset)) (string_ends section offset ends)
-    (part_at file section start offset (suc (position_or_len (λ byte. byte == 0) (drop offset section))) is (let p = ends.behind in let q = ends.within in omega (arith, p, q)))
+    (part_at file section start offset (suc (position_or_len (λ byte. byte == 0) (drop offset section))) is
+    (let p = ends.behind in let q = ends.within in omega (arith, p, q)))

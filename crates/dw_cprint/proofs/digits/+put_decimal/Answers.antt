@@ -7,5 +7,7 @@ use Rattle.dw_cprint.proofs.digits.+put_decimal.Goals as goal
 pub returns : goal.returns
 returns t c = record {
   ok = (let step = numeral_step c.args.n c.if-n-lt10.false in grind (arith, common_steps, append_assoc, step));
-  same = (let step = decimal_step_wide c.args.n c.if-n-lt10.false (omega (arith, c.ranges.n.fits)) in grind (arith, common_steps, append_assoc, step));
+  same =
+      (let step = decimal_step_wide c.args.n c.if-n-lt10.false (omega (arith, c.ranges.n.fits)) in
+      grind (arith, common_steps, append_assoc, step));
 }

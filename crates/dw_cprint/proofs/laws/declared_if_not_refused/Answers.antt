@@ -7,12 +7,17 @@ use Rattle.dw_cprint.proofs.laws.declared_if_not_refused.Goals as goal
 
 pub returns-clause-there : goal.returns-clause-there
 unfolding declaration_of
-returns-clause-there c = λ shapes subject none. subject_some 64 shapes subject (λ rule below holds. none rule (omega arith) holds) (λ path. none TooDeep (omega arith) (deep path))
+returns-clause-there c =
+    λ shapes subject none. subject_some 64 shapes subject (λ rule below holds. none rule (omega arith) holds)
+    (λ path. none TooDeep (omega arith) (deep path))
 
 pub returns-clause-legible : goal.returns-clause-legible
 unfolding declaration_of
-returns-clause-legible c = λ shapes subject none regular. subject_legible 65 shapes subject none regular.own regular.reached
+returns-clause-legible c =
+    λ shapes subject none regular. subject_legible 65 shapes subject none regular.own regular.reached
 
 pub returns-clause-one : goal.returns-clause-one
 unfolding declaration_of
-returns-clause-one c = λ shapes subject none regular d another e legible text. one_text another d legible (subject_legible 65 shapes subject none regular.own regular.reached d e) text
+returns-clause-one c =
+    λ shapes subject none regular d another e legible text. one_text another d legible
+    (subject_legible 65 shapes subject none regular.own regular.reached d e) text

@@ -7,4 +7,10 @@ use Rattle.dw_cprint.proofs.lengths.+digit_count.Goals as goal
 pub returns-else-n-lt10 : goal.returns-else-n-lt10
 returns-else-n-lt10 t c =
     let n = c.args.n in
-    omega (arith, c.plus.ensures, c.digit_count.ensures, ap length (numeral_step n c.if-n-lt10.false) ∙ length_push (numeral (n / 10)) (48 + n % 10))
+    omega (
+      arith,
+      c.plus.ensures,
+      c.digit_count.ensures,
+      ap length (numeral_step n c.if-n-lt10.false)
+          ∙ length_push (numeral (n / 10)) (48 + n % 10),
+    )

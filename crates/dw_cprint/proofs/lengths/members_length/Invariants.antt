@@ -5,4 +5,5 @@ use Rattle.dw_cprint.specs.Summaries.{known_of}
 use Rattle.dw_cprint.proofs.lengths.members_length.Given as goal
 
 abbrev pub invariant-loop-member : goal.invariant-loop-member
-invariant-loop-member l = l.bytes ≡ capped (3 + sum_by (member_bytes (known_of l.survey)) (map view_member (take l.member-index l.members)))
+invariant-loop-member l =
+    l.bytes ≡ capped (3 + sum_by (member_bytes (known_of l.survey)) (map view_member (take l.member-index l.members)))

@@ -4,4 +4,5 @@ use Rattle.dw_cprint.specs.Summaries.{known_of}
 use Rattle.dw_cprint.proofs.lengths.parameters_length.Given as goal
 
 abbrev pub invariant-loop-parameter : goal.invariant-loop-parameter
-invariant-loop-parameter l = l.bytes ≡ capped (sum_by (parameter_bytes (known_of l.survey)) (take l.parameter-index l.parameters))
+invariant-loop-parameter l =
+    l.bytes ≡ capped (sum_by (parameter_bytes (known_of l.survey)) (take l.parameter-index l.parameters))

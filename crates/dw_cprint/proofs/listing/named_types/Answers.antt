@@ -11,6 +11,9 @@ use Rattle.dw_cprint.proofs.listing.named_types.Goals as goal
 pub returns : goal.returns
 returns c =
     let image = c.args.image.now in
-    let numbers = YieldsList-from_range 0 _ (length (entries_in image)) c.filter_map.ensures.source (omega (arith, c.entries.ensures)) in
+    let numbers = YieldsList-from_range 0 _ (length (entries_in image)) c.filter_map.ensures.source
+    (omega (arith, c.entries.ensures)) in
     IfOk-weaker _ _ _ (λ (named : Vec ℕ Global) is. named-done image named.items is)
-    (items_from_collect _ c.collect.ensures.ran (YieldsList-from_filter_map _ (named_number image) numbers c.filter_map.ensures.closure (λ x r q k. search (rules, tests))))
+    (items_from_collect _ c.collect.ensures.ran
+    (YieldsList-from_filter_map _ (named_number image) numbers c.filter_map.ensures.closure
+    (λ x r q k. search (rules, tests))))

@@ -8,7 +8,9 @@ use Rattle.dw_cprint.proofs.NumberLemmas.{numbers-by-level}
 use Rattle.dw_cprint.proofs.listing.numbers_by_level.Goals as goal
 
 pub returns-clause-all : goal.returns-clause-all
-returns-clause-all c = subst (λ (ns : List ℕ). IsPermutation ns c.sort_by_key.new.self.items) c.in_ok-numbers.ensures c.in_ok-sort_by_key.ensures.permutation
+returns-clause-all c =
+    subst (λ (ns : List ℕ). IsPermutation ns c.sort_by_key.new.self.items) c.in_ok-numbers.ensures
+    c.in_ok-sort_by_key.ensures.permutation
 
 pub returns-clause-sorted : goal.returns-clause-sorted
 returns-clause-sorted c =

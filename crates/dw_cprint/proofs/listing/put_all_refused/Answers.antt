@@ -14,7 +14,11 @@ loop-entry-preserved c =
     let one = c.loop-entry-item.result in
     let out = c.loop-entry.out.items in
     let P : ℕ × PrintFault → Type 0 = λ r. r.0 < length (entries_in image) in
-    let within : one.0 < length (entries_in image) = subst P (sym c.loop-entry-item.is) (c.requires c.loop-entry.entry-index one c.loop-entry-test.true) in
+    let within : one.0 < length (entries_in image) = subst P (sym c.loop-entry-item.is)
+    (c.requires c.loop-entry.entry-index one c.loop-entry-test.true) in
     let offset = read_or (entries_in image) one.0 (λ (e : Entry). e.at) c.offset.result 0 within c.offset.ensures in
-    lines-more (refused_line_in image) out c.put_refused.new.out.items (c.args.out.now.items ++ flat_map (refused_line_in image) c.args.refused.now) c.args.refused.now c.loop-entry.entry-index one
-    (c.in_ok-put_refused.ensures ∙ ap (λ (n : ℕ). out ++ refused_line n one.1) offset) c.loop-entry-test.true c.loop-entry-item.is c.loop-entry.invariant
+    lines-more (refused_line_in image) out c.put_refused.new.out.items
+    (c.args.out.now.items ++ flat_map (refused_line_in image) c.args.refused.now) c.args.refused.now
+    c.loop-entry.entry-index one
+    (c.in_ok-put_refused.ensures ∙ ap (λ (n : ℕ). out ++ refused_line n one.1) offset) c.loop-entry-test.true
+    c.loop-entry-item.is c.loop-entry.invariant

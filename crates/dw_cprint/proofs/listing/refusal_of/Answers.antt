@@ -13,7 +13,8 @@ pub all_types-requires : goal.all_types-requires
 all_types-requires c = search (rules, All-head)
 
 pub new-requires : goal.new-requires
-new-requires c = rw (c.in_ok-all_types.ensures, append-nil) (subject_within c.args.source.now.image.now c.args.id).all.all
+new-requires c =
+    rw (c.in_ok-all_types.ensures, append-nil) (subject_within c.args.source.now.image.now c.args.id).all.all
 
 pub returns : goal.returns
 returns c =
@@ -21,5 +22,7 @@ returns c =
     let surveyed = rw (c.in_ok-all_types.ensures, append-nil) at c.in_ok-survey.ensures in
     let J : Option PrintFault → SubjectOf → Type 0 = λ r s. IsJudgement shapes s c.refusal.new.draft r in
     IfOk-weaker c.refusal.result _ (λ r. J r (subject_in c.args.source.now.image.now c.args.id))
-    (λ r judged. subst (J r) c.in_ok-subject.ensures (judged shapes (first_steps (subject_in c.args.source.now.image.now c.args.id)) surveyed (λ entry has. rw c.in_ok-subject.ensures at has)))
+    (λ r judged. subst (J r) c.in_ok-subject.ensures
+    (judged shapes (first_steps (subject_in c.args.source.now.image.now c.args.id)) surveyed
+    (λ entry has. rw c.in_ok-subject.ensures at has)))
     c.refusal.ensures.judged

@@ -8,12 +8,19 @@ use Rattle.dw_cprint.proofs.reaching.push_row.Goals as goal
 use Rattle.dw_cprint.proofs.reaching.push_row.Goals.{in-Some+in_ok-place_of+in_ok-push, in_default}
 
 pub loop-at-init : goal.loop-at-init
-loop-at-init c = ([], finds-none c.args.places.now.items c.args.found.now c.requires.placed, sym (append-nil c.args.steps.now))
+loop-at-init c =
+    ([], finds-none c.args.places.now.items c.args.found.now c.requires.placed, sym (append-nil c.args.steps.now))
 
 pub place_of-requires-clause-within : goal.place_of-requires-clause-within
 place_of-requires-clause-within c =
     let types = c.args.types.now in
-    let below = All-contains (λ to. to < length c.args.places.now.items) (entries_of types) c.in-Some.entry c.requires.within (entry-among types c.in-Some.entry (c.loop-at.at-index, c.loop-at-test.true, get_or_default types c.loop-at.at-index (Some c.in-Some.entry) None c.loop-at-test.true ∙ c.in-Some.is)) in
+    let below = All-contains (λ to. to < length c.args.places.now.items) (entries_of types) c.in-Some.entry
+    c.requires.within (entry-among types c.in-Some.entry (
+      c.loop-at.at-index,
+      c.loop-at-test.true,
+      get_or_default types c.loop-at.at-index (Some c.in-Some.entry) None
+          c.loop-at-test.true ∙ c.in-Some.is,
+    )) in
     omega (arith, c.loop-at.invariant.1.len)
 
 pub place_of-requires-clause-few : goal.place_of-requires-clause-few
@@ -37,10 +44,14 @@ loop-at-preserved c =
           let p = w.place_of.new.places.items in
           let r2 = r ++ place ∷ [] in (
             r2,
-            finds-as (before ++ w.in-Some.entry ∷ []) after p0 p c.match-at.places.items f0 w.place_of.new.found c.match-at.found r2 r2
-                (ap (λ (o : Option ℕ). before ++ entries_of (o ∷ [])) (sym w.in-Some.is) ∙ split) (ap items (sym w.places-is)) (sym w.found-is) refl
-                (finds-both before (w.in-Some.entry ∷ []) p0 c.loop-at.places.items p f0 c.loop-at.found w.place_of.new.found r (place ∷ []) finds w.in_ok-place_of.ensures.row),
-            w.steps-is ∙ (w.in_ok-push.ensures ∙ (ap (λ (xs : List ℕ). xs ++ place ∷ []) all ∙ append_assoc c.args.steps.now r (place ∷ []))),
+            finds-as (before ++ w.in-Some.entry ∷ []) after p0 p c.match-at.places.items f0 w.place_of.new.found
+                c.match-at.found r2 r2
+                (ap (λ (o : Option ℕ). before ++ entries_of (o ∷ [])) (sym w.in-Some.is) ∙ split)
+                (ap items (sym w.places-is)) (sym w.found-is) refl
+                (finds-both before (w.in-Some.entry ∷ []) p0 c.loop-at.places.items p f0 c.loop-at.found
+                w.place_of.new.found r (place ∷ []) finds w.in_ok-place_of.ensures.row),
+            w.steps-is ∙ (w.in_ok-push.ensures
+                ∙ (ap (λ (xs : List ℕ). xs ++ place ∷ []) all ∙ append_assoc c.args.steps.now r (place ∷ []))),
           )
       | in_default w ↦ search (rules, finds-as, append-nil, in_default)
     ]

@@ -4,4 +4,6 @@ use Rattle.dw_cprint.specs.Steps.{entries_of}
 use Rattle.dw_cprint.proofs.reaching.push_row.Given as goal
 
 abbrev pub invariant-loop-at : goal.invariant-loop-at
-invariant-loop-at l = AddsRow (entries_of (take l.at-index l.types)) l.fn.places.items l.places.items l.fn.found l.found l.fn.steps l.steps
+invariant-loop-at l =
+    AddsRow (entries_of (take l.at-index l.types)) l.fn.places.items l.places.items l.fn.found l.found l.fn.steps
+    l.steps

@@ -12,22 +12,32 @@ pub loop-child-init : goal.loop-child-init
 loop-child-init c = search (rules, children_within)
 
 pub member_type_at-requires : goal.member_type_at-requires
-member_type_at-requires c = All-head (λ child. child < length (entries_in c.args.image.now)) _ _ (rw c.in-Some.ensures.steps at c.loop-child.invariant.within)
+member_type_at-requires c =
+    All-head (λ child. child < length (entries_in c.args.image.now)) _ _
+    (rw c.in-Some.ensures.steps at c.loop-child.invariant.within)
 
 pub loop-child-preserved-in-Continue-1 : goal.loop-child-preserved-in-Continue-1
 loop-child-preserved-in-Continue-1 c =
     let f = member_at c.args.image.now in
-    let here = types-here (f c.in-Some.child) c.in-Some-member_type_at.at (filter_map f (children_left c.next.new.self)) (sym c.in-Some-member_type_at.is ∙ c.member_type_at.ensures) in
+    let here = types-here (f c.in-Some.child) c.in-Some-member_type_at.at (filter_map f (children_left c.next.new.self))
+    (sym c.in-Some-member_type_at.is ∙ c.member_type_at.ensures) in
     record {
-      within = All-rest (λ child. child < length (entries_in c.args.image.now)) _ _ _ c.in-Some.ensures.steps c.loop-child.invariant.within;
-      so_far = rw (c.in_ok-push.ensures.items, append_assoc) (rw (c.in-Some.ensures.steps, here) at c.loop-child.invariant.so_far);
+      within =
+          All-rest (λ child. child < length (entries_in c.args.image.now)) _ _ _ c.in-Some.ensures.steps
+          c.loop-child.invariant.within;
+      so_far =
+          rw (c.in_ok-push.ensures.items, append_assoc)
+          (rw (c.in-Some.ensures.steps, here) at c.loop-child.invariant.so_far);
     }
 
 pub loop-child-preserved : goal.loop-child-preserved
 loop-child-preserved c =
     let f = member_at c.args.image.now in
-    let here = types-none (f c.in-Some.child) (filter_map f (children_left c.next.new.self)) (sym c.in_default.is ∙ c.member_type_at.ensures) in
+    let here = types-none (f c.in-Some.child) (filter_map f (children_left c.next.new.self))
+    (sym c.in_default.is ∙ c.member_type_at.ensures) in
     record {
-      within = All-rest (λ child. child < length (entries_in c.args.image.now)) _ _ _ c.in-Some.ensures.steps c.loop-child.invariant.within;
+      within =
+          All-rest (λ child. child < length (entries_in c.args.image.now)) _ _ _ c.in-Some.ensures.steps
+          c.loop-child.invariant.within;
       so_far = rw (c.in-Some.ensures.steps, here) at c.loop-child.invariant.so_far;
     }

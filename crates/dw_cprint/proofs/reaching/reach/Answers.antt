@@ -15,21 +15,25 @@ pub push_row-requires-clause-few : goal.push_row-requires-clause-few
 push_row-requires-clause-few c = search (rules, few-entries)
 
 pub push_row-requires-in-loop-found-clause-few : goal.push_row-requires-in-loop-found-clause-few
-push_row-requires-in-loop-found-clause-few c = omega (arith, few-entries c.args.source.now.image.now, c.loop-found.invariant.2)
+push_row-requires-in-loop-found-clause-few c =
+    omega (arith, few-entries c.args.source.now.image.now, c.loop-found.invariant.2)
 
 pub push_row-requires-in-loop-found-clause-within : goal.push_row-requires-in-loop-found-clause-within
 push_row-requires-in-loop-found-clause-within c =
-    let steps : entries_of c.deref.result.now ≡ steps_reached (shape_in c.args.source.now.image.now) c.get.result = search rules in
+    let steps : entries_of c.deref.result.now
+    ≡ steps_reached (shape_in c.args.source.now.image.now) c.get.result = search rules in
     rw (steps, c.loop-found.invariant.2) (shape_within c.args.source.now.image.now c.get.result).all.all
 
 pub loop-found-init : goal.loop-found-init
 loop-found-init c =
     let (row, finds, is) = c.in_ok-push_row.ensures.row in
     let found = c.push_row.new.found in
-    let P : List ℕ → Type 0 = λ f. FindsAll (entries_of c.args.types.now) c.in_ok-places.places.items c.push_row.new.places.items f found row in
+    let P : List ℕ → Type 0 = λ f. FindsAll (entries_of c.args.types.now) c.in_ok-places.places.items
+    c.push_row.new.places.items f found row in
     let long : length c.in_ok-places.places.items ≡ c.entries.result = search rules in
     rw (c.in_ok-ends.ensures, c.in_ok-steps.ensures, c.new-shapes.ensures.items) (
-      so_far-start (shape_in c.args.source.now.image.now) (entries_of c.args.types.now) c.in_ok-places.places.items c.push_row.new.places.items found row (subst P c.in_ok-found.ensures finds),
+      so_far-start (shape_in c.args.source.now.image.now) (entries_of c.args.types.now) c.in_ok-places.places.items
+          c.push_row.new.places.items found row (subst P c.in_ok-found.ensures finds),
       packed-start found,
       c.in_ok-push_row.ensures.places ∙ (long ∙ c.entries.ensures),
     )
@@ -47,22 +51,30 @@ loop-found-preserved c =
     let rows = cut steps 0 ends in
     let read = map view_shape c.loop-found.shapes.items in
     let long = length-cut steps 0 ends in
-    let more : length rows < length found = omega (arith, long, c.len.ensures, c.len-in-loop-found.ensures, c.loop-found-test.true) in
+    let more : length rows < length found = omega
+    (arith, long, c.len.ensures, c.len-in-loop-found.ensures, c.loop-found-test.true) in
     let at : c.len-in-loop-found-2.result ≡ length rows = c.len-in-loop-found-2.ensures ∙ sym long in
     let entry : c.get.result ≡ get_or found (length rows) 0 = c.get.ensures ∙ ap (λ k. get_or found k 0) at in
-    let shape : view_shape c.in_ok-shape.shape ≡ shapes (get_or found (length rows) 0) = c.in_ok-shape.ensures ∙ ap shapes entry in
+    let shape : view_shape c.in_ok-shape.shape
+    ≡ shapes (get_or found (length rows) 0) = c.in_ok-shape.ensures ∙ ap shapes entry in
     let seen : map view_shape c.push.new.self.items ≡ read ++ shapes (get_or found (length rows) 0) ∷ [] =
-    ap (map view_shape) c.in_ok-push.ensures.items ∙ map-append view_shape c.loop-found.shapes.items (c.in_ok-shape.shape ∷ []) ∙ ap (λ (s : ShapeOf). read ++ s ∷ []) shape in
+    ap (map view_shape) c.in_ok-push.ensures.items
+    ∙ map-append view_shape c.loop-found.shapes.items (c.in_ok-shape.shape ∷ [])
+    ∙ ap (λ (s : ShapeOf). read ++ s ∷ []) shape in
     let reached : entries_of c.deref.result.now ≡ steps_reached shapes c.get.result = search rules in
     let p2 = c.push_row-in-loop-found.new.places.items in
     let f2 = c.push_row-in-loop-found.new.found in
     let (row, finds, all) = c.in_ok-push_row-2.ensures.row in
     let P : List ℕ → Type 0 = λ xs. FindsAll xs places p2 found f2 row in
     let placed = subst P (reached ∙ ap (steps_reached shapes) entry) finds in
-    let end : c.push-in-loop-found.new.self ≡ ends ++ length (steps ++ row) ∷ [] = c.in_ok-push-2.ensures ∙ ap (λ (n : ℕ). ends ++ n ∷ []) (c.len-in-loop-found-3.ensures ∙ ap length all) in
+    let end : c.push-in-loop-found.new.self
+    ≡ ends ++ length (steps ++ row) ∷ [] = c.in_ok-push-2.ensures
+    ∙ ap (λ (n : ℕ). ends ++ n ∷ []) (c.len-in-loop-found-3.ensures ∙ ap length all) in
     rw (end, all, seen, rows-more found steps ends row c.loop-found.invariant.1) (
-      so_far-more shapes (entries_of c.args.types.now) places p2 found f2 rows read row c.loop-found.invariant.0 more placed,
-      packed-more (steps_reached shapes (get_or found (length rows) 0)) places p2 found f2 steps ends row c.loop-found.invariant.1 placed,
+      so_far-more shapes (entries_of c.args.types.now) places p2 found f2 rows read row c.loop-found.invariant.0 more
+          placed,
+      packed-more (steps_reached shapes (get_or found (length rows) 0)) places p2 found f2 steps ends row
+          c.loop-found.invariant.1 placed,
       c.in_ok-push_row-2.ensures.places ∙ c.loop-found.invariant.2,
     )
 

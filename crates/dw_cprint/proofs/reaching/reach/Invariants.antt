@@ -9,7 +9,8 @@ use Rattle.dw_cprint.proofs.reaching.reach.Given as goal
 
 abbrev pub invariant-loop-found : goal.invariant-loop-found
 invariant-loop-found l =
-    IsSoFar (shape_in l.source.image.now) (entries_of l.fn.types) l.places.items l.found (cut l.steps 0 l.ends) (map view_shape l.shapes.items)
+    IsSoFar (shape_in l.source.image.now) (entries_of l.fn.types) l.places.items l.found (cut l.steps 0 l.ends)
+    (map view_shape l.shapes.items)
     × ArePacked l.found l.steps l.ends
     × (length l.places.items ≡ length (entries_in l.source.image.now))
 

@@ -16,13 +16,16 @@ returns-in-Body c =
     let P : Shape → Type 0 = λ s. c.any.result ≡ has_bad_name kinds (view_shape s) in
     subst P (sym c.in-Body.is)
     (seen_any (λ (m : MemberOf). lacks_member_name (kinds m.type_at) m.bits m.name) view_member _ _ _
-    (any_from_yields_List (λ (m : Member). lacks_member_name (kinds m.type_at) m.bits (view_name m.name)) _ _ _ c.any.ensures.ran (YieldsList-from_slice c.deref.result.now cc) (λ x b q k. search (rules, tests)))
+    (any_from_yields_List (λ (m : Member). lacks_member_name (kinds m.type_at) m.bits (view_name m.name)) _ _ _
+    c.any.ensures.ran (YieldsList-from_slice c.deref.result.now cc) (λ x b q k. search (rules, tests)))
     c.deref.ensures.value)
 
 pub returns-in-Enumeration : goal.returns-in-Enumeration
 returns-in-Enumeration c =
-    let P : Shape → Type 0 = λ s. c.any-in-Enumeration.result ≡ has_bad_name (kind_known c.args.survey.now) (view_shape s) in
+    let P : Shape → Type 0 = λ s. c.any-in-Enumeration.result
+    ≡ has_bad_name (kind_known c.args.survey.now) (view_shape s) in
     subst P (sym c.in-Enumeration.is)
     (seen_any (λ (e : EnumeratorOf). lacks_name e.name) view_enumerator _ _ _
-    (any_from_yields_List (λ (e : Enumerator). lacks_name (view_name e.name)) _ _ _ c.any-in-Enumeration.ensures.ran (YieldsList-from_slice c.deref-in-Enumeration.result.now cc) (λ x b q k. search (rules, tests)))
+    (any_from_yields_List (λ (e : Enumerator). lacks_name (view_name e.name)) _ _ _ c.any-in-Enumeration.ensures.ran
+    (YieldsList-from_slice c.deref-in-Enumeration.result.now cc) (λ x b q k. search (rules, tests)))
     c.deref-in-Enumeration.ensures.value)

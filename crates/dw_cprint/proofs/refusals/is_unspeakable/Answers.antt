@@ -25,15 +25,21 @@ returns-else-has_void c =
     let P : Shape → Type 0 = λ shape. c.any.result ≡ is_unspeakable s (view_shape shape) in
     let types = c.requires ∙ ap (λ (shape : Shape). types_reached (view_shape shape)) c.in-Body.is in
     subst P (sym c.in-Body.is)
-    (seen_any (λ (m : MemberOf). is_function (kinds m.type_at) || is_wrong_bits (kinds m.type_at) m.bits) view_member _ _ _
-    (any_from_yields_List (λ (m : Member). is_function (kinds m.type_at) || is_wrong_bits (kinds m.type_at) m.bits) _ _ _ c.any.ensures.ran (YieldsList-from_slice c.deref-else-has_void.result.now cc) (λ x b q k. search (rules, tests)))
-    c.deref-else-has_void.ensures.value ∙ alone _ _ (sym (ap (list_any test) types) ∙ sym c.has_void-in-Body.ensures ∙ c.if-has_void.false))
+    (seen_any (λ (m : MemberOf). is_function (kinds m.type_at) || is_wrong_bits (kinds m.type_at) m.bits) view_member _
+    _ _
+    (any_from_yields_List (λ (m : Member). is_function (kinds m.type_at) || is_wrong_bits (kinds m.type_at) m.bits) _ _
+    _ c.any.ensures.ran (YieldsList-from_slice c.deref-else-has_void.result.now cc)
+    (λ x b q k. search (rules, tests)))
+    c.deref-else-has_void.ensures.value
+    ∙ alone _ _ (sym (ap (list_any test) types) ∙ sym c.has_void-in-Body.ensures ∙ c.if-has_void.false))
 
 pub returns-else-is_empty : goal.returns-else-is_empty
 returns-else-is_empty c =
     let es = c.deref-else-is_empty in
     let P : Shape → Type 0 = λ s. c.any-else-is_empty.result ≡ is_unspeakable c.args.survey.now (view_shape s) in
     subst P (sym c.in-Enumeration.is)
-    (wrong-enumeration es.result.now c.in-Enumeration.enumerators.items _ c.is_empty.result c.any-else-is_empty.result es.ensures.value es.ensures.len c.is_empty.ensures c.if-is_empty.false
-    (any_from_yields_List (λ (e : Enumerator). is_none e.value) _ _ _ c.any-else-is_empty.ensures.ran (YieldsList-from_slice es.result.now cc) (λ x b q k. search (rules, tests)))
+    (wrong-enumeration es.result.now c.in-Enumeration.enumerators.items _ c.is_empty.result c.any-else-is_empty.result
+    es.ensures.value es.ensures.len c.is_empty.ensures c.if-is_empty.false
+    (any_from_yields_List (λ (e : Enumerator). is_none e.value) _ _ _ c.any-else-is_empty.ensures.ran
+    (YieldsList-from_slice es.result.now cc) (λ x b q k. search (rules, tests)))
     ∙ alone _ false refl)

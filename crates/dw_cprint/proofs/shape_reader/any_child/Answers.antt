@@ -9,15 +9,23 @@ pub loop-child-init : goal.loop-child-init
 loop-child-init g c =
     let es = entries_in c.args.image.now in
     let all = ap children_left c.into_iter-child-iterator.ensures.into_iter_gives ∙ c.children-child-items.ensures in
-    record { within = All-same (λ child. child < length es) _ _ all (children_within es c.args.id); so_far = λ found has. rw (← all) has }
+    record {
+      within = All-same (λ child. child < length es) _ _ all (children_within es c.args.id);
+      so_far = λ found has. rw (← all) has;
+    }
 
 pub test-requires : goal.test-requires
-test-requires g c = c.requires.callable c.in-Some.child (All-head (λ child. child < length (entries_in c.args.image.now)) _ _ (rw c.in-Some.ensures.steps at c.loop-child.invariant.within))
+test-requires g c =
+    c.requires.callable c.in-Some.child
+    (All-head (λ child. child < length (entries_in c.args.image.now)) _ _
+    (rw c.in-Some.ensures.steps at c.loop-child.invariant.within))
 
 pub returns-then-test : goal.returns-then-test
 returns-then-test g c =
-    let below = All-head (λ child. child < length (entries_in c.args.image.now)) _ _ (rw c.in-Some.ensures.steps at c.loop-child.invariant.within) in
-    c.loop-child.invariant.so_far true (λ passes says. rw (c.in-Some.ensures.steps, sym (says c.in-Some.child true below c.if-test.ensures)) refl)
+    let below = All-head (λ child. child < length (entries_in c.args.image.now)) _ _
+    (rw c.in-Some.ensures.steps at c.loop-child.invariant.within) in
+    c.loop-child.invariant.so_far true
+    (λ passes says. rw (c.in-Some.ensures.steps, sym (says c.in-Some.child true below c.if-test.ensures)) refl)
 
 pub loop-child-preserved : goal.loop-child-preserved
 loop-child-preserved g c =
@@ -25,7 +33,10 @@ loop-child-preserved g c =
     let below = All-head within _ _ (rw c.in-Some.ensures.steps at c.loop-child.invariant.within) in
     record {
       within = All-rest within _ _ _ c.in-Some.ensures.steps c.loop-child.invariant.within;
-      so_far = λ found has. c.loop-child.invariant.so_far found (λ passes says. rw (c.in-Some.ensures.steps, sym (says c.in-Some.child false below c.if-test.ensures)) (has passes says));
+      so_far =
+          λ found has. c.loop-child.invariant.so_far found
+          (λ passes says. rw (c.in-Some.ensures.steps, sym (says c.in-Some.child false below c.if-test.ensures))
+          (has passes says));
     }
 
 pub returns : goal.returns

@@ -9,6 +9,7 @@ use Rattle.dw_cprint.proofs.shape_reader.any_child.Given as goal
 abbrev pub invariant-loop-child : goal.invariant-loop-child
 invariant-loop-child g l = record {
   within : All (λ child. child < length (entries_in l.image)) (children_left l.child-iterator);
-  so_far : (found : Bool) → TellsAny (goal.F-post g l.test) (length (entries_in l.image)) (children_left l.child-iterator) found
+  so_far : (found : Bool) → TellsAny (goal.F-post g l.test) (length (entries_in l.image))
+      (children_left l.child-iterator) found
       → TellsAny (goal.F-post g l.test) (length (entries_in l.image)) (children_at l.image l.fn.id) found;
 }

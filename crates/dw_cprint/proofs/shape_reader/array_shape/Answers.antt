@@ -8,7 +8,8 @@ use Rattle.dw_cprint.proofs.shape_reader.array_shape.Goals as goal
 pub returns : goal.returns
 returns c =
     let image = c.args.image.now in
-    let counts = sym (map-id _) ∙ kept-are (λ x. x) (dimension_at image) (entries_in image) c.args.id _ _ c.in_ok-counts.ensures (λ child one w is. search rules) in
+    let counts = sym (map-id _) ∙ kept-are (λ x. x) (dimension_at image) (entries_in image) c.args.id _ _
+    c.in_ok-counts.ensures (λ child one w is. search rules) in
     let strided = c.any_child-strided.ensures (is_strided_dimension image) (λ child r w is. search rules) in
     let other = c.any_child-other.ensures (has_tag image 0x04 0x45) (λ child r w is. search rules) in
     rw counts (search rules)

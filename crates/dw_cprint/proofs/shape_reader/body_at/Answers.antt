@@ -13,5 +13,6 @@ returns c =
     let image = c.args.source.now.image.now in
     rw (
       c.any_child-odd.ensures (has_tag image 0x1c 0x33) (λ child r w is. search rules),
-      kept-are view_member (member_at image) (entries_in image) c.args.id _ _ c.in_ok-members.ensures (λ child one w is. search rules),
+      kept-are view_member (member_at image) (entries_in image) c.args.id _ _ c.in_ok-members.ensures
+          (λ child one w is. search rules),
     ) (search rules)

@@ -9,5 +9,6 @@ use Rattle.dw_cprint.proofs.shape_reader.read_children.Given as goal
 abbrev pub invariant-loop-child : goal.invariant-loop-child
 invariant-loop-child g l = record {
   within : All (λ child. child < length (entries_in l.image)) (children_left l.child-iterator);
-  so_far : KeepsSoFar (goal.F-post g l.read) (children_at l.image l.fn.id) (children_left l.child-iterator) l.kept.items;
+  so_far : KeepsSoFar (goal.F-post g l.read) (children_at l.image l.fn.id) (children_left l.child-iterator)
+      l.kept.items;
 }

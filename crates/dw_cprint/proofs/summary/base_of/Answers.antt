@@ -14,11 +14,14 @@ returns-in-Qualified c = record {
   under = λ shapes entry is known.
       let P : Shape → Type 0 = λ s. All (Knows shapes c.args.survey.now) (types_reached (view_shape s)) in
       let mine = same-summary c.known.ensures (subst P c.in-Qualified.is known 0 c.in-Qualified.at (omega arith)) in
-      base_qualified shapes entry _ c.in-Qualified.at c.known.result.base (is ∙ ap view_shape c.in-Qualified.is) mine.is_base;
+      base_qualified shapes entry _ c.in-Qualified.at c.known.result.base (is ∙ ap view_shape c.in-Qualified.is)
+      mine.is_base;
 }
 
 pub returns-in_default : goal.returns-in_default
 returns-in_default c = record {
   same = c.kind_of.ensures ∙ base_plain (known_of c.args.survey.now) c.args.shape.now c.in_default.not-Qualified;
-  under = λ shapes entry is known. base_itself shapes entry c.args.shape.now c.kind_of.result is c.in_default.not-Qualified c.kind_of.ensures;
+  under =
+      λ shapes entry is known. base_itself shapes entry c.args.shape.now c.kind_of.result is c.in_default.not-Qualified
+      c.kind_of.ensures;
 }

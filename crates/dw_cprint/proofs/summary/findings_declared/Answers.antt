@@ -13,5 +13,6 @@ returns c = λ shapes known.
     let Q : List TypeAt → Type 0 = λ ts. AreFound shapes ts c.findings_under.result in
     let declared = subst P c.requires known in
     let own = c.own_findings_declared.ensures in
-    found-subject shapes s subject c.own_findings_declared.result c.findings_under.result c.with.result declared own (subst Q c.requires (c.findings_under.ensures shapes known)) c.with.ensures.either
+    found-subject shapes s subject c.own_findings_declared.result c.findings_under.result c.with.result declared own
+    (subst Q c.requires (c.findings_under.ensures shapes known)) c.with.ensures.either
     (omega (arith, own.shallow, c.with.ensures.depth))

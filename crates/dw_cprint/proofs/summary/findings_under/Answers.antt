@@ -15,7 +15,9 @@ loop-at-preserved c = λ shapes known.
     let mine = same-summary c.known.ensures (known i None (omega arith)) in
     let P : List TypeAt → Type 0 = λ ts. AreFound shapes ts c.with-findings.result in
     subst P (sym (take_more types i None (omega arith)))
-    (found-join shapes (take i types) (get_or types i None ∷ []) c.loop-at.findings c.known.result.findings c.with-findings.result (c.loop-at.invariant shapes known) mine.are_found c.with-findings.ensures.either c.with-findings.ensures.depth)
+    (found-join shapes (take i types) (get_or types i None ∷ []) c.loop-at.findings c.known.result.findings
+    c.with-findings.result (c.loop-at.invariant shapes known) mine.are_found c.with-findings.ensures.either
+    c.with-findings.ensures.depth)
 
 pub returns : goal.returns
 returns c = λ shapes known.

@@ -5,4 +5,5 @@ use Rattle.dw_cprint.specs.Summaries.{Knows, AreFound}
 use Rattle.dw_cprint.proofs.summary.findings_under.Given as goal
 
 abbrev pub invariant-loop-at : goal.invariant-loop-at
-invariant-loop-at l = (shapes : ℕ → ShapeOf) → All (Knows shapes l.survey) l.types → AreFound shapes (take l.at-index l.types) l.findings
+invariant-loop-at l =
+    (shapes : ℕ → ShapeOf) → All (Knows shapes l.survey) l.types → AreFound shapes (take l.at-index l.types) l.findings

@@ -21,7 +21,9 @@ loop-rank-preserved c =
     let below : i < length clear = rw (← c.count-rank-end.ensures) c.loop-rank-test.true in
     let in_shapes : node < length shapes = c.requires i 0 below in
     let there : node < length nodes = omega (arith, c.loop-rank.invariant.len) in
-    let is : slice_get shapes node ≡ Some shape = slice_get_read shapes (length shapes) node shape refl in_shapes (rw (c.node-node.ensures, c.loop-rank.invariant.shapes) at c.index.ensures) in
+    let is : slice_get shapes node
+    ≡ Some shape = slice_get_read shapes (length shapes) node shape refl in_shapes
+    (rw (c.node-node.ensures, c.loop-rank.invariant.shapes) at c.index.ensures) in
     rw c.node-node.ensures (record {
       places = c.loop-rank.invariant.places;
       shapes = c.loop-rank.invariant.shapes;
@@ -31,10 +33,14 @@ loop-rank-preserved c =
           let entry = get_or found node 0 in
           let says = are.says node shape is in
           let right = c.loop-rank.invariant.right all found are in
-          let P : List ℕ → Type 0 = λ ps. All (λ at. IsSummary all at (known_by ps nodes at)) (types_reached (all entry)) in
+          let P : List ℕ → Type 0 = λ ps. All (λ at. IsSummary all at (known_by ps nodes at))
+          (types_reached (all entry)) in
           let Q : ShapeOf → Type 0 = λ x. All (Knows all c.loop-rank.survey) (types_reached x) in
-          let known = subst Q (sym says) (subst P (sym c.loop-rank.invariant.places) (all_known all places found shapes clear are nodes i below right)) in
-          right_more all places found shapes clear are nodes i s below there right (c.in_ok-summary.ensures all entry (sym says) known);
+          let known = subst Q (sym says)
+          (subst P (sym c.loop-rank.invariant.places)
+          (all_known all places found shapes clear are nodes i below right)) in
+          right_more all places found shapes clear are nodes i s below there right
+          (c.in_ok-summary.ensures all entry (sym says) known);
     })
 
 pub returns-clause-clear : goal.returns-clause-clear
@@ -43,6 +49,8 @@ returns-clause-clear c = search (rules, take_all)
 pub returns-clause-right : goal.returns-clause-right
 returns-clause-right c = λ all found are i lower.
     let entry = get_or found (get_or c.args.clear.now.by_rank i 0) 0 in
-    let over : length c.args.clear.now.by_rank ≤ c.loop-rank.rank = rw (← c.count-rank-end.ensures) c.loop-rank-test.false in
-    let P : List ℕ → Type 0 = λ ps. IsSummary all (Some entry) (known_by ps c.loop-rank.survey.summaries.items (Some entry)) in
+    let over : length c.args.clear.now.by_rank
+    ≤ c.loop-rank.rank = rw (← c.count-rank-end.ensures) c.loop-rank-test.false in
+    let P : List ℕ → Type 0 = λ ps. IsSummary all (Some entry)
+    (known_by ps c.loop-rank.survey.summaries.items (Some entry)) in
     subst P (sym c.loop-rank.invariant.places) (c.loop-rank.invariant.right all found are i (omega arith))

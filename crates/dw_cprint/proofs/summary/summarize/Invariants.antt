@@ -10,6 +10,7 @@ invariant-loop-rank l = record {
   shapes : l.survey.shapes.items ≡ l.fn.survey.shapes.items;
   len : length l.survey.summaries.items ≡ length l.fn.survey.shapes.items;
   have : HaveSummaries (take l.rank l.clear.by_rank) l.survey.summaries.items;
-  right : (all : ℕ → ShapeOf) (found : List ℕ) → AreNodes all l.fn.survey.places.items found l.fn.survey.shapes.items l.clear.by_rank
+  right : (all : ℕ → ShapeOf) (found : List ℕ)
+      → AreNodes all l.fn.survey.places.items found l.fn.survey.shapes.items l.clear.by_rank
       → RightBefore all found l.clear.by_rank l.fn.survey.places.items l.survey.summaries.items l.rank;
 }

@@ -7,4 +7,5 @@ use Rattle.dw_cprint.proofs.text.put_counts.Given as goal
 
 abbrev pub invariant-loop-count : goal.invariant-loop-count
 invariant-loop-count l =
-    appended l.out (text_of (flat_map count_tokens (drop l.count-index l.counts))) ≡ appended l.fn.out (text_of (flat_map count_tokens l.counts))
+    appended l.out (text_of (flat_map count_tokens (drop l.count-index l.counts)))
+    ≡ appended l.fn.out (text_of (flat_map count_tokens l.counts))

@@ -16,4 +16,6 @@ loop-qualifier-preserved c = grind (arith, common_steps, append-nil, moved, both
 pub returns : goal.returns
 returns c =
     let out = c.loop-qualifier.out in
-    sym (appended-nil out) ∙ ap (λ (qs : List Qualifier). appended out (text_of (qualifying qs))) (sym (drop_all c.loop-qualifier.qualifier-index c.args.qualifiers.now c.loop-qualifier-test.false)) ∙ c.loop-qualifier.invariant
+    sym (appended-nil out) ∙ ap (λ (qs : List Qualifier). appended out (text_of (qualifying qs)))
+    (sym (drop_all c.loop-qualifier.qualifier-index c.args.qualifiers.now c.loop-qualifier-test.false))
+    ∙ c.loop-qualifier.invariant

@@ -6,4 +6,5 @@ use Rattle.dw_cprint.proofs.text.put_qualifiers.Given as goal
 
 abbrev pub invariant-loop-qualifier : goal.invariant-loop-qualifier
 invariant-loop-qualifier l =
-    appended l.out (text_of (qualifying (drop l.qualifier-index l.qualifiers))) ≡ appended l.fn.out (text_of (qualifying l.qualifiers))
+    appended l.out (text_of (qualifying (drop l.qualifier-index l.qualifiers)))
+    ≡ appended l.fn.out (text_of (qualifying l.qualifiers))

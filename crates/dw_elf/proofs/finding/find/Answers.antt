@@ -9,7 +9,8 @@ use Rattle.dw_elf.proofs.finding.find.Goals as goal
 pub returns-then-is_none-clause-fault : goal.returns-then-is_none-clause-fault
 returns-then-is_none-clause-fault c =
     let at_end : c.loop-k.k ≡ section_count c.args.file.now = grind (arith, common_steps) in
-    let none = none_below c.args.file.now c.loop-k.k c.loop-k.found Info _ c.index.ensures.index c.loop-k.invariant.found c.if-is_none.ensures in
+    let none = none_below c.args.file.now c.loop-k.k c.loop-k.found Info _ c.index.ensures.index
+    c.loop-k.invariant.found c.if-is_none.ensures in
     record {
       place = c.loop-k.k;
       first = record { check = NoInfo; rule_is = refl; section_is = refl; fails = search rules; before = search rules };
@@ -19,5 +20,6 @@ returns-then-is_none-clause-fault c =
 pub returns-clause-passes : goal.returns-clause-passes
 returns-clause-passes c =
     let at_end : c.loop-k.k ≡ section_count c.args.file.now = grind (arith, common_steps) in
-    let one = named_below c.args.file.now c.loop-k.k c.loop-k.found Info _ c.index.ensures.index c.loop-k.invariant.found c.if-is_none.ensures in
+    let one = named_below c.args.file.now c.loop-k.k c.loop-k.found Info _ c.index.ensures.index
+    c.loop-k.invariant.found c.if-is_none.ensures in
     all_pass c.args.file.now c.loop-k.k at_end (omega arith) c.loop-k.invariant.passed (search rules)

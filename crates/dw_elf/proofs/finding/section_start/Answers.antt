@@ -7,4 +7,6 @@ pub returns-in_default : goal.returns-in_default
 returns-in_default c = absurd (c.requires c.loop-k.k SectionName (search rules))
 
 pub returns-then-eq : goal.returns-then-eq
-returns-then-eq c = header_says c.args.file.now c.loop-k.k c.read-header.result.offset c.args.section (search rules) (search rules) (search rules)
+returns-then-eq c =
+    header_says c.args.file.now c.loop-k.k c.read-header.result.offset c.args.section (search rules) (search rules)
+    (search rules)

@@ -8,13 +8,18 @@ units_up_to-requires c = rw c.deref.ensures.value (units_rise _ _ _ _ _ c.args.e
 
 pub overflow_sub-result : goal.overflow_sub-result
 overflow_sub-result c =
-    some_before _ _ _ _ _ c.args.entries.now.scanned c.args.id c.requires c.units_up_to.result (rw c.deref.ensures.value at c.units_up_to.ensures.up_to)
+    some_before _ _ _ _ _ c.args.entries.now.scanned c.args.id c.requires c.units_up_to.result
+    (rw c.deref.ensures.value at c.units_up_to.ensures.up_to)
 
 pub returns-clause-within : goal.returns-clause-within
 returns-clause-within c =
-    let within = point_within _ _ _ _ _ c.args.entries.now.scanned c.args.id c.requires c.units_up_to.result (rw c.deref.ensures.value at c.units_up_to.ensures.up_to) (omega (arith, c.units_up_to.ensures.within, c.deref.ensures.len)) in
+    let within = point_within _ _ _ _ _ c.args.entries.now.scanned c.args.id c.requires c.units_up_to.result
+    (rw c.deref.ensures.value at c.units_up_to.ensures.up_to)
+    (omega (arith, c.units_up_to.ensures.within, c.deref.ensures.len)) in
     omega (arith, within, units_counted _ _ _ _ _ c.args.entries.now.scanned)
 
 pub returns-clause-number : goal.returns-clause-number
 returns-clause-number c =
-    unit_found _ _ _ _ _ c.args.entries.now.scanned c.args.id c.requires c.units_up_to.result (rw c.deref.ensures.value at c.units_up_to.ensures.up_to) (omega (arith, c.units_up_to.ensures.within, c.deref.ensures.len))
+    unit_found _ _ _ _ _ c.args.entries.now.scanned c.args.id c.requires c.units_up_to.result
+    (rw c.deref.ensures.value at c.units_up_to.ensures.up_to)
+    (omega (arith, c.units_up_to.ensures.within, c.deref.ensures.len))

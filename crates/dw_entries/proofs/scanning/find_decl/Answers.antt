@@ -8,5 +8,6 @@ use Rattle.dw_entries.proofs.scanning.find_decl.Goals as goal
 pub returns-in-Some-clause-number : goal.returns-in-Some-clause-number
 unfolding declared_in
 returns-in-Some-clause-number c =
-    let code = declared_code (context_in c.args.context).table c.args.code (decl_view c.in-Some.declared.1) (sym c.in-Some.ensures.decl) in
+    let code = declared_code (context_in c.args.context).table c.args.code (decl_view c.in-Some.declared.1)
+    (sym c.in-Some.ensures.decl) in
     c.in-Some.ensures.number ∙ ap (numbers_in c.args.context) (sym code)

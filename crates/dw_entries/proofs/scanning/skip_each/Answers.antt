@@ -10,12 +10,15 @@ pub returns-in_err-rest : goal.returns-in_err-rest
 returns-in_err-rest c =
     let p = err_from_is_err_and c.from_residual.result c.from_residual.ensures.1 in
     let parts = first_specs c.loop-spec.left c.in-Some.after c.in-Some.spec c.in-Some.ensures in
-    rw (p.1, p.2) (attributes_err (context_in c.args.context) c.in-Some.spec (specs_in c.loop-spec.left) (specs_in c.in-Some.after) c.loop-spec.rest.now c.in_err-rest.field-0.0 _ parts c.in_err-rest.ensures c.loop-spec.invariant)
+    rw (p.1, p.2) (attributes_err (context_in c.args.context) c.in-Some.spec (specs_in c.loop-spec.left)
+    (specs_in c.in-Some.after) c.loop-spec.rest.now c.in_err-rest.field-0.0 _ parts c.in_err-rest.ensures
+    c.loop-spec.invariant)
 
 pub loop-spec-preserved : goal.loop-spec-preserved
 loop-spec-preserved c =
     let parts = first_specs c.loop-spec.left c.in-Some.after c.in-Some.spec c.in-Some.ensures in
-    attributes_step (context_in c.args.context) c.in-Some.spec (specs_in c.loop-spec.left) (specs_in c.in-Some.after) c.loop-spec.rest.now c.in_ok-rest.rest.now _ parts c.in_ok-rest.ensures c.loop-spec.invariant
+    attributes_step (context_in c.args.context) c.in-Some.spec (specs_in c.loop-spec.left) (specs_in c.in-Some.after)
+    c.loop-spec.rest.now c.in_ok-rest.rest.now _ parts c.in_ok-rest.ensures c.loop-spec.invariant
 
 pub loop-spec-smaller : goal.loop-spec-smaller
 loop-spec-smaller c =
@@ -23,4 +26,6 @@ loop-spec-smaller c =
     omega (arith, parts)
 
 pub returns : goal.returns
-returns c = sym c.loop-spec.invariant ∙ attributes_end (context_in c.args.context) (specs_in c.loop-spec.left) c.loop-spec.rest.now c.in_default.ensures
+returns c =
+    sym c.loop-spec.invariant ∙ attributes_end (context_in c.args.context) (specs_in c.loop-spec.left)
+    c.loop-spec.rest.now c.in_default.ensures

@@ -5,7 +5,9 @@ use Rattle.dw_entries.specs.Units.{context_in}
 use Rattle.dw_entries.proofs.scanning.skip_each.Given as goal
 
 abbrev pub invariant-loop-spec : goal.invariant-loop-spec
-invariant-loop-spec l = after (attributes_at (context_in l.context) (specs_in l.left) l.rest) ≡ after (attributes_at (context_in l.context) (specs_in l.attributes) l.bytes)
+invariant-loop-spec l =
+    after (attributes_at (context_in l.context) (specs_in l.left) l.rest)
+    ≡ after (attributes_at (context_in l.context) (specs_in l.attributes) l.bytes)
 
 abbrev pub decreases-loop-spec : goal.decreases-loop-spec
 decreases-loop-spec l = length (specs_in l.left)

@@ -10,7 +10,9 @@ returns-in-Err-clause-fault c = search (rules, first_fault, seen_err)
 
 pub loop-inner-init : goal.loop-inner-init
 loop-inner-init c =
-    rw c.new-outer.ensures.items (first_turn (context_in c.args.context) (numbers_in c.args.context) c.args.unit.header.kind c.args.start c.args.body.now c.args.records.now.items c.enter_first.new.records.items [] c.in_ok-inner.inner _ c.in-Ok.found.1.now c.in-Ok.ensures c.in_ok-inner.ensures)
+    rw c.new-outer.ensures.items (first_turn (context_in c.args.context) (numbers_in c.args.context)
+    c.args.unit.header.kind c.args.start c.args.body.now c.args.records.now.items c.enter_first.new.records.items []
+    c.in_ok-inner.inner _ c.in-Ok.found.1.now c.in-Ok.ensures c.in_ok-inner.ensures)
 
 pub loop-inner-smaller : goal.loop-inner-smaller
 loop-inner-smaller c = search (rules, turn_shorter)
@@ -20,11 +22,16 @@ loop-inner-preserved c = search (rules, next_turn)
 
 pub returns-clause-tree : goal.returns-clause-tree
 returns-clause-tree c =
-    along_end (context_in c.args.context) (numbers_in c.args.context) c.args.unit.header.kind c.args.start c.args.body.now c.args.records.now.items c.loop-inner.rest.now (walk_of c.loop-inner.records.items c.loop-inner.outer.items c.loop-inner.inner) c.loop-inner.invariant (ap (levels_of c.loop-inner.outer.items) c.in_default.is)
+    along_end (context_in c.args.context) (numbers_in c.args.context) c.args.unit.header.kind c.args.start
+    c.args.body.now c.args.records.now.items c.loop-inner.rest.now
+    (walk_of c.loop-inner.records.items c.loop-inner.outer.items c.loop-inner.inner) c.loop-inner.invariant
+    (ap (levels_of c.loop-inner.outer.items) c.in_default.is)
 
 pub turn-requires-clause-few_entries : goal.turn-requires-clause-few_entries
 turn-requires-clause-few_entries c =
-    let few = along_few (context_in c.args.context) (numbers_in c.args.context) c.args.unit.header.kind c.args.start c.args.body.now c.args.records.now.items c.loop-inner.rest.now c.loop-inner.records.items c.loop-inner.outer.items c.in-Some.level (rw c.in-Some.is at c.loop-inner.invariant) in
+    let few = along_few (context_in c.args.context) (numbers_in c.args.context) c.args.unit.header.kind c.args.start
+    c.args.body.now c.args.records.now.items c.loop-inner.rest.now c.loop-inner.records.items
+    c.loop-inner.outer.items c.in-Some.level (rw c.in-Some.is at c.loop-inner.invariant) in
     let records = few.0 in
     let start = c.requires.start in
     let fits = c.requires.fits in
@@ -33,7 +40,9 @@ turn-requires-clause-few_entries c =
 
 pub turn-requires-clause-few_levels : goal.turn-requires-clause-few_levels
 turn-requires-clause-few_levels c =
-    let few = along_few (context_in c.args.context) (numbers_in c.args.context) c.args.unit.header.kind c.args.start c.args.body.now c.args.records.now.items c.loop-inner.rest.now c.loop-inner.records.items c.loop-inner.outer.items c.in-Some.level (rw c.in-Some.is at c.loop-inner.invariant) in
+    let few = along_few (context_in c.args.context) (numbers_in c.args.context) c.args.unit.header.kind c.args.start
+    c.args.body.now c.args.records.now.items c.loop-inner.rest.now c.loop-inner.records.items
+    c.loop-inner.outer.items c.in-Some.level (rw c.in-Some.is at c.loop-inner.invariant) in
     let outer = few.1 in
     let fits = c.requires.fits in
     omega (arith, outer, fits)

@@ -6,7 +6,8 @@ use Rattle.dw_entries.proofs.walk.walk_tree.Given as goal
 
 abbrev pub invariant-loop-inner : goal.invariant-loop-inner
 invariant-loop-inner l =
-    Along (context_in l.context) (numbers_in l.context) l.fn.unit.header.kind l.start l.body l.fn.records.items l.rest (walk_of l.records.items l.outer.items l.inner)
+    Along (context_in l.context) (numbers_in l.context) l.fn.unit.header.kind l.start l.body l.fn.records.items l.rest
+    (walk_of l.records.items l.outer.items l.inner)
 
 abbrev pub decreases-loop-inner : goal.decreases-loop-inner
 decreases-loop-inner l = length l.rest

@@ -10,7 +10,8 @@ use Rattle.dw_forms.proofs.abbrev_tables.next_at.Goals as goal
 pub returns-in_err-code-clause-fault : goal.returns-in_err-code-clause-fault
 returns-in_err-code-clause-fault c =
     let p = err_from_is_err_and c.from_residual.result c.from_residual.ensures.1 in
-    let fails = subst (λ (bytes : List ℕ). FailsOrMemory c.in_err-code.field-0.0 (unsigned_at bytes)) (bytes_from c.args.section.now c.args.offset) c.in_err-code.ensures.exact in
+    let fails = subst (λ (bytes : List ℕ). FailsOrMemory c.in_err-code.field-0.0 (unsigned_at bytes))
+    (bytes_from c.args.section.now c.args.offset) c.in_err-code.ensures.exact in
     rw (p.1, p.2) (code_breaks c.args.section.now c.args.offset c.in_err-code.field-0.0 fails)
 
 pub returns-then-code-eq0-clause-next : goal.returns-then-code-eq0-clause-next
@@ -19,12 +20,15 @@ returns-then-code-eq0-clause-next c = search (rules, bytes_from, next_none)
 pub returns-in-Err-clause-fault : goal.returns-in-Err-clause-fault
 returns-in-Err-clause-fault c =
     let code = sym (ap unsigned_at (bytes_from c.args.section.now c.args.offset)) ∙ c.in_ok-code.ensures.exact in
-    tag_breaks c.args.section.now c.args.offset c.in_ok-code.code c.in_ok-code.rest.now code c.if-code-eq0.false c.in-Err.error c.in-Err.ensures.exact
+    tag_breaks c.args.section.now c.args.offset c.in_ok-code.code c.in_ok-code.rest.now code c.if-code-eq0.false
+    c.in-Err.error c.in-Err.ensures.exact
 
 pub returns-in-Err-read-clause-fault : goal.returns-in-Err-read-clause-fault
 returns-in-Err-read-clause-fault c =
     let code = sym (ap unsigned_at (bytes_from c.args.section.now c.args.offset)) ∙ c.in_ok-code.ensures.exact in
-    list_breaks c.args.section.now c.args.offset c.in_ok-code.code c.in_ok-code.rest.now code c.if-code-eq0.false c.in-Ok.found.0 c.in-Ok.found.1 c.in-Ok.found.2.now c.in-Ok.ensures.exact c.in-Err-read.error c.in-Err-read.ensures.fault
+    list_breaks c.args.section.now c.args.offset c.in_ok-code.code c.in_ok-code.rest.now code c.if-code-eq0.false
+    c.in-Ok.found.0 c.in-Ok.found.1 c.in-Ok.found.2.now c.in-Ok.ensures.exact c.in-Err-read.error
+    c.in-Err-read.ensures.fault
 
 pub returns-clause-next : goal.returns-clause-next
 returns-clause-next c = search (rules, bytes_from, next_some, common_steps)

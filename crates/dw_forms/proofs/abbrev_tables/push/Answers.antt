@@ -13,6 +13,10 @@ returns-clause-added c = search (rules, code_is, links_long, tables_long, none_c
 
 pub returns-clause-kept : goal.returns-clause-kept
 returns-clause-kept c = rw (c.push_reserved.ensures.items, c.reserve.ensures.items) (record {
-  coded = coded_more c.args.codes.now.links.items c.push.new.self.links.items c.args.kept.now.items _ c.requires.kept.coded c.in_ok-number.ensures.added.1;
-  within = All-push (λ (k : KeptDecl). HasList c.args.lists.now.nodes.items k.first k.step k.place k.declared k.whole) c.args.kept.now.items _ c.requires.kept.within c.requires.list;
+  coded =
+      coded_more c.args.codes.now.links.items c.push.new.self.links.items c.args.kept.now.items _ c.requires.kept.coded
+      c.in_ok-number.ensures.added.1;
+  within =
+      All-push (λ (k : KeptDecl). HasList c.args.lists.now.nodes.items k.first k.step k.place k.declared k.whole)
+      c.args.kept.now.items _ c.requires.kept.within c.requires.list;
 })

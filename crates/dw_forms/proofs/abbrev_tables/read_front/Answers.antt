@@ -5,20 +5,38 @@ use Rattle.dw_forms.proofs.TailLaws.{table_end, decls_stay, front_fails}
 use Rattle.dw_forms.proofs.abbrev_tables.read_front.Goals as goal
 
 pub loop-decls-init : goal.loop-decls-init
-loop-decls-init c = record { from = omega arith; within = c.requires.offset.within; more = record { lists = c.requires.lists; stay = stay_same _ }; along = rw c.new-decls.ensures.items refl; new = rw c.new-decls.ensures.items tt }
+loop-decls-init c =
+    record {
+      from = omega arith;
+      within = c.requires.offset.within;
+      more = record { lists = c.requires.lists; stay = stay_same _ };
+      along = rw c.new-decls.ensures.items refl;
+      new = rw c.new-decls.ensures.items tt;
+    }
 
 pub returns-then-rest-ne0-clause-front : goal.returns-then-rest-ne0-clause-front
-returns-then-rest-ne0-clause-front c = record { end = c.loop-decls.end; along = c.loop-decls.invariant.along; new = c.loop-decls.invariant.new; goes_on = search (rules) }
+returns-then-rest-ne0-clause-front c =
+    record {
+      end = c.loop-decls.end;
+      along = c.loop-decls.invariant.along;
+      new = c.loop-decls.invariant.new;
+      goes_on = search (rules);
+    }
 
 pub returns-in-Err-clause-fault : goal.returns-in-Err-clause-fault
 returns-in-Err-clause-fault c =
-    front_fails c.args.section.now c.loop-decls.lists.lists.nodes.items c.in-Err.error c.loop-decls.decls.items c.args.offset c.loop-decls.end c.loop-decls.invariant.along c.in-Err.ensures.fault
+    front_fails c.args.section.now c.loop-decls.lists.lists.nodes.items c.in-Err.error c.loop-decls.decls.items
+    c.args.offset c.loop-decls.end c.loop-decls.invariant.along c.in-Err.ensures.fault
 
 pub returns-in_default-clause-front : goal.returns-in_default-clause-front
 returns-in_default-clause-front c = search (rules, decls_stay, table_end)
 
 pub returns-in_default-clause-more : goal.returns-in_default-clause-more
-returns-in_default-clause-more c = record { lists = c.in-Ok.ensures.more.lists; stay = stay_on _ _ _ c.loop-decls.invariant.more.stay c.in-Ok.ensures.more.stay }
+returns-in_default-clause-more c =
+    record {
+      lists = c.in-Ok.ensures.more.lists;
+      stay = stay_on _ _ _ c.loop-decls.invariant.more.stay c.in-Ok.ensures.more.stay;
+    }
 
 pub loop-decls-smaller : goal.loop-decls-smaller
 loop-decls-smaller c = search (rules)
@@ -29,12 +47,17 @@ loop-decls-preserved c =
     let next = rw c.in-Some.is at c.in-Ok.ensures.next in
     let none = c.if-rest-ne0.false in
     let nothing = c.find-rest.ensures.none (omega (arith, none)) c.args.offset c.requires.known i.from in
-    let before = decls_stay c.args.section.now _ _ c.in-Ok.ensures.more.stay c.loop-decls.decls.items c.args.offset c.loop-decls.end i.along in
+    let before = decls_stay c.args.section.now _ _ c.in-Ok.ensures.more.stay c.loop-decls.decls.items c.args.offset
+    c.loop-decls.end i.along in
     let from = i.from in
     record {
       from = omega (arith, from, next.rises);
       within = next.fits;
       more = record { lists = c.in-Ok.ensures.more.lists; stay = stay_on _ _ _ i.more.stay c.in-Ok.ensures.more.stay };
-      along = rw c.in_ok-push.ensures.items (along_push (IsDeclAt c.args.section.now _) c.loop-decls.decls.items c.args.offset c.loop-decls.end c.in-Ok.found.1 _ before next);
-      new = rw c.in_ok-push.ensures.items (new_push c.args.starts.now.starts.items c.loop-decls.decls.items _ i.new nothing);
+      along =
+          rw c.in_ok-push.ensures.items (along_push (IsDeclAt c.args.section.now _) c.loop-decls.decls.items
+          c.args.offset c.loop-decls.end c.in-Ok.found.1 _ before next);
+      new =
+          rw c.in_ok-push.ensures.items (new_push c.args.starts.now.starts.items c.loop-decls.decls.items _ i.new
+          nothing);
     }

@@ -5,4 +5,14 @@ use Rattle.dw_forms.proofs.attribute_lists.no_node.Goals as goal
 
 pub returns : goal.returns
 unfolding number_where
-returns c = record { varying = refl; stop = refl; known_with_4 = refl; known_with_8 = refl; small_4 = omega arith; small_8 = omega arith; bits = no_bits; allowed = refl }
+returns c =
+    record {
+      varying = refl;
+      stop = refl;
+      known_with_4 = refl;
+      known_with_8 = refl;
+      small_4 = omega arith;
+      small_8 = omega arith;
+      bits = no_bits;
+      allowed = refl;
+    }

@@ -3,9 +3,12 @@ use Rattle.dw_forms.proofs.StepLaws.{step_here, step_past}
 use Rattle.dw_forms.proofs.attribute_lists.step_before.Goals as goal
 
 pub returns-then-stops_at : goal.returns-then-stops_at
-returns-then-stops_at c list is = step_here c.args.number c.args.spec.now list c.args.after is c.lead_of.result c.lead_of.ensures (sym c.stops_at.ensures ∙ c.if-stops_at.true)
+returns-then-stops_at c list is =
+    step_here c.args.number c.args.spec.now list c.args.after is c.lead_of.result c.lead_of.ensures
+    (sym c.stops_at.ensures ∙ c.if-stops_at.true)
 
 pub returns : goal.returns
 returns c list is =
-    step_past c.args.number c.args.spec.now list c.args.after is c.known_size.result c.known_size-2.result c.known_size.ensures.same c.known_size-2.ensures.same c.known_size.ensures.small c.known_size-2.ensures.small
+    step_past c.args.number c.args.spec.now list c.args.after is c.known_size.result c.known_size-2.result
+    c.known_size.ensures.same c.known_size-2.ensures.same c.known_size.ensures.small c.known_size-2.ensures.small
     (sym c.stops_at.ensures ∙ c.if-stops_at.false)

@@ -10,4 +10,6 @@ pub loop-number-preserved : goal.loop-number-preserved
 loop-number-preserved c = search (rules, parts_lowest, link_at, branch_below, is_read, search_on)
 
 pub returns : goal.returns
-returns c = search_none c.args.links.now c.loop-number.number c.args.code c.loop-number-test.false ∙ c.loop-number.invariant.same
+returns c =
+    search_none c.args.links.now c.loop-number.number c.args.code c.loop-number-test.false
+    ∙ c.loop-number.invariant.same

@@ -17,7 +17,8 @@ pub returns-then-byte-lt128-clause-bits : goal.returns-then-byte-lt128-clause-bi
 returns-then-byte-lt128-clause-bits c =
     let byte = get_or c.args.bytes.now c.loop-place.place 0 in
     rw (shifted byte c.loop-place.place c.from.result c.from.ensures c.loop-place.invariant.short)
-    (bits_70 c.loop-place.place _ c.loop-place.invariant.short (next_small byte c.loop-place.place c.loop-place.sum c.loop-place.invariant.small))
+    (bits_70 c.loop-place.place _ c.loop-place.invariant.short
+    (next_small byte c.loop-place.place c.loop-place.sum c.loop-place.invariant.small))
 
 pub returns-then-place-eq9-clause-exact : goal.returns-then-place-eq9-clause-exact
 returns-then-place-eq9-clause-exact c = search (rules, step_bad)
@@ -26,4 +27,5 @@ pub loop-place-preserved : goal.loop-place-preserved
 loop-place-preserved c = search (rules, shifted, next_small, step_on)
 
 pub returns-clause-exact : goal.returns-clause-exact
-returns-clause-exact c = sym (step_cut c.args.bytes.now c.loop-place.place c.loop-place.sum (omega arith)) ∙ c.loop-place.invariant.same
+returns-clause-exact c =
+    sym (step_cut c.args.bytes.now c.loop-place.place c.loop-place.sum (omega arith)) ∙ c.loop-place.invariant.same

@@ -16,7 +16,8 @@ returns-in_err-form-clause-exact c = search (rules, err_from_is_err_and, bytes_f
 pub returns-in_default-clause-exact : goal.returns-in_default-clause-exact
 returns-in_default-clause-exact c =
     let section = c.args.section.now in
-    let begun = sym (ap begun_at (bytes_from section c.args.offset)) ∙ (rw c.in_default.is at c.in_ok-pair.ensures.exact) in
+    let begun = sym (ap begun_at (bytes_from section c.args.offset))
+    ∙ (rw c.in_default.is at c.in_ok-pair.ensures.exact) in
     let none = pair_none (drop c.args.offset section) c.in_ok-pair.rest.now begun in
     none ∙ ap (λ (rest : List ℕ). Ok (None, rest)) (pair_rest section c.args.offset None c.in_ok-pair.rest.now none)
 

@@ -5,7 +5,13 @@ use Rattle.dw_forms.proofs.OffsetLaws.{along_push, new_push}
 use Rattle.dw_forms.proofs.list_reader.read_pairs.Goals as goal
 
 pub loop-end-init : goal.loop-end-init
-loop-end-init c = record { from = omega arith; within = c.requires.offset; along = rw c.requires.none refl; new = rw c.requires.none tt }
+loop-end-init c =
+    record {
+      from = omega arith;
+      within = c.requires.offset;
+      along = rw c.requires.none refl;
+      new = rw c.requires.none tt;
+    }
 
 pub returns-then-first-ne0-clause-leads : goal.returns-then-first-ne0-clause-leads
 returns-then-first-ne0-clause-leads c =
@@ -15,11 +21,15 @@ returns-then-first-ne0-clause-leads c =
       next = c.loop-end.at;
       along = c.loop-end.invariant.along;
       new = c.loop-end.invariant.new;
-      list = kept_list c.args.section.now c.args.lists.now.nodes.items c.args.starts.now.starts.items c.args.ends.now c.loop-end.at c.find-first.result _ c.requires.placed begins (omega (arith, some)) refl;
+      list =
+          kept_list c.args.section.now c.args.lists.now.nodes.items c.args.starts.now.starts.items c.args.ends.now
+          c.loop-end.at c.find-first.result _ c.requires.placed begins (omega (arith, some)) refl;
     }
 
 pub returns-in-Err-clause-fault : goal.returns-in-Err-clause-fault
-returns-in-Err-clause-fault c = pairs_break c.args.section.now c.loop-end.pairs.items c.args.offset c.loop-end.at c.loop-end.invariant.along c.in-Err.error c.in-Err.ensures.exact
+returns-in-Err-clause-fault c =
+    pairs_break c.args.section.now c.loop-end.pairs.items c.args.offset c.loop-end.at c.loop-end.invariant.along
+    c.in-Err.error c.in-Err.ensures.exact
 
 pub returns-in_default-clause-leads : goal.returns-in_default-clause-leads
 returns-in_default-clause-leads c = search (rules, end_list)
@@ -27,11 +37,21 @@ returns-in_default-clause-leads c = search (rules, end_list)
 pub loop-end-preserved : goal.loop-end-preserved
 loop-end-preserved c =
     let none = c.if-first-ne0.false in
-    let nothing = c.find-first.ensures.none (omega (arith, none)) c.args.offset c.requires.known c.loop-end.invariant.from in
+    let nothing = c.find-first.ensures.none (omega (arith, none)) c.args.offset c.requires.known
+    c.loop-end.invariant.from in
     let from = c.loop-end.invariant.from in
     record {
       from = omega (arith, from, c.in-Ok.ensures.rises);
-      new = rw c.in_ok-push.ensures.items (new_push c.args.starts.now.starts.items c.loop-end.pairs.items _ c.loop-end.invariant.new nothing);
+      new =
+          rw c.in_ok-push.ensures.items (new_push c.args.starts.now.starts.items c.loop-end.pairs.items _
+          c.loop-end.invariant.new nothing);
       within = c.in-Ok.ensures.within;
-      along = rw c.in_ok-push.ensures.items (along_push (IsPairAt c.args.section.now) c.loop-end.pairs.items c.args.offset c.loop-end.at c.in-Ok.found.1 _ c.loop-end.invariant.along (record { is = rw c.in-Some.is at c.in-Ok.ensures.exact; rises = c.in-Ok.ensures.rises; fits = c.in-Ok.ensures.within }));
+      along =
+          rw c.in_ok-push.ensures.items (along_push (IsPairAt c.args.section.now) c.loop-end.pairs.items c.args.offset
+          c.loop-end.at c.in-Ok.found.1 _ c.loop-end.invariant.along
+          (record {
+            is = rw c.in-Some.is at c.in-Ok.ensures.exact;
+            rises = c.in-Ok.ensures.rises;
+            fits = c.in-Ok.ensures.within;
+          }));
     }

@@ -13,7 +13,10 @@ pub returns-else-is_allowed_in : goal.returns-else-is_allowed_in
 returns-else-is_allowed_in c =
     let us = units_of c.args.entries.now in
     let (p, is, told) = unit_there us c.args.head.now.unit c.unit.result c.requires c.unit.ensures in
-    let version : version_of p.unit.header.kind ≡ c.version-version.result = sym (c.version-version.ensures ∙ ap (λ (t : UnitHead). version_of t.header.kind) told) in
+    let version : version_of p.unit.header.kind
+    ≡ c.version-version.result = sym
+    (c.version-version.ensures ∙ ap (λ (t : UnitHead). version_of t.header.kind) told) in
     class_least (placed us) c.args.head.now c.args.attribute (view c.args.value.now) p is
     (ap (λ (n : ℕ). allows_in n c.args.attribute (class_of (view c.args.value.now))) version
-    ∙ ap (λ (k : Class). allows_in c.version-version.result c.args.attribute k) (sym c.class_of_value.ensures) ∙ sym c.if-is_allowed_in.ensures)
+    ∙ ap (λ (k : Class). allows_in c.version-version.result c.args.attribute k) (sym c.class_of_value.ensures)
+    ∙ sym c.if-is_allowed_in.ensures)

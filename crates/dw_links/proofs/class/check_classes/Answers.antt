@@ -6,12 +6,19 @@ use Rattle.dw_links.proofs.class.check_classes.Goals as goal
 
 pub returns-in-Err-clause-fault : goal.returns-in-Err-clause-fault
 returns-in-Err-clause-fault c = record {
-  holds = rw c.into_fault.ensures.holds (first_failure c.args.entries.now (ClassFails (all_units c.args.entries.now)) c.loop-number.number c.id.result c.id.ensures c.loop-number.invariant c.in-Err.broken (omega arith) c.in-Err.ensures.err);
+  holds =
+      rw c.into_fault.ensures.holds (first_failure c.args.entries.now (ClassFails (all_units c.args.entries.now))
+      c.loop-number.number c.id.result c.id.ensures c.loop-number.invariant c.in-Err.broken (omega arith)
+      c.in-Err.ensures.err);
   cycle = c.into_fault.ensures.cycle;
 }
 
 pub loop-number-preserved : goal.loop-number-preserved
-loop-number-preserved c = more_below c.args.entries.now (ClassFails (all_units c.args.entries.now)) c.loop-number.number c.id.result c.id.ensures c.loop-number.invariant c.in_default.ensures.ok
+loop-number-preserved c =
+    more_below c.args.entries.now (ClassFails (all_units c.args.entries.now)) c.loop-number.number c.id.result
+    c.id.ensures c.loop-number.invariant c.in_default.ensures.ok
 
 pub returns-clause-ok : goal.returns-clause-ok
-returns-clause-ok c = none_fails c.args.entries.now (ClassFails (all_units c.args.entries.now)) c.loop-number.number (omega arith) c.loop-number.invariant
+returns-clause-ok c =
+    none_fails c.args.entries.now (ClassFails (all_units c.args.entries.now)) c.loop-number.number (omega arith)
+    c.loop-number.invariant

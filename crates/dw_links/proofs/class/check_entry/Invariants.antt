@@ -10,7 +10,9 @@ use Rattle.dw_links.proofs.RuleSteps.{Checked}
 use Rattle.dw_links.proofs.class.check_entry.Given as goal
 
 abbrev pub invariant-loop-item : goal.invariant-loop-item
-invariant-loop-item l = (e : Entry) → slice_get (all_entries l.entries) l.fn.id ≡ Some e → Checked (ClassFails (placed (units_of l.entries))) (entry_head e) (values_of e.head) (values_left l.values)
+invariant-loop-item l =
+    (e : Entry) → slice_get (all_entries l.entries) l.fn.id ≡ Some e
+    → Checked (ClassFails (placed (units_of l.entries))) (entry_head e) (values_of e.head) (values_left l.values)
 
 abbrev pub decreases-loop-item : goal.decreases-loop-item
 decreases-loop-item l = length (values_left l.values)

@@ -13,11 +13,20 @@ use Rattle.dw_links.proofs.class.leave_open.Goals as goal
 pub loop-number-preserved : goal.loop-number-preserved
 loop-number-preserved c =
     let P : AttributeSpec → Type 0 = λ s. (units : List PlacedUnit) → Passes (ClassFails units) s in
-    one_more (map spec_of c.decls-decls.result.now.lists.nodes.items) P c.loop-number.number c.spec.result c.spec.ensures c.loop-number.invariant c.if-is_open.ensures
+    one_more (map spec_of c.decls-decls.result.now.lists.nodes.items) P c.loop-number.number c.spec.result
+    c.spec.ensures c.loop-number.invariant c.if-is_open.ensures
 
 pub returns : goal.returns
 returns c =
     let nodes = c.decls-decls.result.now.lists.nodes.items in
     let us = units_of c.args.entries.now in
-    none_concerned _ _ us (map spec_of nodes) (ClassFails (placed us)) c.args.entries.now.scanned.1.spells c.decls-decls.ensures.specs
-    (λ k spec is. c.loop-number.invariant k spec (omega (arith, slice_get_within (map spec_of nodes) k spec is, length-map nodes spec_of, c.spec_count-number-end.ensures, c.loop-number-test.false)) is (placed us))
+    none_concerned _ _ us (map spec_of nodes) (ClassFails (placed us)) c.args.entries.now.scanned.1.spells
+    c.decls-decls.ensures.specs
+    (λ k spec is. c.loop-number.invariant k spec
+    (omega (
+      arith,
+      slice_get_within (map spec_of nodes) k spec is,
+      length-map nodes spec_of,
+      c.spec_count-number-end.ensures,
+      c.loop-number-test.false,
+    )) is (placed us))

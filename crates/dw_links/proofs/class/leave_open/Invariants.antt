@@ -8,4 +8,6 @@ use Rattle.dw_links.specs.Concerns.{Passes}
 use Rattle.dw_links.proofs.class.leave_open.Given as goal
 
 abbrev pub invariant-loop-number : goal.invariant-loop-number
-invariant-loop-number l = (k : ℕ) (spec : AttributeSpec) → k < l.number → slice_get (map spec_of l.decls.lists.nodes.items) k ≡ Some spec → (units : List PlacedUnit) → Passes (ClassFails units) spec
+invariant-loop-number l =
+    (k : ℕ) (spec : AttributeSpec) → k < l.number → slice_get (map spec_of l.decls.lists.nodes.items) k ≡ Some spec
+    → (units : List PlacedUnit) → Passes (ClassFails units) spec

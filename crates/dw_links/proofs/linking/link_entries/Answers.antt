@@ -22,8 +22,13 @@ use Rattle.dw_links.proofs.linking.link_entries.Goals as goal
 pub loop-unit-init : goal.loop-unit-init
 loop-unit-init c =
     let entries = c.args.entries.now in
-    let kept = keeps_none entries _ c.count-2.result c.count-2.ensures (c.in_ok-declared.ensures.items_if_clones_equal (only_none _ (λ known p. p))) in
-    record { kept = kept; bases = record { str = search rules; addr = search rules }; linked = (0, starts_first (units_of entries), none_below entries c.in_ok-types.types.items (search rules)) }
+    let kept = keeps_none entries _ c.count-2.result c.count-2.ensures
+    (c.in_ok-declared.ensures.items_if_clones_equal (only_none _ (λ known p. p))) in
+    record {
+      kept = kept;
+      bases = record { str = search rules; addr = search rules };
+      linked = (0, starts_first (units_of entries), none_below entries c.in_ok-types.types.items (search rules));
+    }
 
 pub loop-number-init : goal.loop-number-init
 loop-number-init c =
@@ -31,7 +36,10 @@ loop-number-init c =
     let (p, is) = unit_there (units_of entries) c.loop-unit.unit (omega arith) in
     let first : c.of_unit-references.result.range.0 ≡ p.first = rw is at c.of_unit-references.ensures.first in
     let (number, starts, linked) = c.loop-unit.invariant.linked in
-    record { kept = c.loop-unit.invariant.kept; linked = subst (LinkedBelow entries c.loop-unit.types.items) (starts.begins p is ∙ sym first) linked }
+    record {
+      kept = c.loop-unit.invariant.kept;
+      linked = subst (LinkedBelow entries c.loop-unit.types.items) (starts.begins p is ∙ sym first) linked;
+    }
 
 pub id-id-requires : goal.id-id-requires
 id-id-requires c =
@@ -47,7 +55,9 @@ link_entry-requires-clause-may c =
     record {
       within = omega (arith, below, it.within);
       linkable = it;
-      in_unit = λ e here. sym (it.range c.id-id.result e here (omega (arith, c.id-id.ensures, c.loop-number.auto.number)) below);
+      in_unit =
+          λ e here. sym (it.range c.id-id.result e here (omega (arith, c.id-id.ensures, c.loop-number.auto.number))
+          below);
     }
 
 pub link_entry-requires-clause-kept : goal.link_entry-requires-clause-kept
@@ -60,9 +70,12 @@ stop_of-requires c =
     let us = units_of entries in
     let (p, is_p) = unit_there us c.loop-unit.unit (omega arith) in
     let end = rw is_p at c.of_unit-references.ensures.end in
-    let (e, is) = there (all_entries entries) c.id-id.result (omega (arith, end, c.id-id.ensures, ends_within us c.loop-unit.unit p is_p)) in
-    let P : Entries → Type 0 = λ x. (d : Entry) → slice_get (all_entries x) c.id-id.result ≡ Some d → HasFailed x d c.in-Err.broken in
-    failed_first entries c.loop-number.number c.id-id.result c.id-id.ensures c.in-Err.broken i.linked.strings i.linked.references c.requires.headers e is
+    let (e, is) = there (all_entries entries) c.id-id.result
+    (omega (arith, end, c.id-id.ensures, ends_within us c.loop-unit.unit p is_p)) in
+    let P : Entries → Type 0 = λ x. (d : Entry) → slice_get (all_entries x) c.id-id.result ≡ Some d
+    → HasFailed x d c.in-Err.broken in
+    failed_first entries c.loop-number.number c.id-id.result c.id-id.ensures c.in-Err.broken i.linked.strings
+    i.linked.references c.requires.headers e is
     (subst P c.of_unit-references.ensures.entries c.in-Err.ensures.err e is)
 
 pub loop-number-preserved : goal.loop-number-preserved
@@ -70,19 +83,30 @@ loop-number-preserved c =
     let entries = c.args.entries.now in
     let i = c.loop-number.invariant in
     let same = c.of_unit-references.ensures.entries in
-    let P : Entries → Type 0 = λ x. (d : Entry) → slice_get (all_entries x) c.id-id.result ≡ Some d → IsLinked x d c.in-Ok.target in
+    let P : Entries → Type 0 = λ x. (d : Entry) → slice_get (all_entries x) c.id-id.result ≡ Some d
+    → IsLinked x d c.in-Ok.target in
     let linked = subst P same c.in-Ok.ensures.ok in
     let us = units_of entries in
     let (p, is_p) = unit_there us c.loop-unit.unit (omega arith) in
     let end = rw is_p at c.of_unit-references.ensures.end in
-    let (e, is) = there (all_entries entries) c.id-id.result (omega (arith, end, c.id-id.ensures, ends_within us c.loop-unit.unit p is_p)) in
+    let (e, is) = there (all_entries entries) c.id-id.result
+    (omega (arith, end, c.id-id.ensures, ends_within us c.loop-unit.unit p is_p)) in
     record {
-      kept = keeps_whole entries c.loop-number.declared.items c.link_entry.new.declared c.loop-number.declared.len c.loop-number.declared.ok.0 i.kept (rw same at c.in-Ok.ensures.kept);
+      kept =
+          keeps_whole entries c.loop-number.declared.items c.link_entry.new.declared c.loop-number.declared.len
+          c.loop-number.declared.ok.0 i.kept (rw same at c.in-Ok.ensures.kept);
       linked = record {
-        strings = more_below entries (FailsByText entries) c.loop-number.number c.id-id.result c.id-id.ensures i.linked.strings (λ d at. (linked d at).strings);
-        references = more_below entries (FailsByTarget entries) c.loop-number.number c.id-id.result c.id-id.ensures i.linked.references (λ d at. (linked d at).references);
+        strings =
+            more_below entries (FailsByText entries) c.loop-number.number c.id-id.result c.id-id.ensures
+            i.linked.strings (λ d at. (linked d at).strings);
+        references =
+            more_below entries (FailsByTarget entries) c.loop-number.number c.id-id.result c.id-id.ensures
+            i.linked.references (λ d at. (linked d at).references);
         long = length-set c.loop-number.types.items c.loop-number.number c.in-Ok.target ∙ i.linked.long;
-        types_are = types_more entries c.loop-number.types.items c.loop-number.number e c.in-Ok.target (let P : ℕ → Type 0 = λ n. slice_get (all_entries entries) n ≡ Some e in subst P c.id-id.ensures is) i.linked.long i.linked.types_are (linked e is).is_target;
+        types_are =
+            types_more entries c.loop-number.types.items c.loop-number.number e c.in-Ok.target
+            (let P : ℕ → Type 0 = λ n. slice_get (all_entries entries) n ≡ Some e in subst P c.id-id.ensures is)
+            i.linked.long i.linked.types_are (linked e is).is_target;
       };
     }
 
@@ -98,10 +122,22 @@ loop-unit-preserved c =
     record {
       kept = c.loop-number.invariant.kept;
       bases = record {
-        str = rw c.in_ok-push.ensures.items (map_one_more (λ u. base_in (all_entries entries) u DW_AT_str_offsets_base) (all_units entries) c.loop-unit.str_bases.items c.loop-unit.unit p c.of_unit-references.result.texts.str_base is bases.str (search rules));
-        addr = rw c.in_ok-push-2.ensures.items (map_one_more (λ u. base_in (all_entries entries) u DW_AT_addr_base) (all_units entries) c.loop-unit.addr_bases.items c.loop-unit.unit p c.of_unit-references.result.texts.addr_base is bases.addr (search rules));
+        str =
+            rw c.in_ok-push.ensures.items (map_one_more (λ u. base_in (all_entries entries) u DW_AT_str_offsets_base)
+            (all_units entries) c.loop-unit.str_bases.items c.loop-unit.unit p
+            c.of_unit-references.result.texts.str_base is bases.str (search rules));
+        addr =
+            rw c.in_ok-push-2.ensures.items
+            (map_one_more (λ u. base_in (all_entries entries) u DW_AT_addr_base) (all_units entries)
+            c.loop-unit.addr_bases.items c.loop-unit.unit p c.of_unit-references.result.texts.addr_base is bases.addr
+            (search rules));
       };
-      linked = (c.loop-number.number, starts_next us c.loop-unit.unit c.loop-number.number p is (omega (arith, first, end, c.loop-number.auto.number-end (omega (arith, first, end)))), c.loop-number.invariant.linked);
+      linked = (
+        c.loop-number.number,
+        starts_next us c.loop-unit.unit c.loop-number.number p is
+            (omega (arith, first, end, c.loop-number.auto.number-end (omega (arith, first, end)))),
+        c.loop-number.invariant.linked,
+      );
     }
 
 pub returns-clause-ok : goal.returns-clause-ok
@@ -109,16 +145,26 @@ returns-clause-ok c =
     let entries = c.args.entries.now in
     let (number, starts, linked) = c.loop-unit.invariant.linked in
     let all = starts.ends (omega arith) in
-    let units : length (all_units entries) ≤ c.loop-unit.unit = omega (arith, length-placed_from 0 0 (units_of entries)) in
+    let units : length (all_units entries)
+    ≤ c.loop-unit.unit = omega (arith, length-placed_from 0 0 (units_of entries)) in
     let bases = c.loop-unit.invariant.bases in
     record {
       strings = none_fails entries (FailsByText entries) number all linked.strings;
-      references = none_by_both (HeaderFailures (all_entries entries) (all_units entries)) (AttributeFailures (all_entries entries) (all_units entries)) c.requires.headers
+      references =
+          none_by_both (HeaderFailures (all_entries entries) (all_units entries))
+          (AttributeFailures (all_entries entries) (all_units entries)) c.requires.headers
           (none_fails entries (FailsByTarget entries) number all linked.references);
       tables_are = record {
         signatures = c.requires.types;
-        str_bases = map_all (λ u. base_in (all_entries entries) u DW_AT_str_offsets_base) (all_units entries) c.loop-unit.str_bases.items c.loop-unit.unit units bases.str;
-        addr_bases = map_all (λ u. base_in (all_entries entries) u DW_AT_addr_base) (all_units entries) c.loop-unit.addr_bases.items c.loop-unit.unit units bases.addr;
-        types = sym (take_all number c.loop-unit.types.items (omega (arith, all, linked.long))) ∙ map_all (type_target (all_entries entries) (all_units entries)) (all_entries entries) (take number c.loop-unit.types.items) number all linked.types_are;
+        str_bases =
+            map_all (λ u. base_in (all_entries entries) u DW_AT_str_offsets_base) (all_units entries)
+            c.loop-unit.str_bases.items c.loop-unit.unit units bases.str;
+        addr_bases =
+            map_all (λ u. base_in (all_entries entries) u DW_AT_addr_base) (all_units entries)
+            c.loop-unit.addr_bases.items c.loop-unit.unit units bases.addr;
+        types =
+            sym (take_all number c.loop-unit.types.items (omega (arith, all, linked.long)))
+            ∙ map_all (type_target (all_entries entries) (all_units entries)) (all_entries entries)
+            (take number c.loop-unit.types.items) number all linked.types_are;
       };
     }

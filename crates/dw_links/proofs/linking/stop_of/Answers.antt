@@ -12,6 +12,9 @@ pub strings_first-requires : goal.strings_first-requires
 strings_first-requires c =
     let us = units_of c.args.entries.now in
     record {
-      holds = subst (IsFirst (ReferenceFailures us)) (sym c.into_fault-2.ensures.holds) (reference_first (sections_of c.args.entries.now) us c.args.broken c.requires (sym c.if-is_string_rule.ensures));
+      holds =
+          subst (IsFirst (ReferenceFailures us)) (sym c.into_fault-2.ensures.holds)
+          (reference_first (sections_of c.args.entries.now) us c.args.broken c.requires
+          (sym c.if-is_string_rule.ensures));
       cycle = c.into_fault-2.ensures.cycle;
     }

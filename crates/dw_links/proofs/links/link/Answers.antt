@@ -15,12 +15,15 @@ strings_first-requires c =
     if_fault (first_by_header (entries_of us) (placed us)) c.in-Err.stop c.in-Err.ensures.fault
 
 pub returns-in-Err-clause-fault : goal.returns-in-Err-clause-fault
-returns-in-Err-clause-fault c = if_fault (λ broken first. inr (c.in_ok-check_classes.ensures.ok, first)) c.strings_first.result c.strings_first.ensures
+returns-in-Err-clause-fault c =
+    if_fault (λ broken first. inr (c.in_ok-check_classes.ensures.ok, first)) c.strings_first.result
+    c.strings_first.ensures
 
 pub returns-in_err-tables-clause-fault : goal.returns-in_err-tables-clause-fault
 returns-in_err-tables-clause-fault c =
     let p = err_from_is_err_and c.from_residual-in_err-tables.result c.from_residual-in_err-tables.ensures.1 in
-    rw (p.1, p.2) (if_fault (λ broken first. inr (c.in_ok-check_classes.ensures.ok, first)) c.in_err-tables.field-0.0 c.in_err-tables.ensures.fault)
+    rw (p.1, p.2) (if_fault (λ broken first. inr (c.in_ok-check_classes.ensures.ok, first)) c.in_err-tables.field-0.0
+    c.in_err-tables.ensures.fault)
 
 pub invariant_of-result : goal.invariant_of-result
 invariant_of-result c = search (rules)

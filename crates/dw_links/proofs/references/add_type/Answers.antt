@@ -17,29 +17,41 @@ pub returns-in_default-clause-added : goal.returns-in_default-clause-added
 returns-in_default-clause-added c =
     let us = units_of c.args.entries.now in
     let (p, is, told) = unit_there us c.args.number c.unit-unit.result c.requires.within c.unit-unit.ensures in
-    other_unit (entries_of us) (placed us) c.args.number p c.args.signatures.now is (sym (ap (λ (x : UnitHead). type_in x.header.kind) told) ∙ no_type _ c.in_default.not-TypeUnit) c.requires.before
+    other_unit (entries_of us) (placed us) c.args.number p c.args.signatures.now is
+    (sym (ap (λ (x : UnitHead). type_in x.header.kind) told) ∙ no_type _ c.in_default.not-TypeUnit)
+    c.requires.before
 
 pub check_type-requires-clause-has : goal.check_type-requires-clause-has
 check_type-requires-clause-has c =
     let us = units_of c.args.entries.now in
     let (p, is, told) = unit_there us c.args.number c.unit-unit.result c.requires.within c.unit-unit.ensures in
-    record { unit = p; is_unit = is; type_offset = c.in-TypeUnit.type_offset; signed = sym (ap (λ (x : UnitHead). type_in x.header.kind) told) ∙ ap type_in c.in-TypeUnit.is }
+    record {
+      unit = p;
+      is_unit = is;
+      type_offset = c.in-TypeUnit.type_offset;
+      signed = sym (ap (λ (x : UnitHead). type_in x.header.kind) told) ∙ ap type_in c.in-TypeUnit.is;
+    }
 
 pub returns-in_ok-insert-in-Ok-clause-added : goal.returns-in_ok-insert-in-Ok-clause-added
 returns-in_ok-insert-in-Ok-clause-added c =
     let us = units_of c.args.entries.now in
     let (p, is, told) = unit_there us c.args.number c.unit-unit.result c.requires.within c.unit-unit.ensures in
     let kind = sym (ap (λ (x : UnitHead). type_in x.header.kind) told) ∙ ap type_in c.in-TypeUnit.is in
-    new_signature (entries_of us) (placed us) c.args.number c.in-TypeUnit.signature c.in-TypeUnit.type_offset c.in-Ok.id p c.args.signatures.now c.insert.new.self is kind (λ before. c.in-Ok.ensures.ok p is SignatureTwice (inl (refl, before))) c.in_ok-insert-in-Ok.ensures.updates.0
-    (type_of_unit_is (entries_of us) (placed us) c.args.number c.in-TypeUnit.signature c.in-TypeUnit.type_offset p _ is kind
-    (reach_in_unit_is (entries_of us) (placed us) c.args.number c.in-TypeUnit.type_offset c.in-Ok.id (entries_rise _ us c.args.entries.now.scanned.1.spells.are) c.in-Ok.ensures.found))
+    new_signature (entries_of us) (placed us) c.args.number c.in-TypeUnit.signature c.in-TypeUnit.type_offset c.in-Ok.id
+    p c.args.signatures.now c.insert.new.self is kind
+    (λ before. c.in-Ok.ensures.ok p is SignatureTwice (inl (refl, before))) c.in_ok-insert-in-Ok.ensures.updates.0
+    (type_of_unit_is (entries_of us) (placed us) c.args.number c.in-TypeUnit.signature c.in-TypeUnit.type_offset p _ is
+    kind
+    (reach_in_unit_is (entries_of us) (placed us) c.args.number c.in-TypeUnit.type_offset c.in-Ok.id
+    (entries_rise _ us c.args.entries.now.scanned.1.spells.are) c.in-Ok.ensures.found))
     c.requires.before
 
 pub returns-in_ok-insert-in-Ok-clause-ok : goal.returns-in_ok-insert-in-Ok-clause-ok
 returns-in_ok-insert-in-Ok-clause-ok c = λ p is.
     let us = units_of c.args.entries.now in
     let told : c.unit-unit.result ≡ unit_head p = rw is at c.unit-unit.ensures in
-    header_passes (entries_of us) (placed us) c.args.number p.at c.in-TypeUnit.signature c.in-TypeUnit.type_offset (type_in p.unit.header.kind)
+    header_passes (entries_of us) (placed us) c.args.number p.at c.in-TypeUnit.signature c.in-TypeUnit.type_offset
+    (type_in p.unit.header.kind)
     (sym (ap (λ (x : UnitHead). type_in x.header.kind) told) ∙ ap type_in c.in-TypeUnit.is) (c.in-Ok.ensures.ok p is)
 
 pub returns-in-Err-clause-fault : goal.returns-in-Err-clause-fault
@@ -48,8 +60,10 @@ returns-in-Err-clause-fault c = record {
       let us = units_of c.args.entries.now in
       let told : c.unit-unit.result ≡ unit_head p = rw is at c.unit-unit.ensures in
       subst (IsFirst (AtHeader (entries_of us) (placed us) c.args.number p)) (sym c.into_fault.ensures.holds)
-      (header_fails (entries_of us) (placed us) c.args.number p.at c.in-TypeUnit.signature c.in-TypeUnit.type_offset (type_in p.unit.header.kind) c.in-Err.rule _
-      (sym (ap (λ (x : UnitHead). type_in x.header.kind) told) ∙ ap type_in c.in-TypeUnit.is) (c.in-Err.ensures.err p is)
+      (header_fails (entries_of us) (placed us) c.args.number p.at c.in-TypeUnit.signature c.in-TypeUnit.type_offset
+      (type_in p.unit.header.kind) c.in-Err.rule _
+      (sym (ap (λ (x : UnitHead). type_in x.header.kind) told) ∙ ap type_in c.in-TypeUnit.is)
+      (c.in-Err.ensures.err p is)
       (record { rule = refl; section = refl; at = ap (λ (x : UnitHead). x.offset) told; attribute = refl }));
   cycle = c.into_fault.ensures.cycle;
 }

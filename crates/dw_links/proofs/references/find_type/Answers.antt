@@ -12,7 +12,8 @@ pub returns-in_default-clause-none : goal.returns-in_default-clause-none
 returns-in_default-clause-none c = λ p is has.
     let us = units_of c.args.entries.now in
     c.in_default.ensures.none has.id
-    (in_unit (entries_of us) (placed us) c.args.number c.args.type_offset (p.at + c.args.type_offset) has.id p is (let e : p.at + c.args.type_offset ≡ c.args.type_offset + p.at = omega arith in e) has.is_type)
+    (in_unit (entries_of us) (placed us) c.args.number c.args.type_offset (p.at + c.args.type_offset) has.id p is
+    (let e : p.at + c.args.type_offset ≡ c.args.type_offset + p.at = omega arith in e) has.is_type)
 
 pub tag-requires : goal.tag-requires
 tag-requires c = search (rules, slice_get_within)
@@ -22,7 +23,9 @@ returns-then-is_type-clause-some c = λ p is.
     let us = units_of c.args.entries.now in
     let reached = c.in-Some.ensures.found in
     let tag : c.tag.result ≡ reached.target.entry.head.decl.tag = rw reached.target.is_entry at c.tag.ensures in
-    typed (entries_of us) c.args.number (p.at + c.args.type_offset) c.in-Some.id reached.target.entry (in_place (entries_of us) (placed us) c.args.number c.args.type_offset p c.in-Some.id is reached) reached.target.is_entry
+    typed (entries_of us) c.args.number (p.at + c.args.type_offset) c.in-Some.id reached.target.entry
+    (in_place (entries_of us) (placed us) c.args.number c.args.type_offset p c.in-Some.id is reached)
+    reached.target.is_entry
     (ap is_type_tag (sym tag) ∙ sym c.if-is_type.ensures)
 
 pub returns-clause-none : goal.returns-clause-none
@@ -30,6 +33,8 @@ returns-clause-none c = λ p is.
     let us = units_of c.args.entries.now in
     let reached = c.in-Some.ensures.found in
     let tag : c.tag.result ≡ reached.target.entry.head.decl.tag = rw reached.target.is_entry at c.tag.ensures in
-    not_typed (entries_of us) c.args.number (p.at + c.args.type_offset) c.in-Some.id reached.target.entry (entries_rise _ us c.args.entries.now.scanned.1.spells.are)
-    (in_place (entries_of us) (placed us) c.args.number c.args.type_offset p c.in-Some.id is reached) reached.target.is_entry
+    not_typed (entries_of us) c.args.number (p.at + c.args.type_offset) c.in-Some.id reached.target.entry
+    (entries_rise _ us c.args.entries.now.scanned.1.spells.are)
+    (in_place (entries_of us) (placed us) c.args.number c.args.type_offset p c.in-Some.id is reached)
+    reached.target.is_entry
     (ap is_type_tag (sym tag) ∙ sym c.if-is_type.ensures)

@@ -15,32 +15,57 @@ use Rattle.dw_links.proofs.references.read_signatures.Goals as goal
 pub returns-clause-ok : goal.returns-clause-ok
 returns-clause-ok c =
     let us = units_of c.args.entries.now in
-    none_of_list (placed us) (AtHeader (entries_of us) (placed us)) (λ j u below. c.loop-number.invariant.none j u (omega (arith, below, c.loop-number-test.false, c.unit_count-number-end.ensures, length-placed_from 0 0 us)))
+    none_of_list (placed us) (AtHeader (entries_of us) (placed us))
+    (λ j u below. c.loop-number.invariant.none j u
+    (omega (arith, below, c.loop-number-test.false, c.unit_count-number-end.ensures, length-placed_from 0 0 us)))
 
 pub returns-clause-types : goal.returns-clause-types
 returns-clause-types c = λ s.
     let us = units_of c.args.entries.now in
-    let all : c.loop-number.number ≡ length (placed us) = omega (arith, c.loop-number-test.false, c.unit_count-number-end.ensures, c.loop-number.auto, length-placed_from 0 0 us) in
-    signed_type_is (entries_of us) (placed us) s _ (subst (λ (n : ℕ). AreSignedBelow (entries_of us) (placed us) n c.loop-number.signatures) all c.loop-number.invariant.types s)
+    let all : c.loop-number.number
+    ≡ length (placed us) = omega (
+      arith,
+      c.loop-number-test.false,
+      c.unit_count-number-end.ensures,
+      c.loop-number.auto,
+      length-placed_from 0 0 us,
+    ) in
+    signed_type_is (entries_of us) (placed us) s _
+    (subst (λ (n : ℕ). AreSignedBelow (entries_of us) (placed us) n c.loop-number.signatures) all
+    c.loop-number.invariant.types s)
 
 pub returns-clause-typed : goal.returns-clause-typed
 returns-clause-typed c = λ s number has.
     let us = units_of c.args.entries.now in
-    let all : c.loop-number.number ≡ length (placed us) = omega (arith, c.loop-number-test.false, c.unit_count-number-end.ensures, c.loop-number.auto, length-placed_from 0 0 us) in
-    signed_some (entries_of us) (placed us) s number _ (subst (λ (n : ℕ). AreSignedBelow (entries_of us) (placed us) n c.loop-number.signatures) all c.loop-number.invariant.types s) has
+    let all : c.loop-number.number
+    ≡ length (placed us) = omega (
+      arith,
+      c.loop-number-test.false,
+      c.unit_count-number-end.ensures,
+      c.loop-number.auto,
+      length-placed_from 0 0 us,
+    ) in
+    signed_some (entries_of us) (placed us) s number _
+    (subst (λ (n : ℕ). AreSignedBelow (entries_of us) (placed us) n c.loop-number.signatures) all
+    c.loop-number.invariant.types s) has
 
 pub returns-in_err-add_type-clause-fault : goal.returns-in_err-add_type-clause-fault
 returns-in_err-add_type-clause-fault c =
     let us = units_of c.args.entries.now in
     let p = err_from_is_err_and c.from_residual.result c.from_residual.ensures.1 in
-    let (u, is) = there (placed us) c.loop-number.number (omega (arith, c.loop-number-test.true, c.unit_count-number-end.ensures, length-placed_from 0 0 us)) in
-    rw (p.1, p.2) (if_fault (λ broken first. first_header (entries_of us) (placed us) c.loop-number.number u broken (placed_rise us) is c.loop-number.invariant.none (first u is)) _ c.in_err-add_type.ensures.fault)
+    let (u, is) = there (placed us) c.loop-number.number
+    (omega (arith, c.loop-number-test.true, c.unit_count-number-end.ensures, length-placed_from 0 0 us)) in
+    rw (p.1, p.2) (if_fault (λ broken first. first_header (entries_of us) (placed us) c.loop-number.number u broken
+    (placed_rise us) is c.loop-number.invariant.none (first u is)) _ c.in_err-add_type.ensures.fault)
 
 pub loop-number-preserved : goal.loop-number-preserved
 loop-number-preserved c =
     let us = units_of c.args.entries.now in
-    let (u, is) = there (placed us) c.loop-number.number (omega (arith, c.loop-number-test.true, c.unit_count-number-end.ensures, length-placed_from 0 0 us)) in
+    let (u, is) = there (placed us) c.loop-number.number
+    (omega (arith, c.loop-number-test.true, c.unit_count-number-end.ensures, length-placed_from 0 0 us)) in
     record {
-      none = more_of_list (placed us) (AtHeader (entries_of us) (placed us)) c.loop-number.number u is c.loop-number.invariant.none (c.in_ok-add_type.ensures.ok u is);
+      none =
+          more_of_list (placed us) (AtHeader (entries_of us) (placed us)) c.loop-number.number u is
+          c.loop-number.invariant.none (c.in_ok-add_type.ensures.ok u is);
       types = c.in_ok-add_type.ensures.added;
     }

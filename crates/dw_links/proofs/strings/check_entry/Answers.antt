@@ -11,26 +11,37 @@ use Rattle.dw_links.proofs.Transfers.{least_by_texts}
 use Rattle.dw_links.proofs.strings.check_entry.Goals as goal
 
 pub loop-form-init : goal.loop-form-init
-loop-form-init c = λ entries texts e is. none_checked (FailsByText entries) (entry_head e) (values_of e.head) (leading_left c.leading-leading.result) (rw is at c.leading-leading.ensures)
+loop-form-init c =
+    λ entries texts e is. none_checked (FailsByText entries) (entry_head e) (values_of e.head)
+    (leading_left c.leading-leading.result) (rw is at c.leading-leading.ensures)
 
 pub returns-in-Some-ask-clause-err : goal.returns-in-Some-ask-clause-err
 returns-in-Some-ask-clause-err c = λ entries texts e is.
     let head : c.head-head.result ≡ entry_head e = rw is at c.head-head.ensures in
     let unit : c.args.texts.now.unit ≡ e.unit = rw is at texts.1 in
     let same = ap (λ (h : EntryHead). h.unit) head ∙ sym unit in
-    checked_fails (FailsByText entries) DoesNotLead (passes_texts entries) e _ _ _ _ (c.loop-form.invariant entries texts e is) c.next_in-item.ensures.found c.head-head.result head c.in-Some-ask.rule c.broken_at.result
-    (least_by_texts entries c.args.texts.now c.head-head.result texts.0 same c.next_in-item.result.0 (view c.next_in-item.result.1) (Some c.in-Some-ask.rule) c.in-Some-ask.ensures) c.broken_at.ensures
+    checked_fails (FailsByText entries) DoesNotLead (passes_texts entries) e _ _ _ _
+    (c.loop-form.invariant entries texts e is) c.next_in-item.ensures.found c.head-head.result head
+    c.in-Some-ask.rule c.broken_at.result
+    (least_by_texts entries c.args.texts.now c.head-head.result texts.0 same c.next_in-item.result.0
+    (view c.next_in-item.result.1) (Some c.in-Some-ask.rule) c.in-Some-ask.ensures) c.broken_at.ensures
 
 pub loop-form-preserved : goal.loop-form-preserved
 loop-form-preserved c = λ entries texts e is.
     let head : c.head-head.result ≡ entry_head e = rw is at c.head-head.ensures in
     let unit : c.args.texts.now.unit ≡ e.unit = rw is at texts.1 in
     let same = ap (λ (h : EntryHead). h.unit) head ∙ sym unit in
-    checked_more (FailsByText entries) DoesNotLead (passes_texts entries) e _ _ _ _ (c.loop-form.invariant entries texts e is) c.next_in-item.ensures.found c.head-head.result head
-    (least_by_texts entries c.args.texts.now c.head-head.result texts.0 same c.next_in-item.result.0 (view c.next_in-item.result.1) None c.in_default-ask.ensures)
+    checked_more (FailsByText entries) DoesNotLead (passes_texts entries) e _ _ _ _
+    (c.loop-form.invariant entries texts e is) c.next_in-item.ensures.found c.head-head.result head
+    (least_by_texts entries c.args.texts.now c.head-head.result texts.0 same c.next_in-item.result.0
+    (view c.next_in-item.result.1) None c.in_default-ask.ensures)
 
 pub loop-form-smaller : goal.loop-form-smaller
-loop-form-smaller c = fewer DoesNotLead (leading_left c.loop-form.leading) _ (leading_left c.next_in-item.new.self) c.next_in-item.ensures.found
+loop-form-smaller c =
+    fewer DoesNotLead (leading_left c.loop-form.leading) _ (leading_left c.next_in-item.new.self)
+    c.next_in-item.ensures.found
 
 pub returns-clause-ok : goal.returns-clause-ok
-returns-clause-ok c = λ entries texts e is. checked_all (FailsByText entries) DoesNotLead (passes_texts entries) e (leading_left c.loop-form.leading) (c.loop-form.invariant entries texts e is) c.in_default.ensures.none
+returns-clause-ok c =
+    λ entries texts e is. checked_all (FailsByText entries) DoesNotLead (passes_texts entries) e
+    (leading_left c.loop-form.leading) (c.loop-form.invariant entries texts e is) c.in_default.ensures.none

@@ -10,7 +10,9 @@ use Rattle.dw_links.proofs.RuleSteps.{Checked}
 use Rattle.dw_links.proofs.strings.check_entry.Given as goal
 
 abbrev pub invariant-loop-form : goal.invariant-loop-form
-invariant-loop-form l = (entries : Entries) → AreTextsAt entries l.texts l.entry → (e : Entry) → l.entry ≡ Some e → Checked (FailsByText entries) (entry_head e) (values_of e.head) (leading_left l.leading)
+invariant-loop-form l =
+    (entries : Entries) → AreTextsAt entries l.texts l.entry → (e : Entry) → l.entry ≡ Some e
+    → Checked (FailsByText entries) (entry_head e) (values_of e.head) (leading_left l.leading)
 
 abbrev pub decreases-loop-form : goal.decreases-loop-form
 decreases-loop-form l = length (leading_left l.leading)

@@ -11,7 +11,12 @@ count_named-requires-2 c =
     let us = units_of c.args.entries.now in
     let (p, is, told) = unit_there us c.args.number c.unit-head.result c.requires.number c.unit-head.ensures in
     let same = ap (λ (x : UnitHead). x.header.address_size) told in
-    omega (arith, same, size_above _ (sized _ _ us c.args.number p c.args.entries.now.scanned.1.spells c.requires.number is))
+    omega (
+      arith,
+      same,
+      size_above _
+          (sized _ _ us c.args.number p c.args.entries.now.scanned.1.spells c.requires.number is),
+    )
 
 pub returns-clause-texts : goal.returns-clause-texts
 returns-clause-texts c =
@@ -20,7 +25,9 @@ returns-clause-texts c =
     let same = ap (λ (x : UnitHead). x.header.address_size) told in
     record {
       ready = record {
-        address_size = subst IsSize (sym same) (sized _ _ us c.args.number p c.args.entries.now.scanned.1.spells c.requires.number is);
+        address_size =
+            subst IsSize (sym same) (sized _ _ us c.args.number p c.args.entries.now.scanned.1.spells c.requires.number
+            is);
         strings = c.count_named.ensures;
         addresses = c.count_named-2.ensures;
         str_end = rw c.sections-sections.ensures c.requires.str_end;

@@ -9,7 +9,8 @@ use Rattle.dw_links.proofs.targets.find_target.Goals as goal
 
 pub reach-requires-clause-unit : goal.reach-requires-clause-unit
 reach-requires-clause-unit c =
-    unit_below c.args.entries.now c.args.id c.unit_of.result (slice_get (all_entries c.args.entries.now) c.args.id) c.requires.id refl c.unit_of.ensures
+    unit_below c.args.entries.now c.args.id c.unit_of.result (slice_get (all_entries c.args.entries.now) c.args.id)
+    c.requires.id refl c.unit_of.ensures
 
 pub returns-clause-exact : goal.returns-clause-exact
 unfolding target_of

@@ -15,4 +15,5 @@ returns-in-Text-clause-text c =
 
 pub returns-in-Text-clause-begins : goal.returns-in-Text-clause-begins
 returns-in-Text-clause-begins c =
-    text_begins (sections_of c.args.entries.now).info.now c.text_start-offset.result c.in-Text.bytes.now c.text_start-offset.ensures
+    text_begins (sections_of c.args.entries.now).info.now c.text_start-offset.result c.in-Text.bytes.now
+    c.text_start-offset.ensures

@@ -7,11 +7,13 @@ use Rattle.dw_report.proofs.reporting.answer_of_sections.Goals as goal
 pub returns-in_ok-text-in-Fault : goal.returns-in_ok-text-in-Fault
 returns-in_ok-text-in-Fault c =
     let judged : IsFaultOf c.args.sections c.in-Fault.fault = rw c.in-Fault.is at c.in_ok-fault.ensures in
-    subst (SectionsReport c.args.sections c.args.request Fault) (sym c.in_ok-text-in-Fault.ensures) (fault c.in-Fault.fault judged)
+    subst (SectionsReport c.args.sections c.args.request Fault) (sym c.in_ok-text-in-Fault.ensures)
+    (fault c.in-Fault.fault judged)
 
 pub returns-in_ok-answer-in-Sound : goal.returns-in_ok-answer-in-Sound
 returns-in_ok-answer-in-Sound c =
     let judged : IsImageOf c.args.sections c.in-Sound.image = rw c.in-Sound.is at c.in_ok-fault.ensures in
     let answer = c.in_ok-answer-in-Sound.answer in
     sound answer.status answer.text.items
-    (subst (λ s. SoundReport s c.args.request answer.status answer.text.items) judged.sections c.in_ok-answer-in-Sound.ensures)
+    (subst (λ s. SoundReport s c.args.request answer.status answer.text.items) judged.sections
+    c.in_ok-answer-in-Sound.ensures)

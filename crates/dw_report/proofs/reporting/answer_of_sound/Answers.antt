@@ -39,6 +39,7 @@ returns-in_ok-answer-in-Size c =
     let offset = c.in-Size.offset in
     let found = type_at_offset c.args.image.now offset in
     subst (λ (r : Request). SoundReport s r answer.status answer.text.items) (sym c.in-Size.is)
-    (subst (λ (status : Status). SoundReport s (Size offset) status answer.text.items) (sym c.in_ok-answer-in-Size.ensures.status)
+    (subst (λ (status : Status). SoundReport s (Size offset) status answer.text.items)
+    (sym c.in_ok-answer-in-Size.ensures.status)
     (subst (SoundReport s (Size offset) (size_status found)) (sym c.in_ok-answer-in-Size.ensures.text)
     (sized c.args.image.now offset (sound_image c.args.image.now))))

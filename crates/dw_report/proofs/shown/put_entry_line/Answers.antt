@@ -10,6 +10,7 @@ returns c = record {
       (slice_get (entries_in c.args.image.now) c.args.id)
       c.offset-offset.result c.depth-depth.result c.tag-tag.result (option_copied c.name_of-name.result)
       c.size_of_entry-size.result c.args.text.now.items c.put_entry_part.new.text.items c.put_line_end.new.text.items
-      c.offset-offset.ensures c.depth-depth.ensures c.tag-tag.ensures c.name_of-name.ensures c.size_of_entry-size.ensures
+      c.offset-offset.ensures c.depth-depth.ensures c.tag-tag.ensures c.name_of-name.ensures
+      c.size_of_entry-size.ensures
       c.in_ok-put_entry_part.ensures.ok) c.put_line_end.ensures.ok;
 }

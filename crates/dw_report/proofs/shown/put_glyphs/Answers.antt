@@ -10,5 +10,6 @@ loop-at-preserved c = search (rules, take_rest, glyphs_split)
 
 pub returns : goal.returns
 returns c =
-    let whole = ap (λ u. c.loop-at.text.items ++ u) (sym (glyphs_plain c.loop-at.rest.now c.in_default.ensures.none)) ∙ c.loop-at.invariant in
+    let whole = ap (λ u. c.loop-at.text.items ++ u) (sym (glyphs_plain c.loop-at.rest.now c.in_default.ensures.none))
+    ∙ c.loop-at.invariant in
     search rules

@@ -11,8 +11,10 @@ pub loop-number-preserved : goal.loop-number-preserved
 loop-number-preserved c =
     let within = c.loop-number-test.true in
     let count = c.entries-number-end.ensures in
-    one_more_line (entry_line c.args.image.now) (entries_in c.args.image.now) c.loop-number.number c.args.text.now.items c.loop-number.text.items
-    c.put_numbered_line.new.text.items (omega (arith, within, count)) c.in_ok-put_numbered_line.ensures.ok c.loop-number.invariant
+    one_more_line (entry_line c.args.image.now) (entries_in c.args.image.now) c.loop-number.number c.args.text.now.items
+    c.loop-number.text.items
+    c.put_numbered_line.new.text.items (omega (arith, within, count)) c.in_ok-put_numbered_line.ensures.ok
+    c.loop-number.invariant
 
 pub returns : goal.returns
 unfolding show_lines
@@ -22,5 +24,6 @@ returns c =
     let long = length-enumerate_from 0 (entries_in c.args.image.now) in
     record {
       ok = c.loop-number.invariant ∙ ap (λ ps. c.args.text.now.items ++ flat_map (entry_line c.args.image.now) ps)
-          (take_all c.loop-number.number (enumerate_from 0 (entries_in c.args.image.now)) (omega (arith, past, count, long)));
+          (take_all c.loop-number.number (enumerate_from 0 (entries_in c.args.image.now))
+          (omega (arith, past, count, long)));
     }

@@ -6,4 +6,5 @@ use Rattle.dw_report.proofs.shown.put_show_lines.Given as goal
 
 abbrev pub invariant-loop-number : goal.invariant-loop-number
 invariant-loop-number l =
-    l.text.items ≡ l.fn.text.items ++ flat_map (entry_line l.image) (take l.number (enumerate_from 0 (entries_in l.image)))
+    l.text.items ≡ l.fn.text.items
+    ++ flat_map (entry_line l.image) (take l.number (enumerate_from 0 (entries_in l.image)))

@@ -8,7 +8,8 @@ use Rattle.dw_types.proofs.by_value.note_array.Given as goal
 
 abbrev pub invariant-loop-next : goal.invariant-loop-next
 invariant-loop-next l =
-    HasPassed l.fn.entries l.node (λ visited. IsNoted (fails_shape l.fn.entries) (Passed (HasSeenArray l.fn.entries l.node) (IsChildOf l.fn.entries l.node) visited) l.least) l.next
+    HasPassed l.fn.entries l.node (λ visited. IsNoted (fails_shape l.fn.entries)
+    (Passed (HasSeenArray l.fn.entries l.node) (IsChildOf l.fn.entries l.node) visited) l.least) l.next
     × (l.entries ≡ l.fn.entries)
 
 abbrev pub decreases-loop-next : goal.decreases-loop-next

@@ -11,7 +11,9 @@ use Rattle.dw_types.proofs.by_value.push_members.Given as goal
 abbrev pub invariant-loop-next : goal.invariant-loop-next
 invariant-loop-next l =
     HasPassed l.fn.entries l.node
-    (λ visited. (l.steps ≡ l.fn.steps ++ flat_map (part_step l.fn.entries) visited) × IsNoted (fails_shape l.fn.entries) (Passed (HasSeenShapes l.fn.entries l.node) (IsChildOf l.fn.entries l.node) visited) l.least) l.next
+    (λ visited. (l.steps ≡ l.fn.steps ++ flat_map (part_step l.fn.entries) visited)
+    × IsNoted (fails_shape l.fn.entries)
+    (Passed (HasSeenShapes l.fn.entries l.node) (IsChildOf l.fn.entries l.node) visited) l.least) l.next
     × (l.entries ≡ l.fn.entries)
 
 abbrev pub decreases-loop-next : goal.decreases-loop-next

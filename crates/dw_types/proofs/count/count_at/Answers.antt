@@ -13,7 +13,9 @@ pub language_at-requires : goal.language_at-requires
 language_at-requires c =
     let scanned = c.args.entries.now.scanned in
     let us = found_units scanned in
-    rw (c.requires.languages, languages-long us) (unit-below _ _ us scanned.1.spells c.args.id c.requires.id c.at-entry.result c.at-entry.ensures c.unit.result c.unit.ensures)
+    rw (c.requires.languages, languages-long us)
+    (unit-below _ _ us scanned.1.spells c.args.id c.requires.id c.at-entry.result c.at-entry.ensures c.unit.result
+    c.unit.ensures)
 
 pub returns : goal.returns
 returns c =
@@ -21,11 +23,17 @@ returns c =
     let us = found_units scanned in
     let id = c.args.id in
     let at = c.at-entry.ensures in
-    let there = language-there us c.unit.result c.language_at.result (rw c.requires.languages at c.language_at.ensures) in
-    let language = unit-known _ _ us scanned.1.spells id c.requires.id c.at-entry.result at c.unit.result c.unit.ensures language_of Absent c.language_at.result there in
-    let n = known us id _ at c.requires.id (λ (facts : Facts). c.read.result ≡ constant facts DW_AT_count) c.read.ensures in
+    let there = language-there us c.unit.result c.language_at.result (rw c.requires.languages at c.language_at.ensures)
+    in
+    let language = unit-known _ _ us scanned.1.spells id c.requires.id c.at-entry.result at c.unit.result c.unit.ensures
+    language_of Absent c.language_at.result there in
+    let n = known us id _ at c.requires.id (λ (facts : Facts). c.read.result ≡ constant facts DW_AT_count)
+    c.read.ensures in
     let l = known us id _ at c.requires.id (λ (facts : Facts). c.language_at.result ≡ facts.language) language in
-    let u = known us id _ at c.requires.id (λ (facts : Facts). c.read-2.result ≡ constant facts DW_AT_upper_bound) c.read-2.ensures in
-    let b = known us id _ at c.requires.id (λ (facts : Facts). c.read-3.result ≡ constant facts DW_AT_lower_bound) c.read-3.ensures in
+    let u = known us id _ at c.requires.id (λ (facts : Facts). c.read-2.result ≡ constant facts DW_AT_upper_bound)
+    c.read-2.ensures in
+    let b = known us id _ at c.requires.id (λ (facts : Facts). c.read-3.result ≡ constant facts DW_AT_lower_bound)
+    c.read-3.ensures in
     let dimension = sym c.is_dimension.ensures ∙ c.if-not-is_dimension.false in
-    c.known_natural.ensures ∙ (ap known_natural c.count_from.ensures ∙ rw dimension (λ i. known_natural (count_from (n i) (l i) (u i) (b i))))
+    c.known_natural.ensures ∙ (ap known_natural c.count_from.ensures
+    ∙ rw dimension (λ i. known_natural (count_from (n i) (l i) (u i) (b i))))

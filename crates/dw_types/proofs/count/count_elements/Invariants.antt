@@ -10,7 +10,8 @@ use Rattle.dw_types.proofs.count.count_elements.Given as goal
 abbrev pub invariant-loop-next : goal.invariant-loop-next
 invariant-loop-next l =
     HasPassed l.fn.entries l.node
-    (λ visited. (l.product ≡ cap_size (2 ^ 63) (product_of (map factor_of (map (entry_of l.fn.entries) visited)))) × (l.has_dimension ≡ list_any is_subrange (map (entry_of l.fn.entries) visited))) l.next
+    (λ visited. (l.product ≡ cap_size (2 ^ 63) (product_of (map factor_of (map (entry_of l.fn.entries) visited))))
+    × (l.has_dimension ≡ list_any is_subrange (map (entry_of l.fn.entries) visited))) l.next
     × (l.entries ≡ l.fn.entries)
 
 abbrev pub decreases-loop-next : goal.decreases-loop-next

@@ -15,7 +15,9 @@ wide-count : (upper lower : ℤ) → IsOf64Bits upper → IsOf64Bits lower → F
 wide-count upper lower u l = omega (arith, ints, u.0, u.1, l.0, l.1)
 
 pub returns-then-is_present : goal.returns-then-is_present
-returns-then-is_present c = let given : is_present c.args.count ≡ true = sym c.is_present.ensures ∙ c.if-is_present.true in rw given c.number.ensures.value
+returns-then-is_present c =
+    let given : is_present c.args.count ≡ true = sym c.is_present.ensures ∙ c.if-is_present.true in
+    rw given c.number.ensures.value
 
 pub returns-then-not-reads_bounds : goal.returns-then-not-reads_bounds
 returns-then-not-reads_bounds c = search (rules)

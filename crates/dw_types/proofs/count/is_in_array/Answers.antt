@@ -11,5 +11,6 @@ pub returns-in-Some : goal.returns-in-Some
 returns-in-Some c =
     let us = units_of c.args.entries.now in
     let id = c.in-Some.id in
-    let tag = known us id _ refl (rw c.in-Some.is at c.requires) (λ (facts : Facts). c.tag.result ≡ facts.tag) c.tag.ensures in
+    let tag = known us id _ refl (rw c.in-Some.is at c.requires) (λ (facts : Facts). c.tag.result ≡ facts.tag)
+    c.tag.ensures in
     rw c.in-Some.is (c.eq.ensures ∙ ap is_array_tag tag ∙ sym (dimensions-role (entry_of (facts_in us) id)))

@@ -6,4 +6,5 @@ use Rattle.dw_types.proofs.ordering.clear_nodes.Given as goal
 
 abbrev pub invariant-loop-start : goal.invariant-loop-start
 invariant-loop-start g l =
-    IsKept (g.G.StepGraph.graph l.graph) l.walk × (l.walk.stack ≡ []) × ((node : ℕ) → node < l.start → mark_in l.walk.marks node ≢ Fresh)
+    IsKept (g.G.StepGraph.graph l.graph) l.walk × (l.walk.stack ≡ [])
+    × ((node : ℕ) → node < l.start → mark_in l.walk.marks node ≢ Fresh)

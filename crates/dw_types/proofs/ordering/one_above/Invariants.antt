@@ -6,4 +6,5 @@ use Rattle.dw_types.proofs.ordering.one_above.Given as goal
 abbrev pub invariant-loop-k : goal.invariant-loop-k
 invariant-loop-k g l =
     ((k : ℕ) → k < l.k → get_or l.counts (step_at (g.G.StepGraph.graph l.graph) l.node k) 0 < l.most)
-    × ((l.most ≡ 0) ⊎ ((k : ℕ) × (k < l.k) × (l.most ≡ get_or l.counts (step_at (g.G.StepGraph.graph l.graph) l.node k) 0 + 1)))
+    × ((l.most ≡ 0) ⊎ ((k : ℕ) × (k < l.k)
+    × (l.most ≡ get_or l.counts (step_at (g.G.StepGraph.graph l.graph) l.node k) 0 + 1)))

@@ -7,30 +7,35 @@ use Rattle.dw_types.proofs.ordering.walk_from.Goals as goal
 pub take_up-requires-clause-room : goal.take_up-requires-clause-room
 take_up-requires-clause-room g c =
     let kept = c.requires.kept in
-    let room = turns-room (g.G.StepGraph.graph c.args.graph.now) (counted c.args.walk.now kept.next) kept.walk.coherent in
+    let room = turns-room (g.G.StepGraph.graph c.args.graph.now) (counted c.args.walk.now kept.next) kept.walk.coherent
+    in
     omega arith
 
 pub loop-at-init : goal.loop-at-init
 loop-at-init g c =
-    let kept = first-kept (g.G.StepGraph.graph c.args.graph.now) c.args.walk.now c.args.start c.requires.kept c.requires.empty c.requires.start c.requires.fresh in
+    let kept = first-kept (g.G.StepGraph.graph c.args.graph.now) c.args.walk.now c.args.start c.requires.kept
+    c.requires.empty c.requires.start c.requires.fresh in
     rw (c.take_up.ensures.state, c.take_up.ensures.hand) (kept, (λ a fresh. fresh), refl)
 
 pub look_on-looked-requires-clause-node : goal.look_on-looked-requires-clause-node
 look_on-looked-requires-clause-node g c =
     let hand = c.in-Some.hand in
-    hand-in (g.G.StepGraph.graph c.args.graph.now) c.loop-at.walk hand.node hand.looked (rw c.in-Some.is at c.loop-at.invariant.0)
+    hand-in (g.G.StepGraph.graph c.args.graph.now) c.loop-at.walk hand.node hand.looked
+    (rw c.in-Some.is at c.loop-at.invariant.0)
 
 pub look_on-looked-requires-clause-from : goal.look_on-looked-requires-clause-from
 look_on-looked-requires-clause-from g c =
     let hand = c.in-Some.hand in
-    hand-within (g.G.StepGraph.graph c.args.graph.now) c.loop-at.walk hand.node hand.looked (rw c.in-Some.is at c.loop-at.invariant.0)
+    hand-within (g.G.StepGraph.graph c.args.graph.now) c.loop-at.walk hand.node hand.looked
+    (rw c.in-Some.is at c.loop-at.invariant.0)
 
 pub overflow_sub-looked : goal.overflow_sub-looked
 overflow_sub-looked g c =
     let graph = g.G.StepGraph.graph c.args.graph.now in
     let hand = c.in-Some.hand in
     let within = hand-within graph c.loop-at.walk hand.node hand.looked (rw c.in-Some.is at c.loop-at.invariant.0) in
-    looks-after graph c.loop-at.walk.marks hand.node hand.looked c.look_on-looked.result.0 c.look_on-looked.result.1 within c.look_on-looked.ensures
+    looks-after graph c.loop-at.walk.marks hand.node hand.looked c.look_on-looked.result.0 c.look_on-looked.result.1
+    within c.look_on-looked.ensures
 
 pub count-requires : goal.count-requires
 count-requires g c =
@@ -40,8 +45,10 @@ count-requires g c =
     let looked = c.look_on-looked.result.0 in
     let kept = rw c.in-Some.is at c.loop-at.invariant.0 in
     let small : looked < 2 ^ 64 = (let fits = c.look_on-looked.type_inv in omega arith) in
-    let after = looks-after graph it.marks hand.node hand.looked looked c.look_on-looked.result.1 (hand-within graph it hand.node hand.looked kept) c.look_on-looked.ensures in
-    let within = looks-within graph it.marks hand.node hand.looked looked c.look_on-looked.result.1 c.look_on-looked.ensures in
+    let after = looks-after graph it.marks hand.node hand.looked looked c.look_on-looked.result.1
+    (hand-within graph it hand.node hand.looked kept) c.look_on-looked.ensures in
+    let within = looks-within graph it.marks hand.node hand.looked looked c.look_on-looked.result.1
+    c.look_on-looked.ensures in
     let room = turns-room graph _ (on-coherent graph it hand.node hand.looked kept looked after within small) in
     omega arith
 
@@ -61,8 +68,10 @@ take_up-requires-in-Fresh-clause-room g c =
     let looked = c.look_on-looked.result.0 in
     let kept = rw c.in-Some.is at c.loop-at.invariant.0 in
     let small : looked < 2 ^ 64 = (let fits = c.look_on-looked.type_inv in omega arith) in
-    let after = looks-after graph it.marks hand.node hand.looked looked c.look_on-looked.result.1 (hand-within graph it hand.node hand.looked kept) c.look_on-looked.ensures in
-    let within = looks-within graph it.marks hand.node hand.looked looked c.look_on-looked.result.1 c.look_on-looked.ensures in
+    let after = looks-after graph it.marks hand.node hand.looked looked c.look_on-looked.result.1
+    (hand-within graph it hand.node hand.looked kept) c.look_on-looked.ensures in
+    let within = looks-within graph it.marks hand.node hand.looked looked c.look_on-looked.result.1
+    c.look_on-looked.ensures in
     let room = turns-room graph _ (on-coherent graph it hand.node hand.looked kept looked after within small) in
     rw (c.in_ok-push-in-Some-other.ensures, c.count.ensures) (omega arith)
 
@@ -74,10 +83,13 @@ returns-in_default-mark g c =
     let looked = c.look_on-looked.result.0 in
     let small : looked < 2 ^ 64 = (let fits = c.look_on-looked.type_inv in omega arith) in
     let looks = rw c.in-Some-other.is at c.look_on-looked.ensures in
-    let same : c.push.new.self ≡ with_hand (turned it (looked - hand.looked)) hand.node looked = c.in_ok-push-in-Some-other.ensures ∙ ap (λ (kept : Kept). with_hand kept hand.node looked) c.count.ensures in
+    let same : c.push.new.self ≡ with_hand (turned it (looked - hand.looked)) hand.node looked =
+    c.in_ok-push-in-Some-other.ensures ∙ ap (λ (kept : Kept). with_hand kept hand.node looked) c.count.ensures in
     let mark : c.mark.result ≡ mark_in it.marks c.in-Some-other.to = rw same at c.mark.ensures in
     rw same record {
-      comes = goes-open graph it hand looked small (rw c.in-Some.is at c.loop-at.invariant.0) c.in-Some-other.to looks (λ fresh. c.in_default-mark.not-Fresh (mark ∙ fresh));
+      comes =
+          goes-open graph it hand looked small (rw c.in-Some.is at c.loop-at.invariant.0) c.in-Some-other.to looks
+          (λ fresh. c.in_default-mark.not-Fresh (mark ∙ fresh));
       taken = c.loop-at.invariant.1;
       gave_up = c.loop-at.invariant.2;
     }
@@ -90,9 +102,11 @@ loop-at-preserved-in_ok-rank-in-None g c =
     let looked = c.look_on-looked.result.0 in
     let small : looked < 2 ^ 64 = (let fits = c.look_on-looked.type_inv in omega arith) in
     let looks = rw c.in-None.is at c.look_on-looked.ensures in
-    let same : c.rank.new.self ≡ ranked (turned it (looked - hand.looked)) hand.node = c.in_ok-rank-in-None.ensures ∙ ap (λ (kept : Kept). ranked kept hand.node) c.count.ensures in
+    let same : c.rank.new.self ≡ ranked (turned it (looked - hand.looked)) hand.node = c.in_ok-rank-in-None.ensures
+    ∙ ap (λ (kept : Kept). ranked kept hand.node) c.count.ensures in
     let popped = rw same at c.pop-at.ensures in
-    let on = goes-ranked graph it hand looked small (rw c.in-Some.is at c.loop-at.invariant.0) c.pop-at.new.self c.pop-at.result looks popped in
+    let on = goes-ranked graph it hand looked small (rw c.in-Some.is at c.loop-at.invariant.0) c.pop-at.new.self
+    c.pop-at.result looks popped in
     (on.kept, (λ a fresh. c.loop-at.invariant.1 a (on.taken a fresh)), on.gave_up ∙ c.loop-at.invariant.2)
 
 pub loop-at-smaller : goal.loop-at-smaller
@@ -103,9 +117,11 @@ loop-at-smaller g c =
     let looked = c.look_on-looked.result.0 in
     let small : looked < 2 ^ 64 = (let fits = c.look_on-looked.type_inv in omega arith) in
     let looks = rw c.in-Some-other.is at c.look_on-looked.ensures in
-    let same : c.push.new.self ≡ with_hand (turned it (looked - hand.looked)) hand.node looked = c.in_ok-push-in-Some-other.ensures ∙ ap (λ (kept : Kept). with_hand kept hand.node looked) c.count.ensures in
+    let same : c.push.new.self ≡ with_hand (turned it (looked - hand.looked)) hand.node looked =
+    c.in_ok-push-in-Some-other.ensures ∙ ap (λ (kept : Kept). with_hand kept hand.node looked) c.count.ensures in
     let mark : c.mark.result ≡ mark_in it.marks c.in-Some-other.to = rw same at c.mark.ensures in
-    let on = goes-fresh graph it hand looked small (rw c.in-Some.is at c.loop-at.invariant.0) c.in-Some-other.to looks (g.met.G.StepGraph.leads_to_nodes c.args.graph.now) (sym mark ∙ c.in-Fresh.is) in
+    let on = goes-fresh graph it hand looked small (rw c.in-Some.is at c.loop-at.invariant.0) c.in-Some-other.to looks
+    (g.met.G.StepGraph.leads_to_nodes c.args.graph.now) (sym mark ∙ c.in-Fresh.is) in
     rw (c.in-Some.is, c.take_up-in-Fresh.ensures.state, same) on.less
 
 pub loop-at-preserved : goal.loop-at-preserved
@@ -116,7 +132,10 @@ loop-at-preserved g c =
     let looked = c.look_on-looked.result.0 in
     let small : looked < 2 ^ 64 = (let fits = c.look_on-looked.type_inv in omega arith) in
     let looks = rw c.in-Some-other.is at c.look_on-looked.ensures in
-    let same : c.push.new.self ≡ with_hand (turned it (looked - hand.looked)) hand.node looked = c.in_ok-push-in-Some-other.ensures ∙ ap (λ (kept : Kept). with_hand kept hand.node looked) c.count.ensures in
+    let same : c.push.new.self ≡ with_hand (turned it (looked - hand.looked)) hand.node looked =
+    c.in_ok-push-in-Some-other.ensures ∙ ap (λ (kept : Kept). with_hand kept hand.node looked) c.count.ensures in
     let mark : c.mark.result ≡ mark_in it.marks c.in-Some-other.to = rw same at c.mark.ensures in
-    let on = goes-fresh graph it hand looked small (rw c.in-Some.is at c.loop-at.invariant.0) c.in-Some-other.to looks (g.met.G.StepGraph.leads_to_nodes c.args.graph.now) (sym mark ∙ c.in-Fresh.is) in
-    rw (c.take_up-in-Fresh.ensures.state, c.take_up-in-Fresh.ensures.hand, same) (on.kept, (λ a fresh. c.loop-at.invariant.1 a (on.taken a fresh)), c.loop-at.invariant.2)
+    let on = goes-fresh graph it hand looked small (rw c.in-Some.is at c.loop-at.invariant.0) c.in-Some-other.to looks
+    (g.met.G.StepGraph.leads_to_nodes c.args.graph.now) (sym mark ∙ c.in-Fresh.is) in
+    rw (c.take_up-in-Fresh.ensures.state, c.take_up-in-Fresh.ensures.hand, same)
+    (on.kept, (λ a fresh. c.loop-at.invariant.1 a (on.taken a fresh)), c.loop-at.invariant.2)

@@ -10,4 +10,5 @@ pub returns-then-not-is_type-clause-noted : goal.returns-then-not-is_type-clause
 returns-then-not-is_type-clause-noted c =
     let untyped = sym c.is_type.ensures ∙ c.if-not-is_type.true in
     λ seen old.
-    untyped-noted c.args.entries.now (size_at c.args.sizes.now) (λ k. seen k ≡ true) c.args.node c.args.least.now c.requires.untyped untyped old
+    untyped-noted c.args.entries.now (size_at c.args.sizes.now) (λ k. seen k ≡ true) c.args.node c.args.least.now
+    c.requires.untyped untyped old

@@ -10,8 +10,11 @@ abbrev pub invariant-loop-next : goal.invariant-loop-next
 invariant-loop-next l =
     HasPassed l.fn.entries l.node
     (λ visited.
-    (seen : ℕ → Bool) → IsNoted (fails_size l.fn.entries (size_at l.sizes)) (λ k. (seen k ≡ true) ⊎ (k ≡ l.node)) l.fn.least
-    → IsNoted (fails_size l.fn.entries (size_at l.sizes)) (Passed (λ k. (seen k ≡ true) ⊎ (k ≡ l.node)) (λ k. is_member_of l.fn.entries l.node k ≡ true) visited) l.least) l.next
+    (seen : ℕ → Bool) → IsNoted (fails_size l.fn.entries (size_at l.sizes)) (λ k. (seen k ≡ true) ⊎ (k ≡ l.node))
+    l.fn.least
+    → IsNoted (fails_size l.fn.entries (size_at l.sizes))
+    (Passed (λ k. (seen k ≡ true) ⊎ (k ≡ l.node)) (λ k. is_member_of l.fn.entries l.node k ≡ true) visited) l.least)
+    l.next
     × (l.entries ≡ l.fn.entries)
 
 abbrev pub decreases-loop-next : goal.decreases-loop-next

@@ -15,4 +15,5 @@ invariant-loop-rank l =
     × (l.facts ≡ all_facts l.fn.links)
     × HasFilled (by_value (all_facts l.fn.links)) l.order (capped_line (all_facts l.fn.links)) l.sizes l.rank
     × OnlyTypesAreSized (all_facts l.fn.links) (size_at l.sizes)
-    × IsNoted (fails_size (all_facts l.fn.links) (size_at l.sizes)) (λ k. seen_before (all_facts l.fn.links) l.order l.rank k ≡ true) l.least
+    × IsNoted (fails_size (all_facts l.fn.links) (size_at l.sizes))
+    (λ k. seen_before (all_facts l.fn.links) l.order l.rank k ≡ true) l.least

@@ -7,4 +7,6 @@ use Rattle.dw_units.specs.Alone.{Leaves}
 use Rattle.dw_units.proofs.alone.stays_inside.Given as goal
 
 abbrev pub invariant-loop-number : goal.invariant-loop-number
-invariant-loop-number l = (k : ℕ) (spec : AttributeSpec) → k < l.number → slice_get (map spec_of l.decls.lists.nodes.items) k ≡ Some spec → Passes Leaves spec
+invariant-loop-number l =
+    (k : ℕ) (spec : AttributeSpec) → k < l.number → slice_get (map spec_of l.decls.lists.nodes.items) k ≡ Some spec
+    → Passes Leaves spec

@@ -7,8 +7,10 @@ pub returns-in_err-entries-clause-fault : goal.returns-in_err-entries-clause-fau
 returns-in_err-entries-clause-fault c =
     let own = c.in-Ok.ensures in
     let p = err_from_is_err_and c.from_residual.result c.from_residual.ensures.1 in
-    rw (p.1, p.2) (trees_own c.args.sections.now c.in-Ok.own (shares_by c.args.sections.now c.in-Ok.own own.«abbrev» own.str own.line_str own.str_offsets own.addr)
-    c.args.part.now c.in_err-entries.field-0.0 (ap (λ (b : Bor (List ℕ)). b.now) own.info) c.in_err-entries.ensures.fault)
+    rw (p.1, p.2) (trees_own c.args.sections.now c.in-Ok.own
+    (shares_by c.args.sections.now c.in-Ok.own own.«abbrev» own.str own.line_str own.str_offsets own.addr)
+    c.args.part.now c.in_err-entries.field-0.0 (ap (λ (b : Bor (List ℕ)). b.now) own.info)
+    c.in_err-entries.ensures.fault)
 
 pub returns-in-Ok-verify_one-clause-found : goal.returns-in-Ok-verify_one-clause-found
 returns-in-Ok-verify_one-clause-found c =

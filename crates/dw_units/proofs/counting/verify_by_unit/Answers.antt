@@ -11,6 +11,7 @@ returns c =
 
 pub returns-in-Err-Fault : goal.returns-in-Err-Fault
 returns-in-Err-Fault c =
-    found_by_trees c.args.sections.now c.loop-rest.rest.now c.in-Some.size c.loop-rest.so_far c.loop-rest.invariant c.in-Err-Fault.fault
+    found_by_trees c.args.sections.now c.loop-rest.rest.now c.in-Some.size c.loop-rest.so_far c.loop-rest.invariant
+    c.in-Err-Fault.fault
     c.in-Some.ensures.whole (rw c.in-Err-Fault.field-0-is at c.in-Err-Fault.ensures.fault) c.found_at.result
     (rw c.in-Err-Fault.field-0-is at c.found_at.ensures)

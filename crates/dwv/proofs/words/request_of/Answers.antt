@@ -17,4 +17,5 @@ returns-in-Some-offset_of-clause-ok c =
 
 pub returns-in-None-clause-bad_offset : goal.returns-in-None-clause-bad_offset
 returns-in-None-clause-bad_offset c =
-    λ _. bad_offset c.args.name.now c.args.matches.now c.in-Some.text.now c.in-size.is c.in-Some.ensures c.in-None.ensures
+    λ _. bad_offset c.args.name.now c.args.matches.now c.in-Some.text.now c.in-size.is c.in-Some.ensures
+    c.in-None.ensures

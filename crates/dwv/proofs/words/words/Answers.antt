@@ -6,43 +6,57 @@ use Rattle.dwv.proofs.words.words.Goals as goal
 
 pub returns-in-Err-clause-bad_usage : goal.returns-in-Err-clause-bad_usage
 returns-in-Err-clause-bad_usage c =
-    λ is request file are. not_taken c.in_ok-forms.field-0 (map string_bytes c.args.words.now) c.in-Err.error c.in_ok-forms.ensures
+    λ is request file are. not_taken c.in_ok-forms.field-0 (map string_bytes c.args.words.now) c.in-Err.error
+    c.in_ok-forms.ensures
     c.in-Err.ensures.kinds (c.refusal.ensures.usage (error_is is)) request file are
 
 pub returns-in_default-clause-bad_usage : goal.returns-in_default-clause-bad_usage
 returns-in_default-clause-bad_usage c =
-    λ _ request file are. no_command c.in_ok-forms.field-0 (map string_bytes c.args.words.now) c.in-Ok.matches c.in_ok-forms.ensures
+    λ _ request file are. no_command c.in_ok-forms.field-0 (map string_bytes c.args.words.now) c.in-Ok.matches
+    c.in_ok-forms.ensures
     c.in-Ok.ensures.matches c.in_default.ensures.variant request file are
 
 pub returns-in_default-get_str-clause-bad_usage : goal.returns-in_default-get_str-clause-bad_usage
 returns-in_default-get_str-clause-bad_usage c =
     let ws = map string_bytes c.args.words.now in
     let rows = rows_of (found_of c.in-Some.of_name.now) in
-    let have = found_command c.in_ok-forms.field-0 ws c.in-Ok.matches c.in-Some.name.now rows c.in_ok-forms.ensures c.in-Ok.ensures.kinds
+    let have = found_command c.in_ok-forms.field-0 ws c.in-Ok.matches c.in-Some.name.now rows c.in_ok-forms.ensures
+    c.in-Ok.ensures.kinds
     c.in-Ok.ensures.matches c.in-Some.ensures.name c.in-Some.ensures.rows in
-    λ _ request file are. no_file ws c.in-Some.name.now c.in-Some.of_name.now have c.in_default-get_str.ensures request file are
+    λ _ request file are. no_file ws c.in-Some.name.now c.in-Some.of_name.now have c.in_default-get_str.ensures request
+    file are
 
 pub returns-in-Err-request_of-clause-bad_usage : goal.returns-in-Err-request_of-clause-bad_usage
 returns-in-Err-request_of-clause-bad_usage c =
     let ws = map string_bytes c.args.words.now in
     let rows = rows_of (found_of c.in-Some.of_name.now) in
-    let have = found_command c.in_ok-forms.field-0 ws c.in-Ok.matches c.in-Some.name.now rows c.in_ok-forms.ensures c.in-Ok.ensures.kinds
+    let have = found_command c.in_ok-forms.field-0 ws c.in-Ok.matches c.in-Some.name.now rows c.in_ok-forms.ensures
+    c.in-Ok.ensures.kinds
     c.in-Ok.ensures.matches c.in-Some.ensures.name c.in-Some.ensures.rows in
-    λ is request file are. c.in-Err-request_of.ensures.bad_usage (same_error is) request (one_command ws c.in-Some.name.now rows have request file are).0
+    λ is request file are. c.in-Err-request_of.ensures.bad_usage (same_error is) request
+    (one_command ws c.in-Some.name.now rows have request file are).0
 
 pub returns-in-Err-request_of-clause-bad_offset : goal.returns-in-Err-request_of-clause-bad_offset
 returns-in-Err-request_of-clause-bad_offset c =
     let ws = map string_bytes c.args.words.now in
     let rows = rows_of (found_of c.in-Some.of_name.now) in
-    let have = found_command c.in_ok-forms.field-0 ws c.in-Ok.matches c.in-Some.name.now rows c.in_ok-forms.ensures c.in-Ok.ensures.kinds
+    let have = found_command c.in_ok-forms.field-0 ws c.in-Ok.matches c.in-Some.name.now rows c.in_ok-forms.ensures
+    c.in-Ok.ensures.kinds
     c.in-Ok.ensures.matches c.in-Some.ensures.name c.in-Some.ensures.rows in
-    λ is. record { name = c.in-Some.name.now; rows = rows; have = have; offset = c.in-Err-request_of.ensures.bad_offset (same_error is) }
+    λ is. record {
+      name = c.in-Some.name.now;
+      rows = rows;
+      have = have;
+      offset = c.in-Err-request_of.ensures.bad_offset (same_error is);
+    }
 
 pub returns-clause-ok : goal.returns-clause-ok
 returns-clause-ok c =
     let ws = map string_bytes c.args.words.now in
     let rows = rows_of (found_of c.in-Some.of_name.now) in
-    let have = found_command c.in_ok-forms.field-0 ws c.in-Ok.matches c.in-Some.name.now rows c.in_ok-forms.ensures c.in-Ok.ensures.kinds
+    let have = found_command c.in_ok-forms.field-0 ws c.in-Ok.matches c.in-Some.name.now rows c.in_ok-forms.ensures
+    c.in-Ok.ensures.kinds
     c.in-Ok.ensures.matches c.in-Some.ensures.name c.in-Some.ensures.rows in
     are_request ws c.in-Some.name.now c.in-Some.of_name.now c.in-Ok-request_of.request c.in-Some-get_str.file.now
-    (string_bytes c.in_ok-from_str.field-0) have c.in-Some-get_str.ensures c.in-Ok-request_of.ensures.ok c.in_ok-from_str.ensures.ok
+    (string_bytes c.in_ok-from_str.field-0) have c.in-Some-get_str.ensures c.in-Ok-request_of.ensures.ok
+    c.in_ok-from_str.ensures.ok

@@ -3,9 +3,11 @@ use Rattle.dw_cprint.proofs.source.StringTable.new.Goals as goal
 
 pub span_of-span-requires-clause-next : goal.span_of-span-requires-clause-next
 span_of-span-requires-clause-next c =
-    span-before c.args.section.now c.split_at.result.1.now c.loop-k.k c.loop-k.spans.items c.loop-k.span c.loop-k.invariant c.loop-k-test.true c.split_at.ensures.back
+    span-before c.args.section.now c.split_at.result.1.now c.loop-k.k c.loop-k.spans.items c.loop-k.span
+    c.loop-k.invariant c.loop-k-test.true c.split_at.ensures.back
 
 pub loop-k-preserved : goal.loop-k-preserved
 loop-k-preserved c =
-    spans-more c.args.section.now c.split_at.result.1.now c.loop-k.k c.loop-k.spans.items c.push-in-loop-k.new.self.items c.loop-k.span c.span_of-span.result c.loop-k.invariant
+    spans-more c.args.section.now c.split_at.result.1.now c.loop-k.k c.loop-k.spans.items
+    c.push-in-loop-k.new.self.items c.loop-k.span c.span_of-span.result c.loop-k.invariant
     c.split_at.ensures.back c.span_of-span.ensures c.in_ok-push-2.ensures.items

@@ -22,7 +22,8 @@ put_after-returns-in_ok-put_counts-in-Array t c =
     let seen = c.in-Some-shape_within in
     let step = step-at _ _ _ _ _ _ _ c.in-Some.is seen.ensures.found (ap view_shape c.in-Array.is) in
     ok_then _ _ _
-    (array_after (term_at seen.below (kept c.args.self.now)) _ _ _ _ _ c.in-Array.field-1 c.in-Array.element step (as_tokens _ _ _ _ (ap (flat_map count_tokens) c.deref.ensures.value) c.in_ok-put_counts-in-Array.ensures))
+    (array_after (term_at seen.below (kept c.args.self.now)) _ _ _ _ _ c.in-Array.field-1 c.in-Array.element step
+    (as_tokens _ _ _ _ (ap (flat_map count_tokens) c.deref.ensures.value) c.in_ok-put_counts-in-Array.ensures))
     c.put_after-in-Array.ensures
 
 pub put_after-returns-in_ok-put-in-Function-default-Some-2 : goal.put_after-returns-in_ok-put-in-Function-default-Some-2
@@ -31,24 +32,31 @@ put_after-returns-in_ok-put-in-Function-default-Some-2 t c =
     let f = c.in-Function-default-Some in
     let is : view_shape seen.shape.now ≡ function f.returned (Some f.parameters.items) = search rules in
     let same : c.deref-in-Function-default-Some.result.now ≡ f.parameters.items = search rules in
-    let P : List Parameter → Type 0 = λ us. WritesParameters c.args.self.now seen.below us c.put-in-Function-default-Some.new.self c.put_parameters.new.out in
+    let P : List Parameter → Type 0 = λ us. WritesParameters c.args.self.now seen.below us
+    c.put-in-Function-default-Some.new.self c.put_parameters.new.out in
     ok_then _ _ _
-    (prototype_after (term_at seen.below (kept c.args.self.now)) _ _ _ _ _ _ f.returned f.parameters.items (step-at _ _ _ _ _ _ _ c.in-Some.is seen.ensures.found is) c.in_ok-put-in-Function-default-Some.ensures
-    (subst P same c.in_ok-put_parameters-in-Function-default-Some.ensures) c.in_ok-put-in-Function-default-Some-2.ensures)
+    (prototype_after (term_at seen.below (kept c.args.self.now)) _ _ _ _ _ _ f.returned f.parameters.items
+    (step-at _ _ _ _ _ _ _ c.in-Some.is seen.ensures.found is) c.in_ok-put-in-Function-default-Some.ensures
+    (subst P same c.in_ok-put_parameters-in-Function-default-Some.ensures)
+    c.in_ok-put-in-Function-default-Some-2.ensures)
     c.put_after-in-Function-default-Some.ensures
 
 pub put_after-returns-in_ok-put_closed-in-Pointer : goal.put_after-returns-in_ok-put_closed-in-Pointer
 put_after-returns-in_ok-put_closed-in-Pointer t c =
     let seen = c.in-Some-shape_within in
     let step = step-at _ _ _ _ _ _ _ c.in-Some.is seen.ensures.found (ap view_shape c.in-Pointer.is) in
-    ok_then _ _ _ (pointer_after (term_at seen.below (kept c.args.self.now)) _ _ _ _ c.in-Pointer.to step (c.in_ok-put_closed-in-Pointer.ensures seen.below)) c.put_after-in-Pointer.ensures
+    ok_then _ _ _ (pointer_after (term_at seen.below (kept c.args.self.now)) _ _ _ _ c.in-Pointer.to step
+    (c.in_ok-put_closed-in-Pointer.ensures seen.below)) c.put_after-in-Pointer.ensures
 
 pub put_before-returns-in_default : goal.put_before-returns-in_default
 put_before-returns-in_default t c =
     let row = as_tokens _ _ _ _ (ap qualifying c.deref.ensures.value) c.in_ok-put_qualifiers.ensures in
-    let P : Term → Type 0 = λ u. Writes (before c.args.qualifiers.items u c.args.inside) c.args.out.now c.put_gap.new.out in
+    let P : Term → Type 0 = λ u. Writes (before c.args.qualifiers.items u c.args.inside) c.args.out.now
+    c.put_gap.new.out in
     ok_then _ (Writes (gap c.args.inside) c.put.new.self c.put_gap.new.out) _
-    (λ end u e. subst P (void-at (kept c.args.self.now) c.args.depth c.args.at u c.in_default.is e) (both (qualifying c.args.qualifiers.items) (VoidWord ∷ gap c.args.inside) _ _ _ row (both (VoidWord ∷ []) (gap c.args.inside) _ _ _ c.in_ok-put.ensures end)))
+    (λ end u e. subst P (void-at (kept c.args.self.now) c.args.depth c.args.at u c.in_default.is e)
+    (both (qualifying c.args.qualifiers.items) (VoidWord ∷ gap c.args.inside) _ _ _ row
+    (both (VoidWord ∷ []) (gap c.args.inside) _ _ _ c.in_ok-put.ensures end)))
     c.put_gap.ensures
 
 pub put_before-returns-in_ok-put-in-Pointer : goal.put_before-returns-in_ok-put-in-Pointer
@@ -56,11 +64,16 @@ put_before-returns-in_ok-put-in-Pointer t c =
     let s = c.args.self.now in
     let seen = c.in-Some-shape_within in
     let step = step-at _ _ _ _ _ _ _ c.in-Some.is seen.ensures.found (ap view_shape c.in-Pointer.is) in
-    let P : List Qualifier → Type 0 = λ us. WritesBefore s seen.below c.in-Pointer.to us true c.args.out.now c.put_before-in-Pointer.new.out in
-    let R : List Qualifier → Type 0 = λ us. Writes (pointer_row us c.args.inside) c.put-in-Pointer.new.self c.put_joined.new.out in
+    let P : List Qualifier → Type 0 = λ us. WritesBefore s seen.below c.in-Pointer.to us true c.args.out.now
+    c.put_before-in-Pointer.new.out in
+    let R : List Qualifier → Type 0 = λ us. Writes (pointer_row us c.args.inside) c.put-in-Pointer.new.self
+    c.put_joined.new.out in
     ok_then _ _ _
-    (λ row. pointer_before (term_at seen.below (kept s)) _ _ _ _ _ _ c.args.qualifiers.items c.args.inside c.in-Pointer.to step
-    (subst P c.new.ensures.items c.in_ok-put_before-in-Pointer.ensures) (c.in_ok-put_opened-in-Pointer.ensures seen.below) c.in_ok-put-in-Pointer.ensures (subst R c.deref-in-Pointer.ensures.value row))
+    (λ row. pointer_before (term_at seen.below (kept s)) _ _ _ _ _ _ c.args.qualifiers.items c.args.inside
+    c.in-Pointer.to step
+    (subst P c.new.ensures.items c.in_ok-put_before-in-Pointer.ensures)
+    (c.in_ok-put_opened-in-Pointer.ensures seen.below) c.in_ok-put-in-Pointer.ensures
+    (subst R c.deref-in-Pointer.ensures.value row))
     c.put_joined.ensures
 
 pub put_before-returns-in-Array : goal.put_before-returns-in-Array
@@ -69,33 +82,46 @@ put_before-returns-in-Array t c =
     let seen = c.in-Some-shape_within in
     let a = c.in-Array in
     let step = step-at _ _ _ _ _ _ _ c.in-Some.is seen.ensures.found (ap view_shape a.is) in
-    let P : List Qualifier → Type 0 = λ us. WritesBefore s seen.below a.element us true c.args.out.now c.put_before-in-Array.new.out in
-    ok_then _ _ _ (λ inner. array_before (term_at seen.below (kept s)) _ _ _ c.args.qualifiers.items c.args.inside a.field-0.items a.field-1 a.element step (subst P c.new-in-Array.ensures.items inner)) c.put_before-in-Array.ensures
+    let P : List Qualifier → Type 0 = λ us. WritesBefore s seen.below a.element us true c.args.out.now
+    c.put_before-in-Array.new.out in
+    ok_then _ _ _ (λ inner. array_before (term_at seen.below (kept s)) _ _ _ c.args.qualifiers.items c.args.inside
+    a.field-0.items a.field-1 a.element step (subst P c.new-in-Array.ensures.items inner))
+    c.put_before-in-Array.ensures
 
 pub put_before-returns-in_ok-put_core-in_default-shape : goal.put_before-returns-in_ok-put_core-in_default-shape
 put_before-returns-in_ok-put_core-in_default-shape t c =
     let seen = c.in-Some-shape_within in
     let d = c.in_default-shape in
     let step = step-at _ _ seen.below _ _ _ (view_shape seen.shape.now) c.in-Some.is seen.ensures.found refl in
-    let row = as_tokens _ _ _ _ (ap qualifying c.deref-in_default-shape.ensures.value) c.in_ok-put_qualifiers-in_default-shape.ensures in
+    let row = as_tokens _ _ _ _ (ap qualifying c.deref-in_default-shape.ensures.value)
+    c.in_ok-put_qualifiers-in_default-shape.ensures in
     ok_then _ _ _
-    (specifier_before (term_at seen.below (kept c.args.self.now)) _ _ _ _ _ c.args.qualifiers.items c.args.inside (view_shape seen.shape.now) (specifier-shape seen.shape.now d.not-Qualified d.not-Pointer d.not-Array d.not-Function) step row c.in_ok-put_core-in_default-shape.ensures)
+    (specifier_before (term_at seen.below (kept c.args.self.now)) _ _ _ _ _ c.args.qualifiers.items c.args.inside
+    (view_shape seen.shape.now) (specifier-shape seen.shape.now d.not-Qualified d.not-Pointer d.not-Array
+    d.not-Function) step row c.in_ok-put_core-in_default-shape.ensures)
     c.put_gap-in_default-shape.ensures
 
 pub put_core-returns-in-Base : goal.put_core-returns-in-Base
 put_core-returns-in-Base t c =
-    let P : ShapeOf → Type 0 = λ shape. WritesCore c.args.self.now c.args.depth shape c.args.out.now c.put_name.new.out in
-    ok_then _ _ _ (λ word. subst P (sym (ap view_shape c.in-Base.is)) (base_core (term_at c.args.depth (kept c.args.self.now)) _ _ (view_name c.in-Base.name) word)) c.put_name.ensures
+    let P : ShapeOf → Type 0 = λ shape. WritesCore c.args.self.now c.args.depth shape c.args.out.now c.put_name.new.out
+    in
+    ok_then _ _ _ (λ word. subst P (sym (ap view_shape c.in-Base.is))
+    (base_core (term_at c.args.depth (kept c.args.self.now)) _ _ (view_name c.in-Base.name) word))
+    c.put_name.ensures
 
 pub put_core-returns-in_ok-put-in-Body-2 : goal.put_core-returns-in_ok-put-in-Body-2
 put_core-returns-in_ok-put-in-Body-2 t c =
     let s = c.args.self.now in
     let b = c.in-Body in
-    let tag = c.in_ok-put-in-Body.ensures ∙ ap (appended c.args.out.now) (c.text.ensures ∙ sym (append-nil (spelling (TagWord b.tag)))) in
+    let tag = c.in_ok-put-in-Body.ensures
+    ∙ ap (appended c.args.out.now) (c.text.ensures ∙ sym (append-nil (spelling (TagWord b.tag)))) in
     let P : ShapeOf → Type 0 = λ shape. WritesCore s c.args.depth shape c.args.out.now c.put_members.new.out in
-    let Q : List MemberOf → Type 0 = λ us. WritesMembers s c.args.depth us c.put-in-Body.new.self c.put_members.new.out in
+    let Q : List MemberOf → Type 0 = λ us. WritesMembers s c.args.depth us c.put-in-Body.new.self c.put_members.new.out
+    in
     ok_then _ _ _
-    (λ inner. subst P (sym (ap view_shape b.is)) (body_core (term_at c.args.depth (kept s)) _ _ _ _ b.tag b.field-1 (map view_member b.members.items) tag c.in_ok-put-in-Body-2.ensures (subst Q (ap (map view_member) c.deref.ensures.value) inner)))
+    (λ inner. subst P (sym (ap view_shape b.is))
+    (body_core (term_at c.args.depth (kept s)) _ _ _ _ b.tag b.field-1 (map view_member b.members.items) tag
+    c.in_ok-put-in-Body-2.ensures (subst Q (ap (map view_member) c.deref.ensures.value) inner)))
     c.put_members.ensures
 
 pub put_core-returns-in_ok-put-in-Enumeration : goal.put_core-returns-in_ok-put-in-Enumeration
@@ -103,10 +129,13 @@ put_core-returns-in_ok-put-in-Enumeration t c = grind (arith, common_steps, ok_t
 
 pub put_named-returns : goal.put_named-returns
 put_named-returns t c =
-    let P : List Qualifier → Bool → Type 0 = λ us b. WritesBefore c.args.self.now c.args.depth c.args.at us b c.args.out.now c.put_before.new.out in
+    let P : List Qualifier → Bool → Type 0 = λ us b. WritesBefore c.args.self.now c.args.depth c.args.at us b
+    c.args.out.now c.put_before.new.out in
     let some = c.is_some.ensures ∙ some-mapped (λ (text : Text). text.bytes.now) c.args.name in
-    let front = subst (P []) some (subst (λ (us : List Qualifier). P us c.is_some.result) c.new.ensures.items c.in_ok-put_before.ensures) in
-    ok_then _ _ _ (named_written (term_at c.args.depth (kept c.args.self.now)) c.args.at (view_name c.args.name) _ _ _ _ front c.in_ok-put_name.ensures) c.put_after.ensures
+    let front = subst (P []) some (subst (λ (us : List Qualifier). P us c.is_some.result) c.new.ensures.items
+    c.in_ok-put_before.ensures) in
+    ok_then _ _ _ (named_written (term_at c.args.depth (kept c.args.self.now)) c.args.at (view_name c.args.name) _ _ _ _
+    front c.in_ok-put_name.ensures) c.put_after.ensures
 
 pub put_members-loop-member-preserved : goal.put_members-loop-member-preserved
 put_members-loop-member-preserved t c = search (rules, members_left, members_next, next-of)
@@ -115,15 +144,18 @@ pub put_parameters-loop-parameter-preserved : goal.put_parameters-loop-parameter
 put_parameters-loop-parameter-preserved t c =
     let others = c.in-Some.others.now in
     let i = c.loop-parameter.parameter-index in
-    let P : List Parameter → Type 0 = λ left. IsLeft (parameters_left (term_at c.args.depth (kept c.args.self.now))) others c.put_parameter.new.out left c.loop-parameter.out in
+    let P : List Parameter → Type 0 = λ left. IsLeft (parameters_left (term_at c.args.depth (kept c.args.self.now)))
+    others c.put_parameter.new.out left c.loop-parameter.out in
     parameters_next c.args.self.now c.args.depth _ (get_or others i (Typed None)) _ _ _ _ _
-    (subst P (drop_more others i (Typed None) c.loop-parameter-test.true) c.loop-parameter.invariant) c.in_ok-put.ensures c.in_ok-put_parameter-2.ensures
+    (subst P (drop_more others i (Typed None) c.loop-parameter-test.true) c.loop-parameter.invariant)
+    c.in_ok-put.ensures c.in_ok-put_parameter-2.ensures
 
 pub put_parameters-returns : goal.put_parameters-returns
 put_parameters-returns t c =
     let s = c.args.self.now in
     let others = c.in-Some.others.now in
-    let P : List Parameter → Type 0 = λ left. IsLeft (parameters_left (term_at c.args.depth (kept s))) others c.put_parameter.new.out left c.loop-parameter.out in
+    let P : List Parameter → Type 0 = λ left. IsLeft (parameters_left (term_at c.args.depth (kept s))) others
+    c.put_parameter.new.out left c.loop-parameter.out in
     let Q : List Parameter → Type 0 = λ ps. WritesParameters s c.args.depth ps c.args.out.now c.loop-parameter.out in
     subst Q (sym c.in-Some.ensures.cases.0)
     (parameters_done s c.args.depth c.in-Some.first.now others _ _ _ c.in_ok-put_parameter.ensures
@@ -133,12 +165,15 @@ pub put_members-returns-then-is_over : goal.put_members-returns-then-is_over
 put_members-returns-then-is_over t c = λ us e.
     let out = c.loop-member.out in
     let is = none-is out (sym c.is_over.ensures ∙ c.if-is_over.true) in
-    members_done (term_at c.args.depth (kept c.args.self.now)) _ _ _ out _ c.in_ok-put.ensures (left-over _ _ _ _ out refl is c.loop-member.invariant) (over-stays out out (text_of (RightBrace ∷ [])) is refl) us e
+    members_done (term_at c.args.depth (kept c.args.self.now)) _ _ _ out _ c.in_ok-put.ensures
+    (left-over _ _ _ _ out refl is c.loop-member.invariant) (over-stays out out (text_of (RightBrace ∷ [])) is refl)
+    us e
 
 pub put_members-returns : goal.put_members-returns
 put_members-returns t c = λ us e.
     let term = term_at c.args.depth (kept c.args.self.now) in
-    let P : List MemberOf → Type 0 = λ left. IsLeft (members_left term) (map view_member c.args.members.now) c.put.new.self left c.loop-member.out in
+    let P : List MemberOf → Type 0 = λ left. IsLeft (members_left term) (map view_member c.args.members.now)
+    c.put.new.self left c.loop-member.out in
     let none = ap (map view_member) (drop_all c.loop-member.member-index c.args.members.now c.loop-member-test.false) in
     members_done term _ _ _ _ _ c.in_ok-put.ensures (subst P none c.loop-member.invariant) c.in_ok-put-2.ensures us e
 
@@ -149,4 +184,5 @@ put_parameters-returns-then-is_over t c =
     let is = none-is out (sym c.is_over.ensures ∙ c.if-is_over.true) in
     let Q : List Parameter → Type 0 = λ ps. WritesParameters s c.args.depth ps c.args.out.now out in
     subst Q (sym c.in-Some.ensures.cases.0)
-    (parameters_done s c.args.depth c.in-Some.first.now c.in-Some.others.now _ _ _ c.in_ok-put_parameter.ensures (left-over _ _ _ _ out refl is c.loop-parameter.invariant))
+    (parameters_done s c.args.depth c.in-Some.first.now c.in-Some.others.now _ _ _ c.in_ok-put_parameter.ensures
+    (left-over _ _ _ _ out refl is c.loop-parameter.invariant))

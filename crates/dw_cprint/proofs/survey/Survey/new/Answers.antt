@@ -12,7 +12,17 @@ pub summarize-requires : goal.summarize-requires
 summarize-requires c = λ k d below.
     let r = c.in_ok-survey.ensures in
     let shapes = shape_in c.args.source.now.image.now in
-    omega (arith, c.in_ok-clear.ensures.within k below, get_or_default c.in_ok-clear.clear.by_rank k d 0 below, ap length r.are_shapes, r.reach.nodes, length-map c.in_ok-survey.survey.shapes.items view_shape, length-map r.found shapes)
+    omega (
+      arith,
+      c.in_ok-clear.ensures.within k below,
+      get_or_default c.in_ok-clear.clear.by_rank k d 0 below,
+      ap
+          length r.are_shapes,
+      r.reach.nodes,
+      length-map c.in_ok-survey.survey.shapes.items view_shape,
+      length-map r.found
+          shapes,
+    )
 
 pub returns : goal.returns
 returns c =
@@ -23,6 +33,8 @@ returns c =
     let done = c.in_ok-survey-2.ensures in
     let R : List ℕ → Type 0 = λ xs. HasReached shapes xs c.in_ok-survey.survey graph in
     let r = subst R (ap entries_of c.deref.ensures.value) c.in_ok-survey.ensures in
-    survey-done shapes roots c.in_ok-survey.survey.places.items r.found graph r.reach c.in_ok-survey-2.survey done.places c.in_ok-clear.clear.by_rank done.clear
+    survey-done shapes roots c.in_ok-survey.survey.places.items r.found graph r.reach c.in_ok-survey-2.survey
+    done.places c.in_ok-clear.clear.by_rank done.clear
     (ap (map view_shape) done.shapes ∙ r.are_shapes)
-    (done.right shapes r.found (nodes-of shapes roots c.in_ok-survey.survey.places.items r.found graph r.reach c.in_ok-survey.survey.shapes.items c.in_ok-clear.clear.by_rank r.are_shapes sorted)) sorted
+    (done.right shapes r.found (nodes-of shapes roots c.in_ok-survey.survey.places.items r.found graph r.reach
+    c.in_ok-survey.survey.shapes.items c.in_ok-clear.clear.by_rank r.are_shapes sorted)) sorted

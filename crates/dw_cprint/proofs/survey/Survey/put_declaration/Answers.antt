@@ -9,17 +9,21 @@ use Rattle.dw_cprint.proofs.survey.Survey.put_declaration.Goals as goal
 pub returns-in_ok-put_named-in-Typedef : goal.returns-in_ok-put_named-in-Typedef
 unfolding declaration_of
 returns-in_ok-put_named-in-Typedef c =
-    let P : SubjectOf → Type 0 = λ subject. WritesDeclaration c.args.self.now subject c.args.out.now c.put-in-Typedef.new.self in
+    let P : SubjectOf → Type 0 = λ subject. WritesDeclaration c.args.self.now subject c.args.out.now
+    c.put-in-Typedef.new.self in
     ok_then _ _ _
     (λ last. subst P (sym (ap view_subject c.in-Typedef.is))
-    (typedef_done (term_at 65 (kept c.args.self.now)) _ _ _ _ (view_name c.in-Typedef.name) c.in-Typedef.at c.in_ok-put-in-Typedef.ensures c.in_ok-put_named-in-Typedef.ensures last))
+    (typedef_done (term_at 65 (kept c.args.self.now)) _ _ _ _ (view_name c.in-Typedef.name) c.in-Typedef.at
+    c.in_ok-put-in-Typedef.ensures c.in_ok-put_named-in-Typedef.ensures last))
     c.put-in-Typedef.ensures
 
 pub returns-in_ok-put_named-in-Variable : goal.returns-in_ok-put_named-in-Variable
 unfolding declaration_of
 returns-in_ok-put_named-in-Variable c =
-    let P : SubjectOf → Type 0 = λ subject. WritesDeclaration c.args.self.now subject c.args.out.now c.put-in-Variable.new.self in
+    let P : SubjectOf → Type 0 = λ subject. WritesDeclaration c.args.self.now subject c.args.out.now
+    c.put-in-Variable.new.self in
     ok_then _ _ _
     (λ last. subst P (sym (ap view_subject c.in-Variable.is))
-    (variable_done (term_at 65 (kept c.args.self.now)) _ _ c.put_named-in-Variable.new.out _ (view_name c.in-Variable.name) c.in-Variable.at c.in_ok-put_named-in-Variable.ensures last))
+    (variable_done (term_at 65 (kept c.args.self.now)) _ _ c.put_named-in-Variable.new.out _
+    (view_name c.in-Variable.name) c.in-Variable.at c.in_ok-put_named-in-Variable.ensures last))
     c.put-in-Variable.ensures

@@ -9,18 +9,24 @@ use Rattle.dw_cprint.proofs.survey.Survey.refusal.Goals as goal
 
 pub returns-in-Some-clause-judged : goal.returns-in-Some-clause-judged
 returns-in-Some-clause-judged c = λ shapes roots survey among.
-    subst (IsRefusalBelow 6 shapes (view_subject c.args.subject.now)) c.in-Some.is (c.in_ok-fault.ensures shapes roots survey among)
+    subst (IsRefusalBelow 6 shapes (view_subject c.args.subject.now)) c.in-Some.is
+    (c.in_ok-fault.ensures shapes roots survey among)
 
 pub returns-then-length_declared-gt-LIMIT-clause-judged : goal.returns-then-length_declared-gt-LIMIT-clause-judged
 returns-then-length_declared-gt-LIMIT-clause-judged c = λ shapes roots survey among.
     let x = view_subject c.args.subject.now in
     let none = subst (IsRefusalBelow 6 shapes x) c.in_default.is (c.in_ok-fault.ensures shapes roots survey among) in
-    let known = types-known shapes roots c.args.self.now survey (types_declared x) among (λ r. none NotPrintable (omega arith) (cycle r.0 r.1 r.2)) in
-    too-long shapes x c.args.self.now c.length_declared.result known c.length_declared.ensures c.if-length_declared-gt-LIMIT.true none
+    let known = types-known shapes roots c.args.self.now survey (types_declared x) among
+    (λ r. none NotPrintable (omega arith) (cycle r.0 r.1 r.2)) in
+    too-long shapes x c.args.self.now c.length_declared.result known c.length_declared.ensures
+    c.if-length_declared-gt-LIMIT.true none
 
 pub returns-clause-judged : goal.returns-clause-judged
 returns-clause-judged c = λ shapes roots survey among.
     let x = view_subject c.args.subject.now in
     let none = subst (IsRefusalBelow 6 shapes x) c.in_default.is (c.in_ok-fault.ensures shapes roots survey among) in
-    let known = types-known shapes roots c.args.self.now survey (types_declared x) among (λ r. none NotPrintable (omega arith) (cycle r.0 r.1 r.2)) in
-    not-too-long shapes x roots c.args.self.now c.length_declared.result c.clear.new.self c.put_declaration.new.out survey among known c.length_declared.ensures c.if-length_declared-gt-LIMIT.false none c.clear.ensures c.in_ok-put_declaration.ensures
+    let known = types-known shapes roots c.args.self.now survey (types_declared x) among
+    (λ r. none NotPrintable (omega arith) (cycle r.0 r.1 r.2)) in
+    not-too-long shapes x roots c.args.self.now c.length_declared.result c.clear.new.self c.put_declaration.new.out
+    survey among known c.length_declared.ensures c.if-length_declared-gt-LIMIT.false none c.clear.ensures
+    c.in_ok-put_declaration.ensures

@@ -13,11 +13,15 @@ apart t f = (let e : true ≡ false = sym t ∙ f in absurd (cc))
 
 pub returns-then-is_other_kind : goal.returns-then-is_other_kind
 returns-then-is_other_kind c = λ shapes roots survey among.
-    record { holds = other_kind (sym c.is_other_kind.ensures ∙ c.if-is_other_kind.true); least = none-first shapes (view_subject c.args.subject.now) }
+    record {
+      holds = other_kind (sym c.is_other_kind.ensures ∙ c.if-is_other_kind.true);
+      least = none-first shapes (view_subject c.args.subject.now);
+    }
 
 pub returns-then-reaches_cycle : goal.returns-then-reaches_cycle
 returns-then-reaches_cycle c = λ shapes roots survey among.
-    let told = cycle-told shapes roots c.args.self.now survey (types_declared (view_subject c.args.subject.now)) among in
+    let told = cycle-told shapes roots c.args.self.now survey (types_declared (view_subject c.args.subject.now)) among
+    in
     let same : c.deref.result.now ≡ types_declared (view_subject c.args.subject.now) = search rules in
     let (entry, r, round) = told.0 (sym (rw same at c.reaches_cycle.ensures) ∙ c.if-reaches_cycle.true) in
     record { holds = cycle entry r round; least = none-first shapes (view_subject c.args.subject.now) }
@@ -27,7 +31,10 @@ returns c = λ shapes roots survey among.
     let x = view_subject c.args.subject.now in
     let s = c.args.self.now in
     let same : c.deref-2.result.now ≡ types_declared x = search rules in
-    let none = ap (list_any (lacks_summary s)) (sym same ∙ (c.deref-2.ensures.value ∙ sym c.deref.ensures.value)) ∙ sym c.reaches_cycle.ensures ∙ c.if-reaches_cycle.false in
-    let clear : ReachACycle shapes (first_steps x) → ⊥ = λ r. apart ((cycle-told shapes roots s survey (types_declared x) among).1 r) none in
-    c.refusal.ensures shapes x (printable shapes x (λ e. apart e (sym c.is_other_kind.ensures ∙ c.if-is_other_kind.false)) clear)
+    let none = ap (list_any (lacks_summary s)) (sym same ∙ (c.deref-2.ensures.value ∙ sym c.deref.ensures.value))
+    ∙ sym c.reaches_cycle.ensures ∙ c.if-reaches_cycle.false in
+    let clear : ReachACycle shapes (first_steps x)
+    → ⊥ = λ r. apart ((cycle-told shapes roots s survey (types_declared x) among).1 r) none in
+    c.refusal.ensures shapes x (printable shapes x
+    (λ e. apart e (sym c.is_other_kind.ensures ∙ c.if-is_other_kind.false)) clear)
     ((rw same at c.findings_declared.ensures) shapes (types-known shapes roots s survey (types_declared x) among clear))

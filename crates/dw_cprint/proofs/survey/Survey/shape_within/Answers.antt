@@ -7,4 +7,5 @@ pub returns-clause-found : goal.returns-clause-found
 returns-clause-found c =
     let shapes = kept c.args.self.now in
     let more : suc c.in_ok-below.below ≡ c.args.depth = omega (arith, c.in_ok-below.ensures) in
-    ap (λ (k : ℕ). term_at k shapes (Some c.args.entry)) (sym more) ∙ ap (term_by (term_at c.in_ok-below.below shapes)) (sym c.in_ok-shape.ensures)
+    ap (λ (k : ℕ). term_at k shapes (Some c.args.entry)) (sym more)
+    ∙ ap (term_by (term_at c.in_ok-below.below shapes)) (sym c.in_ok-shape.ensures)

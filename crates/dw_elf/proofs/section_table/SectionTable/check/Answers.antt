@@ -40,7 +40,13 @@ returns-in_default-range-clause-fails c =
 pub returns-then-bytes-gt-SECTION_LIMIT-clause-fails : goal.returns-then-bytes-gt-SECTION_LIMIT-clause-fails
 returns-then-bytes-gt-SECTION_LIMIT-clause-fails c =
     let none = none_below _ c.args.k c.args.found.now _ _ c.index.ensures.index c.requires.so_far (search rules) in
-    record { check = TooLarge; rule_is = refl; section_is = refl; fails = grind (arith, common_steps); before = search rules }
+    record {
+      check = TooLarge;
+      rule_is = refl;
+      section_is = refl;
+      fails = grind (arith, common_steps);
+      before = search rules;
+    }
 
 pub returns-clause-passes : goal.returns-clause-passes
 returns-clause-passes c =
@@ -51,5 +57,6 @@ returns-clause-passes c =
 pub returns-clause-found : goal.returns-clause-found
 unfolding section_bytes
 returns-clause-found c =
-    slots_after_put _ c.args.k c.args.found.now _ _ _ c.index-2.ensures.index (search rules) c.requires.so_far c.requires.header.0 (search rules)
+    slots_after_put _ c.args.k c.args.found.now _ _ _ c.index-2.ensures.index (search rules) c.requires.so_far
+    c.requires.header.0 (search rules)
     (search rules) (search rules) (grind (arith, common_steps))

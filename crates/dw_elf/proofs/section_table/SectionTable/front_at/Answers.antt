@@ -5,7 +5,8 @@ use Rattle.dw_elf.proofs.NameLemmas.{cut_stands, whole_stands, has_text}
 use Rattle.dw_elf.proofs.section_table.SectionTable.front_at.Goals as goal
 
 pub returns-in-Some-clause-front : goal.returns-in-Some-clause-front
-returns-in-Some-clause-front c = cut_stands _ _ _ _ (grind (arith, common_steps, take_min)) c.in-Some.ensures.0 c.in-Some.ensures.1
+returns-in-Some-clause-front c =
+    cut_stands _ _ _ _ (grind (arith, common_steps, take_min)) c.in-Some.ensures.0 c.in-Some.ensures.1
 
 pub returns-in-None-clause-front : goal.returns-in-None-clause-front
 returns-in-None-clause-front c = whole_stands _ _ _ (grind (arith, common_steps, take_min)) c.in-None.ensures

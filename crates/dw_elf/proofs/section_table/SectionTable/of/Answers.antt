@@ -9,8 +9,20 @@ returns-then-not-is_elf64-clause-fails c =
 
 pub returns-then-not-is_linked-clause-fails : goal.returns-then-not-is_linked-clause-fails
 returns-then-not-is_linked-clause-fails c =
-    record { check = NotLinked; rule_is = refl; section_is = refl; fails = search rules; before = grind (arith, common_steps) }
+    record {
+      check = NotLinked;
+      rule_is = refl;
+      section_is = refl;
+      fails = search rules;
+      before = grind (arith, common_steps);
+    }
 
 pub returns-in_default-clause-fails : goal.returns-in_default-clause-fails
 returns-in_default-clause-fails c =
-    record { check = SectionTable; rule_is = refl; section_is = refl; fails = search rules; before = grind (arith, common_steps) }
+    record {
+      check = SectionTable;
+      rule_is = refl;
+      section_is = refl;
+      fails = search rules;
+      before = grind (arith, common_steps);
+    }

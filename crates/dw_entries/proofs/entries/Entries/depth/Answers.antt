@@ -5,7 +5,9 @@ use Rattle.dw_entries.proofs.DepthLaws.{starts, above_within, depth_less, climbs
 use Rattle.dw_entries.proofs.entries.Entries.depth.Goals as goal
 
 pub loop-above-init : goal.loop-above-init
-loop-above-init c = rw c.get-above.ensures (starts _ _ _ _ _ c.args.self.now.scanned c.args.id c.record.result c.requires c.record.ensures)
+loop-above-init c =
+    rw c.get-above.ensures (starts _ _ _ _ _ c.args.self.now.scanned c.args.id c.record.result c.requires
+    c.record.ensures)
 
 pub overflow_add-depth : goal.overflow_add-depth
 overflow_add-depth c = search (rules, depth_less, entries_counted, scanned_few)
@@ -19,13 +21,17 @@ pub loop-above-smaller : goal.loop-above-smaller
 loop-above-smaller c =
     let here = rw c.in-Some.is at c.loop-above.invariant in
     rw (c.in-Some.is, c.get-above-in-Some.ensures)
-    (lower _ _ _ _ _ c.args.self.now.scanned c.args.id c.loop-above.depth c.in-Some.parent here c.index.result.now c.index.ensures)
+    (lower _ _ _ _ _ c.args.self.now.scanned c.args.id c.loop-above.depth c.in-Some.parent here c.index.result.now
+    c.index.ensures)
 
 pub loop-above-preserved : goal.loop-above-preserved
 loop-above-preserved c =
     let here = rw c.in-Some.is at c.loop-above.invariant in
     rw c.get-above-in-Some.ensures
-    (climbs _ _ _ _ _ c.args.self.now.scanned c.args.id c.loop-above.depth c.in-Some.parent here c.index.result.now c.index.ensures)
+    (climbs _ _ _ _ _ c.args.self.now.scanned c.args.id c.loop-above.depth c.in-Some.parent here c.index.result.now
+    c.index.ensures)
 
 pub returns : goal.returns
-returns c = is_deep _ _ _ _ _ c.args.self.now.scanned c.args.id c.loop-above.depth (rw c.in_default.is at c.loop-above.invariant)
+returns c =
+    is_deep _ _ _ _ _ c.args.self.now.scanned c.args.id c.loop-above.depth
+    (rw c.in_default.is at c.loop-above.invariant)

@@ -6,9 +6,12 @@ use Rattle.dw_entries.specs.Views.{units_of}
 use Rattle.dw_entries.specs.Runs.{IsEntryAt}
 use Rattle.dw_entries.proofs.entries.Entries.find.Goals as goal
 
-all_elsewhere : (entries : List Entry) (offset : ℕ) (o : Option ℕ) → IfNone o ((id : ℕ) → IsEntryAt entries offset id → ⊥) → IfNone o (All (λ e. e.at ≢ offset) entries)
-all_elsewhere entries offset None nowhere = λ k d lt same. nowhere k (record { entry = _; is_entry = slice_get-get_or entries k d lt; begins = same })
+all_elsewhere : (entries : List Entry) (offset : ℕ) (o : Option ℕ)
+    → IfNone o ((id : ℕ) → IsEntryAt entries offset id → ⊥) → IfNone o (All (λ e. e.at ≢ offset) entries)
+all_elsewhere entries offset None nowhere =
+    λ k d lt same. nowhere k (record { entry = _; is_entry = slice_get-get_or entries k d lt; begins = same })
 all_elsewhere entries offset (Some id) nowhere = tt
 
 pub returns-clause-none : goal.returns-clause-none
-returns-clause-none c = all_elsewhere (entries_of (units_of c.args.self.now)) c.args.offset c.find_at.result c.find_at.ensures.none
+returns-clause-none c =
+    all_elsewhere (entries_of (units_of c.args.self.now)) c.args.offset c.find_at.result c.find_at.ensures.none

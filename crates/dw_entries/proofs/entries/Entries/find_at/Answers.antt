@@ -27,4 +27,5 @@ pub returns-else-from-offset-clause-none : goal.returns-else-from-offset-clause-
 returns-else-from-offset-clause-none c =
     none_from _ _ _ _ _ c.args.self.now.scanned c.first_from-number.result c.args.offset
     (rw c.deref.ensures.value at c.first_from-number.ensures.first) c.index.result.now
-    (omega (arith, c.if-number-len.false, c.len.ensures)) c.index.ensures (λ same. c.if-from-offset.false (c.from.ensures ∙ same))
+    (omega (arith, c.if-number-len.false, c.len.ensures)) c.index.ensures
+    (λ same. c.if-from-offset.false (c.from.ensures ∙ same))

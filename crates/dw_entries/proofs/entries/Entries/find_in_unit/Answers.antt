@@ -12,12 +12,14 @@ index-requires c = omega (arith, c.requires, units_counted _ _ _ _ _ c.args.self
 
 pub returns-in_default-clause-none : goal.returns-in_default-clause-none
 returns-in_default-clause-none c =
-    never_far _ _ _ _ _ c.args.self.now.scanned c.args.unit c.args.offset (kept_unit _ _ _ _ _ c.args.self.now.scanned c.args.unit c.requires) c.index.result.now c.index.ensures
+    never_far _ _ _ _ _ c.args.self.now.scanned c.args.unit c.args.offset
+    (kept_unit _ _ _ _ _ c.args.self.now.scanned c.args.unit c.requires) c.index.result.now c.index.ensures
     (omega (arith, c.args.self.now.sections.info_fits)) (omega (arith, c.in_default.ensures))
 
 pub returns-in_default-find_at-clause-none : goal.returns-in_default-find_at-clause-none
 returns-in_default-find_at-clause-none c =
-    never_there _ _ _ _ _ c.args.self.now.scanned c.args.unit c.args.offset c.in-Some.at (kept_unit _ _ _ _ _ c.args.self.now.scanned c.args.unit c.requires) c.index.result.now c.index.ensures
+    never_there _ _ _ _ _ c.args.self.now.scanned c.args.unit c.args.offset c.in-Some.at
+    (kept_unit _ _ _ _ _ c.args.self.now.scanned c.args.unit c.requires) c.index.result.now c.index.ensures
     c.in-Some.ensures.1 c.in_default-find_at.ensures.none
 
 pub unit_of-requires : goal.unit_of-requires
@@ -29,7 +31,8 @@ returns-then-unit_of-unit-clause-found c =
     let kept = kept_unit _ _ _ _ _ c.args.self.now.scanned c.args.unit c.requires in
     let place = (kept_is kept c.index.result.now c.index.ensures).at in
     let same : c.unit_of.result ≡ found.entry.unit = rw found.is_entry at c.unit_of.ensures in
-    reaches (entries_of (units_of c.args.self.now)) (placed (units_of c.args.self.now)) c.args.unit c.args.offset c.in-Some.at c.in-Some-find_at.id kept.place found.entry kept.is_place
+    reaches (entries_of (units_of c.args.self.now)) (placed (units_of c.args.self.now)) c.args.unit c.args.offset
+    c.in-Some.at c.in-Some-find_at.id kept.place found.entry kept.is_place
     (omega (arith, place, c.in-Some.ensures.1)) found found.is_entry (sym same ∙ c.if-unit_of-unit.true)
 
 pub returns-else-unit_of-unit-clause-none : goal.returns-else-unit_of-unit-clause-none
@@ -38,6 +41,8 @@ returns-else-unit_of-unit-clause-none c =
     let kept = kept_unit _ _ _ _ _ c.args.self.now.scanned c.args.unit c.requires in
     let place = (kept_is kept c.index.result.now c.index.ensures).at in
     let same : c.unit_of.result ≡ found.entry.unit = rw found.is_entry at c.unit_of.ensures in
-    never_other (entries_of (units_of c.args.self.now)) (placed (units_of c.args.self.now)) c.args.unit c.args.offset c.in-Some.at c.in-Some-find_at.id kept.place found.entry
-    (entries_rise _ (units_of c.args.self.now) c.args.self.now.scanned.1.spells.are) kept.is_place (omega (arith, place, c.in-Some.ensures.1)) found found.is_entry
+    never_other (entries_of (units_of c.args.self.now)) (placed (units_of c.args.self.now)) c.args.unit c.args.offset
+    c.in-Some.at c.in-Some-find_at.id kept.place found.entry
+    (entries_rise _ (units_of c.args.self.now) c.args.self.now.scanned.1.spells.are) kept.is_place
+    (omega (arith, place, c.in-Some.ensures.1)) found found.is_entry
     (λ here. c.if-unit_of-unit.false (same ∙ here))

@@ -17,11 +17,14 @@ with_depth head depth = record {
   next_sibling = head.next_sibling;
 }
 
-head_told : (found : Option Entry) (head : EntryHead) (depth : ℕ) → IfSome found (λ e. head ≡ entry_head e) → IfSome found (λ e. depth ≡ e.depth) → IfSome found (λ e. with_depth head depth ≡ full_head e)
+head_told : (found : Option Entry) (head : EntryHead) (depth : ℕ) → IfSome found (λ e. head ≡ entry_head e)
+    → IfSome found (λ e. depth ≡ e.depth) → IfSome found (λ e. with_depth head depth ≡ full_head e)
 head_told None head depth is_head is_depth = tt
-head_told (Some e) head depth is_head is_depth = ap (λ (h : EntryHead). with_depth h depth) is_head ∙ ap (with_depth (entry_head e)) is_depth
+head_told (Some e) head depth is_head is_depth =
+    ap (λ (h : EntryHead). with_depth h depth) is_head ∙ ap (with_depth (entry_head e)) is_depth
 
 pub returns : goal.returns
 returns c =
     let entries = all_entries c.args.self.now in
-    head_told (slice_get entries c.args.id) c.head-head.result c.depth.result (rw c.at.ensures at c.head-head.ensures) c.depth.ensures
+    head_told (slice_get entries c.args.id) c.head-head.result c.depth.result (rw c.at.ensures at c.head-head.ensures)
+    c.depth.ensures

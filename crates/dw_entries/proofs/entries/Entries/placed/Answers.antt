@@ -11,37 +11,61 @@ pub index-requires : goal.index-requires
 index-requires c =
     let kept = kept_entry _ _ _ _ _ c.args.self.now.scanned c.args.id c.requires.id in
     let unit = from_entry kept (λ e. c.args.unit ≡ e.unit) c.requires.unit in
-    omega (arith, slice_get_within c.args.self.now.units.items kept.entry.unit kept.unit_record kept.is_unit_record, unit)
+    omega (
+      arith,
+      slice_get_within c.args.self.now.units.items kept.entry.unit kept.unit_record kept.is_unit_record,
+      unit,
+    )
 
 pub slice_bounds-read_code-count : goal.slice_bounds-read_code-count
 slice_bounds-read_code-count c =
-    omega (arith, at_within (kept_entry _ _ _ _ _ c.args.self.now.scanned c.args.id c.requires.id) c.record-kept.result c.record-kept.ensures)
+    omega (
+      arith,
+      at_within (kept_entry _ _ _ _ _ c.args.self.now.scanned c.args.id c.requires.id) c.record-kept.result
+          c.record-kept.ensures,
+    )
 
 pub slice_bounds-read_code-start : goal.slice_bounds-read_code-start
 slice_bounds-read_code-start c =
-    omega (arith, at_within (kept_entry _ _ _ _ _ c.args.self.now.scanned c.args.id c.requires.id) c.record-kept.result c.record-kept.ensures)
+    omega (
+      arith,
+      at_within (kept_entry _ _ _ _ _ c.args.self.now.scanned c.args.id c.requires.id) c.record-kept.result
+          c.record-kept.ensures,
+    )
 
 pub decl-requires-clause-some : goal.decl-requires-clause-some
-decl-requires-clause-some c = decl_numbered c.args.self.now.decls (kept_entry _ _ _ _ _ c.args.self.now.scanned c.args.id c.requires.id) c.record-kept.result c.record-kept.ensures
+decl-requires-clause-some c =
+    decl_numbered c.args.self.now.decls (kept_entry _ _ _ _ _ c.args.self.now.scanned c.args.id c.requires.id)
+    c.record-kept.result c.record-kept.ensures
 
 pub decl-requires-clause-within : goal.decl-requires-clause-within
-decl-requires-clause-within c = decl_kept c.args.self.now.decls (kept_entry _ _ _ _ _ c.args.self.now.scanned c.args.id c.requires.id) c.record-kept.result c.record-kept.ensures
+decl-requires-clause-within c =
+    decl_kept c.args.self.now.decls (kept_entry _ _ _ _ _ c.args.self.now.scanned c.args.id c.requires.id)
+    c.record-kept.result c.record-kept.ensures
 
 pub invariant_of-result : goal.invariant_of-result
 invariant_of-result c =
     let kept = kept_entry _ _ _ _ _ c.args.self.now.scanned c.args.id c.requires.id in
-    let of_decl = decl_is c.args.self.now.decls kept c.record-kept.result c.record-kept.ensures (decl_view c.decl.result) c.decl.ensures in
-    let specs = specs_here kept (decl_view c.decl.result) (specs_in c.attributes.result) of_decl c.attributes.ensures.specs in
-    let of_unit = header_is kept c.args.unit c.index.result.now (from_entry kept (λ e. c.args.unit ≡ e.unit) c.requires.unit) c.index.ensures in
+    let of_decl = decl_is c.args.self.now.decls kept c.record-kept.result c.record-kept.ensures
+    (decl_view c.decl.result) c.decl.ensures in
+    let specs = specs_here kept (decl_view c.decl.result) (specs_in c.attributes.result) of_decl
+    c.attributes.ensures.specs in
+    let of_unit = header_is kept c.args.unit c.index.result.now
+    (from_entry kept (λ e. c.args.unit ≡ e.unit) c.requires.unit) c.index.ensures in
     let behind = values_follow kept c.record-kept.result c.record-kept.ensures _ c.in-Ok.bytes.now c.in-Ok.ensures in
     record {
-      sized = sized_here kept c.index.result.now.header (specs_in c.attributes.result) c.in-Ok.bytes.now c.version.result of_unit specs behind c.version.ensures;
-      left = left_here kept c.index.result.now.header (specs_in c.attributes.result) c.in-Ok.bytes.now c.version.result of_unit specs behind c.version.ensures;
+      sized =
+          sized_here kept c.index.result.now.header (specs_in c.attributes.result) c.in-Ok.bytes.now c.version.result
+          of_unit specs behind c.version.ensures;
+      left =
+          left_here kept c.index.result.now.header (specs_in c.attributes.result) c.in-Ok.bytes.now c.version.result
+          of_unit specs behind c.version.ensures;
     }
 
 pub unreachable-requires : goal.unreachable-requires
 unreachable-requires c =
-    never_unread (kept_entry _ _ _ _ _ c.args.self.now.scanned c.args.id c.requires.id) c.record-kept.result c.record-kept.ensures c.in-Err.field-0 c.in-Err.ensures
+    never_unread (kept_entry _ _ _ _ _ c.args.self.now.scanned c.args.id c.requires.id) c.record-kept.result
+    c.record-kept.ensures c.in-Err.field-0 c.in-Err.ensures
 
 pub invariant_of-result-2 : goal.invariant_of-result-2
 invariant_of-result-2 c =
@@ -51,8 +75,12 @@ invariant_of-result-2 c =
 pub returns-clause-left : goal.returns-clause-left
 returns-clause-left c =
     let kept = kept_entry _ _ _ _ _ c.args.self.now.scanned c.args.id c.requires.id in
-    let of_decl = decl_is c.args.self.now.decls kept c.record-kept.result c.record-kept.ensures (decl_view c.decl.result) c.decl.ensures in
-    let specs = specs_here kept (decl_view c.decl.result) (specs_in c.attributes.result) of_decl c.attributes.ensures.specs in
-    let of_unit = header_is kept c.args.unit c.index.result.now (from_entry kept (λ e. c.args.unit ≡ e.unit) c.requires.unit) c.index.ensures in
+    let of_decl = decl_is c.args.self.now.decls kept c.record-kept.result c.record-kept.ensures
+    (decl_view c.decl.result) c.decl.ensures in
+    let specs = specs_here kept (decl_view c.decl.result) (specs_in c.attributes.result) of_decl
+    c.attributes.ensures.specs in
+    let of_unit = header_is kept c.args.unit c.index.result.now
+    (from_entry kept (λ e. c.args.unit ≡ e.unit) c.requires.unit) c.index.ensures in
     let behind = values_follow kept c.record-kept.result c.record-kept.ensures _ c.in-Ok.bytes.now c.in-Ok.ensures in
-    search (values_here kept c.index.result.now.header (specs_in c.attributes.result) c.in-Ok.bytes.now c.version.result of_unit specs behind c.version.ensures)
+    search (values_here kept c.index.result.now.header (specs_in c.attributes.result) c.in-Ok.bytes.now c.version.result
+    of_unit specs behind c.version.ensures)

@@ -8,4 +8,8 @@ pub values_in-requires : goal.values_in-requires
 values_in-requires c = search (rules, specs_here, kept_entry)
 
 pub invariant_of-result : goal.invariant_of-result
-invariant_of-result c = record { steps = subst (λ list. IsStep list c.step.result.now) (sym (c.values_in.ensures.attributes ∙ c.attributes.ensures.numbered)) c.step.ensures }
+invariant_of-result c =
+    record {
+      steps = subst (λ list. IsStep list c.step.result.now)
+          (sym (c.values_in.ensures.attributes ∙ c.attributes.ensures.numbered)) c.step.ensures;
+    }

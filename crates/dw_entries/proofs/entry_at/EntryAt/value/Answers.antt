@@ -10,4 +10,5 @@ returns-then-lacks c =
     let all = c.attributes-attributes in
     let kept = kept_entry _ _ _ _ _ it.entries.now.scanned it.id c.self.invariant.0 in
     let specs = specs_here kept (decl_view it.decl) (specs_in all.result) c.self.invariant.2 all.ensures.specs in
-    rw (← c.self.view_is) (undeclared kept (specs_in all.result) c.args.attribute specs (declares_none (specs_in all.result) c.args.attribute (c.lacks.ensures.0 c.if-lacks.true)))
+    rw (← c.self.view_is) (undeclared kept (specs_in all.result) c.args.attribute specs
+    (declares_none (specs_in all.result) c.args.attribute (c.lacks.ensures.0 c.if-lacks.true)))

@@ -10,8 +10,12 @@ invariant_of-result c =
     let behind = rw (← c.self.view_is) at c.value_bytes.ensures in
     let specs = rw (← c.self.view_is) at c.requires in
     record {
-      sized = sized_here kept it.header (specs_in c.args.attributes) c.value_bytes.result.now c.version.result c.self.invariant.3 specs behind c.version.ensures;
-      left = left_here kept it.header (specs_in c.args.attributes) c.value_bytes.result.now c.version.result c.self.invariant.3 specs behind c.version.ensures;
+      sized =
+          sized_here kept it.header (specs_in c.args.attributes) c.value_bytes.result.now c.version.result
+          c.self.invariant.3 specs behind c.version.ensures;
+      left =
+          left_here kept it.header (specs_in c.args.attributes) c.value_bytes.result.now c.version.result
+          c.self.invariant.3 specs behind c.version.ensures;
     }
 
 pub returns-clause-left : goal.returns-clause-left
@@ -21,4 +25,5 @@ returns-clause-left c =
     let behind = rw (← c.self.view_is) at c.value_bytes.ensures in
     let specs = rw (← c.self.view_is) at c.requires in
     rw (← c.self.view_is)
-    (search (values_here kept it.header (specs_in c.args.attributes) c.value_bytes.result.now c.version.result c.self.invariant.3 specs behind c.version.ensures))
+    (search (values_here kept it.header (specs_in c.args.attributes) c.value_bytes.result.now c.version.result
+    c.self.invariant.3 specs behind c.version.ensures))

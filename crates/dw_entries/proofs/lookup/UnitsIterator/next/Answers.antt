@@ -4,11 +4,19 @@ use Rattle.dw_entries.proofs.UnitTurns.{unit_turn, fewer_units, no_units}
 use Rattle.dw_entries.proofs.lookup.UnitsIterator.next.Goals as goal
 
 pub returns-then-self-unit_count-clause-steps : goal.returns-then-self-unit_count-clause-steps
-returns-then-self-unit_count-clause-steps c = unit_turn (units_of c.args.self.now.entries.now) c.args.self.now.number c.unit-unit.result (omega arith) c.unit-unit.ensures
+returns-then-self-unit_count-clause-steps c =
+    unit_turn (units_of c.args.self.now.entries.now) c.args.self.now.number c.unit-unit.result (omega arith)
+    c.unit-unit.ensures
 
 pub returns-then-self-unit_count-clause-goes : goal.returns-then-self-unit_count-clause-goes
 returns-then-self-unit_count-clause-goes c = record {
-  on = λ _. (tt, tt, fewer_units (units_of c.args.self.now.entries.now) c.args.self.now.number c.unit-unit.result (omega arith) c.unit-unit.ensures);
+  on =
+      λ _. (
+        tt,
+        tt,
+        fewer_units (units_of c.args.self.now.entries.now) c.args.self.now.number c.unit-unit.result
+            (omega arith) c.unit-unit.ensures,
+      );
   keeps = tt;
   rests = λ _. tt;
 }

@@ -13,4 +13,5 @@ pub returns-in-None-clause-none : goal.returns-in-None-clause-none
 returns-in-None-clause-none c =
     let it = c.args.self.now in
     let v = it.values in
-    lead_none v.attributes it.step.now it.steps c.stepped.result c.stepped.ensures.nodes c.stepped.ensures.first (value_context v.version v.address_size) v.bytes.now v.left c.in-None.ensures
+    lead_none v.attributes it.step.now it.steps c.stepped.result c.stepped.ensures.nodes c.stepped.ensures.first
+    (value_context v.version v.address_size) v.bytes.now v.left c.in-None.ensures

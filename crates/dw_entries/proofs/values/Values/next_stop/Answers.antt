@@ -15,16 +15,22 @@ pub returns-clause-some : goal.returns-clause-some
 returns-clause-some c =
     let v = c.args.self.now in
     let f = follow is_stop v.attributes c.next_stop-from.result c.next_stop-from.ensures in
-    next_found _ _ (values_left v) (values_left c.pass.new.self) (values_left c.take_first.new.self) (length f.before) c.take_first.result c.take_first.ensures.steps (c.pass.ensures.left f.before f.ends)
-    (before_passed is_stop (value_context v.version v.address_size) v.attributes c.next_stop-from.result c.next_stop-from.ensures v.left.0.0 v.left.1.are)
+    next_found _ _ (values_left v) (values_left c.pass.new.self) (values_left c.take_first.new.self) (length f.before)
+    c.take_first.result c.take_first.ensures.steps (c.pass.ensures.left f.before f.ends)
+    (before_passed is_stop (value_context v.version v.address_size) v.attributes c.next_stop-from.result
+    c.next_stop-from.ensures v.left.0.0 v.left.1.are)
 
 pub returns-clause-none : goal.returns-clause-none
 returns-clause-none c =
     let v = c.args.self.now in
     let f = follow is_stop v.attributes c.next_stop-from.result c.next_stop-from.ensures in
-    none_found _ _ _ (values_left v) (values_left c.pass.new.self) (length f.before) c.take_first.result c.take_first.ensures.steps (c.pass.ensures.left f.before f.ends)
-    (before_passed is_stop (value_context v.version v.address_size) v.attributes c.next_stop-from.result c.next_stop-from.ensures v.left.0.0 v.left.1.are)
+    none_found _ _ _ (values_left v) (values_left c.pass.new.self) (length f.before) c.take_first.result
+    c.take_first.ensures.steps (c.pass.ensures.left f.before f.ends)
+    (before_passed is_stop (value_context v.version v.address_size) v.attributes c.next_stop-from.result
+    c.next_stop-from.ensures v.left.0.0 v.left.1.are)
 
 pub returns-clause-stop : goal.returns-clause-stop
 returns-clause-stop c =
-    stop_taken is_stop c.args.self.now.attributes c.next_stop-from.result c.pass.new.self.attributes c.take_first.new.self.attributes c.next_stop-from.ensures c.pass.ensures.attributes c.take_first.result c.take_first.ensures.first
+    stop_taken is_stop c.args.self.now.attributes c.next_stop-from.result c.pass.new.self.attributes
+    c.take_first.new.self.attributes c.next_stop-from.ensures c.pass.ensures.attributes c.take_first.result
+    c.take_first.ensures.first

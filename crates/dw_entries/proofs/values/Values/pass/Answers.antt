@@ -14,17 +14,25 @@ invariant_of-self c =
     let (before, ends) = c.requires in
     record {
       sized = v.sized;
-      left = (left_on (value_context v.version v.address_size) (specs_in v.attributes) (items_of before) (specs_in c.args.to) (specs_ends v.attributes c.args.to before ends) v.bytes.now v.left c.in-Ok.bytes.now (c.in-Ok.ensures before ends)).0;
+      left =
+          (left_on (value_context v.version v.address_size) (specs_in v.attributes) (items_of before)
+          (specs_in c.args.to) (specs_ends v.attributes c.args.to before ends) v.bytes.now v.left c.in-Ok.bytes.now
+          (c.in-Ok.ensures before ends)).0;
     }
 
 pub unreachable-requires : goal.unreachable-requires
 unreachable-requires c =
     let v = c.args.self.now in
     let (before, ends) = c.requires in
-    never_cut (value_context v.version v.address_size) (specs_in v.attributes) (items_of before) (specs_in c.args.to) (specs_ends v.attributes c.args.to before ends) v.bytes.now v.left c.in-Err.field-0 (c.in-Err.ensures before ends)
+    never_cut (value_context v.version v.address_size) (specs_in v.attributes) (items_of before) (specs_in c.args.to)
+    (specs_ends v.attributes c.args.to before ends) v.bytes.now v.left c.in-Err.field-0
+    (c.in-Err.ensures before ends)
 
 pub returns-clause-left : goal.returns-clause-left
 returns-clause-left c before ends =
     let v = c.args.self.now in
-    let long : length before ≡ length (items_of before) = sym (length-map before (λ (n : Numbered AttributeSpec). n.item)) in
-    search (left_rest (value_context v.version v.address_size) (specs_in v.attributes) (items_of before) (specs_in c.args.to) (specs_ends v.attributes c.args.to before ends) v.bytes.now v.left (length before) long c.in-Ok.bytes.now (c.in-Ok.ensures before ends))
+    let long : length before ≡ length (items_of before) = sym
+    (length-map before (λ (n : Numbered AttributeSpec). n.item)) in
+    search (left_rest (value_context v.version v.address_size) (specs_in v.attributes) (items_of before)
+    (specs_in c.args.to) (specs_ends v.attributes c.args.to before ends) v.bytes.now v.left (length before) long
+    c.in-Ok.bytes.now (c.in-Ok.ensures before ends))

@@ -10,4 +10,5 @@ returns-clause-none c = search (rules, none_stands)
 
 pub returns-clause-exact : goal.returns-clause-exact
 returns-clause-exact c =
-    rw (← c.self.view_is) (find_place c.self.inside.decls.items c.args.code c.place_of.result c.self.invariant.distinct (rw c.deref.ensures.value at c.place_of.ensures))
+    rw (← c.self.view_is) (find_place c.self.inside.decls.items c.args.code c.place_of.result c.self.invariant.distinct
+    (rw c.deref.ensures.value at c.place_of.ensures))

@@ -7,5 +7,11 @@ pub returns-clause-tables : goal.returns-clause-tables
 returns-clause-tables c = λ section. record {
   searchable = search (rules);
   lists = c.new-3.ensures.lists section;
-  starts = rw (c.new.ensures.items, c.new-4.ensures) (record { long = sym (tables_long c.new-3.result.lists.nodes.items []); each = λ k less. absurd (omega (arith, less)); apart = apart_none (length section) });
+  starts =
+      rw (c.new.ensures.items, c.new-4.ensures)
+      (record {
+        long = sym (tables_long c.new-3.result.lists.nodes.items []);
+        each = λ k less. absurd (omega (arith, less));
+        apart = apart_none (length section);
+      });
 }

@@ -15,12 +15,19 @@ invariant_of-self-in-Ok c =
     let made = c.node_before-node.ensures in
     let added = c.in-Ok.ensures.added in
     let code : c.from.result ≡ c.args.spec.attribute = search rules in
-    let none : has_attribute c.args.spec.attribute (list_in a.nodes.items c.args.rest) ≡ false = sym c.has.ensures ∙ c.if-has.false in
-    let number : c.in-Ok.number ≡ suc (length a.nodes.items) = added.0 ∙ ap suc (links_long a.codes.links.items a.nodes.items a.coded) in
-    let new : c.push_reserved.new.self.items ≡ a.nodes.items ++ n ∷ [] = c.push_reserved.ensures.items ∙ ap (λ (xs : List Node). xs ++ n ∷ []) c.reserve.ensures.items in
+    let none : has_attribute c.args.spec.attribute (list_in a.nodes.items c.args.rest)
+    ≡ false = sym c.has.ensures ∙ c.if-has.false in
+    let number : c.in-Ok.number ≡ suc (length a.nodes.items) = added.0
+    ∙ ap suc (links_long a.codes.links.items a.nodes.items a.coded) in
+    let new : c.push_reserved.new.self.items
+    ≡ a.nodes.items ++ n ∷ [] = c.push_reserved.ensures.items
+    ∙ ap (λ (xs : List Node). xs ++ n ∷ []) c.reserve.ensures.items in
     record {
       known = search (rules, known_push);
-      coded = subst (AreCoded c.push.new.self.links.items) (sym new) (coded_push a.codes.links.items c.push.new.self.links.items a.nodes.items n c.args.spec c.args.rest c.from.result made.spec made.next code a.coded added.1);
+      coded =
+          subst (AreCoded c.push.new.self.links.items) (sym new)
+          (coded_push a.codes.links.items c.push.new.self.links.items a.nodes.items n c.args.spec c.args.rest
+          c.from.result made.spec made.next code a.coded added.1);
     }
 
 pub returns-in-Ok : goal.returns-in-Ok

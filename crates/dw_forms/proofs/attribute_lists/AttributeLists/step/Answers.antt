@@ -8,28 +8,39 @@ use Rattle.dw_forms.proofs.NodeLaws.{attributes_in}
 use Rattle.dw_forms.proofs.attribute_lists.AttributeLists.step.Goals as goal
 
 pub returns-then-number-eq0 : goal.returns-then-number-eq0
-returns-then-number-eq0 c = record { step = rw (c.if-number-eq0.true, chain_none (specs_of c.args.self.now.nodes.items)) c.no_step.ensures }
+returns-then-number-eq0 c =
+    record { step = rw (c.if-number-eq0.true, chain_none (specs_of c.args.self.now.nodes.items)) c.no_step.ensures }
 
 pub step_before-requires-clause-small_4 : goal.step_before-requires-clause-small_4
 step_before-requires-clause-small_4 c =
     let a = c.args.self.now in
     let n = c.index-node.result.now in
-    let is = node_read a.nodes.items c.args.number n a.known (omega (arith, c.if-number-eq0.false)) c.requires c.index-node.ensures in
+    let is = node_read a.nodes.items c.args.number n a.known (omega (arith, c.if-number-eq0.false)) c.requires
+    c.index-node.ensures in
     let less = is.next in
-    known_small (numbered_in a.nodes.items n.next) _ (attributes_in a.nodes.items n.next a.known (omega (arith, less, c.requires))) is.after.small_4
+    known_small (numbered_in a.nodes.items n.next) _
+    (attributes_in a.nodes.items n.next a.known (omega (arith, less, c.requires))) is.after.small_4
 
 pub step_before-requires-clause-small_8 : goal.step_before-requires-clause-small_8
 step_before-requires-clause-small_8 c =
     let a = c.args.self.now in
     let n = c.index-node.result.now in
-    let is = node_read a.nodes.items c.args.number n a.known (omega (arith, c.if-number-eq0.false)) c.requires c.index-node.ensures in
+    let is = node_read a.nodes.items c.args.number n a.known (omega (arith, c.if-number-eq0.false)) c.requires
+    c.index-node.ensures in
     let less = is.next in
-    known_small (numbered_in a.nodes.items n.next) _ (attributes_in a.nodes.items n.next a.known (omega (arith, less, c.requires))) is.after.small_8
+    known_small (numbered_in a.nodes.items n.next) _
+    (attributes_in a.nodes.items n.next a.known (omega (arith, less, c.requires))) is.after.small_8
 
 pub returns : goal.returns
 returns c =
     let a = c.args.self.now in
     let n = c.index-node.result.now in
-    let is = node_read a.nodes.items c.args.number n a.known (omega (arith, c.if-number-eq0.false)) c.requires c.index-node.ensures in
+    let is = node_read a.nodes.items c.args.number n a.known (omega (arith, c.if-number-eq0.false)) c.requires
+    c.index-node.ensures in
     let before = c.step_before.ensures (numbered_in a.nodes.items n.next) is.after in
-    record { step = rw is.begins (subst (λ (s : AttributeSpec). IsStep (record { number = c.args.number; item = s } ∷ numbered_in a.nodes.items n.next) c.step_before.result) c.spec.ensures before) }
+    record {
+      step = rw is.begins (subst
+          (λ (s : AttributeSpec). IsStep
+          (record { number = c.args.number; item = s } ∷ numbered_in a.nodes.items n.next)
+          c.step_before.result) c.spec.ensures before);
+    }

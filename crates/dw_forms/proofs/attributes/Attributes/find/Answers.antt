@@ -15,5 +15,7 @@ returns c =
     let code : c.from.result ≡ c.args.attribute = search rules in
     record {
       nodes = c.new.ensures.lists;
-      first = c.new.ensures.first ∙ found_is a c.args.attribute c.search-found.result (c.search-found.ensures ∙ ap (number_in (codes_in a.lists.now.codes.links.items a.first)) code);
+      first =
+          c.new.ensures.first ∙ found_is a c.args.attribute c.search-found.result
+          (c.search-found.ensures ∙ ap (number_in (codes_in a.lists.now.codes.links.items a.first)) code);
     }

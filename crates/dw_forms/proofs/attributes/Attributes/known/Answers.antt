@@ -4,7 +4,9 @@ use Rattle.dw_forms.proofs.PassSteps.{known_is}
 use Rattle.dw_forms.proofs.attributes.Attributes.known.Goals as goal
 
 pub returns-in-Some : goal.returns-in-Some
-returns-in-Some c = c.known.ensures ∙ known_is c.args.address_size (numbered c.args.self.now) c.in-Some.node.now c.requires c.in-Some.ensures.known.knows
+returns-in-Some c =
+    c.known.ensures ∙ known_is c.args.address_size (numbered c.args.self.now) c.in-Some.node.now c.requires
+    c.in-Some.ensures.known.knows
 
 pub returns-in-None : goal.returns-in-None
 returns-in-None c = rw c.in-None.ensures.none refl

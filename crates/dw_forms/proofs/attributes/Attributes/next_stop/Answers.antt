@@ -9,7 +9,8 @@ new-requires c =
     omega (arith, within, c.in-Some.ensures.known.knows.stop)
 
 pub returns-in-Some : goal.returns-in-Some
-returns-in-Some c = record { nodes = c.new.ensures.lists; first = c.new.ensures.first ∙ c.in-Some.ensures.known.knows.stop }
+returns-in-Some c =
+    record { nodes = c.new.ensures.lists; first = c.new.ensures.first ∙ c.in-Some.ensures.known.knows.stop }
 
 pub returns-in-None : goal.returns-in-None
 returns-in-None c = none_from is_stop c.args.self.now c.in-None.ensures.first c.in-None.ensures.none

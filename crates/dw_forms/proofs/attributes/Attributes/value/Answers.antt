@@ -3,22 +3,34 @@ use Rattle.dw_forms.proofs.SuffixLaws.{none_has_it, before_found, before_fails, 
 use Rattle.dw_forms.proofs.attributes.Attributes.value.Goals as goal
 
 pub returns-in_default : goal.returns-in_default
-returns-in_default c = none_has_it c.args.attribute c.args.self.now c.find-found.result c.find-found.ensures c.in_default.ensures
+returns-in_default c =
+    none_has_it c.args.attribute c.args.self.now c.find-found.result c.find-found.ensures c.in_default.ensures
 
 pub pass-requires-clause-ends : goal.pass-requires-clause-ends
-pass-requires-clause-ends c = before_found c.args.version c.args.address_size c.args.attribute c.args.self.now c.find-found.result c.find-found.ensures
+pass-requires-clause-ends c =
+    before_found c.args.version c.args.address_size c.args.attribute c.args.self.now c.find-found.result
+    c.find-found.ensures
 
 pub returns-in-Err : goal.returns-in-Err
 returns-in-Err c =
-    let before = before_found c.args.version c.args.address_size c.args.attribute c.args.self.now c.find-found.result c.find-found.ensures in
-    before_fails c.args.version c.args.address_size c.args.attribute c.args.self.now c.find-found.result c.find-found.ensures c.in-Some.spec _ c.in-Some.ensures c.args.bytes.now c.in-Err.fault (c.in-Err.ensures before.0 before.1)
+    let before = before_found c.args.version c.args.address_size c.args.attribute c.args.self.now c.find-found.result
+    c.find-found.ensures in
+    before_fails c.args.version c.args.address_size c.args.attribute c.args.self.now c.find-found.result
+    c.find-found.ensures c.in-Some.spec _ c.in-Some.ensures c.args.bytes.now c.in-Err.fault
+    (c.in-Err.ensures before.0 before.1)
 
 pub returns-in-Ok-read_any : goal.returns-in-Ok-read_any
 returns-in-Ok-read_any c =
-    let before = before_found c.args.version c.args.address_size c.args.attribute c.args.self.now c.find-found.result c.find-found.ensures in
-    it_reads c.args.version c.args.address_size c.args.attribute c.args.self.now c.find-found.result c.find-found.ensures c.in-Some.spec _ c.in-Some.ensures c.args.bytes.now c.in-Ok.rest.now (c.in-Ok.ensures before.0 before.1) (view c.in-Ok-read_any.value) _ c.in-Ok-read_any.ensures.exact
+    let before = before_found c.args.version c.args.address_size c.args.attribute c.args.self.now c.find-found.result
+    c.find-found.ensures in
+    it_reads c.args.version c.args.address_size c.args.attribute c.args.self.now c.find-found.result
+    c.find-found.ensures c.in-Some.spec _ c.in-Some.ensures c.args.bytes.now c.in-Ok.rest.now
+    (c.in-Ok.ensures before.0 before.1) (view c.in-Ok-read_any.value) _ c.in-Ok-read_any.ensures.exact
 
 pub returns-in-Err-read_any : goal.returns-in-Err-read_any
 returns-in-Err-read_any c =
-    let before = before_found c.args.version c.args.address_size c.args.attribute c.args.self.now c.find-found.result c.find-found.ensures in
-    it_fails c.args.version c.args.address_size c.args.attribute c.args.self.now c.find-found.result c.find-found.ensures c.in-Some.spec _ c.in-Some.ensures c.args.bytes.now c.in-Ok.rest.now (c.in-Ok.ensures before.0 before.1) c.in-Err-read_any.fault c.in-Err-read_any.ensures.exact
+    let before = before_found c.args.version c.args.address_size c.args.attribute c.args.self.now c.find-found.result
+    c.find-found.ensures in
+    it_fails c.args.version c.args.address_size c.args.attribute c.args.self.now c.find-found.result
+    c.find-found.ensures c.in-Some.spec _ c.in-Some.ensures c.args.bytes.now c.in-Ok.rest.now
+    (c.in-Ok.ensures before.0 before.1) c.in-Err-read_any.fault c.in-Err-read_any.ensures.exact

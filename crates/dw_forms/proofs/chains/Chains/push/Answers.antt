@@ -10,8 +10,12 @@ invariant_of-self-2 c =
     let below = c.in_ok-branch_count.ensures.below in
     let branches = c.in_ok-branch_count.ensures.branches in
     record {
-      found = found_either _ c.push_branches.new.branches.items links c.push.new.self.items _ c.push.ensures.items (rw c.deref-3.ensures.value at kept)
-          (rw start (found_more c.push_branches.new.branches.items links _ (rw c.deref-3.ensures.value at kept) (rw c.deref.ensures.value at c.run_before-run.ensures.short) (rw c.deref.ensures.value at c.run_before-run.ensures.run)
+      found =
+          found_either _ c.push_branches.new.branches.items links c.push.new.self.items _ c.push.ensures.items
+          (rw c.deref-3.ensures.value at kept)
+          (rw start (found_more c.push_branches.new.branches.items links _ (rw c.deref-3.ensures.value at kept)
+          (rw c.deref.ensures.value at c.run_before-run.ensures.short)
+          (rw c.deref.ensures.value at c.run_before-run.ensures.run)
           (rw c.deref-3.ensures.value at below) (rw c.deref-3.ensures.value at branches)));
     }
 

@@ -14,10 +14,13 @@ new-requires c =
     let a = c.args.self.now in
     let some = c.requires.some in
     let within = c.requires.within in
-    subst (λ (k : KeptDecl). HasList a.lists.nodes.items k.first k.step k.place k.declared k.whole) (sym c.index.ensures) (a.all (c.args.number - 1) c.index.result.now (omega (arith, some, within)))
+    subst (λ (k : KeptDecl). HasList a.lists.nodes.items k.first k.step k.place k.declared k.whole)
+    (sym c.index.ensures) (a.all (c.args.number - 1) c.index.result.now (omega (arith, some, within)))
 
 pub returns : goal.returns
 returns c =
     let a = c.args.self.now in
-    decl_read a.lists.nodes.items a.kept.items c.args.number c.index.result.now c.requires.some c.requires.within c.index.ensures
-    ∙ ap (λ (d : Declaration). Some d) (λ i. kept_view (sym c.new.ensures.lists i).nodes.items (sym c.new.ensures.kept i))
+    decl_read a.lists.nodes.items a.kept.items c.args.number c.index.result.now c.requires.some c.requires.within
+    c.index.ensures
+    ∙ ap (λ (d : Declaration). Some d)
+    (λ i. kept_view (sym c.new.ensures.lists i).nodes.items (sym c.new.ensures.kept i))

@@ -13,10 +13,13 @@ pub push-requires-clause-few : goal.push-requires-clause-few
 push-requires-clause-few c = search (rules, apart_few)
 
 pub push-requires-clause-code : goal.push-requires-clause-code
-push-requires-clause-code c = code_before c.pop.new.self.items c.in-Some.field-0 c.in-Some.ensures.items c.loop-at.invariant.leads
+push-requires-clause-code c =
+    code_before c.pop.new.self.items c.in-Some.field-0 c.in-Some.ensures.items c.loop-at.invariant.leads
 
 pub returns-in_default-2-clause-fault : goal.returns-in_default-2-clause-fault
-returns-in_default-2-clause-fault c = rw c.twice.ensures (no_list c.pop.new.self.items c.in-Some.field-0 c.in-Some.ensures.items c.loop-at.invariant.leads c.push.new.self.nodes.items (search rules))
+returns-in_default-2-clause-fault c =
+    rw c.twice.ensures (no_list c.pop.new.self.items c.in-Some.field-0 c.in-Some.ensures.items c.loop-at.invariant.leads
+    c.push.new.self.nodes.items (search rules))
 
 pub loop-at-preserved : goal.loop-at-preserved
 loop-at-preserved c =
@@ -28,7 +31,9 @@ loop-at-preserved c =
     let added = rw c.in-Some-2.is at c.in_ok-longer.ensures.added in
     record {
       leads = rw c.in_ok-push.ensures (next_leads left p parts i.leads new c.in-Some-2.longer added);
-      placed = rw (c.in_ok-push.ensures, c.in_ok-push-2.ensures.items) (next_placed left p parts i.leads new c.in-Some-2.longer added c.loop-at.self.ends.items i.placed);
+      placed =
+          rw (c.in_ok-push.ensures, c.in_ok-push-2.ensures.items)
+          (next_placed left p parts i.leads new c.in-Some-2.longer added c.loop-at.self.ends.items i.placed);
       stay = stay_on _ _ _ i.stay (next_stay left p parts i.leads new c.in-Some-2.longer added);
     }
 

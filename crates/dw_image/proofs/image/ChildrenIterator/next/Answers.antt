@@ -8,14 +8,18 @@ use Rattle.dw_image.proofs.image.ChildrenIterator.next.Goals as goal
 pub next_sibling-self-requires : goal.next_sibling-self-requires
 next_sibling-self-requires c =
     let es = entries_of (units_of c.args.self.now.entries.now) in
-    linked_within es c.args.self.now.parent c.in_ok-id.id (subst (IsChild es c.args.self.now.parent) c.in_ok-id.was c.args.self.now.linked)
+    linked_within es c.args.self.now.parent c.in_ok-id.id
+    (subst (IsChild es c.args.self.now.parent) c.in_ok-id.was c.args.self.now.linked)
 
 pub invariant_of-self : goal.invariant_of-self
 invariant_of-self c =
     let us = units_of c.args.self.now.entries.now in
     let p = c.args.self.now.parent in
     let linked = subst (IsChild (entries_of us) p) c.in_ok-id.was c.args.self.now.linked in
-    record { linked = (next_of_linked us p c.in_ok-id.id c.next_sibling-self.result linked c.next_sibling-self.ensures).linked }
+    record {
+      linked = (next_of_linked us p c.in_ok-id.id c.next_sibling-self.result linked
+          c.next_sibling-self.ensures).linked;
+    }
 
 pub returns-clause-steps : goal.returns-clause-steps
 returns-clause-steps c = search (rules, next_of_linked)

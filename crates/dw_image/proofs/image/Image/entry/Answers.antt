@@ -9,4 +9,6 @@ pub returns-clause-exact : goal.returns-clause-exact
 unfolding units_in
 returns-clause-exact c =
     let scanned = c.args.self.now.entries.scanned in
-    entry_found (entries_of (found_units scanned)) c.args.offset c.find.result (entries_rise _ (found_units scanned) scanned.1.spells.are) c.find.ensures.found c.find.ensures.within c.find.ensures.none
+    entry_found (entries_of (found_units scanned)) c.args.offset c.find.result
+    (entries_rise _ (found_units scanned) scanned.1.spells.are) c.find.ensures.found c.find.ensures.within
+    c.find.ensures.none

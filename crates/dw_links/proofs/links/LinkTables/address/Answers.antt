@@ -14,7 +14,8 @@ use Rattle.dw_links.proofs.links.LinkTables.address.Goals as goal
 
 pub unit-requires : goal.unit-requires
 unit-requires c =
-    unit_below c.args.entries.now c.args.id c.unit_of.result (slice_get (all_entries c.args.entries.now) c.args.id) c.requires.id refl c.unit_of.ensures
+    unit_below c.args.entries.now c.args.id c.unit_of.result (slice_get (all_entries c.args.entries.now) c.args.id)
+    c.requires.id refl c.unit_of.ensures
 
 pub address_of_value-requires : goal.address_of_value-requires
 address_of_value-requires c =
@@ -23,9 +24,12 @@ address_of_value-requires c =
     let unit : c.unit_of.result ≡ e.unit = rw is at c.unit_of.ensures in
     let told : c.unit.result ≡ unit_head p = rw (unit, is_p) at c.unit.ensures in
     let value : Some (view c.in_ok-value.value) ≡ value_at_entry e c.args.attribute = rw is at c.in_ok-value.ensures in
-    let base = kept_base (entries_of us) (placed us) DW_AT_addr_base _ e.unit p c.base_of-base.result c.requires.tables.addr_bases is_p (rw (is, c.as_slice.ensures.value) at c.base_of-base.ensures) in
-    let size = sized _ _ us e.unit p c.args.entries.now.scanned.1.spells (in_units _ _ us c.args.id e c.args.entries.now.scanned.1.spells is) is_p in
-    let lies = address_lies (sections_of c.args.entries.now) us c.args.id e p c.args.attribute (view c.in_ok-value.value) c.requires.strings is is_p size (sym value) in
+    let base = kept_base (entries_of us) (placed us) DW_AT_addr_base _ e.unit p c.base_of-base.result
+    c.requires.tables.addr_bases is_p (rw (is, c.as_slice.ensures.value) at c.base_of-base.ensures) in
+    let size = sized _ _ us e.unit p c.args.entries.now.scanned.1.spells
+    (in_units _ _ us c.args.id e c.args.entries.now.scanned.1.spells is) is_p in
+    let lies = address_lies (sections_of c.args.entries.now) us c.args.id e p c.args.attribute
+    (view c.in_ok-value.value) c.requires.strings is is_p size (sym value) in
     rw (c.sections.ensures, told, base) lies
 
 pub returns : goal.returns
@@ -36,7 +40,8 @@ returns c =
     let unit : c.unit_of.result ≡ e.unit = rw is at c.unit_of.ensures in
     let told : c.unit.result ≡ unit_head p = rw (unit, is_p) at c.unit.ensures in
     let value : Some (view c.in_ok-value.value) ≡ value_at_entry e c.args.attribute = rw is at c.in_ok-value.ensures in
-    let base = kept_base (entries_of us) (placed us) DW_AT_addr_base _ e.unit p c.base_of-base.result c.requires.tables.addr_bases is_p (rw (is, c.as_slice.ensures.value) at c.base_of-base.ensures) in
+    let base = kept_base (entries_of us) (placed us) DW_AT_addr_base _ e.unit p c.base_of-base.result
+    c.requires.tables.addr_bases is_p (rw (is, c.as_slice.ensures.value) at c.base_of-base.ensures) in
     rw (is, is_p, ← value, ← base) (rw (c.sections.ensures, told) at c.address_of_value.ensures)
 
 pub returns-in_err-value : goal.returns-in_err-value

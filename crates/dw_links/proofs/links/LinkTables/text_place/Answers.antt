@@ -18,8 +18,10 @@ pub place_of_value-requires-clause-lies : goal.place_of_value-requires-clause-li
 place_of_value-requires-clause-lies c =
     let us = units_of c.args.entries.now in
     let (e, p, is, is_p) = entry_unit c.args.entries.now c.args.id c.requires.id in
-    let base = kept_base (entries_of us) (placed us) DW_AT_str_offsets_base _ e.unit p c.base_of-base.result c.requires.tables.str_bases is_p (rw (is, c.as_slice.ensures.value) at c.base_of-base.ensures) in
-    rw base (text_lies (sections_of c.args.entries.now) us c.args.id e p c.args.attribute (view c.in_ok-value.value) c.requires.strings is is_p (sym (rw is at c.in_ok-value.ensures)))
+    let base = kept_base (entries_of us) (placed us) DW_AT_str_offsets_base _ e.unit p c.base_of-base.result
+    c.requires.tables.str_bases is_p (rw (is, c.as_slice.ensures.value) at c.base_of-base.ensures) in
+    rw base (text_lies (sections_of c.args.entries.now) us c.args.id e p c.args.attribute (view c.in_ok-value.value)
+    c.requires.strings is is_p (sym (rw is at c.in_ok-value.ensures)))
 
 pub returns-clause-text : goal.returns-clause-text
 unfolding text_at
@@ -27,7 +29,8 @@ returns-clause-text c =
     let us = units_of c.args.entries.now in
     let (e, p, is, is_p) = entry_unit c.args.entries.now c.args.id c.requires.id in
     let value : Some (view c.in_ok-value.value) ≡ value_at_entry e c.args.attribute = rw is at c.in_ok-value.ensures in
-    let base = kept_base (entries_of us) (placed us) DW_AT_str_offsets_base _ e.unit p c.base_of-base.result c.requires.tables.str_bases is_p (rw (is, c.as_slice.ensures.value) at c.base_of-base.ensures) in
+    let base = kept_base (entries_of us) (placed us) DW_AT_str_offsets_base _ e.unit p c.base_of-base.result
+    c.requires.tables.str_bases is_p (rw (is, c.as_slice.ensures.value) at c.base_of-base.ensures) in
     rw (is, is_p, ← value, ← base) c.place_of_value.ensures.text
 
 pub returns-in_err-value-clause-text : goal.returns-in_err-value-clause-text
@@ -35,4 +38,5 @@ unfolding text_at
 returns-in_err-value-clause-text c = search (rules, entry_unit)
 
 pub returns-clause-within : goal.returns-clause-within
-returns-clause-within c = begins_within (sections_of c.args.entries.now) c.place_of_value.result c.place_of_value.ensures.begins
+returns-clause-within c =
+    begins_within (sections_of c.args.entries.now) c.place_of_value.result c.place_of_value.ensures.begins

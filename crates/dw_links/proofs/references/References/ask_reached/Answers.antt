@@ -15,7 +15,10 @@ pub returns-then-not-is_permitted-clause-rule : goal.returns-then-not-is_permitt
 returns-then-not-is_permitted-clause-rule c = search (rules, reached_entry, wrong_first)
 
 pub returns-then-ne-clause-rule : goal.returns-then-ne-clause-rule
-returns-then-ne-clause-rule c = least_none _ _ c.args.head.now c.args.attribute (view c.args.value.now) c.args.id c.requires.reaches c.if-not-is_permitted_form.ensures c.if-not-is_permitted.ensures.exact (λ p. let h = c.if-ne.ensures in let q = p.0 in search rules)
+returns-then-ne-clause-rule c =
+    least_none _ _ c.args.head.now c.args.attribute (view c.args.value.now) c.args.id c.requires.reaches
+    c.if-not-is_permitted_form.ensures c.if-not-is_permitted.ensures.exact
+    (λ p. let h = c.if-ne.ensures in let q = p.0 in search rules)
 
 pub returns-then-eq-clause-rule : goal.returns-then-eq-clause-rule
 returns-then-eq-clause-rule c = search (rules, least_none, right_sibling)

@@ -16,4 +16,5 @@ at_with-requires-clause-header c =
     let entries = entries_in c.args.self.now in
     let texts = c.requires.may.linkable.texts in
     let (e, is) = there (all_entries entries) c.args.id c.requires.may.within in
-    rw (is, c.requires.may.in_unit e is, c.requires.header, ap (λ (h : UnitHead). h.header) texts.head) (unit_header (units_of entries) c.args.self.now.texts.unit texts.place texts.in_unit)
+    rw (is, c.requires.may.in_unit e is, c.requires.header, ap (λ (h : UnitHead). h.header) texts.head)
+    (unit_header (units_of entries) c.args.self.now.texts.unit texts.place texts.in_unit)

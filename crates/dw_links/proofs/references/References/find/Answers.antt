@@ -9,9 +9,12 @@ use Rattle.dw_links.proofs.references.References.find.Goals as goal
 pub returns-in-Some : goal.returns-in-Some
 returns-in-Some c =
     let entries = entries_in c.args.self.now in
-    sym (entry_at_is (entries_of (units_of entries)) c.args.offset c.in-Some.id (entries_rise _ (units_of entries) entries.scanned.1.spells.are) c.in-Some.ensures)
+    sym (entry_at_is (entries_of (units_of entries)) c.args.offset c.in-Some.id
+    (entries_rise _ (units_of entries) entries.scanned.1.spells.are) c.in-Some.ensures)
 
 pub returns-in-None : goal.returns-in-None
 returns-in-None c =
     let entries = entries_in c.args.self.now in
-    entry_found (entries_of (units_of entries)) c.args.offset c.find.result (entries_rise _ (units_of entries) entries.scanned.1.spells.are) c.find.ensures.found c.find.ensures.within c.find.ensures.none
+    entry_found (entries_of (units_of entries)) c.args.offset c.find.result
+    (entries_rise _ (units_of entries) entries.scanned.1.spells.are) c.find.ensures.found c.find.ensures.within
+    c.find.ensures.none

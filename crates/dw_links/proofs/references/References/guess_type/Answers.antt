@@ -6,4 +6,6 @@ pub decl-requires : goal.decl-requires
 decl-requires c = after_within c.args.self.now c.args.offset c.in_ok-id.id c.in_ok-id.ensures
 
 pub returns : goal.returns
-returns c = type_after c.args.self.now c.args.offset c.in_ok-id.id c.in_ok-id.ensures (decl_view c.decl.result) c.decl.ensures c.if-not-is_type.ensures
+returns c =
+    type_after c.args.self.now c.args.offset c.in_ok-id.id c.in_ok-id.ensures (decl_view c.decl.result) c.decl.ensures
+    c.if-not-is_type.ensures

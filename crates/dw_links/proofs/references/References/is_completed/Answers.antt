@@ -7,4 +7,7 @@ pub decl-requires : goal.decl-requires
 decl-requires c = after_within c.args.self.now c.args.offset c.in-Some.target c.in-Some.ensures
 
 pub returns : goal.returns
-returns c = rw c.unwrap_or.ensures (declared_after c.args.self.now c.args.id c.args.offset c.in-Some.target c.in-Some.ensures (λ same. c.if-number.false (omega (arith, same, c.number.ensures, c.number-2.ensures))) (decl_view c.decl.result) c.decl.ensures c.declared.result c.declared.ensures)
+returns c =
+    rw c.unwrap_or.ensures (declared_after c.args.self.now c.args.id c.args.offset c.in-Some.target c.in-Some.ensures
+    (λ same. c.if-number.false (omega (arith, same, c.number.ensures, c.number-2.ensures))) (decl_view c.decl.result)
+    c.decl.ensures c.declared.result c.declared.ensures)

@@ -16,7 +16,11 @@ judge_by-requires-clause-may c =
     record { linkable = may.linkable; in_unit = ap (λ (h : EntryHead). h.unit) head ∙ may.in_unit e is }
 
 pub returns-clause-ok : goal.returns-clause-ok
-returns-clause-ok c = reaches_at c.args.self.now c.args.id c.args.attribute (view c.args.value.now) c.entry.result c.head-head.result c.entry.ensures c.head-head.ensures c.judge_by.result c.judge_by.ensures.ok
+returns-clause-ok c =
+    reaches_at c.args.self.now c.args.id c.args.attribute (view c.args.value.now) c.entry.result c.head-head.result
+    c.entry.ensures c.head-head.ensures c.judge_by.result c.judge_by.ensures.ok
 
 pub returns-clause-err : goal.returns-clause-err
-returns-clause-err c = failed_at c.args.self.now c.args.id c.args.attribute (view c.args.value.now) c.entry.result c.head-head.result c.entry.ensures c.head-head.ensures c.judge_by.result c.judge_by.ensures.err
+returns-clause-err c =
+    failed_at c.args.self.now c.args.id c.args.attribute (view c.args.value.now) c.entry.result c.head-head.result
+    c.entry.ensures c.head-head.ensures c.judge_by.result c.judge_by.ensures.err

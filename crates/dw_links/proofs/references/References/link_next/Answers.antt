@@ -11,7 +11,8 @@ pub link_reference-requires-clause-lead : goal.link_reference-requires-clause-le
 link_reference-requires-clause-lead c = ap is_reference_lead (sym c.lead.ensures.lead ∙ c.in-Sibling.is)
 
 pub link_reference-requires-in-Specification-clause-lead : goal.link_reference-requires-in-Specification-clause-lead
-link_reference-requires-in-Specification-clause-lead c = ap is_reference_lead (sym c.lead.ensures.lead ∙ c.in-Specification.is)
+link_reference-requires-in-Specification-clause-lead c =
+    ap is_reference_lead (sym c.lead.ensures.lead ∙ c.in-Specification.is)
 
 pub link_reference-requires-in-Entry-clause-lead : goal.link_reference-requires-in-Entry-clause-lead
 link_reference-requires-in-Entry-clause-lead c = ap is_reference_lead (sym c.lead.ensures.lead ∙ c.in-Entry.is)
@@ -33,4 +34,6 @@ pass-requires c = sym c.lead.ensures.lead ∙ c.in-Passed.is
 
 pub returns-in-Passed-clause-ok : goal.returns-in-Passed-clause-ok
 returns-in-Passed-clause-ok c =
-    passed_links c.args.self.now c.args.id c.requires.may c.args.kept (leading_left c.args.leading.now) (leading_left c.pass.new.self) (next_lead c.args.leading.now) (sym c.lead.ensures.lead ∙ c.in-Passed.is) c.pass.ensures
+    passed_links c.args.self.now c.args.id c.requires.may c.args.kept (leading_left c.args.leading.now)
+    (leading_left c.pass.new.self) (next_lead c.args.leading.now) (sym c.lead.ensures.lead ∙ c.in-Passed.is)
+    c.pass.ensures

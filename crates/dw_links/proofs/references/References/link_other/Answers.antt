@@ -19,9 +19,12 @@ unreachable-requires c =
 pub returns-clause-ok : goal.returns-clause-ok
 returns-clause-ok c =
     let item = c.next_in-item.result in
-    linked c.args.self.now c.args.id item.0 (view item.1) (leading_left c.args.leading.now) (leading_left c.next_in-item.new.self) c.next_in-item.ensures.found c.args.kept c.judge_next.result c.judge_next.ensures.ok
+    linked c.args.self.now c.args.id item.0 (view item.1) (leading_left c.args.leading.now)
+    (leading_left c.next_in-item.new.self) c.next_in-item.ensures.found c.args.kept c.judge_next.result
+    c.judge_next.ensures.ok
 
 pub returns-clause-err : goal.returns-clause-err
 returns-clause-err c =
     let item = c.next_in-item.result in
-    failed c.args.self.now c.args.id item.0 (view item.1) (leading_left c.args.leading.now) (leading_left c.next_in-item.new.self) c.next_in-item.ensures.found c.judge_next.result c.judge_next.ensures.err
+    failed c.args.self.now c.args.id item.0 (view item.1) (leading_left c.args.leading.now)
+    (leading_left c.next_in-item.new.self) c.next_in-item.ensures.found c.judge_next.result c.judge_next.ensures.err

@@ -14,6 +14,8 @@ returns-clause-linkable c =
       types = c.requires.types;
       typed = c.requires.typed;
       texts = c.read_texts.ensures.texts;
-      range = λ id e at from below. c.read_texts.ensures.unit ∙ sym (unit_in_range us c.args.unit p id e is at (omega (arith, first, from)) (omega (arith, end, below)));
+      range =
+          λ id e at from below. c.read_texts.ensures.unit
+          ∙ sym (unit_in_range us c.args.unit p id e is at (omega (arith, first, from)) (omega (arith, end, below)));
       within = omega (arith, end, ends_within us c.args.unit p is);
     }

@@ -19,8 +19,17 @@ returns-clause-reaches c =
     let es = entries_of us in
     let texts = c.requires.texts in
     let (e, is) = there es c.id-id.result (omega (arith, c.id-id.ensures, c.requires.within)) in
-    let at : c.in_ok-at.at ≡ c.args.offset + texts.place.at = omega (arith, c.in_ok-at.ensures, c.from.ensures, ap (λ (h : UnitHead). h.offset) texts.head) in
+    let at : c.in_ok-at.at ≡ c.args.offset
+    + texts.place.at = omega (arith, c.in_ok-at.ensures, c.from.ensures, ap (λ (h : UnitHead). h.offset) texts.head)
+    in
     let begins : c.offset.result ≡ e.at = rw is at c.offset.ensures in
-    reach_in_unit_is es (placed us) it.texts.unit c.args.offset c.id-id.result (entries_rise _ us (entries_in it).scanned.1.spells.are)
+    reach_in_unit_is es (placed us) it.texts.unit c.args.offset c.id-id.result
+    (entries_rise _ us (entries_in it).scanned.1.spells.are)
     (in_unit es (placed us) it.texts.unit c.args.offset c.in_ok-at.at c.id-id.result texts.place texts.in_unit at
-    (record { entry = e; is_entry = is; begins = omega (arith, begins, c.from-2.ensures, c.if-from-at.false); in_unit = sym (c.requires.range c.id-id.result e is (omega (arith, c.id-id.ensures)) (omega (arith, c.id-id.ensures))) }))
+    (record {
+      entry = e;
+      is_entry = is;
+      begins = omega (arith, begins, c.from-2.ensures, c.if-from-at.false);
+      in_unit = sym (c.requires.range c.id-id.result e is (omega (arith, c.id-id.ensures))
+          (omega (arith, c.id-id.ensures)));
+    }))

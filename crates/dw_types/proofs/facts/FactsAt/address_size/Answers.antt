@@ -18,7 +18,10 @@ returns c =
     let it = c.self.inside in
     let scanned = it.links.now.entries.now.scanned in
     let us = found_units scanned in
-    let size = IfSome_then (slice_get (placed us) c.unit-number.result) c.unit.ensures (λ u h. ap (λ (x : UnitHead). x.header.address_size) h) in
+    let size = IfSome_then (slice_get (placed us) c.unit-number.result) c.unit.ensures
+    (λ u h. ap (λ (x : UnitHead). x.header.address_size) h) in
     rw (← c.self.view_is)
-    (known _ _ _ c.self.invariant.1 c.self.invariant.0 (λ (facts : Facts). c.unit.result.header.address_size ≡ facts.address_size)
-    (unit-known _ _ us scanned.1.spells it.id c.self.invariant.0 it.entry c.self.invariant.1 c.unit-number.result c.unit-number.ensures address_size_of 0 c.unit.result.header.address_size size))
+    (known _ _ _ c.self.invariant.1 c.self.invariant.0
+    (λ (facts : Facts). c.unit.result.header.address_size ≡ facts.address_size)
+    (unit-known _ _ us scanned.1.spells it.id c.self.invariant.0 it.entry c.self.invariant.1 c.unit-number.result
+    c.unit-number.ensures address_size_of 0 c.unit.result.header.address_size size))

@@ -8,7 +8,9 @@ pub id-requires : goal.id-requires
 id-requires c = facts-below (units_held c.self.inside.links.now) c.args.self.now c.self.view_is c.args.node c.requires
 
 pub first_child-requires : goal.first_child-requires
-first_child-requires c = rw c.id.ensures (facts-below (units_held c.self.inside.links.now) c.args.self.now c.self.view_is c.args.node c.requires)
+first_child-requires c =
+    rw c.id.ensures (facts-below (units_held c.self.inside.links.now) c.args.self.now c.self.view_is c.args.node
+    c.requires)
 
 pub returns-clause-children : goal.returns-clause-children
 returns-clause-children c = search (rules, rest-same, children-same)

@@ -8,10 +8,13 @@ pub id-requires : goal.id-requires
 id-requires c = facts-below (units_held c.self.inside.links.now) c.args.self.now c.self.view_is c.args.node c.requires
 
 pub decl-requires : goal.decl-requires
-decl-requires c = rw c.id.ensures (facts-below (units_held c.self.inside.links.now) c.args.self.now c.self.view_is c.args.node c.requires)
+decl-requires c =
+    rw c.id.ensures (facts-below (units_held c.self.inside.links.now) c.args.self.now c.self.view_is c.args.node
+    c.requires)
 
 pub returns : goal.returns
 returns c =
     let us = units_held c.self.inside.links.now in
     let below = facts-below us c.args.self.now c.self.view_is c.args.node c.requires in
-    rw (← c.self.view_is) (c.is_type.ensures ∙ known-type us c.args.node (decl_view c.decl.result) below (rw c.id.ensures at c.decl.ensures))
+    rw (← c.self.view_is) (c.is_type.ensures
+    ∙ known-type us c.args.node (decl_view c.decl.result) below (rw c.id.ensures at c.decl.ensures))

@@ -10,4 +10,9 @@ pub returns-clause-few : goal.returns-clause-few
 returns-clause-few c =
     let scanned = c.args.links.now.entries.now.scanned in
     let long = length-facts_of (entries_of (found_units scanned)) (placed (found_units scanned)) in
-    rw long (omega (arith, entries_counted _ _ _ _ _ scanned, scanned_few _ _ _ _ _ scanned, c.args.links.now.entries.now.sections.info_fits))
+    rw long (omega (
+      arith,
+      entries_counted _ _ _ _ _ scanned,
+      scanned_few _ _ _ _ _ scanned,
+      c.args.links.now.entries.now.sections.info_fits,
+    ))

@@ -8,10 +8,13 @@ pub id-requires : goal.id-requires
 id-requires c = facts-below (units_held c.self.inside.links.now) c.args.self.now c.self.view_is c.args.node c.requires
 
 pub offset-requires : goal.offset-requires
-offset-requires c = rw c.id.ensures (facts-below (units_held c.self.inside.links.now) c.args.self.now c.self.view_is c.args.node c.requires)
+offset-requires c =
+    rw c.id.ensures (facts-below (units_held c.self.inside.links.now) c.args.self.now c.self.view_is c.args.node
+    c.requires)
 
 pub returns : goal.returns
 returns c =
     let us = units_held c.self.inside.links.now in
     let below = facts-below us c.args.self.now c.self.view_is c.args.node c.requires in
-    rw (← c.self.view_is) (known us c.args.node _ refl below (λ (facts : Facts). c.offset.result ≡ facts.offset) (rw c.id.ensures at c.offset.ensures))
+    rw (← c.self.view_is) (known us c.args.node _ refl below (λ (facts : Facts). c.offset.result ≡ facts.offset)
+    (rw c.id.ensures at c.offset.ensures))
