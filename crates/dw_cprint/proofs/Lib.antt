@@ -24,4 +24,5 @@ pub mod KindLemmas
 pub mod FaultLemmas
 pub mod FoundLemmas
 pub mod LengthLemmas
+pub mod PartLengthLemmas
 pub mod SummaryLemmas

@@ -17,7 +17,8 @@ use Rattle.dw_cprint.specs.declared.shape.Shape.{Shape}
 use Rattle.dw_cprint.specs.declared.shape.Shape.TheVariants as shape
 use Rattle.dw_cprint.specs.declared.summary.TheConstants.{VOID}
 use Rattle.dw_cprint.proofs.FoundLemmas.{found-none}
-use Rattle.dw_cprint.proofs.LengthLemmas.{Tells, void-length}
+use Rattle.dw_cprint.proofs.LengthLemmas.{void-length}
+use Rattle.dw_cprint.proofs.PartLengthLemmas.{Tells}
 
 -- ---- void
 

@@ -40,7 +40,8 @@ impl References<'_, '_, '_> {
         }
     }
 
-    /// The same, of a value of the entry with this number, which is looked up. Few values of compiled programs come here.
+    /// The same, of a value of the entry with this number, which is looked up. Few values of compiled programs come
+    /// here.
     #[cold]
     #[inline(never)]
     fn judge(
