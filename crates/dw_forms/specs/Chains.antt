@@ -3,6 +3,7 @@
 use Rattle.std.specs.Prelude.{◌≡◌, ℕ, zero, suc, ◌+◌, ◌-◌, ◌<◌, ◌≤◌, List, [], ◌∷◌, ◌++◌, length, map, Option}
 use Rattle.std.specs.Prelude.{Bool, true, None, Some, get_or, slice_get, option_map, ◌==◌, if◌then◌else◌}
 use Rattle.dw_forms.specs.declared.chains.Link.{Link}
+use Rattle.dw_forms.specs.declared.chains.Branches.{Branches}
 use Rattle.dw_forms.specs.CodeBits.{parts}
 
 -- an item of a chain, and its number
@@ -61,30 +62,48 @@ number_in chain code = number_where (λ c. c == code) chain
 abbrev pub IsRun : List (Numbered ℕ) → ℕ → ℕ → ℕ → Type 0
 IsRun chain run code number = (i : ℕ) → i < run → number_in chain (code + i) ≡ number - i
 
--- for each bit, the branches have the chain's first link whose code differs from this one in that bit and in none
--- below it. Those that are left out have none
-pub record AreBranches (branches : List ℕ) (from count code : ℕ) (chain : List (Numbered ℕ)) : Type 0 where
+-- no link at any of the differences
+abbrev pub no_branches : Branches
+no_branches = record { low = 0; high = 0; both = 0 }
+
+-- the branch for codes that differ so, or this number if they do not
+abbrev pub branch_by : ℕ → Branches → ℕ → ℕ
+branch_by number branches by =
+    if by == 0 then number else (if by == 1 then branches.low else (if by == 2 then branches.high else branches.both))
+
+-- the branch at a place for codes that differ so
+abbrev pub branch_at : List Branches → ℕ → ℕ → ℕ
+branch_at branches at by = branch_by 0 (get_or branches at no_branches) by
+
+-- for each place, the branches have the chain's first links whose codes differ from this one at the place and not
+-- below it, by how they differ. Those that are left out have none
+pub record AreBranches (branches : List Branches) (from count code : ℕ) (chain : List (Numbered ℕ)) : Type 0 where
   pub within : from + count ≤ length branches
-  pub each : (bit : ℕ) → bit < count → get_or branches (from + bit) 0 ≡ number_where (parts code bit) chain
-  pub others : (bit : ℕ) → count ≤ bit → bit < 64 → number_where (parts code bit) chain ≡ 0
+  pub each : (place by : ℕ) → place < count → 0 < by → by < 4
+      → branch_at branches (from + place) by ≡ number_where (parts code place by) chain
+  pub others : (place by : ℕ) → count ≤ place → place < 32 → 0 < by → by < 4
+      → number_where (parts code place by) chain ≡ 0
 
 -- the branches have numbers below this one
-abbrev pub AreBelow : List ℕ → ℕ → ℕ → ℕ → Type 0
-AreBelow branches from count number = (bit : ℕ) → bit < count → get_or branches (from + bit) 0 < number
+abbrev pub AreBelow : List Branches → ℕ → ℕ → ℕ → Type 0
+AreBelow branches from count number = (place by : ℕ) → place < count → branch_at branches (from + place) by < number
 
 -- the link of this number says how codes are found in its chain
-pub record IsFoundBy (branches : List ℕ) (links : List Link) (number : ℕ) (l : Link) : Type 0 where
+pub record IsFoundBy (branches : List Branches) (links : List Link) (number : ℕ) (l : Link) : Type 0 where
   pub first : (test : ℕ → Bool) → test l.code ≡ true → number_where test (codes_in links number) ≡ number
   pub short : l.run ≤ number
   pub run : IsRun (codes_in links number) l.run l.code number
-  pub below : AreBelow branches l.branches l.branch_count number
-  pub codes : AreBranches branches l.branches l.branch_count l.code (codes_in links number)
+  pub below : AreBelow branches l.branches l.places number
+  pub codes : AreBranches branches l.branches l.places l.code (codes_in links number)
 
 -- codes are found in the chains of these links
-abbrev pub AreFound : List ℕ → List Link → Type 0
+abbrev pub AreFound : List Branches → List Link → Type 0
 AreFound branches links =
     (k : ℕ) (l : Link) → k < length links → l ≡ get_or links k l → IsFoundBy branches links (suc k) l
 
--- the code and the chain of this number are a new chain
-abbrev pub IsAddedChain : ℕ → ℕ → List Link → List Link → ℕ → Type 0
-IsAddedChain code rest old new number = (number ≡ suc (length old)) × (codes_of new ≡ codes_of old ++ (code, rest) ∷ [])
+-- the code and the chain of this number are a new chain, unless the chain has the code
+abbrev pub IsAddedChain : ℕ → ℕ → List Link → List Link → Option ℕ → Type 0
+IsAddedChain code rest old new (Some number) =
+    (number_in (codes_in old rest) code ≡ 0) × (number ≡ suc (length old))
+    × (codes_of new ≡ codes_of old ++ (code, rest) ∷ [])
+IsAddedChain code rest old new None = (number_in (codes_in old rest) code ≡ 0 → ⊥) × (new ≡ old)

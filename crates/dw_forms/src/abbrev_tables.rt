@@ -134,11 +134,10 @@ fn push(
     ensures added { IfOk result (IsAddedTable (kept_view lists.now.nodes.items decl) rest
         (tables_of lists.now.nodes.items kept.old.items) (tables_of lists.now.nodes.items kept.new.items)) }
 {
-    if codes.find(rest, decl.code) != 0 {
-        return Ok(None);
-    }
     kept.reserve(1)?;
-    let number = codes.push(rest, decl.code)?;
+    let Some(number) = codes.push(rest, decl.code)? else {
+        return Ok(None);
+    };
     kept.push_reserved(KeptDecl {
         code: decl.code,
         tag: decl.tag,
@@ -257,7 +256,6 @@ impl AbbrevTables {
     }
 
     /// The declaration of a table that has this code, and its number.
-    #[inline(always)]
     pub fn get(&self, table: u32, code: u64) -> Option<(u32, DeclAt<'_>)>
         requires searchable { AreSearchable self.now }
         requires table { table < length (tables_in self.now) }

@@ -17,7 +17,6 @@ use crate::form::Form;
 use std::alloc::{AllocError, Global};
 
 /// The size of each value of the form, 0 where they have no one size.
-#[inline(always)]
 fn known_size(form: Form, address_size: u8) -> u32
     ensures same { result ≡ known_size address_size form }
     ensures small { result ≤ 0xff }
@@ -29,7 +28,6 @@ fn known_size(form: Form, address_size: u8) -> u32
 }
 
 /// Whether the values of the form have no one size.
-#[inline(always)]
 fn does_vary(form: Form) -> bool
     ensures { result ≡ does_vary form }
 {
@@ -96,7 +94,6 @@ pub fn is_stop(spec: &AttributeSpec) -> bool
 }
 
 /// Whether values of the form may lead elsewhere: to a string, an address or an entry, or by another form.
-#[inline(always)]
 fn may_lead(form: Form) -> bool
     ensures { result ≡ may_lead form }
 {
@@ -105,7 +102,6 @@ fn may_lead(form: Form) -> bool
 
 /// Whether the value of the attribute may lead elsewhere. That of a type may by its code, and so may the bases of
 /// contributions.
-#[inline(always)]
 fn does_lead(spec: &AttributeSpec) -> bool
     ensures { result ≡ does_lead spec.now }
 {
@@ -268,7 +264,6 @@ pub struct Node {
 
 impl Node {
     /// The attribute and its form.
-    #[inline(always)]
     pub fn spec(&self) -> AttributeSpec
         ensures { result ≡ spec_of self.now }
     {
@@ -290,7 +285,6 @@ pub struct AttributeLists {
 }
 
 /// The number, if this is true, and else another one.
-#[inline(always)]
 fn number_or(number: u32, is: bool, next: u32) -> u32
     ensures { result ≡ (if is then number else next) }
 {
@@ -399,13 +393,11 @@ impl AttributeLists {
         ensures added { IfOk result (AddedSpec spec rest self.old.nodes.items self.new.nodes.items) }
     {
         let next = self.node(rest);
-        if self.has(rest, &next, spec.attribute) {
-            return Ok(None);
-        }
         let after = self.step(rest);
         self.nodes.reserve(1)?;
         match self.codes.push(rest, u64::from(spec.attribute.0)) {
-            Ok(number) => {
+            Ok(None) => Ok(None),
+            Ok(Some(number)) => {
                 let node = node_before(number, spec, rest, next, after);
                 self.nodes.push_reserved(node);
                 Ok(Some(number))

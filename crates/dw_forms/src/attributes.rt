@@ -75,7 +75,6 @@ impl<'a> Attributes<'a> {
     ghost use Rattle.dw_forms.specs.Suffixes.{specs_in, nodes_of, numbered, Ends, IsFrom, IsSplitFirst, IsSplitStep};
 
     /// The list of a number.
-    #[inline(always)]
     pub(crate) fn new(lists: &'a AttributeLists, first: u32) -> Attributes<'a>
         requires { first ≤ length lists.now.nodes.items }
         ensures lists { nodes_of result ≡ lists.now.nodes.items }
@@ -109,7 +108,6 @@ impl<'a> Attributes<'a> {
     }
 
     /// Whether each form is one of version 4.
-    #[inline(always)]
     pub fn in_version_4(&self) -> bool
         ensures { result ≡ are_allowed 4 (specs_in self.now) }
     {
@@ -166,7 +164,6 @@ impl<'a> Attributes<'a> {
 
     /// The attributes from the first one on at which a search stops, or none: its value takes bytes, or has a class
     /// that is none of the attribute's.
-    #[inline(always)]
     pub fn next_stop(&self) -> Attributes<'a>
         ensures { IsFrom is_stop self.now result }
     {
@@ -177,7 +174,6 @@ impl<'a> Attributes<'a> {
     }
 
     /// The attributes from the one on that a step from these goes to, or none.
-    #[inline(always)]
     pub fn stepped(&self, step: &Step) -> Attributes<'a>
         requires { IsStep (numbered self.now) step.now }
         ensures nodes { nodes_of result ≡ nodes_of self.now }

@@ -65,7 +65,6 @@ impl Decls {
     ghost use Rattle.dw_forms.specs.KeptDecls.{decl_of, decl_view};
 
     /// The declaration of a number.
-    #[inline(always)]
     pub fn decl(&self, number: u32) -> DeclAt<'_>
         requires some { 0 < number }
         requires within { number ≤ length self.now.kept.items }
@@ -100,7 +99,6 @@ impl<'a> DeclAt<'a> {
     ghost use Rattle.dw_forms.specs.Walks.{IsStep};
 
     /// A declaration with the lists of its attributes.
-    #[inline(always)]
     pub(crate) fn new(kept: &'a KeptDecl, lists: &'a AttributeLists) -> DeclAt<'a>
         requires { HasList lists.now.nodes.items kept.now.first kept.now.step kept.now.place kept.now.declared
             kept.now.whole }
@@ -111,14 +109,12 @@ impl<'a> DeclAt<'a> {
     }
 
     /// The number by which entries name the declaration, at least 1.
-    #[inline(always)]
     pub fn code(&self) -> u64
         ensures { result ≡ (decl_view self.now).code }
     {
         self.kept.code
     }
 
-    #[inline(always)]
     pub fn tag(&self) -> Tag
         ensures { result ≡ (decl_view self.now).tag }
     {
@@ -126,7 +122,6 @@ impl<'a> DeclAt<'a> {
     }
 
     /// Whether a list of children follows each entry.
-    #[inline(always)]
     pub fn has_children(&self) -> bool
         ensures { result ≡ (decl_view self.now).has_children }
     {
@@ -134,7 +129,6 @@ impl<'a> DeclAt<'a> {
     }
 
     /// In the order of their values in an entry. No attribute is there twice.
-    #[inline(always)]
     pub fn attributes(&self) -> Attributes<'a>
         ensures specs { specs_in result ≡ (decl_view self.now).attributes }
         ensures numbered { numbered result ≡ numbered_of self.now }
@@ -143,7 +137,6 @@ impl<'a> DeclAt<'a> {
     }
 
     /// The step to the first attribute at which a walk over the values that may lead elsewhere stops.
-    #[inline(always)]
     pub fn step(&self) -> &'a Step
         ensures { IsStep (numbered_of self.now) result.now }
     {
@@ -172,7 +165,6 @@ impl<'a> DeclAt<'a> {
     }
 
     /// Whether the entries are types, as `Tag::is_type` says.
-    #[inline(always)]
     pub fn is_type(&self) -> bool
         ensures { result ≡ is_type_tag (decl_view self.now).tag }
     {
@@ -181,7 +173,6 @@ impl<'a> DeclAt<'a> {
 
     /// Whether DW_AT_declaration of each entry is true: if it has the form DW_FORM_flag_present, it is, and if it is
     /// absent, it is not (DWARF 5, section 7.5.5). None if that depends on the entry's value.
-    #[inline(always)]
     pub fn declared(&self) -> Option<bool>
         ensures { result ≡ flag_in DW_AT_declaration (decl_view self.now).attributes }
     {
@@ -209,7 +200,6 @@ impl<'a> DeclAt<'a> {
     }
 
     /// Whether a unit of this version may have all forms of the declaration.
-    #[inline(always)]
     #[tactic(auto, using(crate::proofs::AllowedForms::all_allowed))]
     pub fn allows(&self, version: u16) -> bool
         requires { (version ≡ 4) ⊎ (version ≡ 5) }

@@ -145,7 +145,6 @@ impl Form {
 
     /// Whether a value in a unit of this version may have the form: in version 4 those of the codes 0x01, 0x03 to
     /// 0x19 and 0x20, in version 5 all.
-    #[inline(always)]
     pub fn allowed(self, version: u16) -> bool
         ensures { result ≡ is_allowed version self }
     {
@@ -196,7 +195,6 @@ impl Form {
 
     /// Whether values of the form may be references: those of class reference, and those that name another form
     /// (7.5.5).
-    #[inline(always)]
     pub fn may_refer(self) -> bool
         ensures { result ≡ may_refer self }
     {
@@ -215,7 +213,6 @@ impl Form {
 
     /// Whether values of the form may lead out of .debug_info: offsets or indices of strings, indices of addresses,
     /// and those that name another form (7.5.5).
-    #[inline(always)]
     pub fn may_lead_out(self) -> bool
         ensures { result ≡ may_lead_out self }
     {

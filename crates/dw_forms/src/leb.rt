@@ -58,7 +58,6 @@ fn long_uleb(bytes: &[u8]) -> Result<(u64, usize), NumberFault>
 }
 
 /// Most numbers have one byte or two.
-#[inline(always)]
 fn uleb(bytes: &[u8]) -> Result<(u64, usize), NumberFault>
     ensures { result ≡ uleb_at bytes.now }
 {

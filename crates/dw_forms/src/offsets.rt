@@ -105,7 +105,6 @@ impl Offsets {
     }
 
     /// The number of what begins at an offset, if it was entered, or 0.
-    #[inline(always)]
     pub fn find(&self, offset: usize) -> u32
         ensures begins { 0 < result → BeginsAt self.now.starts.items result offset }
         ensures none { result ≡ 0 → (from : ℕ) → AreKnownFrom from self.now.starts.items self.now.numbers.items
