@@ -1,5 +1,5 @@
 -- Chapter: the bytes of a section by its name, and the six sections of a file.
-use Rattle.std.specs.Prelude.{◌≡◌, ◌⊎◌, List, [], ℕ, length, take, drop}
+use Rattle.std.specs.Prelude.{◌≡◌, ◌⊎◌, ◌+◌, ◌-◌, List, [], ℕ, length, take, drop}
 use Rattle.dw_elf.specs.declared.sections.Sections.{Sections}
 use Rattle.dw_elf.specs.declared.sections.DebugSection.TheVariants.{Abbrev, Info, Str, LineStr, StrOffsets, Addr}
 use Rattle.dw_elf.specs.Elf.{IsHeader, section_name, section_bytes}
@@ -18,7 +18,7 @@ IsSection file name bytes =
     ((k : ℕ) × HasOne file name k × (bytes ≡ section_bytes file k))
     ⊎ (HasNoSection file name × (bytes ≡ []))
 
--- each of the six has the bytes of the section of its name
+-- each of the six has the bytes of the section of its name, .debug_info from its start
 pub record AreSections (file : List ℕ) (s : Sections) : Type 0 where
   pub abbrev_is : IsSection file (name_of Abbrev) s.abbrev.now
   pub info_is : IsSection file (name_of Info) s.info.now
@@ -26,6 +26,17 @@ pub record AreSections (file : List ℕ) (s : Sections) : Type 0 where
   pub line_str_is : IsSection file (name_of LineStr) s.line_str.now
   pub str_offsets_is : IsSection file (name_of StrOffsets) s.str_offsets.now
   pub addr_is : IsSection file (name_of Addr) s.addr.now
+  pub base_is : s.base ≡ 0
+
+-- a part of sections: the bytes of .debug_info from an offset up to another, and all of the other sections
+pub record IsPart (s : Sections) (from to : ℕ) (part : Sections) : Type 0 where
+  pub info_is : part.info.now ≡ take (to - from) (drop from s.info.now)
+  pub base_is : part.base ≡ s.base + from
+  pub abbrev_is : part.abbrev ≡ s.abbrev
+  pub str_is : part.str ≡ s.str
+  pub line_str_is : part.line_str ≡ s.line_str
+  pub str_offsets_is : part.str_offsets ≡ s.str_offsets
+  pub addr_is : part.addr ≡ s.addr
 
 -- these bytes are in the file from an offset on
 abbrev pub IsAt : List ℕ → ℕ → List ℕ → Type 0

@@ -34,6 +34,7 @@ fn sections_of<'a>(file: &[u8], found: &Found<'a>) -> Sections<'a>
         line_str: bytes_of(found, DebugSection::LineStr),
         str_offsets: bytes_of(found, DebugSection::StrOffsets),
         addr: bytes_of(found, DebugSection::Addr),
+        base: 0,
     }
 }
 

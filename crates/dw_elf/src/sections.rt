@@ -1,7 +1,7 @@
 //! The six sections: their names, their bytes within the size limit, and what headers so far name of them.
 
-ghost use Rattle.std.specs.Prelude.{◌≡◌, ◌≢◌, ◌↔◌, ◌<◌, ◌≤◌, ◌⊎◌, Some, None, [], length, unwrap_or, IfOk, IsErr};
-ghost use Rattle.std.specs.Prelude.{IfSome, IfNone, IsTrue};
+ghost use Rattle.std.specs.Prelude.{◌≡◌, ◌≢◌, ◌↔◌, ◌<◌, ◌≤◌, ◌⊎◌, ◌+◌, Some, None, [], length, unwrap_or, IfOk};
+ghost use Rattle.std.specs.Prelude.{IfSome, IfNone, IsTrue, IsErr};
 ghost use Rattle.std.specs.Option.{option_copied};
 ghost use Rattle.dw_elf.specs.Names.{name_of, IsWanted, IsZdebug};
 ghost use Rattle.dw_elf.specs.Limits.{section_limit};
@@ -54,8 +54,11 @@ pub struct Sections<'a> {
     pub str_offsets: &'a [u8],
     /// .debug_addr: addresses, by index (7.27).
     pub addr: &'a [u8],
+    /// Where `info` starts in .debug_info: 0, unless `info` is some of its units. Offsets in form ref_addr count from
+    /// the start of .debug_info (7.5.5).
+    pub base: u32,
     ghost abbrev_fits: { length «abbrev».now ≤ section_limit },
-    ghost info_fits: { length info.now ≤ section_limit },
+    ghost info_fits: { base + length info.now ≤ section_limit },
     ghost str_fits: { length str.now ≤ section_limit },
     ghost line_str_fits: { length line_str.now ≤ section_limit },
     ghost str_offsets_fits: { length str_offsets.now ≤ section_limit },
@@ -63,6 +66,8 @@ pub struct Sections<'a> {
 }
 
 impl<'a> Sections<'a> {
+    ghost use Rattle.dw_elf.specs.Sections.{IsPart};
+
     /// The six slices as sections, if each of them is within the limit.
     pub fn new(
         abbrev: &'a [u8],
@@ -78,6 +83,7 @@ impl<'a> Sections<'a> {
         ensures line_str { IfOk result (λ s. s.line_str ≡ line_str.entry) }
         ensures str_offsets { IfOk result (λ s. s.str_offsets ≡ str_offsets.entry) }
         ensures addr { IfOk result (λ s. s.addr ≡ addr.entry) }
+        ensures base { IfOk result (λ s. s.base ≡ 0) }
         ensures too_large { IsErr result ↔ ((section_limit < length «abbrev».now)
             ⊎ (section_limit < length info.now) ⊎ (section_limit < length str.now)
             ⊎ (section_limit < length line_str.now) ⊎ (section_limit < length str_offsets.now)
@@ -99,7 +105,25 @@ impl<'a> Sections<'a> {
             line_str,
             str_offsets,
             addr,
+            base: 0,
         })
+    }
+
+    /// These sections with a part of .debug_info: its bytes from an offset up to another.
+    pub fn part(&self, from: usize, to: usize) -> Sections<'a>
+        requires order { from ≤ to }
+        requires within { to ≤ length self.now.info.now }
+        ensures { IsPart self.now from to result }
+    {
+        Sections {
+            abbrev: self.abbrev,
+            info: &self.info[from..to],
+            str: self.str,
+            line_str: self.line_str,
+            str_offsets: self.str_offsets,
+            addr: self.addr,
+            base: self.base + from as u32,
+        }
     }
 }
 

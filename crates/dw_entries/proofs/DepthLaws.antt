@@ -189,8 +189,8 @@ abbrev pub height : Option ℕ → ℕ
 height None = 0
 height (Some p) = suc p
 
-module _ (a info : List ℕ) (tables : Tables) (rs : List UnitRecord) (records : List Record)
-    (s : Scanned a info tables rs records) where
+module _ {base : ℕ} (a info : List ℕ) (tables : Tables) (rs : List UnitRecord) (records : List Record)
+    (s : Scanned base a info tables rs records) where
   -- the record of an entry has its parent
   parent_kept : (id : ℕ) (r : Record) (e : Entry) → slice_get records id ≡ Some r
       → slice_get (entries_of (found_units s)) id ≡ Some e → r.parent ≡ e.parent

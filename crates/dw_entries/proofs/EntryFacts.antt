@@ -1,5 +1,5 @@
 -- What holds of the entries and of the units of a list: order, numbers in range, and where each unit begins.
-use Rattle.std.proofs.Common.{◌≡◌, ℕ, zero, suc, ◌+◌, ◌<◌, ◌≤◌, List, [], ◌∷◌, ◌++◌, length, Option, Some, None, refl, sym, ap, subst, ◌∙◌, arith, length-append}
+use Rattle.std.proofs.Common.{◌≡◌, ℕ, zero, suc, ◌+◌, ◌<◌, ◌≤◌, List, [], ◌∷◌, ◌++◌, length, Option, Some, None, refl, sym, ap, subst, ◌∙◌, arith, map, length-append}
 use Rattle.std.specs.Prelude.{slice_get}
 use Rattle.std.proofs.lemmas.Option.{slice_get-map}
 use Rattle.dw_entries.specs.declared.walk.Record.{Record}
@@ -8,10 +8,19 @@ use Rattle.dw_entries.specs.Header.{header_size}
 use Rattle.dw_entries.specs.Tree.{Node, Nodes, leaf, parent, none, ◌then◌, node_bytes}
 use Rattle.dw_entries.specs.Units.{DebugUnit, head_of, unit_bytes, AreUnits, units_bytes}
 use Rattle.dw_entries.specs.Entries.{Entry, node_count, nodes_count, first_id, node_entries, nodes_entries, entries_from, entries_of, PlacedUnit, placed_from, placed}
+use Rattle.dw_entries.specs.UnitLaws.{with_base}
 use Rattle.dw_entries.specs.Records.{records_kept}
 use Rattle.dw_entries.specs.Scanned.{record_of, records_of}
 use Rattle.dw_entries.specs.Asked.{OffsetsRise}
 use Rattle.dw_entries.proofs.OrderLaws.{Rises, units_rise}
+
+-- the entries of units do not depend on their base
+pub entries_based : (base unit id at : ℕ) (us : List DebugUnit)
+    → entries_from unit id at (map (with_base base) us) ≡ entries_from unit id at us
+entries_based base unit id at [] = refl
+entries_based base unit id at (u ∷ us) =
+    ap (λ (es : List Entry). node_entries unit None 0 None id (at + header_size u.header.kind) u.root ++ es)
+    (entries_based base (suc unit) (id + node_count u.root) (at + length (unit_bytes u)) us)
 
 -- ---- the entries stand in rising offset
 

@@ -1,5 +1,6 @@
 -- One list of units at most, one fault at most, and never both.
 use Rattle.std.proofs.Common.{rules, ◌≡◌, ℕ, zero, suc, true, true≢false, map, List, [], ◌∷◌, ◌++◌, length, Option, Some, Ok, Err, inl, inr, refl, sym, ap, ◌∙◌, append_assoc, append-nil, arith, length-append}
+use Rattle.std.specs.List.{AllByRecursion}
 use Rattle.dw_entries.specs.declared.fault.Failing.{Failing}
 use Rattle.dw_entries.specs.declared.fault.Broken.{Broken}
 use Rattle.dw_entries.specs.declared.header.HeaderKind.{HeaderKind}
@@ -8,11 +9,11 @@ use Rattle.dw_entries.specs.Header.{fits_tag}
 use Rattle.dw_entries.specs.Tree.{Node, IsNode, node_bytes}
 use Rattle.dw_entries.specs.Items.{Item, entry, null, item_bytes, IsItem, AreItems, items_bytes, node_items, tree_depth}
 use Rattle.dw_entries.specs.Reading.{code_at, next_at, null_first}
-use Rattle.dw_entries.specs.Units.{DebugUnit, head_of, nulls_bytes, AreNulls, unit_bytes, IsUnit, AreUnits, units_bytes, Spells}
+use Rattle.dw_entries.specs.Units.{DebugUnit, head_of, nulls_bytes, AreNulls, unit_bytes, IsUnit, units_bytes, Spells}
 use Rattle.dw_entries.specs.Faults.{FitsUnit, Stops, BodyFails, FailsHere, Fails}
 use Rattle.dw_entries.specs.Joined.{begins, append-is-nil}
 use Rattle.dw_entries.specs.ReadingLaws.{code_again, item_some, item_again, item_unique, first_again}
-use Rattle.dw_entries.specs.UnitLaws.{unit_header, units_begin}
+use Rattle.dw_entries.specs.UnitLaws.{IsBased, with_base, bytes_based, unit_header, units_begin}
 use Rattle.dw_entries.proofs.HeadLaws.{all-append}
 use Rattle.dw_entries.proofs.NullLaws.{fits_node}
 use Rattle.dw_entries.proofs.ItemLaws.{items_bytes-append, node_spelled, node_are_items, nulls_are_items, nulls_spelled, whole_depth, nothing_after}
@@ -98,15 +99,15 @@ pub no_list : (a : List ℕ) (bytes : List ℕ) (us : List DebugUnit) (f : Broke
 no_list a bytes us f p b =
     let e : units_bytes b.units ++ b.rest
     ≡ units_bytes us ++ [] = sym b.parts ∙ p.parts ∙ sym (append-nil (units_bytes us)) in
-    elim (units_begin a b.units us b.rest [] b.are p.are e) [
+    elim (units_begin 0 a b.units us b.rest [] b.are p.are e) [
       | inl g ↦ inside g.more g.are g.rest
       | inr g ↦ b.more (append-is-nil (units_bytes g.more) b.rest (sym g.rest))
     ]
   where
-    inside : (more : List DebugUnit) → AreUnits a more → b.rest ≡ units_bytes more ++ [] → ⊥
+    inside : (more : List DebugUnit) → AllByRecursion (IsBased 0 a) more → b.rest ≡ units_bytes more ++ [] → ⊥
     inside [] are rest = b.more rest
     inside (u ∷ more) are rest =
-        unit_or_fault a (length (units_bytes b.units)) b.rest f u (units_bytes more ++ []) b.fails are.0
+        unit_or_fault a (length (units_bytes b.units)) b.rest f u (units_bytes more ++ []) b.fails are.0.0
         (rest ∙ append_assoc (unit_bytes u) (units_bytes more) [])
 
 -- ---- one fault at most
@@ -144,15 +145,19 @@ one_here a header rest f g p q = search (rules, one_in_body)
 
 -- the units before a fault are all that stand there
 last_units : (a : List ℕ) (bytes : List ℕ) (f g : Broken) (b : Fails a bytes f) (c : Fails a bytes g)
-    (more : List DebugUnit) → AreUnits a more → c.units ≡ b.units ++ more → b.rest ≡ units_bytes more ++ c.rest → f ≡ g
-last_units a bytes f g b c [] are units rest = search (rules, append-nil, one_here)
+    (more : List DebugUnit) → AllByRecursion (IsBased 0 a) more
+    → map (with_base 0) c.units ≡ map (with_base 0) b.units ++ more → b.rest ≡ units_bytes more ++ c.rest → f ≡ g
+last_units a bytes f g b c [] are units rest =
+    let same : units_bytes c.units ≡ units_bytes b.units = sym (bytes_based 0 c.units)
+    ∙ ap units_bytes (units ∙ append-nil (map (with_base 0) b.units)) ∙ bytes_based 0 b.units in
+    one_here a (length (units_bytes b.units)) b.rest f g b.fails (rw (← same, rest) c.fails)
 last_units a bytes f g b c (u ∷ more) are units rest = search (rules, unit_or_fault, append_assoc)
 
 -- there is one fault at most
 pub one_fault : (a : List ℕ) (bytes : List ℕ) (f g : Broken) → Fails a bytes f → Fails a bytes g → f ≡ g
 one_fault a bytes f g b c =
     let e : units_bytes b.units ++ b.rest ≡ units_bytes c.units ++ c.rest = sym b.parts ∙ c.parts in
-    elim (units_begin a b.units c.units b.rest c.rest b.are c.are e) [
+    elim (units_begin 0 a b.units c.units b.rest c.rest b.are c.are e) [
       | inl on ↦ last_units a bytes f g b c on.more on.are on.items on.rest
       | inr on ↦ sym (last_units a bytes g f c b on.more on.are on.items on.rest)
     ]

@@ -23,8 +23,8 @@ IsFirstFrom records offset number =
 read_at : (records : List Record) (i : ℕ) (r : Record) → slice_get records i ≡ Some r → get_or records i r ≡ r
 read_at records i r is = search (rules, slice_get-get_or, slice_get_within)
 
-module _ (a info : List ℕ) (tables : Tables) (rs : List UnitRecord) (records : List Record)
-    (s : Scanned a info tables rs records) where
+module _ {base : ℕ} (a info : List ℕ) (tables : Tables) (rs : List UnitRecord) (records : List Record)
+    (s : Scanned base a info tables rs records) where
   pub entries_counted : length records ≡ length (entries_of (found_units s))
   entries_counted = ap length s.1.entries ∙ length-map (entries_of (found_units s)) (record_of (numbers_of tables rs))
 

@@ -57,8 +57,8 @@ unit_kept tables rs ps zip k p is =
     some_and (slice_get rs k) (λ r. IsKept tables r p) at_p
 
 -- an entry of this number, with its unit and what is kept of both
-pub record KeptEntry (a info : List ℕ) (tables : Tables) (rs : List UnitRecord) (records : List Record)
-    (s : Scanned a info tables rs records) (id : ℕ) : Type 0 where
+pub record KeptEntry {base : ℕ} (a info : List ℕ) (tables : Tables) (rs : List UnitRecord) (records : List Record)
+    (s : Scanned base a info tables rs records) (id : ℕ) : Type 0 where
   pub entry : Entry
   pub is_entry : slice_get (entries_of (found_units s)) id ≡ Some entry
   pub is_record : slice_get records id ≡ Some (record_of (numbers_of tables rs) entry)
@@ -68,8 +68,8 @@ pub record KeptEntry (a info : List ℕ) (tables : Tables) (rs : List UnitRecord
   pub header : unit_record.header ≡ stands.unit.header
   pub table : items_of (chain_in tables unit_record.table) ≡ stands.unit.table
 
-pub kept_entry : (a info : List ℕ) (tables : Tables) (rs : List UnitRecord) (records : List Record)
-    (s : Scanned a info tables rs records) (id : ℕ)
+pub kept_entry : {base : ℕ} (a info : List ℕ) (tables : Tables) (rs : List UnitRecord) (records : List Record)
+    (s : Scanned base a info tables rs records) (id : ℕ)
     → id < length (entries_of (found_units s)) → KeptEntry a info tables rs records s id
 kept_entry a info tables rs records s id within = elim (slice_get_cases (entries_of (found_units s)) id).1 [
   | inr past ↦ absurd (omega (arith, past.0, within))
@@ -96,8 +96,8 @@ kept_entry a info tables rs records s id within = elim (slice_get_cases (entries
 pub read_is : {A : Type 0} (xs : List A) (k : ℕ) (x y : A) → slice_get xs k ≡ Some x → y ≡ get_or xs k y → y ≡ x
 read_is xs k x y is read = read ∙ get_or_from_slice_get xs k x y is
 
-module _ {a info : List ℕ} {tables : Tables} {rs : List UnitRecord} {records : List Record}
-    {s : Scanned a info tables rs records} {id : ℕ} (k : KeptEntry a info tables rs records s id) where
+module _ {base : ℕ} {a info : List ℕ} {tables : Tables} {rs : List UnitRecord} {records : List Record}
+    {s : Scanned base a info tables rs records} {id : ℕ} (k : KeptEntry a info tables rs records s id) where
   -- a fact of the entry of this number
   pub of_entry : (P : Entry → Type 0) → P k.entry → IfSome (slice_get (entries_of (found_units s)) id) P
   of_entry P p = rw k.is_entry p
@@ -157,8 +157,8 @@ module _ {a info : List ℕ} {tables : Tables} {rs : List UnitRecord} {records :
   header_is number u same read = search (rules, read_is, of_entry)
 
 -- the declaration of an entry is the one of its number
-module _ (decls : Decls) {a info : List ℕ} {rs : List UnitRecord} {records : List Record}
-    {s : Scanned a info (tables_among decls) rs records} {id : ℕ}
+module _ (decls : Decls) {base : ℕ} {a info : List ℕ} {rs : List UnitRecord} {records : List Record}
+    {s : Scanned base a info (tables_among decls) rs records} {id : ℕ}
     (k : KeptEntry a info (tables_among decls) rs records s id) where
   abbrev nodes : List Node
   nodes = decls.lists.nodes.items
@@ -189,8 +189,8 @@ module _ (decls : Decls) {a info : List ℕ} {rs : List UnitRecord} {records : L
         of_entry k (λ e. d ≡ e.head.decl) (one_some (decl_of nodes kept r.decl) d k.entry.head.decl found decl_stands)
 
 -- an entry's declaration is one of those that are kept
-pub declared_among : (a info : List ℕ) (decls : Decls) (rs : List UnitRecord) (records : List Record)
-    (s : Scanned a info (tables_among decls) rs records) (id : ℕ) (e : Entry)
+pub declared_among : {base : ℕ} (a info : List ℕ) (decls : Decls) (rs : List UnitRecord) (records : List Record)
+    (s : Scanned base a info (tables_among decls) rs records) (id : ℕ) (e : Entry)
     → slice_get (entries_of (found_units s)) id ≡ Some e → IsKeptIn decls e.head.decl
 declared_among a info decls rs records s id e is =
     let k = kept_entry a info (tables_among decls) rs records s id
@@ -200,8 +200,8 @@ declared_among a info decls rs records s id e is =
     subst P same (numbers_of (tables_among decls) rs k.entry.unit k.entry.head.decl.code, entry_decl decls k)
 
 -- and each of its attributes is one of those that are kept
-pub specs_among : (a info : List ℕ) (decls : Decls) (rs : List UnitRecord) (records : List Record)
-    (s : Scanned a info (tables_among decls) rs records) (id : ℕ) (e : Entry)
+pub specs_among : {base : ℕ} (a info : List ℕ) (decls : Decls) (rs : List UnitRecord) (records : List Record)
+    (s : Scanned base a info (tables_among decls) rs records) (id : ℕ) (e : Entry)
     → slice_get (entries_of (found_units s)) id ≡ Some e → HasSpecsIn decls e.head.decl
 specs_among a info decls rs records s id e is =
     let (number, found) = declared_among a info decls rs records s id e is in
@@ -209,8 +209,8 @@ specs_among a info decls rs records s id e is =
 
 -- ---- a unit
 
-pub record KeptUnit (a info : List ℕ) (tables : Tables) (rs : List UnitRecord) (records : List Record)
-    (s : Scanned a info tables rs records) (number : ℕ) : Type 0 where
+pub record KeptUnit {base : ℕ} (a info : List ℕ) (tables : Tables) (rs : List UnitRecord) (records : List Record)
+    (s : Scanned base a info tables rs records) (number : ℕ) : Type 0 where
   pub place : PlacedUnit
   pub is_place : slice_get (placed (found_units s)) number ≡ Some place
   pub unit_record : UnitRecord
@@ -218,8 +218,8 @@ pub record KeptUnit (a info : List ℕ) (tables : Tables) (rs : List UnitRecord)
   pub kept : IsKept tables unit_record place
   pub first : HasFirst (entries_of (found_units s)) place.first number place
 
-pub kept_unit : (a info : List ℕ) (tables : Tables) (rs : List UnitRecord) (records : List Record)
-    (s : Scanned a info tables rs records) (number : ℕ) → number < length (found_units s)
+pub kept_unit : {base : ℕ} (a info : List ℕ) (tables : Tables) (rs : List UnitRecord) (records : List Record)
+    (s : Scanned base a info tables rs records) (number : ℕ) → number < length (found_units s)
     → KeptUnit a info tables rs records s number
 kept_unit a info tables rs records s number within = elim (slice_get_cases (placed (found_units s)) number).1 [
   | inr past ↦ absurd (omega (arith, past.0, within, length-placed_from 0 0 (found_units s)))
@@ -229,8 +229,8 @@ kept_unit a info tables rs records s number within = elim (slice_get_cases (plac
 abbrev told : ℕ → UnitHeader → UnitType → ℕ → UnitHead
 told offset header unit_type first = record { offset = offset; header = header; unit_type = unit_type; first = first }
 
-module _ {a info : List ℕ} {tables : Tables} {rs : List UnitRecord} {records : List Record}
-    {s : Scanned a info tables rs records} {number : ℕ} (k : KeptUnit a info tables rs records s number) where
+module _ {base : ℕ} {a info : List ℕ} {tables : Tables} {rs : List UnitRecord} {records : List Record}
+    {s : Scanned base a info tables rs records} {number : ℕ} (k : KeptUnit a info tables rs records s number) where
   pub number_within : number < length rs
   number_within = slice_get_within rs number k.unit_record k.is_unit_record
 
@@ -260,7 +260,7 @@ module _ {a info : List ℕ} {tables : Tables} {rs : List UnitRecord} {records :
         rw k.is_place (λ i. told (kept_is.at i) (kept_is.header i) (type_is i) (number_is i))
 
 -- as many records as units
-pub units_counted : (a info : List ℕ) (tables : Tables) (rs : List UnitRecord) (records : List Record)
-    (s : Scanned a info tables rs records) → length rs ≡ length (found_units s)
+pub units_counted : {base : ℕ} (a info : List ℕ) (tables : Tables) (rs : List UnitRecord) (records : List Record)
+    (s : Scanned base a info tables rs records) → length rs ≡ length (found_units s)
 units_counted a info tables rs records s =
     sym (AllZip-long (IsKept tables) rs (placed (found_units s)) s.1.kept) ∙ length-placed_from 0 0 (found_units s)

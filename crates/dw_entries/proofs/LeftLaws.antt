@@ -23,8 +23,8 @@ use Rattle.dw_entries.proofs.HeadLaws.{all_get}
 use Rattle.dw_entries.proofs.KeptLaws.{KeptEntry, of_entry, from_entry}
 use Rattle.dw_entries.proofs.ValueSteps.{value_of_none}
 
-module _ {a info : List ℕ} {tables : Tables} {rs : List UnitRecord} {records : List Record}
-    {s : Scanned a info tables rs records} {id : ℕ} (k : KeptEntry a info tables rs records s id)
+module _ {base : ℕ} {a info : List ℕ} {tables : Tables} {rs : List UnitRecord} {records : List Record}
+    {s : Scanned base a info tables rs records} {id : ℕ} (k : KeptEntry a info tables rs records s id)
     (header : UnitHeader) (specs : List AttributeSpec) (bytes : List ℕ) (version : ℕ)
     (of_unit : IfSome (slice_get (entries_of (found_units s)) id)
     (λ e. IfSome (slice_get (found_units s) e.unit) (λ v. header ≡ v.header)))
@@ -64,8 +64,8 @@ module _ {a info : List ℕ} {tables : Tables} {rs : List UnitRecord} {records :
       of_entry k (λ e. map value_of m.0.0 ≡ values_of e.head) (ap (map value_of) same)
 
 -- the attributes of the declaration of an entry
-pub specs_here : {a info : List ℕ} {tables : Tables} {rs : List UnitRecord} {records : List Record}
-    {s : Scanned a info tables rs records} {id : ℕ} (k : KeptEntry a info tables rs records s id) (d : Declaration)
+pub specs_here : {base : ℕ} {a info : List ℕ} {tables : Tables} {rs : List UnitRecord} {records : List Record}
+    {s : Scanned base a info tables rs records} {id : ℕ} (k : KeptEntry a info tables rs records s id) (d : Declaration)
     (specs : List AttributeSpec)
     → IfSome (slice_get (entries_of (found_units s)) id) (λ e. d ≡ e.head.decl) → specs ≡ d.attributes
     → IfSome (slice_get (entries_of (found_units s)) id) (λ e. specs ≡ e.head.decl.attributes)
@@ -76,8 +76,8 @@ specs_here k d specs of_decl are =
 -- ---- the value of one attribute
 
 -- an attribute that is not declared has no value
-pub undeclared : {a info : List ℕ} {tables : Tables} {rs : List UnitRecord} {records : List Record}
-    {s : Scanned a info tables rs records} {id : ℕ} (k : KeptEntry a info tables rs records s id)
+pub undeclared : {base : ℕ} {a info : List ℕ} {tables : Tables} {rs : List UnitRecord} {records : List Record}
+    {s : Scanned base a info tables rs records} {id : ℕ} (k : KeptEntry a info tables rs records s id)
     (specs : List AttributeSpec) (attribute : ℕ)
     → IfSome (slice_get (entries_of (found_units s)) id) (λ e. specs ≡ e.head.decl.attributes)
     → declares specs attribute ≡ false

@@ -89,8 +89,8 @@ pub few_entries : (a : List ℕ) (numbers : ℕ → ℕ → ℕ) (us : List Debu
 few_entries a numbers us p =
     let few = Rises-few 0 (0 + length (units_bytes us)) _ (units_rise a numbers 0 0 0 us p) in omega (arith, few)
 
-pub scanned_few : (a info : List ℕ) (tables : Tables) (us : List UnitRecord) (records : List Record)
-    → Scanned a info tables us records → length records ≤ length info
+pub scanned_few : {base : ℕ} (a info : List ℕ) (tables : Tables) (us : List UnitRecord) (records : List Record)
+    → Scanned base a info tables us records → length records ≤ length info
 scanned_few a info tables us records e =
     omega (
       arith,

@@ -133,8 +133,8 @@ take_keeps section old new None is kept = subst (λ (b : Bor (List ℕ)). IsRest
 take_keeps section old new (Some item) is kept = rest_left section old.now new.now (view item.1) is kept
 
 -- what follows the code of an entry, .debug_info ends with
-module _ {a info : List ℕ} {tables : Tables} {rs : List UnitRecord} {records : List Record}
-    {s : Scanned a info tables rs records} {id : ℕ} (k : KeptEntry a info tables rs records s id) where
+module _ {base : ℕ} {a info : List ℕ} {tables : Tables} {rs : List UnitRecord} {records : List Record}
+    {s : Scanned base a info tables rs records} {id : ℕ} (k : KeptEntry a info tables rs records s id) where
   pub code_before : (r : Record) → slice_get records id ≡ Some r → (n : ℕ) (rest : List ℕ)
       → seen (λ c. c.number) (code_at (take (length info - r.at) (drop r.at info))) ≡ Ok (n, rest) → IsRest info rest
   code_before r read n rest got =

@@ -43,8 +43,8 @@ never_other entries units number offset at id p e rise is sum found is_e other j
     search (rules, reached_at, one_at, in_is_at, one_some)
 
 -- where no entry begins at the offset, none of the unit does
-pub never_there : (a info : List ℕ) (tables : Tables) (rs : List UnitRecord) (records : List Record)
-    (s : Scanned a info tables rs records) (number offset at : ℕ) (k : KeptUnit a info tables rs records s number)
+pub never_there : {base : ℕ} (a info : List ℕ) (tables : Tables) (rs : List UnitRecord) (records : List Record)
+    (s : Scanned base a info tables rs records) (number offset at : ℕ) (k : KeptUnit a info tables rs records s number)
     (u : UnitRecord)
     → u ≡ get_or rs number u → at ≡ offset + u.at → ((id : ℕ) → IsEntryAt (entries_of (found_units s)) at id → ⊥)
     → (j : ℕ) → ReachesInUnit (entries_of (found_units s)) (placed (found_units s)) number offset j → ⊥
@@ -54,8 +54,8 @@ never_there a info tables rs records s number offset at k u read sum nowhere j r
     (reached_at (entries_of (found_units s)) (placed (found_units s)) number offset at j k.place k.is_place
     (omega (arith, sum, place)) reached))
 
-pub never_far : (a info : List ℕ) (tables : Tables) (rs : List UnitRecord) (records : List Record)
-    (s : Scanned a info tables rs records) (number offset : ℕ) (k : KeptUnit a info tables rs records s number)
+pub never_far : {base : ℕ} (a info : List ℕ) (tables : Tables) (rs : List UnitRecord) (records : List Record)
+    (s : Scanned base a info tables rs records) (number offset : ℕ) (k : KeptUnit a info tables rs records s number)
     (u : UnitRecord)
     → u ≡ get_or rs number u → length info < 2 ^ 64 → 2 ^ 64 ≤ offset + u.at → (j : ℕ)
     → ReachesInUnit (entries_of (found_units s)) (placed (found_units s)) number offset j → ⊥

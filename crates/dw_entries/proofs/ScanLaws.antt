@@ -1,5 +1,5 @@
 -- How far the scan of a section has come.
-use Rattle.std.proofs.Common.{rules, ◌≡◌, ℕ, zero, suc, ◌+◌, ◌-◌, ◌<◌, ◌≤◌, List, [], ◌∷◌, ◌++◌, length, take, drop, None, refl, sym, ap, subst, ◌∙◌, append_assoc, append-nil, arith, length-append, length-drop, drop_at, drop-drop, drop_of_length-le, take_all, add-zero}
+use Rattle.std.proofs.Common.{rules, ◌≡◌, ℕ, zero, suc, ◌+◌, ◌-◌, ◌<◌, ◌≤◌, List, [], ◌∷◌, ◌++◌, length, take, drop, None, refl, sym, ap, subst, ◌∙◌, append_assoc, append-nil, arith, map, length-append, length-drop, drop_at, drop-drop, drop_of_length-le, take_all, add-zero}
 use Rattle.std.proofs.lemmas.List.Concat.{flat_map-append}
 use Rattle.std.specs.List.{AllZip}
 use Rattle.dw_entries.specs.declared.walk.Record.{Record}
@@ -21,7 +21,9 @@ use Rattle.dw_entries.specs.HeaderLaws.{length-header}
 use Rattle.dw_entries.specs.Units.{DebugUnit, body_bytes, unit_bytes, IsUnit, AreUnits, units_bytes}
 use Rattle.dw_entries.specs.Entries.{node_count, PlacedUnit, placed_from, placed}
 use Rattle.dw_entries.specs.Records.{node_records, records_from, records_kept}
-use Rattle.dw_entries.specs.Scanned.{table_of, numbers_of, IsKept, Scanned}
+use Rattle.dw_entries.specs.Scanned.{table_of, numbers_of, record_of, IsKept, Scanned}
+use Rattle.dw_entries.specs.UnitLaws.{with_base, bytes_based, are_based, have_base}
+use Rattle.dw_entries.proofs.EntryFacts.{entries_based}
 use Rattle.dw_entries.specs.Stopped.{UnitTaken}
 use Rattle.dw_entries.proofs.HeadLaws.{all-append}
 use Rattle.dw_entries.proofs.OrderLaws.{few_entries}
@@ -217,16 +219,32 @@ upto_few_entries a info header kept u =
           u.are,
     )
 
-pub upto_end : (a info : List ℕ) (header : ℕ) (kept : Kept) → Upto a info header kept → length info ≤ header
-    → Scanned a info (tables_in kept.tables) kept.units.items kept.records.items
-upto_end a info header kept u e =
+-- what is kept of units does not depend on their base
+kept_based : (base : ℕ) (tables : Tables) (at first : ℕ) (rs : List UnitRecord) (us : List DebugUnit)
+    → AllZip (IsKept tables) rs (placed_from at first us)
+    → AllZip (IsKept tables) rs (placed_from at first (map (with_base base) us))
+kept_based base tables at first [] [] kept = tt
+kept_based base tables at first (r ∷ rs) [] kept = absurd kept
+kept_based base tables at first [] (u ∷ us) kept = absurd kept
+kept_based base tables at first (r ∷ rs) (u ∷ us) (is, kept) = (
+  record { at = is.at; header = is.header; within = is.within; table = is.table; first = is.first },
+  kept_based base tables (at + length (unit_bytes u)) (first + node_count u.root) rs us kept,
+)
+
+pub upto_end : (base : ℕ) (a info : List ℕ) (header : ℕ) (kept : Kept) → Upto a info header kept
+    → length info ≤ header → Scanned base a info (tables_in kept.tables) kept.units.items kept.records.items
+upto_end base a info header kept u e =
     let whole : info ≡ units_bytes u.units = u.parts
-    ∙ ap (λ (x : List ℕ). units_bytes u.units ++ x) (drop_of_length-le info e) ∙ append-nil (units_bytes u.units) in (
-      u.units,
+    ∙ ap (λ (x : List ℕ). units_bytes u.units ++ x) (drop_of_length-le info e) ∙ append-nil (units_bytes u.units) in
+    let numbers : ℕ → ℕ → ℕ = numbers_of (tables_in kept.tables) kept.units.items in (
+      map (with_base base) u.units,
       record {
-        spells = record { are = u.are; parts = whole };
-        kept = u.unit_records;
-        entries = u.places ∙ sym (records_kept (numbers_of (tables_in kept.tables) kept.units.items) u.units);
+        spells = record { are = are_based base a u.units u.are; parts = whole ∙ sym (bytes_based base u.units) };
+        based = have_base base u.units;
+        kept = kept_based base (tables_in kept.tables) 0 0 kept.units.items u.units u.unit_records;
+        entries =
+            u.places ∙ sym (records_kept numbers u.units)
+            ∙ ap (map (record_of numbers)) (sym (entries_based base 0 0 0 u.units));
       },
     )
 

@@ -178,8 +178,8 @@ module _ (h : Head) (t rest after : List ℕ) (has : HasText h.attributes t rest
   has_room = omega (arith, counted)
 
 -- the text that is the value of an attribute of an entry, by the bytes after it
-module _ {a info : List ℕ} {tables : Tables} {rs : List UnitRecord} {records : List Record}
-    {s : Scanned a info tables rs records} {id : ℕ} (k : KeptEntry a info tables rs records s id)
+module _ {base : ℕ} {a info : List ℕ} {tables : Tables} {rs : List UnitRecord} {records : List Record}
+    {s : Scanned base a info tables rs records} {id : ℕ} (k : KeptEntry a info tables rs records s id)
     (r : Record) (read : slice_get records id ≡ Some r) (header : UnitHeader) (version number : ℕ)
     (all found others : Attributes) (spec : AttributeSpec) (values after t : List ℕ) (attribute : ℕ)
     (of_unit : IfSome (slice_get (entries_of (found_units s)) id)
@@ -244,9 +244,9 @@ text_in_info info at h after n t parts is =
     }
 
 -- so of an entry that is looked up
-pub text_at_entry : (a info : List ℕ) (tables : Tables) (rs : List UnitRecord) (records : List Record)
-    (s : Scanned a info tables rs records) (id : ℕ) → id < length (entries_of (found_units s)) → (at n : ℕ) (t : List ℕ)
-    → IfSome (slice_get (entries_of (found_units s)) id) (λ e. at ≡ e.at)
+pub text_at_entry : {base : ℕ} (a info : List ℕ) (tables : Tables) (rs : List UnitRecord) (records : List Record)
+    (s : Scanned base a info tables rs records) (id : ℕ) → id < length (entries_of (found_units s))
+    → (at n : ℕ) (t : List ℕ) → IfSome (slice_get (entries_of (found_units s)) id) (λ e. at ≡ e.at)
     → IfSome (slice_get (entries_of (found_units s)) id) (λ e. IsTextAt (head_bytes e.head) n t)
     → IsTextAt info (at + n) t
 text_at_entry a info tables rs records s id within at n t is_at is =

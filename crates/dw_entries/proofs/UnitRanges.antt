@@ -143,8 +143,8 @@ firsts_from at first (u ∷ us) (suc i) (suc j) p q le is_p is_q =
 
 -- ---- the units that are kept
 
-module _ (a info : List ℕ) (tables : Tables) (rs : List UnitRecord) (records : List Record)
-    (s : Scanned a info tables rs records) where
+module _ {base : ℕ} (a info : List ℕ) (tables : Tables) (rs : List UnitRecord) (records : List Record)
+    (s : Scanned base a info tables rs records) where
   -- what is kept of a unit says where its first entry is
   pub kept_first : (n : ℕ) (u : UnitRecord) → slice_get rs n ≡ Some u
       → (p : PlacedUnit) × (slice_get (placed (found_units s)) n ≡ Some p) × (u.first ≡ p.first)

@@ -52,7 +52,7 @@ module _ (a rest : List ℕ) (h : UnitHeader) (body : List ℕ) (bytes : AreByte
       let r = header_takes (length a) rest h body bytes read in
       let table : List Declaration = table_in (tables_in new.tables) number in
       let numbers : ℕ → ℕ = decl_number_in (chain_in (tables_in new.tables) number) in
-      let u : DebugUnit = record { header = h; table = table; root = tree.root; nulls = tree.nulls } in
+      let u : DebugUnit = record { base = 0; header = h; table = table; root = tree.root; nulls = tree.nulls } in
       let whole : body ≡ body_bytes u = tree.parts ∙ append-nil (body_bytes u) in
       record {
         taken = u;

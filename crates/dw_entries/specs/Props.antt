@@ -17,7 +17,7 @@ use Rattle.dw_entries.specs.Choices.{size_unique}
 use Rattle.dw_entries.specs.Grammar.{Context, Attribute, IsAttribute, AreAttributes, Head, IsHead}
 use Rattle.dw_entries.specs.Header.{FitKind, IsHeader}
 use Rattle.dw_entries.specs.Tree.{Node, Nodes, leaf, parent, none, ◌then◌, IsNode, AreNodes}
-use Rattle.dw_entries.specs.Units.{DebugUnit, AreNulls, IsUnit, AreUnits, Spells}
+use Rattle.dw_entries.specs.Units.{DebugUnit, AreNulls, IsUnit, AreUnits, Spells, HaveBase}
 use Rattle.dw_entries.specs.Scanned.{IsKept, Holds, Scanned}
 use Rattle.dw_entries.specs.UnitLaws.{one_list}
 
@@ -74,6 +74,10 @@ AreUnits-prop a (u ∷ us) = ×_prop (IsUnit-prop a u) (AreUnits-prop a us)
 pub Spells-prop : (a : List ℕ) (us : List DebugUnit) (info : List ℕ) → IsProp (Spells a us info)
 Spells-prop a us info = hlevel (props, AreUnits-prop)
 
+HaveBase-prop : (base : ℕ) (us : List DebugUnit) → IsProp (HaveBase base us)
+HaveBase-prop base [] = hlevel props
+HaveBase-prop base (u ∷ us) = ×_prop (hlevel props) (HaveBase-prop base us)
+
 records_set : IsSet (List Record)
 records_set = hlevel props
 
@@ -87,12 +91,13 @@ AllKept-prop tables [] (p ∷ ps) = hlevel props
 AllKept-prop tables (r ∷ rs) [] = hlevel props
 AllKept-prop tables (r ∷ rs) (p ∷ ps) = ×_prop (IsKept-prop tables r p) (AllKept-prop tables rs ps)
 
-Holds-prop : (a info : List ℕ) (tables : Tables) (rs : List UnitRecord) (records : List Record)
-    (us : List DebugUnit) → IsProp (Holds a info tables rs records us)
-Holds-prop a info tables rs records us = hlevel (props, Spells-prop, AllKept-prop, records_set)
+Holds-prop : (base : ℕ) (a info : List ℕ) (tables : Tables) (rs : List UnitRecord) (records : List Record)
+    (us : List DebugUnit) → IsProp (Holds base a info tables rs records us)
+Holds-prop base a info tables rs records us = hlevel (props, Spells-prop, HaveBase-prop, AllKept-prop, records_set)
 
 -- the units of a section, with what is kept of them
-pub scanned_unique : (a info : List ℕ) (tables : Tables) (rs : List UnitRecord) (records : List Record)
-    → IsProp (Scanned a info tables rs records)
-scanned_unique a info tables rs records p q =
-    Σ_prop_path (Holds-prop a info tables rs records) (one_list a info p.0 q.0 p.1.spells q.1.spells)
+pub scanned_unique : (base : ℕ) (a info : List ℕ) (tables : Tables) (rs : List UnitRecord) (records : List Record)
+    → IsProp (Scanned base a info tables rs records)
+scanned_unique base a info tables rs records p q =
+    Σ_prop_path (Holds-prop base a info tables rs records)
+    (one_list base a info p.0 q.0 p.1.spells q.1.spells p.1.based q.1.based)

@@ -6,7 +6,7 @@ use Rattle.dw_entries.specs.declared.walk.UnitRecord.{UnitRecord}
 use Rattle.dw_forms.specs.Chains.{chain_in}
 use Rattle.dw_forms.specs.declared.decl.Decls.{Decls}
 use Rattle.dw_forms.specs.KeptDecls.{Tables, table_in, tables_of, decl_number_in}
-use Rattle.dw_entries.specs.Units.{DebugUnit, Spells}
+use Rattle.dw_entries.specs.Units.{DebugUnit, Spells, HaveBase}
 use Rattle.dw_entries.specs.Entries.{Entry, entries_of, PlacedUnit, placed}
 
 -- the tables of these declarations
@@ -44,19 +44,20 @@ pub record IsKept (tables : Tables) (r : UnitRecord) (p : PlacedUnit) : Type 0 w
   pub table : table_in tables r.table ≡ p.unit.table
   pub first : r.first ≡ p.first
 
--- the bytes spell these units, and what is kept of them and of their entries is theirs
-pub record Holds («abbrev» info : List ℕ) (tables : Tables) (unit_records : List UnitRecord)
+-- the bytes spell these units, with this base, and what is kept of them and of their entries is theirs
+pub record Holds (base : ℕ) («abbrev» info : List ℕ) (tables : Tables) (unit_records : List UnitRecord)
     (records : List Record) (units : List DebugUnit) : Type 0 where
   pub spells : Spells «abbrev» units info
+  pub based : HaveBase base units
   pub kept : AllZip (IsKept tables) unit_records (placed units)
   pub entries : records ≡ records_of (numbers_of tables unit_records) units
 
 -- the units of the sections, of which there is one list at most
-abbrev pub Scanned : List ℕ → List ℕ → Tables → List UnitRecord → List Record → Type 0
-Scanned «abbrev» info tables unit_records records = (units : List DebugUnit)
-    × Holds «abbrev» info tables unit_records records units
+abbrev pub Scanned : ℕ → List ℕ → List ℕ → Tables → List UnitRecord → List Record → Type 0
+Scanned base «abbrev» info tables unit_records records = (units : List DebugUnit)
+    × Holds base «abbrev» info tables unit_records records units
 
 -- the units that a scan found
-abbrev pub found_units : {a : List ℕ} {info : List ℕ} {tables : Tables} {unit_records : List UnitRecord}
-    {records : List Record} → Scanned a info tables unit_records records → List DebugUnit
+abbrev pub found_units : {base : ℕ} {a : List ℕ} {info : List ℕ} {tables : Tables} {unit_records : List UnitRecord}
+    {records : List Record} → Scanned base a info tables unit_records records → List DebugUnit
 found_units s = s.0

@@ -1,7 +1,7 @@
--- Laws: one list of units at most spells .debug_info.
+-- Laws: one list of units at most spells .debug_info, and the base of units changes nothing else of them.
 use Rattle.std.proofs.Common.{◌≡◌, ℕ, List, [], ◌∷◌, ◌++◌, length, drop, ◌⊎◌, inl, inr, Result, Ok, refl, sym, ap}
-use Rattle.std.proofs.Common.{subst, ◌∙◌, append_assoc, append-nil, arith, length-append, drop_at}
-use Rattle.std.specs.List.{flat_map}
+use Rattle.std.proofs.Common.{subst, ◌∙◌, append_assoc, append-nil, arith, length-append, drop_at, map}
+use Rattle.std.specs.List.{flat_map, AllByRecursion}
 use Rattle.std.proofs.lemmas.List.Concat.{flat_map-append}
 use Rattle.dw_forms.specs.declared.fault.AbbrevFault.{AbbrevFault}
 use Rattle.dw_forms.specs.Abbrev.{Declaration}
@@ -13,15 +13,24 @@ use Rattle.dw_entries.specs.Header.{header_bytes, header_at}
 use Rattle.dw_entries.specs.Tree.{Node, IsNode}
 use Rattle.dw_entries.specs.Items.{null}
 use Rattle.dw_entries.specs.Units.{DebugUnit, context_by, context_of, nulls_bytes, AreNulls, body_bytes, unit_bytes}
-use Rattle.dw_entries.specs.Units.{IsUnit, AreUnits, units_bytes, Spells}
+use Rattle.dw_entries.specs.Units.{IsUnit, AreUnits, units_bytes, Spells, HaveBase}
 use Rattle.dw_entries.specs.Joined.{GoesOn, IsUnique, begins}
 use Rattle.dw_entries.specs.HeaderLaws.{header_again}
 use Rattle.dw_entries.specs.ReadingLaws.{code_some, item_unique, ok_pair}
 use Rattle.dw_entries.specs.TreeLaws.{node_unique}
 
 -- the unit with these parts
-abbrev made : UnitHeader → List Declaration → Node → List (List ℕ) → DebugUnit
-made header table root nulls = record { header = header; table = table; root = root; nulls = nulls }
+abbrev made : ℕ → UnitHeader → List Declaration → Node → List (List ℕ) → DebugUnit
+made base header table root nulls =
+    record { base = base; header = header; table = table; root = root; nulls = nulls }
+
+-- the unit with this base
+abbrev pub with_base : ℕ → DebugUnit → DebugUnit
+with_base base u = made base u.header u.table u.root u.nulls
+
+-- a unit of a section, with this base
+abbrev pub IsBased : ℕ → List ℕ → DebugUnit → Type 0
+IsBased base a u = IsUnit a u × (u.base ≡ base)
 
 null_unique : (t : Context) → IsUnique (λ z. z) IsNull
 null_unique t z w x y p q e =
@@ -66,8 +75,8 @@ unit_header a u x p = header_again (length a) u.header (body_bytes u) x _
     (append_assoc (header_bytes u.header) (body_bytes u) x) p.header p.unit_length
 
 -- no spelling of a unit begins another
-pub unit_unique : (a : List ℕ) → IsUnique unit_bytes (IsUnit a)
-unit_unique a u v x y p q e =
+unit_unique : (base : ℕ) (a : List ℕ) → IsUnique unit_bytes (IsBased base a)
+unit_unique base a u v x y (p, from) (q, same_from) e =
     let both = ok_pair {E = Rule} u.header v.header (body_bytes u) (body_bytes v)
     (sym (unit_header a u x p) ∙ ap (header_at (length a)) e ∙ unit_header a v y q) in
     let header : u.header ≡ v.header = both.0 in
@@ -80,28 +89,71 @@ unit_unique a u v x y p q e =
     (subst (λ (t : Context). IsNode t v.root) context q.root) both.1 in
     let root : u.root ≡ v.root = roots.0 in
     let nulls : u.nulls ≡ v.nulls = nulls_unique (context_of u) u.nulls v.nulls p.nulls q.nulls roots.1 in
-    let whole : made u.header u.table u.root u.nulls ≡ made v.header v.table v.root v.nulls = cc in
+    let whole : made u.base u.header u.table u.root u.nulls ≡ made v.base v.header v.table v.root v.nulls = cc in
     let same : unit_bytes v ≡ unit_bytes u = ap unit_bytes (sym whole) in (
       whole,
       sym (drop_at (unit_bytes u) x (length (unit_bytes u)) refl) ∙ ap (drop (length (unit_bytes u))) e
           ∙ drop_at (unit_bytes v) y (length (unit_bytes u)) (ap length same),
     )
 
--- of two lists of units that spell beginnings of the same bytes one goes on where the other ends
-pub units_begin : (a : List ℕ) (us vs : List DebugUnit) (x y : List ℕ) → AreUnits a us → AreUnits a vs
-    → units_bytes us ++ x ≡ units_bytes vs ++ y → GoesOn unit_bytes (IsUnit a) us vs x y
-    ⊎ GoesOn unit_bytes (IsUnit a) vs us y x
-units_begin a = begins unit_bytes (IsUnit a) (unit_unique a)
+-- the bytes of units do not depend on their base ..
+pub bytes_based : (base : ℕ) (us : List DebugUnit) → units_bytes (map (with_base base) us) ≡ units_bytes us
+bytes_based base [] = refl
+bytes_based base (u ∷ us) = ap (λ (b : List ℕ). unit_bytes u ++ b) (bytes_based base us)
 
-no_more : (a : List ℕ) (us vs : List DebugUnit) → GoesOn unit_bytes (IsUnit a) us vs [] [] → us ≡ vs
-no_more a us vs g = go g.more g.items g.rest
+-- .. nor does what a unit is
+pub are_based : (base : ℕ) (a : List ℕ) (us : List DebugUnit) → AreUnits a us → AreUnits a (map (with_base base) us)
+are_based base a [] are = tt
+are_based base a (u ∷ us) (is, are) = (
+  record {
+    header = is.header;
+    table = is.table;
+    root = is.root;
+    tag = is.tag;
+    nulls = is.nulls;
+    unit_length = is.unit_length;
+  },
+  are_based base a us are,
+)
+
+pub have_base : (base : ℕ) (us : List DebugUnit) → HaveBase base (map (with_base base) us)
+have_base base [] = tt
+have_base base (u ∷ us) = (refl, have_base base us)
+
+both : (base : ℕ) (a : List ℕ) (us : List DebugUnit) → AreUnits a us → HaveBase base us
+    → AllByRecursion (IsBased base a) us
+both base a [] are based = tt
+both base a (u ∷ us) (is, are) (from, based) = ((is, from), both base a us are based)
+
+-- of two lists of units that spell beginnings of the same bytes one goes on where the other ends, but for their base
+pub units_begin : (base : ℕ) (a : List ℕ) (us vs : List DebugUnit) (x y : List ℕ) → AreUnits a us → AreUnits a vs
+    → units_bytes us ++ x ≡ units_bytes vs ++ y
+    → GoesOn unit_bytes (IsBased base a) (map (with_base base) us) (map (with_base base) vs) x y
+    ⊎ GoesOn unit_bytes (IsBased base a) (map (with_base base) vs) (map (with_base base) us) y x
+units_begin base a us vs x y p q e =
+    begins unit_bytes (IsBased base a) (unit_unique base a) (map (with_base base) us) (map (with_base base) vs) x y
+    (both base a (map (with_base base) us) (are_based base a us p) (have_base base us))
+    (both base a (map (with_base base) vs) (are_based base a vs q) (have_base base vs))
+    (ap (λ (b : List ℕ). b ++ x) (bytes_based base us) ∙ e ∙ ap (λ (b : List ℕ). b ++ y) (sym (bytes_based base vs)))
+
+no_more : (base : ℕ) (a : List ℕ) (us vs : List DebugUnit) → GoesOn unit_bytes (IsBased base a) us vs [] [] → us ≡ vs
+no_more base a us vs g = go g.more g.items g.rest
   where
     go : (more : List DebugUnit) → vs ≡ us ++ more → [] ≡ flat_map unit_bytes more ++ [] → us ≡ vs
     go [] e r = sym (e ∙ append-nil us)
     go (u ∷ more) e r = absurd cc
 
--- two lists of units that spell the same bytes are one
-pub one_list : (a : List ℕ) (bytes : List ℕ) (us vs : List DebugUnit) → Spells a us bytes → Spells a vs bytes → us ≡ vs
-one_list a bytes us vs p q =
+same_based : (base : ℕ) (us : List DebugUnit) → HaveBase base us → map (with_base base) us ≡ us
+same_based base [] based = refl
+same_based base (u ∷ us) (is, based) = λ i. made (sym is i) u.header u.table u.root u.nulls ∷ same_based base us based i
+
+-- two lists of units that spell the same bytes and have one base are one
+pub one_list : (base : ℕ) (a : List ℕ) (bytes : List ℕ) (us vs : List DebugUnit) → Spells a us bytes
+    → Spells a vs bytes → HaveBase base us → HaveBase base vs → us ≡ vs
+one_list base a bytes us vs p q from same =
     let e : units_bytes us ++ [] ≡ units_bytes vs ++ [] = ap (λ (b : List ℕ). b ++ []) (sym p.parts ∙ q.parts) in
-    elim (units_begin a us vs [] [] p.are q.are e) [ inl g ↦ no_more a us vs g | inr g ↦ sym (no_more a vs us g) ]
+    let one : map (with_base base) us ≡ map (with_base base) vs = elim (units_begin base a us vs [] [] p.are q.are e) [
+      | inl g ↦ no_more base a _ _ g
+      | inr g ↦ sym (no_more base a _ _ g)
+    ] in
+    sym (same_based base us from) ∙ one ∙ same_based base vs same

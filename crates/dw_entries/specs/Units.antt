@@ -1,6 +1,7 @@
 -- Chapter: units, and .debug_info as a list of them (DWARF 5, 7.5.1).
 use Rattle.std.specs.Prelude.{◌≡◌, ℕ, true, List, ◌++◌, length, Ok}
 use Rattle.std.specs.List.{flat_map, AllByRecursion}
+use Rattle.dw_elf.specs.declared.sections.Sections.{Sections}
 use Rattle.dw_forms.specs.Abbrev.{Declaration}
 use Rattle.dw_forms.specs.AbbrevReading.{table_at}
 use Rattle.dw_forms.specs.AbbrevTables.{tables_in}
@@ -12,8 +13,10 @@ use Rattle.dw_entries.specs.Grammar.{Context, Head, IsNull}
 use Rattle.dw_entries.specs.Header.{version_of, fits_tag, header_bytes, header_fields, IsHeader}
 use Rattle.dw_entries.specs.Tree.{Node, leaf, parent, IsNode, node_bytes}
 
--- a header, the table that it names, a tree, and the nulls after the tree
+-- a header, the table that it names, a tree, the nulls after the tree, and the base: where the first of all units that
+-- are read begins in .debug_info, from whose start offsets in form ref_addr count (7.5.5)
 pub record DebugUnit : Type 0 where
+  pub base : ℕ
   pub header : UnitHeader
   pub table : List Declaration
   pub root : Node
@@ -83,3 +86,13 @@ units_bytes us = flat_map unit_bytes us
 pub record Spells («abbrev» : List ℕ) (us : List DebugUnit) (info : List ℕ) : Type 0 where
   pub are : AreUnits «abbrev» us
   pub parts : info ≡ units_bytes us
+
+-- each of them has this base
+abbrev pub HaveBase : ℕ → List DebugUnit → Type 0
+HaveBase base us = AllByRecursion (λ u. u.base ≡ base) us
+
+-- the units spell .debug_info by the tables of .debug_abbrev (7.5.1): a header each, a tree of entries with declared
+-- abbreviations and attributes in their forms' grammar, and nulls; their base is where it begins
+pub record SpellsInfo (s : Sections) (us : List DebugUnit) : Type 0 where
+  pub spells : Spells s.«abbrev».now us s.info.now
+  pub based : HaveBase s.base us

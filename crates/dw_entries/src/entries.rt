@@ -43,7 +43,6 @@ impl Hints {
 }
 
 /// Keeps the hint of a block, if there is that block.
-#[inline(always)]
 fn put(blocks: &mut [u64], block: usize, hint: u64) {
     if block < blocks.len() {
         blocks[block] = hint;
@@ -73,7 +72,6 @@ impl Entries<'_> {
     }
 
     /// The entry with this number.
-    #[inline(always)]
     pub fn id(&self, number: usize) -> EntryId
         requires { number < length (all_entries self.now) }
         ensures { result ≡ number }
@@ -82,7 +80,6 @@ impl Entries<'_> {
     }
 
     /// The number of an entry's unit.
-    #[inline(always)]
     pub fn unit_of(&self, id: EntryId) -> usize
         requires { id < length (all_entries self.now) }
         ensures { IfSome (slice_get (all_entries self.now) id) (λ e. result ≡ e.unit) }
@@ -133,8 +130,8 @@ pub struct Entries<'a> {
     pub(crate) decls: Decls,
     pub(crate) units: Vec<UnitRecord>,
     pub(crate) records: Vec<Record>,
-    pub ghost scanned: { Scanned sections.«abbrev».now sections.info.now (tables_among decls) units.items
-        records.items } by { scanned_unique sections.«abbrev».now sections.info.now
+    pub ghost scanned: { Scanned sections.base sections.«abbrev».now sections.info.now (tables_among decls)
+        units.items records.items } by { scanned_unique sections.base sections.«abbrev».now sections.info.now
             (tables_among decls) units.items records.items },
 }
 
@@ -167,7 +164,6 @@ impl<'a> Entries<'a> {
     }
 
     /// What is kept of an entry.
-    #[inline(always)]
     pub(crate) fn record(&self, id: EntryId) -> Record
         requires { id < length (all_entries self.now) }
         ensures { slice_get self.now.records.items id ≡ Some result }

@@ -26,7 +26,6 @@ use crate::walk::Record;
 use dw_forms::{Attribute, Attributes, DeclAt, Tag, Value};
 use std::marker::Model;
 
-#[inline(always)]
 fn id_of(optional: OptionalId) -> Option<EntryId>
     ensures { result ≡ optional }
 {
@@ -93,7 +92,6 @@ impl<'a> Entries<'a> {
     }
 
     /// The parent of an entry. None at the first entry of a unit. Its unit is not looked up.
-    #[inline(always)]
     pub fn parent(&self, id: EntryId) -> Option<EntryId>
         requires { id < length (all_entries self.now) }
         ensures { IfSome (slice_get (all_entries self.now) id) (λ e. result ≡ e.parent) }
@@ -123,7 +121,6 @@ impl<'e, 'a> EntryAt<'e, 'a> {
     }
 
     /// Its offset in .debug_info, in bytes.
-    #[inline(always)]
     pub fn offset(&self) -> u32
         ensures { IfSome self.now (λ e. result ≡ e.at) }
     {
@@ -131,7 +128,6 @@ impl<'e, 'a> EntryAt<'e, 'a> {
     }
 
     /// Its tag, as its declaration says it.
-    #[inline(always)]
     pub fn tag(&self) -> Tag
         ensures { IfSome self.now (λ e. result ≡ e.head.decl.tag) }
     {
@@ -139,7 +135,6 @@ impl<'e, 'a> EntryAt<'e, 'a> {
     }
 
     /// Whether it is a type, as `Tag::is_type` says.
-    #[inline(always)]
     pub fn is_type(&self) -> bool
         ensures { IfSome self.now (λ e. result ≡ is_type_tag e.head.decl.tag) }
     {
@@ -147,7 +142,6 @@ impl<'e, 'a> EntryAt<'e, 'a> {
     }
 
     /// The number of its unit. Units are numbered in rising offset, from 0.
-    #[inline(always)]
     pub fn unit(&self) -> usize
         ensures { IfSome self.now (λ e. result ≡ e.unit) }
     {
@@ -155,7 +149,6 @@ impl<'e, 'a> EntryAt<'e, 'a> {
     }
 
     /// Its parent. None at the first entry of a unit.
-    #[inline(always)]
     pub fn parent(&self) -> Option<EntryId>
         ensures { IfSome self.now (λ e. result ≡ e.parent) }
     {
@@ -205,7 +198,6 @@ impl<'e, 'a> EntryAt<'e, 'a> {
     }
 
     /// Its attributes in their order, each value decoded on demand.
-    #[inline(always)]
     pub fn values(&self) -> Values<'e, 'a>
         ensures { IfSome self.now (λ e. values_left result ≡ values_of e.head) }
     {

@@ -83,7 +83,6 @@ impl<'a> Entries<'a> {
     }
 
     /// The offset of an entry in .debug_info, in bytes. Its unit is not looked up.
-    #[inline(always)]
     pub fn offset(&self, id: EntryId) -> u32
         requires { id < length (all_entries self.now) }
         ensures { IfSome (slice_get (all_entries self.now) id) (λ e. result ≡ e.at) }

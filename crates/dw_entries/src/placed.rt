@@ -24,7 +24,6 @@ impl<'a> Placed<'_, 'a> {
     ghost use Rattle.dw_entries.specs.Placed.{EndsAt, info_of, placed_left};
 
     /// The next attribute, its value, and the offset in .debug_info at which the bytes of its value end.
-    #[inline(always)]
     pub fn take(&mut self) -> Option<(Attribute, Value<'a>, usize)>
         ensures steps { MatchOption result ((placed_left self.old ≡ []) × (placed_left self.new ≡ []))
             (λ item. placed_left self.old ≡ (item.0, view item.1) ∷ placed_left self.new) }
@@ -45,7 +44,6 @@ impl<'a> Entries<'a> {
     ghost use Rattle.dw_entries.specs.Placed.{info_of, placed_left};
 
     /// The attributes of an entry of this unit, with where the bytes of their values are. The unit is not looked up.
-    #[inline(always)]
     pub fn placed(&self, id: EntryId, unit: usize) -> Placed<'_, 'a>
         requires id { id < length (all_entries self.now) }
         requires unit { IfSome (slice_get (all_entries self.now) id) (λ e. unit ≡ e.unit) }

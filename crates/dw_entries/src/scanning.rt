@@ -1,6 +1,6 @@
 //! The scan of .debug_info, unit by unit.
 
-ghost use Rattle.std.specs.Prelude.{◌≡◌, ◌≤◌, length, OnOk, IfOk, IfErr, None, Some, option_map, List};
+ghost use Rattle.std.specs.Prelude.{◌≡◌, ◌≤◌, ℕ, length, OnOk, IfOk, IfErr, None, Some, option_map, List};
 ghost use Rattle.dw_elf.specs.declared.TheConstants.{SECTION_LIMIT};
 ghost use Rattle.dw_forms.specs.AbbrevReading.{table_at};
 ghost use Rattle.dw_forms.specs.AbbrevTables.{tables_in, AreTablesOf, AreSearchable};
@@ -17,7 +17,7 @@ ghost use Rattle.dw_entries.specs.Items.{numbered_decl};
 ghost use Rattle.dw_entries.specs.Reading.{seen, after, code_at, value_rule as rule_of_value, attribute_at};
 ghost use Rattle.dw_entries.specs.Reading.{attributes_at, item_at, first_at};
 ghost use Rattle.dw_entries.specs.NamedDecls.{declared_view};
-ghost use Rattle.dw_entries.specs.Units.{context_in, numbers_in, DebugUnit, Spells};
+ghost use Rattle.dw_entries.specs.Units.{context_in, numbers_in, DebugUnit, Spells, SpellsInfo};
 ghost use Rattle.dw_entries.specs.Scanned.{Scanned};
 ghost use Rattle.dw_entries.specs.Views.{sections_of, units_of};
 
@@ -119,7 +119,6 @@ fn code_of(attribute: Attribute) -> u16
 }
 
 /// The bytes after the value of an attribute.
-#[inline(always)]
 #[tactic(auto, unfolding(crate::specs::Reading::attribute_at))]
 fn skip_attribute<'b>(
     context: UnitContext<'_>,
@@ -255,7 +254,8 @@ fn scan_units(alloc: Global, section: &[u8], info: &[u8]) -> Result<Kept, Stop<B
     requires abbrev_fits { length section.now ≤ SECTION_LIMIT }
     requires info_fits { length info.now ≤ SECTION_LIMIT }
     ensures all { IfOk result
-        (λ kept. Scanned section.now info.now (tables_in kept.tables) kept.units.items kept.records.items) }
+        (λ kept. (base : ℕ) → Scanned base section.now info.now (tables_in kept.tables) kept.units.items
+        kept.records.items) }
     ensures searchable { IfOk result (λ kept. AreSearchable kept.tables) }
     ensures fault { IfErr result (IfFault (Fails section.now info.now)) }
 {
@@ -275,8 +275,7 @@ fn scan_units(alloc: Global, section: &[u8], info: &[u8]) -> Result<Kept, Stop<B
 pub fn scan<'a>(alloc: Global, sections: &Sections<'a>) -> Result<Entries<'a>, Stop<Fault>>
     ensures same { IfOk result (λ e. sections_of e ≡ sections.now) }
     ensures only { IfOk result
-        (λ e. (units : List DebugUnit) → Spells sections.now.«abbrev».now units sections.now.info.now
-        → units ≡ units_of e) }
+        (λ e. (units : List DebugUnit) → SpellsInfo sections.now units → units ≡ units_of e) }
     ensures fault { IfErr result (IfPlainFault (Fails sections.now.«abbrev».now sections.now.info.now)) }
     ensures none { IfErr result (IfPlainFault
         (λ _. (units : List DebugUnit) → Spells sections.now.«abbrev».now units sections.now.info.now → ⊥)) }

@@ -14,7 +14,6 @@ ghost use Rattle.dw_entries.specs.ValueLaws.{left_unique};
 use dw_forms::{Attribute, Attributes, Form, Lead, Step, Value, read_value, skip_value};
 
 /// Whether the bytes end inside a value of this form, which takes four bytes.
-#[inline(always)]
 fn is_cut(form: Form, bytes: &[u8]) -> bool
     ensures { OnTrue result (IsCut form bytes.now) }
 {
@@ -69,7 +68,6 @@ impl<'a> Leading<'_, 'a> {
 
     /// The lead of the next value: what its attribute and its form say about it. `Nothing` if no value is left that
     /// may lead elsewhere.
-    #[inline(always)]
     pub fn lead(&self) -> Lead
         ensures lead { result ≡ next_lead self.now }
         ensures nothing { EndsAtNothing result (ArePassed DoesNotLead (leading_left self.now)) }
@@ -90,7 +88,6 @@ impl<'a> Leading<'_, 'a> {
     }
 
     /// The next value, which is the offset of a string in .debug_str, and its attribute.
-    #[inline(always)]
     pub fn take_text(&mut self) -> (Attribute, u32)
         requires { LeadsToText self.old }
         ensures { IsTaken (next_lead self.old) (leading_left self.old) (result.0, str result.1)
@@ -118,7 +115,6 @@ impl<'a> Leading<'_, 'a> {
     }
 
     /// The next value, which is the index of a string in one byte, and its attribute.
-    #[inline(always)]
     pub fn take_index1(&mut self) -> (Attribute, u64)
         requires { LeadsByIndex1 self.old }
         ensures { IsTaken (next_lead self.old) (leading_left self.old) (result.0, str_index result.1)
@@ -132,7 +128,6 @@ impl<'a> Leading<'_, 'a> {
     }
 
     /// The next value, which is the index of a string in two bytes, and its attribute.
-    #[inline(always)]
     pub fn take_index2(&mut self) -> (Attribute, u64)
         requires { LeadsByIndex2 self.old }
         ensures { IsTaken (next_lead self.old) (leading_left self.old) (result.0, str_index result.1)
@@ -146,7 +141,6 @@ impl<'a> Leading<'_, 'a> {
     }
 
     /// The next value, which is the index of an address, and its attribute.
-    #[inline(always)]
     pub fn take_address(&mut self) -> (Attribute, u64)
         requires { LeadsToAddress self.old }
         ensures { IsTaken (next_lead self.old) (leading_left self.old) (result.0, addr_index result.1)
@@ -160,7 +154,6 @@ impl<'a> Leading<'_, 'a> {
     }
 
     /// Passes the next value, which leads nowhere. It is not decoded.
-    #[inline(always)]
     pub fn pass(&mut self)
         requires { LeadsNowhere self.old }
         ensures { IsPassedBy (next_lead self.old) (leading_left self.old) (leading_left self.new) }
@@ -191,7 +184,6 @@ impl<'e, 'a> Values<'e, 'a> {
     ghost use Rattle.dw_entries.specs.Chosen.{DoesNotStop, ArePassed, IsNextOf, TakesFirst};
 
     /// Passes the attributes up to these.
-    #[inline(always)]
     fn pass(&mut self, to: Attributes<'e>)
         requires { (before : List (Numbered SpecData)) × Ends self.old.attributes to before }
         ensures left { (before : List (Numbered SpecData)) → Ends self.old.attributes to.entry before
@@ -247,7 +239,6 @@ impl<'e, 'a> Values<'e, 'a> {
     }
 
     /// Takes the first attribute that is left.
-    #[inline(always)]
     pub(crate) fn take_first(&mut self) -> Option<(Attribute, Value<'a>)>
         ensures steps { MatchOption result ((values_left self.old ≡ []) × (values_left self.new ≡ []))
             (λ item. values_left self.old ≡ viewed item ∷ values_left self.new) }
@@ -270,7 +261,6 @@ impl<'e, 'a> Values<'e, 'a> {
     }
 
     /// The step from the attributes after the one that a step goes to, up to which values are skipped.
-    #[inline(always)]
     pub(crate) fn step_past(&mut self, step: &Step) -> &'e Step
         requires step { IsStep (numbered self.old.attributes) step.now }
         requires some { IsThere self.old.attributes step.now.to }
@@ -298,7 +288,6 @@ impl<'e, 'a> Values<'e, 'a> {
     }
 
     /// The next attribute at which a search stops. Values before it, which take no bytes, are skipped.
-    #[inline(always)]
     pub fn next_stop(&mut self) -> Option<(Attribute, Value<'a>)>
         ensures some { IfSome result
             (λ found. IsNextOf DoesNotStop (values_left self.old) (viewed found) (values_left self.new)) }
@@ -321,7 +310,6 @@ impl<'e, 'a> Iterator for Values<'e, 'a> {
 
     ghost remaining = { item_count values_left };
 
-    #[inline(always)]
     fn next(&mut self) -> Option<(Attribute, Value<'a>)> {
         self.take_first()
     }

@@ -60,7 +60,6 @@ pub struct Level {
 }
 
 /// The entry of this number is followed by this sibling.
-#[inline(always)]
 fn set_next(records: &mut Vec<Record>, at: u32, id: u32)
     requires { id < 0xffffffff }
     ensures { records.new.items ≡ link at id records.old.items }
@@ -71,7 +70,6 @@ fn set_next(records: &mut Vec<Record>, at: u32, id: u32)
 }
 
 /// The list of children of an entry, none of which was taken up.
-#[inline(always)]
 fn list_of(id: u32) -> Level
     requires { id < 0xffffffff }
     ensures { result ≡ record { parent = Some id; last = None } }
@@ -108,7 +106,6 @@ fn enter_first(
 
 /// Takes an entry of the innermost open list up: the last one in the list is followed by it, and its own list is opened
 /// if it may have children. Returns the innermost list that is open after that. The lists around it are `outer`.
-#[inline(always)]
 fn enter(
     records: &mut Vec<Record>,
     outer: &mut Vec<Level>,

@@ -35,7 +35,8 @@ use Rattle.dw_image.specs.Measures.{PassInTypes, FailsInTypes}
 -- two lists of units that spell the sections are one
 pub one_list_of : (s : Sections) (units others : List DebugUnit) → SpellsInfo s units → SpellsInfo s others
     → units ≡ others
-one_list_of s units others p q = one_list s.«abbrev».now s.info.now units others p q
+one_list_of s units others p q =
+    one_list s.base s.«abbrev».now s.info.now units others p.spells q.spells p.based q.based
 
 -- the rules of each group hold of valid sections
 holds_of : (s : Sections) (units : List DebugUnit) → IsValidBy s units → (group : Group)
@@ -59,7 +60,7 @@ none_named s units _ fault none first = none_first _ fault none first
 -- valid sections have no fault
 pub no_fault_of : (s : Sections) (fault : Fault) → IsValid s → IsFirstFault s fault → ⊥
 no_fault_of s fault valid (in_trees fails cycle) =
-    no_list s.«abbrev».now s.info.now valid.0 (broken_of fault) valid.1.trees fails
+    no_list s.«abbrev».now s.info.now valid.0 (broken_of fault) valid.1.trees.spells fails
 no_fault_of s fault valid (in_group group fails) = search (rules, one_list_of, none_named, holds_of)
 
 -- a group's failure is of the first group that has one
@@ -74,7 +75,7 @@ one_of_group s units group fault other spelled p q =
     inl (record {
       broken =
           one_first (failures_of s units group) (broken_of fault) (broken_of other)
-          (one_at_place s units spelled.are group) p.holds q.holds;
+          (one_at_place s units spelled.spells.are group) p.holds q.holds;
       cycle = p.cycle ∙ sym q.cycle;
     })
 
@@ -101,7 +102,7 @@ one_in_groups s group later fault other p q =
 -- the trees fail, or a group of rules after them
 apart : (s : Sections) (group : Group) (fault other : Fault) → FailsInTrees s (broken_of fault)
     → FailsInGroup s group other → ⊥
-apart s group fault other p q = no_list s.«abbrev».now s.info.now q.units (broken_of fault) q.spelled p
+apart s group fault other p q = no_list s.«abbrev».now s.info.now q.units (broken_of fault) q.spelled.spells p
 
 -- two first faults are one
 pub one_first_fault_of : (s : Sections) (fault other : Fault) → IsFirstFault s fault → IsFirstFault s other
@@ -119,7 +120,7 @@ one_first_fault_of s fault other (in_group group p) (in_group later q) = one_in_
 spelled_of : (s : Sections) (units : List DebugUnit) → SpellsInfo s units
     → EachEntry (IsSpelled s units) (entries_of units)
 spelled_of s units spells = λ id e there.
-    let stands = head_stands s.«abbrev».now s.info.now units id e spells there in
+    let stands = head_stands s.«abbrev».now s.info.now units id e spells.spells there in
     record {
       unit = stands.unit;
       in_unit = stands.is_unit;
@@ -167,7 +168,7 @@ faulty s entries turn group fault less same before first =
       is_fault = fault_of s fault (subst (λ t. IsFirstFault t fault) same
           (in_group group (record {
             units = entries.scanned.0;
-            spelled = entries.scanned.1.spells;
+            spelled = record { spells = entries.scanned.1.spells; based = entries.scanned.1.based };
             before = before;
             first = first;
           })));

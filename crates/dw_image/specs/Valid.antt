@@ -2,7 +2,7 @@
 use Rattle.std.specs.Prelude.{ℕ, List}
 use Rattle.dw_elf.specs.declared.sections.Sections.{Sections}
 use Rattle.dw_entries.specs.Failures.{HasNone}
-use Rattle.dw_entries.specs.Units.{DebugUnit, Spells}
+use Rattle.dw_entries.specs.Units.{DebugUnit}
 use Rattle.dw_links.specs.Classes.{ClassFailures}
 use Rattle.dw_links.specs.Strings.{StringFailures}
 use Rattle.dw_links.specs.References.{ReferenceFailures}
@@ -14,11 +14,9 @@ use Rattle.dw_types.specs.SizeTables.{Size}
 use Rattle.dw_types.specs.Sizes.{IsSizeTable}
 use Rattle.dw_types.specs.SizeFaults.{SizeFailures}
 use Rattle.dw_types.specs.Entries.{Facts}
-
 -- the units spell .debug_info by the tables of .debug_abbrev (DWARF 5, 7.5.1): a header each, a tree of entries with
--- declared abbreviations and attributes in their forms' grammar, and nulls
-abbrev pub SpellsInfo : Sections → List DebugUnit → Type 0
-SpellsInfo s units = Spells s.«abbrev».now units s.info.now
+-- declared abbreviations and attributes in their forms' grammar, and nulls; their base is where it begins
+pub use Rattle.dw_entries.specs.Units.{SpellsInfo}
 
 -- one table of sizes obeys the size lines of all entries and no other does, and by it no rule on sizes fails
 pub record HasSizes (facts : List Facts) (table : ℕ → Size) : Type 0 where

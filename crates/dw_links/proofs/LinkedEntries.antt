@@ -25,7 +25,7 @@ use Rattle.dw_links.proofs.TableLaws.{unit_of_entry}
 use Rattle.dw_links.proofs.SlotLaws.{passes_string, found_value}
 use Rattle.dw_links.specs.References.{permits, permits_form, IsOtherThan, is_reference_value, ReferenceFailsBy, TypeUnitFails, ReferenceFailures}
 use Rattle.dw_links.specs.Signatures.{type_in, HasSignature, first_signed}
-use Rattle.dw_links.specs.Targets.{entry_at, reach_in_unit, reach_of, target_of}
+use Rattle.dw_links.specs.Targets.{reach_in_info, reach_in_unit, reach_of, target_of}
 use Rattle.dw_links.proofs.HeaderLaws.{distinct_from, typed, not_typed}
 use Rattle.dw_links.proofs.Reached.{in_place}
 use Rattle.dw_links.proofs.TargetLaws.{reach_in_unit_is, at_reach_in_unit, at_first_signed, none_signed, type_of_unit_is, reached_entry}
@@ -155,7 +155,7 @@ reached : (us : List DebugUnit) (id : ℕ) (e : Entry) (attribute : ℕ) (v : Da
     → class_of v ≡ Reference
     → Reached us e v
 reached us id e attribute (ref_info offset) rise none is value class =
-    is_told (entry_at (entries_of us) offset)
+    is_told (reach_in_info (entries_of us) (placed us) e.unit offset)
     (λ nowhere. passes_reference us id e attribute (ref_info offset) none is value refl NoEntry (refl, nowhere))
 reached us id e attribute (ref_unit offset) rise none is value class =
     is_told (reach_in_unit (entries_of us) (placed us) e.unit offset)

@@ -9,9 +9,9 @@ use Rattle.dw_forms.specs.declared.value.Value.{Value}
 use Rattle.dw_forms.specs.Value.{view}
 use Rattle.dw_entries.specs.declared.entries.Entries.{Entries}
 use Rattle.dw_entries.specs.Entries.{Entry, PlacedUnit, entries_of, placed}
-use Rattle.dw_entries.specs.Views.{all_entries, all_units, units_of}
+use Rattle.dw_entries.specs.Views.{sections_of, all_entries, all_units, units_of}
 use Rattle.dw_entries.specs.Lookups.{value_at_entry, unit_head}
-use Rattle.dw_entries.specs.Units.{DebugUnit, Spells}
+use Rattle.dw_entries.specs.Units.{DebugUnit, Spells, HaveBase}
 use Rattle.dw_entries.proofs.EntryFacts.{length-placed_from, placed_get, first_entry}
 use Rattle.dw_entries.specs.declared.lookup.UnitHead.{UnitHead}
 use Rattle.dw_entries.specs.Header.{IsSize, version_of}
@@ -19,7 +19,7 @@ use Rattle.dw_entries.proofs.Firsts.{same_some}
 use Rattle.dw_entries.proofs.HeadLaws.{all_get}
 use Rattle.dw_links.specs.Bases.{section_offset_in, base_in, bases_in}
 use Rattle.dw_links.specs.Tables.{type_target, AreTables}
-use Rattle.dw_links.specs.Targets.{target_of}
+use Rattle.dw_links.specs.Targets.{entry_past, reach_in_info, target_of}
 use Rattle.dw_links.proofs.TargetLaws.{reached_entry}
 use Rattle.dw_links.specs.declared.links.LinkTables.{LinkTables}
 use Rattle.dw_links.proofs.Skips.{there}
@@ -110,6 +110,25 @@ size_above size is = elim is [ inl four ↦ omega (arith, four) | inr eight ↦ 
 pub number_within : (us : List DebugUnit) (number : ℕ) (p : PlacedUnit) → slice_get (placed us) number ≡ Some p
     → number < length us
 number_within us number p is = omega (arith, slice_get_within (placed us) number p is, length-placed_from 0 0 us)
+
+-- its base is that of all
+based : (base : ℕ) (us : List DebugUnit) (number : ℕ) (p : PlacedUnit) → HaveBase base us
+    → slice_get (placed us) number ≡ Some p → p.unit.base ≡ base
+based base us number p have is =
+    let (u, is_u) = there us number (number_within us number p is) in
+    let (q, is_q, same) = placed_get 0 0 us number u is_u in
+    ap (λ (x : PlacedUnit). x.unit.base) (same_some (slice_get (placed us) number) p q is is_q)
+    ∙ ap (λ (x : DebugUnit). x.base) same ∙ all_get _ us number u have is_u
+
+-- so a reference from the start of .debug_info reaches the same in each unit
+pub reached_in_info : (entries : Entries) (unit offset : ℕ) → unit < length (units_of entries)
+    → entry_past (all_entries entries) (sections_of entries).base offset
+    ≡ reach_in_info (all_entries entries) (all_units entries) unit offset
+reached_in_info entries unit offset within =
+    let us = units_of entries in
+    let (p, is) = there (placed us) unit (omega (arith, within, length-placed_from 0 0 us)) in
+    rw is (ap (λ (base : ℕ). entry_past (all_entries entries) base offset)
+    (sym (based (sections_of entries).base us unit p entries.scanned.1.based is)))
 
 -- its header is that of the unit
 pub unit_header : (us : List DebugUnit) (number : ℕ) (p : PlacedUnit) → slice_get (placed us) number ≡ Some p

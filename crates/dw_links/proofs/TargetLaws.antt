@@ -11,13 +11,14 @@ use Rattle.dw_forms.specs.Value.{Datum, ref_info, ref_unit, ref_sig}
 use Rattle.dw_entries.proofs.Firsts.{same_some}
 use Rattle.dw_entries.specs.Asked.{OffsetsRise}
 use Rattle.dw_entries.specs.Entries.{Entry, PlacedUnit}
-use Rattle.dw_entries.specs.Runs.{IsEntryAt, IsEntryIn, ReachesInUnit}
+use Rattle.dw_entries.specs.Runs.{IsEntryIn, ReachesInUnit}
 use Rattle.dw_links.proofs.Reached.{found_entry, no_entry}
 use Rattle.dw_links.proofs.Skips.{there}
-use Rattle.dw_links.specs.LinkLaws.{ReachesBySignature}
+use Rattle.dw_links.specs.LinkLaws.{IsEntryPast, ReachesInInfo, ReachesBySignature}
 use Rattle.dw_links.specs.Signatures.{type_in, HasSignature, is_signature_of, first_signed, AreDistinct}
 use Rattle.dw_links.specs.SignedTypes.{IsFirstSigned, IsSignedType}
-use Rattle.dw_links.specs.Targets.{entry_at, entry_in, reach_in_unit, type_of_unit, signed_type, reach_of}
+use Rattle.dw_links.specs.Targets.{entry_past, entry_in, reach_in_info, reach_in_unit, type_of_unit, signed_type}
+use Rattle.dw_links.specs.Targets.{reach_of}
 
 -- no item before a place passes the test
 abbrev pub NoneBefore : {X : Type 0} → (X → Bool) → List X → ℕ → Type 0
@@ -84,27 +85,28 @@ answer_is Is (Some k) None back over some none = absurd (none k (back k refl))
 
 -- ---- entries by their offsets
 
-pub entry_at_is : (entries : List Entry) (offset id : ℕ) → OffsetsRise entries → IsEntryAt entries offset id
-    → entry_at entries offset ≡ Some id
-unfolding entry_at
-entry_at_is entries offset id rise found =
+pub entry_past_is : (entries : List Entry) (base offset id : ℕ) → OffsetsRise entries
+    → IsEntryPast entries base offset id → entry_past entries base offset ≡ Some id
+unfolding entry_past
+entry_past_is entries base offset id rise found =
     let begins = found.begins in
-    position_is (λ (e : Entry). e.at == offset) entries id
+    position_is (λ (e : Entry). base + e.at == offset) entries id
     (record {
       item = found.entry;
       is_item = found.is_entry;
-      passes = eq-eqb found.entry.at offset begins;
+      passes = eq-eqb (base + found.entry.at) offset begins;
       before =
-          λ j d lt at. ne_eqb d.at offset
+          λ j d lt at. ne_eqb (base + d.at) offset
           (λ same. omega (arith, rise j id d found.entry lt at found.is_entry, same, begins));
     })
 
-pub at_entry_at : (entries : List Entry) (offset id : ℕ) → entry_at entries offset ≡ Some id
-    → IsEntryAt entries offset id
-unfolding entry_at
-at_entry_at entries offset id is =
-    let first = place_is (λ (e : Entry). e.at == offset) entries id is in
-    record { entry = first.item; is_entry = first.is_item; begins = eqb-true first.item.at offset first.passes }
+at_entry_past : (entries : List Entry) (base offset id : ℕ) → entry_past entries base offset ≡ Some id
+    → IsEntryPast entries base offset id
+unfolding entry_past
+at_entry_past entries base offset id is =
+    let first = place_is (λ (e : Entry). base + e.at == offset) entries id is in
+    let begins = eqb-true (base + first.item.at) offset first.passes in
+    record { entry = first.item; is_entry = first.is_item; begins = begins }
 
 each_true : (a b : Bool) → (a && b) ≡ true → (a ≡ true) × (b ≡ true)
 each_true true b is = (refl, is)
@@ -140,21 +142,44 @@ at_entry_in entries unit offset id is =
     }
 
 -- what a search by offset answers
-entry_at_answer : (entries : List Entry) (offset : ℕ) (answer : Option ℕ) → OffsetsRise entries
-    → IfSome answer (IsEntryAt entries offset) → IfNone answer ((id : ℕ) → IsEntryAt entries offset id → ⊥)
-    → answer ≡ entry_at entries offset
-entry_at_answer entries offset answer rise =
-    answer_is (IsEntryAt entries offset) (entry_at entries offset) answer (at_entry_at entries offset)
-    (λ id. entry_at_is entries offset id rise)
+entry_past_answer : (entries : List Entry) (base offset : ℕ) (answer : Option ℕ) → OffsetsRise entries
+    → IfSome answer (IsEntryPast entries base offset)
+    → IfNone answer ((id : ℕ) → IsEntryPast entries base offset id → ⊥) → answer ≡ entry_past entries base offset
+entry_past_answer entries base offset answer rise =
+    answer_is (IsEntryPast entries base offset) (entry_past entries base offset) answer
+    (at_entry_past entries base offset) (λ id. entry_past_is entries base offset id rise)
 
-pub entry_found : (entries : List Entry) (offset : ℕ) (answer : Option ℕ) → OffsetsRise entries
-    → IfSome answer (λ id. IfSome (slice_get entries id) (λ e. e.at ≡ offset))
+-- no entry begins before the base
+pub none_before_base : (entries : List Entry) (base offset : ℕ) → OffsetsRise entries → offset < base
+    → None ≡ entry_past entries base offset
+none_before_base entries base offset rise less =
+    entry_past_answer entries base offset None rise tt (λ id found. omega (arith, found.begins, less))
+
+pub entry_found : (entries : List Entry) (base at offset : ℕ) (answer : Option ℕ) → base + at ≡ offset
+    → OffsetsRise entries → IfSome answer (λ id. IfSome (slice_get entries id) (λ e. e.at ≡ at))
     → IfSome answer (λ id. id < length entries)
-    → IfNone answer (All (λ e. e.at ≢ offset) entries) → answer ≡ entry_at entries offset
-entry_found entries offset None rise found within none =
-    entry_at_answer entries offset None rise tt (no_entry entries offset none)
-entry_found entries offset (Some id) rise found within none =
-    entry_at_answer entries offset (Some id) rise (found_entry entries offset id found within) tt
+    → IfNone answer (All (λ e. e.at ≢ at) entries) → answer ≡ entry_past entries base offset
+entry_found entries base at offset None sum rise found within none =
+    entry_past_answer entries base offset None rise tt
+    (λ id past. let begins = past.begins in
+    no_entry entries at none id
+    (record { entry = past.entry; is_entry = past.is_entry; begins = omega (arith, sum, begins) }))
+entry_found entries base at offset (Some id) sum rise found within none =
+    let there = found_entry entries at id found within in
+    let begins = there.begins in
+    entry_past_answer entries base offset (Some id) rise
+    (record { entry = there.entry; is_entry = there.is_entry; begins = omega (arith, sum, begins) }) tt
+
+-- ---- entries by their offsets, as a unit counts them
+
+pub reach_in_info_is : (entries : List Entry) (units : List PlacedUnit) (unit offset id : ℕ) → OffsetsRise entries
+    → ReachesInInfo entries units unit offset id → reach_in_info entries units unit offset ≡ Some id
+reach_in_info_is entries units unit offset id rise reached =
+    rw reached.is_unit (entry_past_is entries reached.unit.unit.base offset id rise reached.target)
+
+pub at_reach_in_info : (entries : List Entry) (units : List PlacedUnit) (unit offset id : ℕ)
+    → reach_in_info entries units unit offset ≡ Some id → ReachesInInfo entries units unit offset id
+at_reach_in_info entries units unit offset id is = search (rules, option_and_then_some, at_entry_past)
 
 -- ---- entries by their offsets from a header
 
@@ -310,7 +335,7 @@ signed_some entries units signature number (Some id) found has =
 pub reached_entry : (entries : List Entry) (units : List PlacedUnit) (unit : ℕ) (v : Datum) (id : ℕ)
     → reach_of entries units unit v ≡ Some id → (e : Entry) × (slice_get entries id ≡ Some e)
 reached_entry entries units unit (ref_info offset) id is =
-    let found = at_entry_at entries offset id is in (found.entry, found.is_entry)
+    let found = at_reach_in_info entries units unit offset id is in (found.target.entry, found.target.is_entry)
 reached_entry entries units unit (ref_unit offset) id is =
     let found = at_reach_in_unit entries units unit offset id is in (found.target.entry, found.target.is_entry)
 reached_entry entries units unit (ref_sig signature) id is =

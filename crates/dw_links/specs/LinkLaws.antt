@@ -23,6 +23,18 @@ EachValue class P entries =
     EachEntry (λ e. (attribute : ℕ) (v : Datum) → value_at_entry e attribute ≡ Some v → class_of v ≡ class
     → P e attribute v) entries
 
+-- the entry with this number begins so far after the start of .debug_info, in which the first unit begins at a base
+pub record IsEntryPast (entries : List Entry) (base offset id : ℕ) : Type 0 where
+  pub entry : Entry
+  pub is_entry : slice_get entries id ≡ Some entry
+  pub begins : base + entry.at ≡ offset
+
+-- an entry begins so far after the start of .debug_info, by the base of the unit that the reference is in
+pub record ReachesInInfo (entries : List Entry) (units : List PlacedUnit) (number offset id : ℕ) : Type 0 where
+  pub unit : PlacedUnit
+  pub is_unit : slice_get units number ≡ Some unit
+  pub target : IsEntryPast entries unit.unit.base offset id
+
 -- a signature refers to the entry at the type offset of a unit that has it
 pub record ReachesBySignature (entries : List Entry) (units : List PlacedUnit) (signature id : ℕ) : Type 0 where
   pub number : ℕ

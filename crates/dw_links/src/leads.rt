@@ -19,7 +19,6 @@ use dw_entries::{Broken, EntryId, Leading, OptionalId};
 use dw_forms::{Attribute, Lead, Value};
 
 /// The next value, which is the index of a string in one byte or in two, and its attribute.
-#[inline(always)]
 fn take_index(leading: &mut Leading<'_, '_>) -> (Attribute, u64)
     requires { is_index_lead (next_lead leading.old) ≡ true }
     ensures { IsTaken (next_lead leading.old) (leading_left leading.old) (result.0, str_index result.1)
@@ -33,7 +32,6 @@ fn take_index(leading: &mut Leading<'_, '_>) -> (Attribute, u64)
 
 impl References<'_, '_, '_> {
     /// The type that starts so many bytes after the unit's header, if a guess finds it.
-    #[inline(always)]
     fn guess_type(&self, offset: u64) -> Option<EntryId>
         requires { IsLinkable self.now }
         ensures { IfSome result (IsTypeAfter self.now offset) }
@@ -89,7 +87,6 @@ impl References<'_, '_, '_> {
 
     /// What is kept of the entry's type after the next value, which is a reference of four bytes to the type; or the
     /// rule that fails there.
-    #[inline(always)]
     fn link_type(
         &self,
         declared: &mut [Option<bool>],
@@ -139,7 +136,6 @@ impl References<'_, '_, '_> {
     }
 
     /// The same, where it is the offset of a string in .debug_str.
-    #[inline(always)]
     fn link_text(
         &self,
         declared: &mut [Option<bool>],
@@ -185,7 +181,6 @@ impl References<'_, '_, '_> {
     }
 
     /// The same, where it is the index of an address.
-    #[inline(always)]
     fn link_address(
         &self,
         declared: &mut [Option<bool>],

@@ -26,7 +26,6 @@ use std::alloc::Global;
 use std::collections::BTreeMap;
 
 /// The number of an entry, or none.
-#[inline(always)]
 pub(crate) fn number_of(entries: &Entries<'_>, id: &Option<EntryId>) -> OptionalId
     requires { IfSome id.now (λ t. t < length (all_entries entries.now)) }
     ensures { result ≡ id.now }

@@ -9,18 +9,20 @@ ghost use Rattle.dw_links.specs.Contributions.{IsEndOfStrings};
 ghost use Rattle.dw_links.specs.DeclaredEntries.{KeepsDeclared};
 ghost use Rattle.dw_links.specs.Linkable.{entries_in, entry_with, entry_after, FailsByTarget, target_by, IsLinkable};
 ghost use Rattle.dw_links.specs.Linkable.{MayAsk, MayLink};
-ghost use Rattle.dw_links.specs.Targets.{entry_at};
+ghost use Rattle.dw_links.specs.LinkLaws.{IsEntryPast};
+ghost use Rattle.dw_links.specs.Targets.{entry_past};
 ghost use Rattle.dw_links.specs.References.{is_reference_value, HasType, TypeUnitFails, AtHeader, HeaderFailures};
 ghost use Rattle.dw_entries.specs.Entries.{PlacedUnit, node_count};
 ghost use Rattle.dw_entries.specs.Views.{sections_of, all_entries, all_units, units_of};
-ghost use Rattle.dw_entries.specs.Runs.{IsEntryAt, ReachesInUnit};
+ghost use Rattle.dw_entries.specs.Runs.{ReachesInUnit};
 ghost use Rattle.dw_entries.specs.Stopped.{IfPlainFault};
 ghost use Rattle.dw_links.specs.Signatures.{HasSignature};
 ghost use Rattle.dw_links.specs.SignedTypes.{AreSignedBelow, HasSignedTypes, AreTyped};
 
 use crate::strings::{UnitTexts, read_texts};
 use crate::targets::{
-    entry_from_header, is_permitted, is_permitted_form, is_reference, is_sig8, reach,
+    entry_from_header, entry_from_start, is_permitted, is_permitted_form, is_reference, is_sig8,
+    reach,
 };
 use dw_entries::constants::*;
 use dw_entries::{
@@ -221,7 +223,6 @@ impl<'e, 'd, 't> References<'e, 'd, 't> {
     }
 
     /// The entry of the unit at hand that starts so many bytes after the unit's header.
-    #[inline(always)]
     fn find_in_unit(&self, offset: u64) -> Option<EntryId>
         requires { IsLinkable self.now }
         ensures { result ≡ entry_after self.now offset }
@@ -232,11 +233,12 @@ impl<'e, 'd, 't> References<'e, 'd, 't> {
         }
     }
 
-    /// The entry that starts at this offset of .debug_info, if a guess finds it.
+    /// The entry that starts so far after the start of .debug_info, if a guess finds it.
     fn guess(&self, offset: u32) -> Option<EntryId>
-        ensures { IfSome result (IsEntryAt (all_entries (entries_in self.now)) offset) }
+        ensures { IfSome result (IsEntryPast (all_entries (entries_in self.now))
+            (sections_of (entries_in self.now)).base offset) }
     {
-        let at = u64::from(offset);
+        let at = u64::from(offset.checked_sub(self.entries.sections().base)?);
         let number = self.hints.guess(at)?;
         let id = self.entries.nth(number)?;
         if u64::from(self.entries.offset(id)) != at {
@@ -245,18 +247,18 @@ impl<'e, 'd, 't> References<'e, 'd, 't> {
         Some(id)
     }
 
-    /// The entry that starts at this offset of .debug_info.
+    /// The entry that starts so far after the start of .debug_info.
     fn find(&self, offset: u32) -> Option<EntryId>
-        ensures { result ≡ entry_at (all_entries (entries_in self.now)) offset }
+        ensures { result ≡ entry_past (all_entries (entries_in self.now)) (sections_of (entries_in self.now)).base
+            offset }
     {
         match self.guess(offset) {
             Some(id) => Some(id),
-            None => self.entries.find(offset),
+            None => entry_from_start(self.entries, offset),
         }
     }
 
     /// The target of a value of an entry.
-    #[inline(always)]
     pub fn reach(&self, head: &EntryHead, value: &Value<'_>) -> Option<EntryId>
         requires { MayAsk self.now head.now }
         ensures { result ≡ target_by (entries_in self.now) head.now (view value.now) }
@@ -291,7 +293,6 @@ impl<'e, 'd, 't> References<'e, 'd, 't> {
     }
 
     /// The rule at a reference that has a target.
-    #[inline(always)]
     fn ask_reached(
         &self,
         declared: &mut [Option<bool>],
@@ -323,7 +324,6 @@ impl<'e, 'd, 't> References<'e, 'd, 't> {
     }
 
     /// The rule at an attribute, if this is the target of its value.
-    #[inline(always)]
     pub fn ask(
         &self,
         declared: &mut [Option<bool>],

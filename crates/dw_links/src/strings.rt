@@ -79,7 +79,6 @@ impl UnitTexts<'_> {
     }
 
     /// The rule at a string by its offset into .debug_str.
-    #[inline(always)]
     pub(crate) fn ask_text(&self, offset: u32) -> Option<Rule>
         requires { IsReady self.now }
         ensures { IsLeast (OffsetFails self.now.sections.str.now offset) result }

@@ -3,18 +3,25 @@
 
 ghost use Rattle.std.specs.Prelude.{◌≡◌, ◌<◌, length, slice_get, IfSome, Some};
 ghost use Rattle.dw_forms.specs.Value.{view};
-ghost use Rattle.dw_entries.specs.Views.{all_entries, all_units, units_of};
+ghost use Rattle.dw_entries.specs.Views.{sections_of, all_entries, all_units, units_of};
 ghost use Rattle.dw_entries.specs.Entries.{Entry};
 ghost use Rattle.dw_links.specs.References.{is_declared, is_signed, is_signature, is_reference_value, permits};
 ghost use Rattle.dw_links.specs.References.{permits_form};
 ghost use Rattle.dw_links.specs.DeclaredEntries.{KeepsDeclared};
 ghost use Rattle.dw_links.specs.SignedTypes.{HasSignedTypes};
-ghost use Rattle.dw_links.specs.Targets.{reach_in_unit, signed_type, reach_of, target_of};
+ghost use Rattle.dw_links.specs.Targets.{entry_past, reach_in_unit, signed_type, reach_of, target_of};
 
 use dw_entries::constants::*;
 use dw_entries::{Entries, EntryHead, EntryId};
 use dw_forms::{Attribute, Value};
 use std::collections::BTreeMap;
+
+/// The entry that begins so far after the start of .debug_info, of which the sections may have a part.
+pub(crate) fn entry_from_start(entries: &Entries<'_>, offset: u32) -> Option<EntryId>
+    ensures { result ≡ entry_past (all_entries entries.now) (sections_of entries.now).base offset }
+{
+    entries.find(offset.checked_sub(entries.sections().base)?)
+}
 
 /// The entry that begins so far after the first byte of a unit's header.
 #[inline(always)]
@@ -51,7 +58,7 @@ pub fn reach(
     ensures { result ≡ reach_of (all_entries entries.now) (all_units entries.now) unit (view value.now) }
 {
     match *value {
-        Value::RefInfo(offset) => entries.find(offset),
+        Value::RefInfo(offset) => entry_from_start(entries, offset),
         Value::RefUnit(offset) => entry_from_header(entries, unit, offset),
         Value::RefSig(signature) => type_by_signature(entries, signatures, signature),
         _ => None,
@@ -105,7 +112,6 @@ fn is_declaration(entries: &Entries<'_>, declared: &mut [Option<bool>], id: Entr
 }
 
 /// Whether a value is a reference.
-#[inline(always)]
 pub fn is_reference(value: &Value<'_>) -> bool
     ensures { result ≡ is_reference_value (view value.now) }
 {
@@ -116,7 +122,6 @@ pub fn is_reference(value: &Value<'_>) -> bool
 }
 
 /// Whether a value is a signature.
-#[inline(always)]
 pub fn is_sig8(value: &Value<'_>) -> bool
     ensures { result ≡ is_signature (view value.now) }
 {
@@ -124,7 +129,6 @@ pub fn is_sig8(value: &Value<'_>) -> bool
 }
 
 /// Whether an attribute is the signature of a structure, union or enumeration.
-#[inline(always)]
 fn is_signed_by(head: &EntryHead, attribute: Attribute) -> bool
     ensures { result ≡ is_signed head.now attribute }
 {
@@ -136,7 +140,6 @@ fn is_signed_by(head: &EntryHead, attribute: Attribute) -> bool
 }
 
 /// Whether an attribute of an entry may have a value of this form.
-#[inline(always)]
 pub fn is_permitted_form(head: &EntryHead, attribute: Attribute, value: &Value<'_>) -> bool
     ensures { result ≡ permits_form head.now attribute (view value.now) }
 {
@@ -146,7 +149,6 @@ pub fn is_permitted_form(head: &EntryHead, attribute: Attribute, value: &Value<'
 /// Whether an attribute of an entry may have a target. This project's choice: the type, the specification, the
 /// signature and the import of a unit have targets of their kinds, and other attributes may refer to any entry. The
 /// target's unit is not looked up.
-#[inline(always)]
 pub fn is_permitted(
     entries: &Entries<'_>,
     declared: &mut [Option<bool>],

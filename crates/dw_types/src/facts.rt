@@ -29,7 +29,6 @@ fn is_true(value: Option<Value<'_>>) -> bool
 }
 
 /// The number of an entry that is named, if one is.
-#[inline(always)]
 fn number_of(id: Option<EntryId>) -> Option<usize>
     ensures { result ≡ id }
 {
@@ -53,7 +52,6 @@ pub fn languages_of(alloc: Global, entries: &Entries<'_>) -> Result<Vec<Constant
 }
 
 /// The language of the unit with a number.
-#[inline(always)]
 pub(crate) fn language_at(languages: &[Constant], number: usize) -> Constant
     requires { number < length languages.now }
     ensures { slice_get languages.now number ≡ Some result }
@@ -88,7 +86,6 @@ impl<'e, 'a> Model for FactsAt<'e, 'a> {
 }
 
 impl FactsAt<'_, '_> {
-    #[inline(always)]
     pub(crate) fn tag(&self) -> Tag
         ensures { result ≡ self.now.tag }
     {
@@ -96,7 +93,6 @@ impl FactsAt<'_, '_> {
     }
 
     /// Whether the entry is a type.
-    #[inline(always)]
     pub(crate) fn is_type(&self) -> bool
         ensures { result ≡ is_type_tag self.now.tag }
     {
@@ -136,7 +132,6 @@ impl FactsAt<'_, '_> {
     }
 
     /// How many bytes an address has in its unit.
-    #[inline(always)]
     pub(crate) fn address_size(&self) -> u8
         ensures { result ≡ self.now.address_size }
     {
@@ -145,7 +140,6 @@ impl FactsAt<'_, '_> {
     }
 
     /// DW_AT_language of the first entry of its unit.
-    #[inline(always)]
     pub(crate) fn language(&self) -> Constant
         ensures { result ≡ self.now.language }
     {
@@ -192,7 +186,6 @@ impl<'r, 'a> FactsList<'r, 'a> {
     }
 
     /// How many entries there are.
-    #[inline(always)]
     pub(crate) fn count(&self) -> usize
         ensures { result ≡ length self.now }
     {
@@ -209,7 +202,6 @@ impl<'r, 'a> FactsList<'r, 'a> {
     }
 
     /// Whether the entry with a number is a type. Its unit is not looked up.
-    #[inline(always)]
     pub(crate) fn is_type(&self, node: usize) -> bool
         requires { node < length self.now }
         ensures { result ≡ is_type_tag (entry_of self.now node).tag }

@@ -96,7 +96,6 @@ impl FactsAt<'_, '_> {
     }
 
     /// Whether it is an array.
-    #[inline(always)]
     pub(crate) fn is_array(&self) -> bool
         ensures { result ≡ is_array self.now }
     {
@@ -104,7 +103,6 @@ impl FactsAt<'_, '_> {
     }
 
     /// Whether it is a subrange.
-    #[inline(always)]
     pub(crate) fn is_subrange(&self) -> bool
         ensures { result ≡ is_subrange_tag self.now.tag }
     {

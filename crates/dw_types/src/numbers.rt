@@ -51,7 +51,6 @@ impl Numbers {
     }
 
     /// How many numbers there are.
-    #[inline(always)]
     pub fn len(&self) -> usize
         ensures { result ≡ length self.now }
     {
@@ -129,7 +128,6 @@ impl Numbers {
     }
 
     /// Writes a number at a place.
-    #[inline(always)]
     pub fn set(&mut self, alloc: Global, place: usize, number: usize) -> Result<(), AllocError>
         requires { place < length self.old }
         ensures { OnOk result (self.new ≡ slice_set self.old place number) }

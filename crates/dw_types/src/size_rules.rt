@@ -93,7 +93,6 @@ fn end_past(bytes: u64, start: i128, size: u64) -> bool
 
 impl Kind {
     /// Whether the size of such an entry reads its own byte size.
-    #[inline(always)]
     fn reads_own(self) -> bool
         ensures { result ≡ reads_own self }
     {

@@ -239,7 +239,6 @@ fn measure_type(
 }
 
 /// Writes the size of an entry if it is a type, and notes what is wrong with it and its members.
-#[inline(always)]
 fn measure(
     alloc: Global,
     entries: &mut FactsList<'_, '_>,

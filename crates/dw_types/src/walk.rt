@@ -83,7 +83,6 @@ impl Walk {
     }
 
     /// How far it has come with a node.
-    #[inline(always)]
     pub(crate) fn mark(&self, node: usize) -> Mark
         requires { node < length self.now.marks }
         ensures { result ≡ mark_in self.now.marks node }
@@ -99,7 +98,6 @@ impl Walk {
     }
 
     /// Takes up a node, none of whose steps was looked at.
-    #[inline(always)]
     pub(crate) fn take_up(&mut self, node: usize) -> Hand
         requires node_in { node < length self.old.marks }
         requires room { self.old.turns + 1 < 2 ^ 128 }
@@ -112,7 +110,6 @@ impl Walk {
     }
 
     /// Counts so many steps as looked at.
-    #[inline(always)]
     pub(crate) fn count(&mut self, steps: usize)
         requires { self.old.turns + steps < 2 ^ 128 }
         ensures { self.new ≡ turned self.old steps }

@@ -11,7 +11,8 @@ loop-at-preserved c = search (rules, rest_of, upto_next, unit_within)
 
 pub returns-clause-all : goal.returns-clause-all
 returns-clause-all c =
-    upto_end c.args.section.now c.args.info.now c.loop-at.at c.loop-at.kept c.loop-at.invariant.upto (omega arith)
+    λ base. upto_end base c.args.section.now c.args.info.now c.loop-at.at c.loop-at.kept c.loop-at.invariant.upto
+    (omega arith)
 
 pub returns-clause-searchable : goal.returns-clause-searchable
 returns-clause-searchable c = c.loop-at.invariant.upto.tables.searchable

@@ -1,20 +1,13 @@
 use Rattle.std.proofs.Common.{sym}
 use Rattle.dw_entries.specs.Entries.{entries_of}
-use Rattle.dw_entries.specs.Views.{units_of}
+use Rattle.dw_entries.specs.Views.{sections_of, units_of}
 use Rattle.dw_entries.proofs.EntryFacts.{entries_rise}
 use Rattle.dw_links.specs.Linkable.{entries_in}
-use Rattle.dw_links.proofs.TargetLaws.{entry_at_is, entry_found}
+use Rattle.dw_links.proofs.TargetLaws.{entry_past_is}
 use Rattle.dw_links.proofs.references.References.find.Goals as goal
 
 pub returns-in-Some : goal.returns-in-Some
 returns-in-Some c =
     let entries = entries_in c.args.self.now in
-    sym (entry_at_is (entries_of (units_of entries)) c.args.offset c.in-Some.id
+    sym (entry_past_is (entries_of (units_of entries)) (sections_of entries).base c.args.offset c.in-Some.id
     (entries_rise _ (units_of entries) entries.scanned.1.spells.are) c.in-Some.ensures)
-
-pub returns-in-None : goal.returns-in-None
-returns-in-None c =
-    let entries = entries_in c.args.self.now in
-    entry_found (entries_of (units_of entries)) c.args.offset c.find.result
-    (entries_rise _ (units_of entries) entries.scanned.1.spells.are) c.find.ensures.found c.find.ensures.within
-    c.find.ensures.none

@@ -1,4 +1,5 @@
-use Rattle.std.proofs.Common.{sym, ◌∙◌, arith}
+use Rattle.std.proofs.Common.{sym, ap, ◌∙◌, arith}
+use Rattle.dw_elf.specs.declared.sections.Sections.{Sections}
 use Rattle.dw_entries.specs.Views.{all_entries}
 use Rattle.dw_links.specs.Linkable.{entries_in}
 use Rattle.dw_links.proofs.Reached.{nth_within}
@@ -19,5 +20,7 @@ returns c =
       entry = e;
       is_entry = is;
       begins = let begins = rw is at c.offset.ensures in
-          omega (arith, begins, c.from-at.ensures, c.from.ensures, c.if-from-at.false);
+          let base = ap (λ (s : Sections). s.base) c.sections.ensures in
+          let start = c.in_ok-checked_sub.ensures in
+          omega (arith, begins, base, start.0, start.1, c.from-at.ensures, c.from.ensures, c.if-from-at.false);
     }
