@@ -1,6 +1,6 @@
--- One unit alone: its bytes as the whole .debug_info, beside the other sections.
-use Rattle.std.proofs.Common.{rules, ◌≡◌, ℕ, ◌<◌, List, [], ◌∷◌, length, Option, Some, None, Bor, refl, sym, ap, subst, ◌∙◌, arith, append-nil}
-use Rattle.std.specs.Prelude.{slice_get}
+-- One batch alone: its bytes as the whole .debug_info, beside the other sections.
+use Rattle.std.proofs.Common.{rules, ◌≡◌, ℕ, suc, ◌+◌, ◌<◌, List, [], ◌∷◌, length, Option, Some, None, Bor, refl, sym, ap, subst, ◌∙◌, arith}
+use Rattle.std.specs.Prelude.{slice_get, IfSome}
 use Rattle.std.specs.List.{count_by}
 use Rattle.dw_elf.specs.declared.sections.Sections.{Sections}
 use Rattle.dw_forms.specs.Value.{Datum}
@@ -8,8 +8,8 @@ use Rattle.dw_forms.specs.Codes.{DW_AT_str_offsets_base, DW_AT_addr_base}
 use Rattle.dw_entries.specs.declared.header.UnitHeader.{UnitHeader}
 use Rattle.dw_entries.specs.declared.fault.Rule.{Rule}
 use Rattle.dw_entries.specs.declared.lookup.EntryHead.{EntryHead}
-use Rattle.dw_entries.specs.Units.{DebugUnit, IsUnit, unit_bytes}
-use Rattle.dw_entries.specs.Entries.{entries_of, PlacedUnit, placed}
+use Rattle.dw_entries.specs.Units.{DebugUnit, AreUnits, HaveBase, unit_bytes, units_bytes}
+use Rattle.dw_entries.specs.Entries.{Entry, entries_of, node_count, placed_from, placed}
 use Rattle.dw_entries.specs.Failures.{Failure, HasNone, broken_of}
 use Rattle.dw_entries.specs.Faults.{Fails}
 use Rattle.dw_links.specs.Bases.{base_in}
@@ -17,48 +17,31 @@ use Rattle.dw_entries.specs.Lookups.{entry_head}
 use Rattle.dw_links.specs.Strings.{StringIndexFails, AddressIndexFails, BaseFails, StringFailsIn, StringFailures}
 use Rattle.dw_units.specs.declared.counting.Counts.{Counts}
 use Rattle.dw_image.specs.Lookups.{is_type_entry}
-use Rattle.dw_entries.specs.Views.{all_entries, units_of}
+use Rattle.dw_entries.specs.Asked.{EachEntry}
+use Rattle.dw_entries.specs.Views.{units_of}
 use Rattle.dw_entries.specs.declared.entries.Entries.{Entries}
 use Rattle.dw_image.specs.Valid.{IsValidBy}
-use Rattle.dw_entries.specs.Asked.{EachEntry}
 use Rattle.dw_links.specs.Signatures.{type_in}
-use Rattle.dw_entries.specs.Units.{Spells}
 use Rattle.dw_entries.specs.Rules.{group_of}
 use Rattle.dw_entries.specs.declared.fault.Fault.{Fault}
 use Rattle.dw_entries.specs.Views.{sections_of}
 use Rattle.dw_entries.proofs.FaultLaws.{no_list}
-use Rattle.dw_image.specs.Valid.{SpellsInfo}
+use Rattle.dw_entries.specs.Units.{SpellsInfo}
 use Rattle.dw_image.specs.First.{Group, classes, strings, references, shapes, cycles, sizes, turn_of, failures_of, IsFirstIn, IsFirstFault, in_trees, in_group}
 use Rattle.dw_image.specs.Headline.{IsFaultOf}
 use Rattle.dw_image.proofs.GroupLaws.{rank_of}
 use Rattle.dw_image.specs.Before.{PassBefore}
-use Rattle.dw_units.specs.ByUnit.{IsMeasured, StaysAlone}
+use Rattle.dw_units.specs.ByUnit.{IsMeasured, IsFirm, StaysAlone}
+use Rattle.dw_units.specs.declared.alone.Elsewhere.{Elsewhere}
+use Rattle.dw_units.specs.declared.alone.Elsewhere.TheVariants.{Never, ByOffset, BySignature}
 use Rattle.dw_units.specs.declared.alone.Verified.{Verified}
 use Rattle.dw_units.specs.declared.alone.Verified.TheVariants.{Sound, Passed, Fault as Fails_by}
-use Rattle.dw_units.specs.Parts.{IsFaultAlone, IsPassed, PassLess, IsVerdictOn, IsFoundAlone}
-use Rattle.dw_units.specs.Alone.{StaysInside}
-use Rattle.dw_units.specs.Parts.{IsOneAlone, IsAlone}
+use Rattle.dw_units.specs.Parts.{IsFaultAlone, IsPassed, PassLess, IsVerdictOn, IsFirmly, Refer, IsKept, IsFoundAlone}
+use Rattle.dw_units.specs.Alone.{StaysInside, HaveNoTypeUnit}
+use Rattle.dw_units.specs.Parts.{IsAlone}
 use Rattle.dw_units.specs.Counted.{AreCounts}
 use Rattle.dw_forms.specs.declared.fault.Stop.{Stop}
 use Rattle.dw_entries.specs.Stopped.{IfPlainFault}
-
-pub one_unit : (us : List DebugUnit) → length us ≡ 1 → (u : DebugUnit) × (us ≡ u ∷ [])
-one_unit [] is = absurd (omega (arith, is))
-one_unit (u ∷ []) is = (u, refl)
-one_unit (u ∷ v ∷ us) is = absurd (omega (arith, is))
-
-pub one_alone : (entries : Entries) → length (units_of entries) ≡ 1
-    → ((p : PlacedUnit) → slice_get (placed (units_of entries)) 0 ≡ Some p → type_in p.unit.header.kind ≡ None)
-    → EachEntry StaysInside (all_entries entries) → IsOneAlone entries
-one_alone entries one kind stays =
-    let (u, is) = one_unit (units_of entries) one in
-    record {
-      unit = u;
-      one = is;
-      no_type_unit =
-          kind (record { at = 0; first = 0; unit = u }) (ap (λ (us : List DebugUnit). slice_get (placed us) 0) is);
-      stays = stays;
-    }
 
 -- ---- the rules on strings of two sections that differ in .debug_info alone
 
@@ -132,13 +115,14 @@ shares_back s own shares = record {
 }
 
 module _ (s own : Sections) (shares : Shares s own) where
-  measured_by : (group : Group) (fault : Fault) (u : DebugUnit) → IsFirstIn s (u ∷ []) group fault → IsMeasured group u
-  measured_by sizes fault u first = (first.holds.fails.table, first.holds.fails.one)
-  measured_by classes fault u first = tt
-  measured_by strings fault u first = tt
-  measured_by references fault u first = tt
-  measured_by shapes fault u first = tt
-  measured_by cycles fault u first = tt
+  measured_by : (group : Group) (fault : Fault) (units : List DebugUnit) → IsFirstIn s units group fault
+      → IsMeasured group units
+  measured_by sizes fault units first = (first.holds.fails.table, first.holds.fails.one)
+  measured_by classes fault units first = tt
+  measured_by strings fault units first = tt
+  measured_by references fault units first = tt
+  measured_by shapes fault units first = tt
+  measured_by cycles fault units first = tt
 
   -- the groups ask the same of both
   none_own : (us : List DebugUnit) (group : Group) → HasNone (failures_of own us group)
@@ -175,46 +159,52 @@ module _ (s own : Sections) (shares : Shares s own) where
       subst (λ (xs : List ℕ). IfPlainFault (Fails xs part) stop) shares.abbrev_same
       (subst (λ (xs : List ℕ). IfPlainFault (Fails own.«abbrev».now xs) stop) info fails)
 
-  -- one unit as sections of its own, of which something is found
-  module _ (entries : Entries) (part : List ℕ) (info : own.info.now ≡ part) (of_own : sections_of entries ≡ own)
-      (only : (units : List DebugUnit) → Spells own.«abbrev».now units own.info.now → units ≡ units_of entries)
-      (one : IsOneAlone entries) where
-    spelled : SpellsInfo own (one.unit ∷ [])
+  -- one batch as sections of its own, of which something is found
+  module _ (entries : Entries) (at : ℕ) (part : List ℕ) (info : own.info.now ≡ part) (base : own.base ≡ s.base + at)
+      (of_own : sections_of entries ≡ own)
+      (only : (units : List DebugUnit) → SpellsInfo own units → units ≡ units_of entries)
+      (no_type_unit : HaveNoTypeUnit (units_of entries))
+      (stays_inside : EachEntry StaysInside (entries_of (units_of entries))) where
+    spelled : SpellsInfo own (units_of entries)
     spelled =
-        subst (λ (us : List DebugUnit). SpellsInfo own us) one.one
-        (subst (λ (t : Sections). SpellsInfo t (units_of entries)) of_own entries.scanned.1.spells)
+        subst (λ (t : Sections). SpellsInfo t (units_of entries)) of_own
+        (record { spells = entries.scanned.1.spells; based = entries.scanned.1.based })
 
-    stays_one : StaysAlone s one.unit
-    stays_one = record {
-      is_unit = subst (λ (a : List ℕ). IsUnit a one.unit) shares.abbrev_same spelled.are.0;
-      no_type_unit = one.no_type_unit;
-      stays = subst (λ (us : List DebugUnit). EachEntry StaysInside (entries_of us)) one.one one.stays;
+    based : HaveBase (s.base + at) (units_of entries)
+    based = subst (λ (n : ℕ). HaveBase n (units_of entries)) base spelled.based
+
+    stays : StaysAlone s (units_of entries)
+    stays = record {
+      are = subst (λ (a : List ℕ). AreUnits a (units_of entries)) shares.abbrev_same spelled.spells.are;
+      no_type_unit = no_type_unit;
+      stays = stays_inside;
     }
 
-    bytes_one : part ≡ unit_bytes one.unit
-    bytes_one = sym info ∙ spelled.parts ∙ append-nil (unit_bytes one.unit)
+    bytes : part ≡ units_bytes (units_of entries)
+    bytes = sym info ∙ spelled.spells.parts
 
     -- they are sound, with these counts
-    alone_of : (c : Counts) → AreCounts (sections_of entries) c → IsAlone s part c
+    alone_of : (c : Counts) → AreCounts (sections_of entries) c → IsAlone s at part c
     alone_of c of_entries =
         let counts = subst (λ (t : Sections). AreCounts t c) of_own of_entries in
         let whole = counts.sound.valid in
-        let valid = subst (IsValidBy own) (only whole.0 whole.1.trees ∙ one.one) whole.1 in
-        let units_are : counts.units ≡ one.unit ∷ [] = only counts.units counts.sound.trees.spelled ∙ one.one in
+        let valid = subst (IsValidBy own) (only whole.0 whole.1.trees) whole.1 in
+        let units_are : counts.units ≡ units_of entries = only counts.units counts.sound.trees.spelled in
         record {
-          unit = one.unit;
+          units = units_of entries;
+          based = based;
           alone = record {
-            is_unit = stays_one.is_unit;
+            are = stays.are;
             classes = valid.classes;
-            strings = none_own (one.unit ∷ []) strings valid.strings;
+            strings = none_own (units_of entries) strings valid.strings;
             references = valid.references;
             shapes = valid.shapes;
             contained = valid.contained;
             sizes = valid.sizes;
-            no_type_unit = one.no_type_unit;
-            stays = stays_one.stays;
+            no_type_unit = no_type_unit;
+            stays = stays_inside;
           };
-          bytes = bytes_one;
+          bytes = bytes;
           unit_count = counts.unit_count ∙ ap length units_are;
           entry_count = counts.entry_count ∙ ap (λ (us : List DebugUnit). length (entries_of us)) units_are;
           type_count = counts.type_count
@@ -223,50 +213,89 @@ module _ (s own : Sections) (shares : Shares s own) where
 
     -- no rule of the groups before the least fault's fails
     passed_alone_of : (least : Option Rule) → PassLess (sections_of entries) (units_of entries) least
-        → IsPassed s least part
+        → IsPassed s at least part
     passed_alone_of None pass = absurd pass
     passed_alone_of (Some rule) pass =
-        let at_own = subst (λ (t : Sections). PassBefore t (units_of entries) (group_of rule)) of_own pass in
-        let own_pass = subst (λ (us : List DebugUnit). PassBefore own us (group_of rule)) one.one at_own in
+        let own_pass = subst (λ (t : Sections). PassBefore t (units_of entries) (group_of rule)) of_own pass in
         record {
-          unit = one.unit;
-          stays = stays_one;
-          bytes = bytes_one;
+          units = units_of entries;
+          based = based;
+          stays = stays;
+          bytes = bytes;
           passes = record {
-            hold = λ earlier less. none_own (one.unit ∷ []) earlier (own_pass.hold earlier less);
+            hold = λ earlier less. none_own (units_of entries) earlier (own_pass.hold earlier less);
             measured = own_pass.measured;
           };
         }
 
     -- a rule fails
-    fault_alone_of : (fault : Fault) → IsFaultOf (sections_of entries) fault → IsFaultAlone s part fault
-    fault_alone_of fault is = go (subst (λ (t : Sections). IsFirstFault t fault) of_own is.first)
+    fault_alone_of : (fault : Fault) → IsFirm (units_of entries) fault.rule → IsFaultOf (sections_of entries) fault
+        → IsFaultAlone s at part fault
+    fault_alone_of fault firm is = go (subst (λ (t : Sections). IsFirstFault t fault) of_own is.first)
       where
-        go : IsFirstFault own fault → IsFaultAlone s part fault
+        go : IsFirstFault own fault → IsFaultAlone s at part fault
         go (in_trees fails cycle) = absurd
-            (no_list own.«abbrev».now own.info.now (one.unit ∷ []) (broken_of fault) spelled fails)
+            (no_list own.«abbrev».now own.info.now (units_of entries) (broken_of fault) spelled.spells fails)
         go (in_group group fails) =
-            let same : fails.units ≡ one.unit ∷ [] = only fails.units fails.spelled ∙ one.one in
+            let same : fails.units ≡ units_of entries = only fails.units fails.spelled in
             let before = subst (λ (us : List DebugUnit). (earlier : Group) → turn_of earlier < turn_of group
             → HasNone (failures_of own us earlier)) same fails.before in
-            let first = first_own (one.unit ∷ []) group fault
+            let first = first_own (units_of entries) group fault
             (subst (λ (us : List DebugUnit). IsFirstIn own us group fault) same fails.first) in
             record {
-              unit = one.unit;
-              stays = stays_one;
-              bytes = bytes_one;
+              units = units_of entries;
+              based = based;
+              stays = stays;
+              bytes = bytes;
               group = group;
               fails = record {
-                below = λ earlier less. none_own (one.unit ∷ []) earlier (before earlier less);
+                below = λ earlier less. none_own (units_of entries) earlier (before earlier less);
                 first = first;
+                firm = firm;
               };
-              measured = measured_by group fault one.unit first;
-              rank = rank_of s (one.unit ∷ []) group fault first;
+              measured = measured_by group fault (units_of entries) first;
+              rank = rank_of s (units_of entries) group fault first;
             }
 
-    pub found_alone_of : (least : Option Rule) (found : Verified)
+    pub found_alone_of : (least : Option Rule) (found : Verified) → IsFirmly (units_of entries) found
         → IsVerdictOn (sections_of entries) (units_of entries) least found
-        → IsFoundAlone s least part found
-    found_alone_of least (Sound c) (none, counts) = (none, alone_of c counts)
-    found_alone_of least Passed pass = passed_alone_of least pass
-    found_alone_of least (Fails_by fault) (is, less) = (fault_alone_of fault is, less)
+        → IsFoundAlone s at least part found
+    found_alone_of least (Sound c) firm (none, counts) = (none, alone_of c counts)
+    found_alone_of least Passed firm pass = passed_alone_of least pass
+    found_alone_of least (Fails_by fault) firm (is, less) = (fault_alone_of fault firm is, less)
+
+    -- what is kept of that
+    pub kept_alone_of : (least : Option Rule) (elsewhere : Elsewhere)
+        → Refer (entries_of (units_of entries)) elsewhere → (found : Verified)
+        → IsVerdictOn (sections_of entries) (units_of entries) least found
+        → (o : Option Verified) → IfSome o (IsKept elsewhere found) → IfSome o (IsFoundAlone s at least part)
+    kept_alone_of least elsewhere refer found verdict None is = tt
+    kept_alone_of least elsewhere refer found verdict (Some kept) (same, firm) =
+        found_alone_of least kept (firm (units_of entries) refer)
+        (subst (IsVerdictOn (sections_of entries) (units_of entries) least) (sym same) verdict)
+
+pub refer_inside : (entries : List Entry) (elsewhere : Elsewhere) → (elsewhere ≡ BySignature → ⊥)
+    → Refer entries elsewhere → EachEntry StaysInside entries
+refer_inside entries Never other refer = refer.0
+refer_inside entries ByOffset other refer = refer
+refer_inside entries BySignature other refer = absurd (other refl)
+
+-- ---- no type unit
+
+-- the unit with this number is no type unit
+abbrev pub IsNoTypeUnit : List DebugUnit → ℕ → Type 0
+IsNoTypeUnit us k = IfSome (slice_get (placed us) k) (λ p. type_in p.unit.header.kind ≡ None)
+
+none_from : (at first : ℕ) (us : List DebugUnit)
+    → ((k : ℕ) → k < length us
+    → IfSome (slice_get (placed_from at first us) k) (λ p. type_in p.unit.header.kind ≡ None))
+    → HaveNoTypeUnit us
+none_from at first [] none = tt
+none_from at first (u ∷ us) none = (
+  none 0 (omega arith),
+  none_from (at + length (unit_bytes u)) (first + node_count u.root) us
+      (λ k below. none (suc k) (omega (arith, below))),
+)
+
+pub no_type_unit_of : (us : List DebugUnit) → ((k : ℕ) → k < length us → IsNoTypeUnit us k) → HaveNoTypeUnit us
+no_type_unit_of us none = none_from 0 0 us none

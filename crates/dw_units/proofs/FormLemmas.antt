@@ -9,38 +9,58 @@ use Rattle.dw_entries.specs.declared.fault.Rule.TheVariants.{WrongClass}
 use Rattle.dw_entries.specs.Units.{DebugUnit, Spells}
 use Rattle.dw_entries.specs.Entries.{Entry, entries_of}
 use Rattle.dw_entries.specs.Places.{at_attribute}
-use Rattle.dw_entries.specs.Asked.{EachEntry}
+use Rattle.dw_entries.specs.Asked.{EachEntry, HasAttribute}
 use Rattle.dw_links.specs.Concerns.{Passes}
 use Rattle.dw_links.proofs.Skips.{none_concerned}
-use Rattle.dw_units.specs.Alone.{leads_out, StaysInside, may_leave, Leaves}
+use Rattle.dw_units.specs.declared.alone.Elsewhere.TheVariants.{Never, BySignature}
+use Rattle.dw_links.specs.References.{is_signature}
+use Rattle.dw_units.specs.Alone.{leaves_by, Where}
+use Rattle.dw_units.specs.ByUnit.{is_offset}
 
-stays_by_form : (version size : ℕ) (f : Form) (bytes : List ℕ) (v : Datum) → may_leave f ≡ false
-    → Val version f size bytes v → leads_out v ≡ false
-stays_by_form version size f bytes v is p = search rules
+stays_by_form : (version size : ℕ) (f : Form) (bytes : List ℕ) (v : Datum) → (leaves_by f ≡ BySignature → ⊥)
+    → Val version f size bytes v → is_signature v ≡ false
+stays_by_form version size f bytes v other p = search rules
 
--- no value under such a declaration leaves its unit
-pub form_passes : (spec : AttributeSpec) → may_leave spec.form ≡ false → Passes Leaves spec
-form_passes spec stays x a is head rule leaves =
+no_offset_by_form : (version size : ℕ) (f : Form) (bytes : List ℕ) (v : Datum) → leaves_by f ≡ Never
+    → Val version f size bytes v → is_offset v ≡ false
+no_offset_by_form version size f bytes v is p = search rules
+
+-- a fact that no value in a form has, no value under such a declaration has
+passes_where : (holds : Datum → Bool) (spec : AttributeSpec)
+    → ((version size : ℕ) (bytes : List ℕ) (v : Datum) → Val version spec.form size bytes v → holds v ≡ false)
+    → Passes (Where holds) spec
+passes_where holds spec never x a is head rule so =
     ∥∥₁_elim is.value (λ p q. absurd p)
-    (λ v. let no : true ≡ false = sym leaves
-    ∙ stays_by_form x.version x.address_size spec.form a.bytes a.value stays v in cc)
+    (λ v. let no : true ≡ false = sym so ∙ never x.version x.address_size a.bytes a.value v in cc)
+
+-- no value under such a declaration leaves its unit by a signature
+pub form_passes : (spec : AttributeSpec) → (leaves_by spec.form ≡ BySignature → ⊥) → Passes (Where is_signature) spec
+form_passes spec other =
+    passes_where is_signature spec (λ version size bytes v val. stays_by_form version size spec.form bytes v other val)
+
+-- nor is one an offset of .debug_info
+pub offset_passes : (spec : AttributeSpec) → leaves_by spec.form ≡ Never → Passes (Where is_offset) spec
+offset_passes spec never =
+    passes_where is_offset spec (λ version size bytes v val. no_offset_by_form version size spec.form bytes v never val)
 
 not_true : (b : Bool) → (b ≡ true → ⊥) → b ≡ false
 not_true true never = absurd (never refl)
 not_true false never = refl
 
-pub none_leaves : (a info : List ℕ) (us : List DebugUnit) (kept : List AttributeSpec) → Spells a us info
+pub none_where : (holds : Datum → Bool) (a info : List ℕ) (us : List DebugUnit) (kept : List AttributeSpec)
+    → Spells a us info
     → ((id : ℕ) (e : Entry) → slice_get (entries_of us) id ≡ Some e
     → All (λ (spec : AttributeSpec). Contains kept spec) e.head.decl.attributes)
-    → ((k : ℕ) (spec : AttributeSpec) → slice_get kept k ≡ Some spec → Passes Leaves spec)
-    → EachEntry StaysInside (entries_of us)
-none_leaves a info us kept spells declared pass id e is position attribute v has =
-    let none = none_concerned a info us kept Leaves spells declared pass in
-    not_true (leads_out v) (λ leaves.
+    → ((k : ℕ) (spec : AttributeSpec) → slice_get kept k ≡ Some spec → Passes (Where holds) spec)
+    → EachEntry (λ e. (position attribute : ℕ) (v : Datum) → HasAttribute e position attribute v → holds v ≡ false)
+    (entries_of us)
+none_where holds a info us kept spells declared pass id e is position attribute v has =
+    let none = none_concerned a info us kept (Where holds) spells declared pass in
+    not_true (holds v) (λ so.
     none (record { rule = WrongClass; place = at_attribute e.at position; attribute = attribute })
     (record {
       number = id;
       item = e;
       is_item = is;
-      fails = record { position = position; value = v; has = has; place = refl; fails = leaves };
+      fails = record { position = position; value = v; has = has; place = refl; fails = so };
     }))

@@ -1,10 +1,11 @@
--- The first fault of units that refer to nothing outside themselves.
-use Rattle.std.proofs.Common.{◌≡◌, ℕ, ◌+◌, ◌<◌, List, [], ◌∷◌, ◌++◌, length, map, sym, ap, subst, ◌∙◌, arith}
+-- The first fault of batches that refer to nothing outside themselves.
+use Rattle.std.proofs.Common.{◌≡◌, ℕ, ◌+◌, ◌<◌, List, ◌∷◌, ◌++◌, length, map, sym, ap, subst, ◌∙◌, arith}
 use Rattle.std.specs.List.{AllByRecursion}
 use Rattle.dw_elf.specs.declared.sections.Sections.{Sections}
 use Rattle.dw_entries.specs.declared.fault.Fault.{Fault}
 use Rattle.dw_entries.specs.Units.{DebugUnit, units_bytes}
 use Rattle.dw_entries.specs.Failures.{Failure, HasNone, IsFirst, broken_of, IsPlainFault}
+use Rattle.dw_entries.specs.UnitLaws.{bytes_based, have_base}
 use Rattle.dw_entries.proofs.HeadLaws.{all-append}
 use Rattle.dw_links.specs.Classes.{ClassFailures}
 use Rattle.dw_links.specs.Strings.{StringFailures}
@@ -12,31 +13,35 @@ use Rattle.dw_links.specs.References.{ReferenceFailures}
 use Rattle.dw_types.specs.FactsOf.{facts_in}
 use Rattle.dw_types.specs.Shapes.{ShapeFailures}
 use Rattle.dw_image.specs.First.{Group, classes, strings, references, shapes, cycles, sizes, turn_of, failures_of, FailsBySize, IsFirstIn, NamesCycle, in_group}
-use Rattle.dw_units.specs.ByUnit.{StaysAlone, IsMoved, PassesBelow, PassesThrough, IsMeasured, FirstOfUnits}
-use Rattle.dw_units.proofs.FirstLemmas.{placed_there, AreOfUnits, none_of_units, first_of_group}
-use Rattle.dw_units.proofs.TextLemmas.{each_of, classes_units, strings_units}
-use Rattle.dw_units.proofs.ReferenceLemmas.{all_units, references_units}
-use Rattle.dw_units.proofs.TypeLemmas.{shapes_units, cycle_units, no_cycle_units}
-use Rattle.dw_units.proofs.JoinLemmas.{sizes_units}
+use Rattle.dw_units.specs.Alone.{joined, whole}
+use Rattle.dw_units.specs.ByUnit.{AreApart, IsFirm, IsMoved, PassesBelow, PassesThrough, IsMeasured, FirstOfUnits}
+use Rattle.dw_units.proofs.Batches.{placed_there}
+use Rattle.dw_units.proofs.FirstLemmas.{AreOfBatches, none_of_batches, first_of_group}
+use Rattle.dw_units.proofs.TextLemmas.{all_units, each_of, classes_batches, strings_batches}
+use Rattle.dw_units.proofs.ReferenceLemmas.{Refer, references_batches}
+use Rattle.dw_units.proofs.TypeLemmas.{shapes_batches, cycle_batches, no_cycle_batches}
+use Rattle.dw_units.proofs.JoinLemmas.{sizes_batches}
 
--- no rule of a group fails at a unit alone
-abbrev Passes : Sections → Group → DebugUnit → Type 0
-Passes s group u = HasNone (failures_of s (u ∷ []) group)
+-- no rule of a group fails at a batch alone
+abbrev Passes : Sections → Group → List DebugUnit → Type 0
+Passes s group units = HasNone (failures_of s units group)
 
--- so none fails among all
-passes_units : (s : Sections) (us : List DebugUnit) → AllByRecursion (StaysAlone s) us → (group : Group)
-    → turn_of group < 7
-    → AllByRecursion (Passes s group) us → HasNone (failures_of s us group)
-passes_units s us all classes early none =
-    none_of_units us (ClassFailures us) (λ u. ClassFailures (u ∷ [])) (classes_units s us all) none
-passes_units s us all strings early none =
-    none_of_units us (StringFailures s us) (λ u. StringFailures s (u ∷ [])) (strings_units s us all) none
-passes_units s us all references early none =
-    none_of_units us (ReferenceFailures us) (λ u. ReferenceFailures (u ∷ [])) (references_units s us all) none
-passes_units s us all shapes early none =
-    none_of_units us (ShapeFailures (facts_in us)) (λ u. ShapeFailures (facts_in (u ∷ []))) (shapes_units s us all) none
-passes_units s us all cycles early none = no_cycle_units s us all none
-passes_units s us all sizes early none = absurd (omega (arith, early))
+-- so none fails among all, if none of the rules on references does at a batch
+passes_batches : (s : Sections) (bs : List (List DebugUnit)) → AreApart s bs → (group : Group)
+    → turn_of group < 7 → (4 < turn_of group → AllByRecursion (Passes s references) bs)
+    → AllByRecursion (Passes s group) bs → HasNone (failures_of s (whole s bs) group)
+passes_batches s bs all classes early refer none =
+    none_of_batches bs (ClassFailures (whole s bs)) ClassFailures (classes_batches s bs all) none
+passes_batches s bs all strings early refer none =
+    none_of_batches bs (StringFailures s (whole s bs)) (StringFailures s) (strings_batches s bs all) none
+passes_batches s bs all references early refer none =
+    none_of_batches bs (ReferenceFailures (whole s bs)) ReferenceFailures (references_batches s bs all) none
+passes_batches s bs all shapes early refer none =
+    none_of_batches bs (ShapeFailures (facts_in (whole s bs))) (λ units. ShapeFailures (facts_in units))
+    (shapes_batches s bs (record { apart = all; none = refer (omega arith) })) none
+passes_batches s bs all cycles early refer none =
+    no_cycle_batches s bs (record { apart = all; none = refer (omega arith) }) none
+passes_batches s bs all sizes early refer none = absurd (omega (arith, early))
 
 no_later : (group earlier : Group) → turn_of earlier < turn_of group → turn_of earlier < 7
 no_later classes earlier less = omega (arith, less)
@@ -46,65 +51,79 @@ no_later shapes earlier less = omega (arith, less)
 no_later cycles earlier less = omega (arith, less)
 no_later sizes earlier less = less
 
-module _ (s : Sections) (before : List DebugUnit) (u : DebugUnit) (behind : List DebugUnit) (alone fault : Fault)
-    (all : AllByRecursion (StaysAlone s) (before ++ u ∷ behind))
-    (is : IsMoved (length (units_bytes before)) alone fault) where
-  us : List DebugUnit
-  us = before ++ u ∷ behind
+module _ (s : Sections) (before : List (List DebugUnit)) (units : List DebugUnit) (behind : List (List DebugUnit))
+    (alone fault : Fault)
+    (all : AreApart s (before ++ units ∷ behind))
+    (is : IsMoved (length (units_bytes (joined before))) alone fault) where
+  abbrev bs : List (List DebugUnit)
+  bs = before ++ units ∷ behind
 
-  plain : (Fails : Failure → Type 0) (Alone : DebugUnit → Failure → Type 0)
-      → AreOfUnits (before ++ u ∷ behind) Fails Alone
-      → AllByRecursion (λ v. HasNone (Alone v)) before → IsPlainFault (IsFirst (Alone u)) alone
+  plain : (Fails : Failure → Type 0) (Alone : List DebugUnit → Failure → Type 0)
+      → AreOfBatches (before ++ units ∷ behind) Fails Alone
+      → AllByRecursion (λ batch. HasNone (Alone batch)) before → IsFirm units alone.rule
+      → IsPlainFault (IsFirst (Alone units)) alone
       → IsPlainFault (IsFirst Fails) fault
-  plain Fails Alone are none first = record {
+  plain Fails Alone are none firm first = record {
     holds =
         subst (IsFirst Fails) (sym is.broken)
-        (first_of_group before u behind Fails Alone (broken_of alone) are none first.holds);
-    cycle = is.cycle ∙ ap (map (λ (offset : ℕ). length (units_bytes before) + offset)) first.cycle;
+        (first_of_group before units behind Fails Alone (broken_of alone) are none firm first.holds);
+    cycle = is.cycle ∙ ap (map (λ (offset : ℕ). length (units_bytes (joined before)) + offset)) first.cycle;
   }
 
-  cycle_there : NamesCycle (facts_in (u ∷ [])) alone → NamesCycle (facts_in (before ++ u ∷ behind)) fault
-  cycle_there names =
-      let i = placed_there 0 0 before u behind in
-      let e : length (units_bytes before) ≡ 0 + length (units_bytes before) = omega arith in
-      cycle_units s (before ++ u ∷ behind) all i.number
-      (record { at = 0 + length (units_bytes before); first = i.begins; unit = u }) i.is alone fault
+  cycle_there : Refer s bs → NamesCycle (facts_in units) alone → NamesCycle (facts_in (whole s bs)) fault
+  cycle_there refer names =
+      let i = placed_there 0 0 0 before units behind in
+      let e : length (units_bytes (joined before)) ≡ 0 + length (units_bytes (joined before)) = omega arith in
+      cycle_batches s bs refer i.which
+      (record { number = i.begins; first = i.entry; at = 0 + length (units_bytes (joined before)); units = units }) i.is
+      alone fault
       (subst (λ (n : ℕ). IsMoved n alone fault) e is) names
 
-  first_units : (group : Group) → AllByRecursion (IsMeasured group) (before ++ u ∷ behind)
-      → AllByRecursion (Passes s group) before
-      → IsFirstIn s (u ∷ []) group alone → IsFirstIn s (before ++ u ∷ behind) group fault
-  first_units classes measured none first =
-      plain (ClassFailures (before ++ u ∷ behind)) (λ v. ClassFailures (v ∷ []))
-      (classes_units s (before ++ u ∷ behind) all) none first
-  first_units strings measured none first =
-      plain (StringFailures s (before ++ u ∷ behind)) (λ v. StringFailures s (v ∷ []))
-      (strings_units s (before ++ u ∷ behind) all) none first
-  first_units references measured none first =
-      plain (ReferenceFailures (before ++ u ∷ behind)) (λ v. ReferenceFailures (v ∷ []))
-      (references_units s (before ++ u ∷ behind) all) none first
-  first_units shapes measured none first =
-      plain (ShapeFailures (facts_in (before ++ u ∷ behind))) (λ v. ShapeFailures (facts_in (v ∷ [])))
-      (shapes_units s (before ++ u ∷ behind) all) none first
-  first_units cycles measured none first = cycle_there first
-  first_units sizes measured none first =
-      plain (FailsBySize (facts_in (before ++ u ∷ behind))) (λ v. FailsBySize (facts_in (v ∷ [])))
-      (sizes_units s (before ++ u ∷ behind) all measured) none first
+  first_batches : (group : Group) → AllByRecursion (IsMeasured group) (before ++ units ∷ behind)
+      → (4 < turn_of group → AllByRecursion (Passes s references) bs)
+      → AllByRecursion (Passes s group) before → IsFirm units alone.rule
+      → IsFirstIn s units group alone → IsFirstIn s (whole s bs) group fault
+  first_batches classes measured refer none firm first =
+      plain (ClassFailures (whole s bs)) ClassFailures (classes_batches s bs all) none firm first
+  first_batches strings measured refer none firm first =
+      plain (StringFailures s (whole s bs)) (StringFailures s) (strings_batches s bs all) none firm first
+  first_batches references measured refer none firm first =
+      plain (ReferenceFailures (whole s bs)) ReferenceFailures (references_batches s bs all) none firm first
+  first_batches shapes measured refer none firm first =
+      plain (ShapeFailures (facts_in (whole s bs))) (λ batch. ShapeFailures (facts_in batch))
+      (shapes_batches s bs (record { apart = all; none = refer (omega arith) })) none firm first
+  first_batches cycles measured refer none firm first =
+      cycle_there (record { apart = all; none = refer (omega arith) }) first
+  first_batches sizes measured refer none firm first =
+      plain (FailsBySize (facts_in (whole s bs))) (λ batch. FailsBySize (facts_in batch))
+      (sizes_batches s bs (record { apart = all; none = refer (omega arith) }) measured) none firm first
 
 -- THE law
 pub first_by_unit : FirstOfUnits
-first_by_unit s before u behind group alone fault all measured passed fails below parts is =
+first_by_unit s before units behind group alone fault all measured passed fails below parts is =
     in_group group (record {
-      units = before ++ u ∷ behind;
-      spelled = record { are = all_units s (before ++ u ∷ behind) all; parts = parts };
+      units = whole s (before ++ units ∷ behind);
+      spelled = record {
+        spells = record {
+          are = all_units s (before ++ units ∷ behind) all;
+          parts = parts ∙ sym (bytes_based s.base (joined (before ++ units ∷ behind)));
+        };
+        based = have_base s.base (joined (before ++ units ∷ behind));
+      };
       before = λ earlier less.
-          passes_units s (before ++ u ∷ behind) all earlier (no_later group earlier less)
-          (all-append (Passes s earlier) before (u ∷ behind)
-          (each_of (PassesThrough s group) (Passes s earlier) before (λ v passes. passes.0 earlier less) passed) (
-            fails.below earlier less,
-            each_of (PassesBelow s group) (Passes s earlier) behind
-                (λ v passes. passes earlier less) below,
-          ));
-      first = first_units s before u behind alone fault all is group measured
-          (each_of (PassesThrough s group) (Passes s group) before (λ v passes. passes.1) passed) fails.first;
+          passes_batches s (before ++ units ∷ behind) all earlier (no_later group earlier less)
+          (λ after. each references (omega (arith, after, less))) (each earlier less);
+      first = first_batches s before units behind alone fault all is group measured (each references)
+          (each_of (PassesThrough s group) (Passes s group) before (λ batch passes. passes.1) passed) fails.firm
+          fails.first;
     })
+  where
+    each : (earlier : Group) → turn_of earlier < turn_of group
+        → AllByRecursion (Passes s earlier) (before ++ units ∷ behind)
+    each earlier less =
+        all-append (Passes s earlier) before (units ∷ behind)
+        (each_of (PassesThrough s group) (Passes s earlier) before (λ batch passes. passes.0 earlier less) passed) (
+          fails.below earlier less,
+          each_of (PassesBelow s group) (Passes s earlier) behind
+              (λ batch passes. passes earlier less) below,
+        )

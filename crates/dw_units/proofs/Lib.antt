@@ -1,4 +1,5 @@
 pub mod TreeLemmas
+pub mod Batches
 pub mod FirstLemmas
 pub mod MovedEntries
 pub mod TextLemmas

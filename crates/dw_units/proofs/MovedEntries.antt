@@ -1,18 +1,22 @@
--- The entries of units, each unit's those of the unit alone in their place.
-use Rattle.std.proofs.Common.{rules, ◌≡◌, ℕ, zero, suc, ◌+◌, ◌-◌, ◌<◌, ◌≤◌, ◌⊎◌, List, [], ◌∷◌, ◌++◌, length, map, Option, Some, None, refl, sym, ap, subst, ◌∙◌, inl, inr, arith, append-nil}
+-- The entries of batches, each batch's those of the batch alone in their place.
+use Rattle.std.proofs.Common.{rules, ◌≡◌, ℕ, zero, suc, ◌+◌, ◌-◌, ◌<◌, ◌≤◌, ◌⊎◌, List, [], ◌∷◌, ◌++◌, length, map, Option, Some, None, refl, sym, ap, subst, ◌∙◌, inl, inr, arith, append_assoc, length-append}
 use Rattle.std.specs.Prelude.{slice_get, option_map}
-use Rattle.std.proofs.lemmas.List.{map-append}
+use Rattle.std.proofs.lemmas.List.{map-append, length-map}
 use Rattle.std.proofs.lemmas.Option.{slice_get-map, slice_get_within}
+use Rattle.dw_elf.specs.declared.sections.Sections.{Sections}
 use Rattle.dw_entries.specs.Grammar.{Head, head_bytes}
 use Rattle.dw_entries.specs.Header.{header_size}
 use Rattle.dw_entries.specs.Tree.{Node, Nodes, leaf, parent, none, ◌then◌, node_bytes}
-use Rattle.dw_entries.specs.Units.{DebugUnit, unit_bytes}
+use Rattle.dw_entries.specs.Units.{DebugUnit, unit_bytes, units_bytes}
 use Rattle.dw_entries.specs.Entries.{Entry, node_count, first_id, node_entries, nodes_entries, entries_from, entries_of, PlacedUnit, placed_from, placed}
-use Rattle.dw_entries.proofs.EntryFacts.{length-node_entries}
+use Rattle.dw_entries.specs.UnitLaws.{with_base}
+use Rattle.dw_entries.proofs.EntryFacts.{entries_based, length-node_entries, length-placed_from}
 use Rattle.dw_entries.proofs.UnitRanges.{get_front, get_behind}
 use Rattle.dw_types.specs.Entries.{Facts}
+use Rattle.dw_units.specs.Alone.{joined, whole}
+use Rattle.dw_units.proofs.Batches.{PlacedBatch, batches_from, placed_batches}
 
--- a number of an entry of the unit, among all entries
+-- a number of an entry of the batch, among all entries
 abbrev pub moved_number : ℕ → Option ℕ → Option ℕ
 moved_number first None = None
 moved_number first (Some id) = Some (first + id)
@@ -20,16 +24,20 @@ moved_number first (Some id) = Some (first + id)
 pub none_moved : (first : ℕ) (o : Option ℕ) → moved_number first o ≡ None → o ≡ None
 none_moved first o is = search rules
 
--- an entry of the unit alone, in the place of the unit with this number, first entry and offset
+-- an entry of the batch alone, in the place of the batch: its first unit, first entry and offset
 abbrev pub moved : (number first at : ℕ) → Entry → Entry
 moved number first at e = record {
   at = at + e.at;
-  unit = number;
+  unit = number + e.unit;
   parent = moved_number first e.parent;
   depth = e.depth;
   next = moved_number first e.next;
   head = e.head;
 }
+
+-- a unit, likewise, with the base of all
+abbrev pub moved_unit : (base first at : ℕ) → PlacedUnit → PlacedUnit
+moved_unit base first at q = record { at = at + q.at; first = first + q.first; unit = with_base base q.unit }
 
 -- the facts of an entry, likewise
 abbrev pub moved_facts : (first at : ℕ) → Facts → Facts
@@ -44,204 +52,344 @@ first_moved : (ns : Nodes) (first id to : ℕ) → to ≡ first + id → first_i
 first_moved ns first id to is = search rules
 
 module _ (number first at : ℕ) where
-  head_moved : (above next above_to next_to : Option ℕ) (depth pos to : ℕ) (h : Head) → to ≡ at + pos
+  head_moved : (unit unit_to : ℕ) (above next above_to next_to : Option ℕ) (depth pos to : ℕ) (h : Head)
+      → unit_to ≡ number + unit → to ≡ at + pos
       → above_to ≡ moved_number first above → next_to ≡ moved_number first next
-      → ◌≡◌ {A = Entry} (record { at = to; unit = number; parent = above_to; depth = depth; next = next_to; head = h })
-      (moved number first at (record { at = pos; unit = 0; parent = above; depth = depth; next = next; head = h }))
-  head_moved above next above_to next_to depth pos to h p q r = rw p (rw q (rw r refl))
+      → ◌≡◌ {A = Entry} (record { at = to; unit = unit_to; parent = above_to; depth = depth; next = next_to; head = h })
+      (moved number first at (record { at = pos; unit = unit; parent = above; depth = depth; next = next; head = h }))
+  head_moved unit unit_to above next above_to next_to depth pos to h u p q r = rw u (rw p (rw q (rw r refl)))
 
   mutual
-    node_moved : (above next above_to next_to : Option ℕ) (depth id pos id_to to : ℕ) (n : Node) → id_to ≡ first + id
+    node_moved : (unit unit_to : ℕ) (above next above_to next_to : Option ℕ) (depth id pos id_to to : ℕ) (n : Node)
+        → unit_to ≡ number + unit → id_to ≡ first + id
         → to ≡ at + pos → above_to ≡ moved_number first above → next_to ≡ moved_number first next
-        → node_entries number above_to depth next_to id_to to n
-        ≡ map (moved number first at) (node_entries 0 above depth next id pos n)
-    node_moved above next above_to next_to depth id pos id_to to (leaf h) i p q r =
-        ap (λ (e : Entry). e ∷ []) (head_moved above next above_to next_to depth pos to h p q r)
-    node_moved above next above_to next_to depth id pos id_to to (parent h ns z) i p q r =
+        → node_entries unit_to above_to depth next_to id_to to n
+        ≡ map (moved number first at) (node_entries unit above depth next id pos n)
+    node_moved unit unit_to above next above_to next_to depth id pos id_to to (leaf h) u i p q r =
+        ap (λ (e : Entry). e ∷ []) (head_moved unit unit_to above next above_to next_to depth pos to h u p q r)
+    node_moved unit unit_to above next above_to next_to depth id pos id_to to (parent h ns z) u i p q r =
         rw (
-          head_moved above next above_to next_to depth pos to h p q r,
-          nodes_moved id id_to (suc depth) (suc id) (pos + length (head_bytes h)) (suc id_to)
-              (to + length (head_bytes h)) ns i (omega arith) (omega arith),
+          head_moved unit unit_to above next above_to next_to depth pos to h u p q r,
+          nodes_moved unit unit_to id id_to (suc depth) (suc id) (pos + length (head_bytes h)) (suc id_to)
+              (to + length (head_bytes h)) ns u i (omega arith) (omega arith),
         )
 
-    nodes_moved : (above above_to depth id pos id_to to : ℕ) (ns : Nodes) → above_to ≡ first + above
+    nodes_moved : (unit unit_to above above_to depth id pos id_to to : ℕ) (ns : Nodes)
+        → unit_to ≡ number + unit → above_to ≡ first + above
         → id_to ≡ first + id
         → to ≡ at + pos
-        → nodes_entries number above_to depth id_to to ns
-        ≡ map (moved number first at) (nodes_entries 0 above depth id pos ns)
-    nodes_moved above above_to depth id pos id_to to none a i p = refl
-    nodes_moved above above_to depth id pos id_to to (n then ns) a i p =
+        → nodes_entries unit_to above_to depth id_to to ns
+        ≡ map (moved number first at) (nodes_entries unit above depth id pos ns)
+    nodes_moved unit unit_to above above_to depth id pos id_to to none u a i p = refl
+    nodes_moved unit unit_to above above_to depth id pos id_to to (n then ns) u a i p =
         rw (
-          node_moved (Some above) (first_id ns (id + node_count n)) (Some above_to) (first_id ns (id_to + node_count n))
-              depth id pos id_to to n
-              i p (ap Some a) (first_moved ns first (id + node_count n) (id_to + node_count n) (omega arith)),
-          nodes_moved above above_to depth (id + node_count n) (pos + length (node_bytes n)) (id_to + node_count n)
-              (to + length (node_bytes n)) ns
+          node_moved unit unit_to (Some above) (first_id ns (id + node_count n)) (Some above_to)
+              (first_id ns (id_to + node_count n)) depth id pos id_to to n
+              u i p (ap Some a) (first_moved ns first (id + node_count n) (id_to + node_count n) (omega arith)),
+          nodes_moved unit unit_to above above_to depth (id + node_count n) (pos + length (node_bytes n))
+              (id_to + node_count n) (to + length (node_bytes n)) ns u
               a (omega arith) (omega arith),
           map-append,
         )
 
--- the entries of a unit in its place
-pub unit_moved : (number first at : ℕ) (u : DebugUnit)
-    → node_entries number None 0 None first (at + header_size u.header.kind) u.root
-    ≡ map (moved number first at) (entries_of (u ∷ []))
-unit_moved number first at u =
-    node_moved number first at None None None None 0 0 (0 + header_size u.header.kind) first
-    (at + header_size u.header.kind) u.root
-    (omega arith) (omega arith) refl refl
-    ∙ ap (map (moved number first at))
-    (sym (append-nil (node_entries 0 None 0 None 0 (0 + header_size u.header.kind) u.root)))
+  -- the entries of units in their place
+  pub units_moved : (unit id pos unit_to id_to to : ℕ) (us : List DebugUnit) → unit_to ≡ number + unit
+      → id_to ≡ first + id → to ≡ at + pos
+      → entries_from unit_to id_to to us ≡ map (moved number first at) (entries_from unit id pos us)
+  units_moved unit id pos unit_to id_to to [] u i p = refl
+  units_moved unit id pos unit_to id_to to (v ∷ us) u i p =
+      rw (
+        node_moved unit unit_to None None None None 0 id (pos + header_size v.header.kind) id_to
+            (to + header_size v.header.kind) v.root u i (omega (arith, p)) refl refl,
+        units_moved (suc unit) (id + node_count v.root) (pos + length (unit_bytes v)) (suc unit_to)
+            (id_to + node_count v.root) (to + length (unit_bytes v)) us (omega (arith, u)) (omega (arith, i))
+            (omega (arith, p)),
+        map-append,
+      )
+
+  -- and the units themselves
+  placed_moved : (base id pos id_to to : ℕ) (us : List DebugUnit) → id_to ≡ first + id → to ≡ at + pos
+      → placed_from to id_to (map (with_base base) us) ≡ map (moved_unit base first at) (placed_from pos id us)
+  placed_moved base id pos id_to to [] i p = refl
+  placed_moved base id pos id_to to (v ∷ us) i p =
+      rw (
+        i,
+        p,
+        placed_moved base (id + node_count v.root) (pos + length (unit_bytes v)) (first + id + node_count v.root)
+            (at + pos + length (unit_bytes v)) us (omega arith) (omega arith),
+      ) refl
+
+-- ---- the entries of a batch, and those after it
+
+-- how many entries units have, wherever they are
+pub length-units : (unit id at : ℕ) (us : List DebugUnit)
+    → length (entries_from unit id at us) ≡ length (entries_of us)
+length-units unit id at us =
+    ap length (units_moved unit id at 0 0 0 unit id at us (omega arith) (omega arith) (omega arith))
+    ∙ length-map (entries_of us) (moved unit id at)
+
+count_more : (u : DebugUnit) (us : List DebugUnit)
+    → length (entries_of (u ∷ us)) ≡ node_count u.root + length (entries_of us)
+count_more u us =
+    omega (
+      arith,
+      length-append (node_entries 0 None 0 None 0 (0 + header_size u.header.kind) u.root)
+          (entries_from 1 (0 + node_count u.root) (0 + length (unit_bytes u)) us),
+      length-node_entries 0 None 0 None 0 (0 + header_size u.header.kind) u.root,
+      length-units 1 (0 + node_count u.root) (0 + length (unit_bytes u)) us,
+    )
+
+pub entries_after : (unit id at unit_to id_to to : ℕ) (us more : List DebugUnit) → unit_to ≡ unit + length us
+    → id_to ≡ id + length (entries_of us) → to ≡ at + length (units_bytes us)
+    → entries_from unit id at (us ++ more) ≡ entries_from unit id at us ++ entries_from unit_to id_to to more
+entries_after unit id at unit_to id_to to [] more u i p =
+    rw (
+      let e : unit_to ≡ unit = omega (arith, u) in e,
+      let e : id_to ≡ id = omega (arith, i) in e,
+      let e : to ≡ at = omega (arith, p) in e,
+    ) refl
+entries_after unit id at unit_to id_to to (v ∷ us) more u i p =
+    let es : List Entry = node_entries unit None 0 None id (at + header_size v.header.kind) v.root in
+    ap (λ (xs : List Entry). es ++ xs)
+    (entries_after (suc unit) (id + node_count v.root) (at + length (unit_bytes v)) unit_to id_to to us more
+    (omega (arith, u)) (omega (arith, i, count_more v us))
+    (omega (arith, p, length-append (unit_bytes v) (units_bytes us))))
+    ∙ sym (append_assoc es (entries_from (suc unit) (id + node_count v.root) (at + length (unit_bytes v)) us)
+    (entries_from unit_to id_to to more))
+
+placed_after : (base id at id_to to : ℕ) (us more : List DebugUnit)
+    → id_to ≡ id + length (entries_of us) → to ≡ at + length (units_bytes us)
+    → placed_from at id (map (with_base base) (us ++ more))
+    ≡ placed_from at id (map (with_base base) us) ++ placed_from to id_to (map (with_base base) more)
+placed_after base id at id_to to [] more i p =
+    rw (let e : id_to ≡ id = omega (arith, i) in e, let e : to ≡ at = omega (arith, p) in e) refl
+placed_after base id at id_to to (v ∷ us) more i p =
+    ap (λ (xs : List PlacedUnit). record { at = at; first = id; unit = with_base base v } ∷ xs)
+    (placed_after base (id + node_count v.root) (at + length (unit_bytes v)) id_to to us more
+    (omega (arith, i, count_more v us))
+    (omega (arith, p, length-append (unit_bytes v) (units_bytes us))))
+
+-- a batch in front: its entries in their place, and those of the others
+pub batch_front : (number first at : ℕ) (units more : List DebugUnit)
+    → entries_from number first at (units ++ more)
+    ≡ map (moved number first at) (entries_of units)
+    ++ entries_from (number + length units) (first + length (entries_of units)) (at + length (units_bytes units)) more
+batch_front number first at units more =
+    entries_after number first at (number + length units) (first + length (entries_of units))
+    (at + length (units_bytes units)) units more refl refl refl
+    ∙ ap (λ (xs : List Entry). xs ++ entries_from (number + length units) (first + length (entries_of units))
+    (at + length (units_bytes units)) more)
+    (units_moved number first at 0 0 0 number first at units (omega arith) (omega arith) (omega arith))
+
+placed_front : (base first at : ℕ) (units more : List DebugUnit)
+    → placed_from at first (map (with_base base) (units ++ more))
+    ≡ map (moved_unit base first at) (placed units)
+    ++ placed_from (at + length (units_bytes units)) (first + length (entries_of units)) (map (with_base base) more)
+placed_front base first at units more =
+    placed_after base first at (first + length (entries_of units)) (at + length (units_bytes units)) units more refl
+    refl
+    ∙ ap (λ (xs : List PlacedUnit). xs ++ placed_from (at + length (units_bytes units))
+    (first + length (entries_of units)) (map (with_base base) more))
+    (placed_moved 0 first at base 0 0 first at units (omega arith) (omega arith))
 
 map_some : {X Y : Type 0} (f : X → Y) (o : Option X) (y : Y) → option_map f o ≡ Some y
     → (x : X) × (o ≡ Some x) × (f x ≡ y)
 map_some f o y is = search rules
 
--- an entry of the unit is one of the unit alone
-front_get : (number first at : ℕ) (u : DebugUnit) (more : List Entry) (i : ℕ) (e : Entry) → i < node_count u.root
-    → slice_get (node_entries number None 0 None first (at + header_size u.header.kind) u.root ++ more) i ≡ Some e
-    → (d : Entry) × (slice_get (entries_of (u ∷ [])) i ≡ Some d) × (moved number first at d ≡ e)
-front_get number first at u more i e below is =
-    search (rules, length-node_entries, get_front, map_some, slice_get-map, unit_moved)
-
-get_moved : (number first at : ℕ) (u : DebugUnit) (i : ℕ) (d : Entry) → slice_get (entries_of (u ∷ [])) i ≡ Some d
-    → slice_get (node_entries number None 0 None first (at + header_size u.header.kind) u.root) i
-    ≡ Some (moved number first at d)
-get_moved number first at u i d is = search (rules, unit_moved, slice_get-map)
-
--- an entry among all: the unit that it is of, and which entry of the unit alone
-pub record Found (units : List PlacedUnit) (unit id i : ℕ) (e : Entry) : Type 0 where
-  pub number : ℕ
-  pub place : PlacedUnit
-  pub is_place : slice_get units number ≡ Some place
-  pub inner : ℕ
-  pub entry : Entry
-  pub is_entry : slice_get (entries_of (place.unit ∷ [])) inner ≡ Some entry
-  pub begins : id + i ≡ place.first + inner
-  pub same : moved (unit + number) place.first place.at entry ≡ e
-
 two_ways : (i n : ℕ) → (i < n) ⊎ (n ≤ i)
 two_ways i n = grind arith
 
-found_from : (unit id at : ℕ) (us : List DebugUnit) (i : ℕ) (e : Entry)
-    → slice_get (entries_from unit id at us) i ≡ Some e
-    → Found (placed_from at id us) unit id i e
-found_from unit id at [] i e is = absurd cc
-found_from unit id at (u ∷ us) i e is =
-    go (λ j. found_from (suc unit) (id + node_count u.root) (at + length (unit_bytes u)) us j e)
-    (two_ways i (node_count u.root))
+-- an element of a list that is moved, before others
+moved_get : {X Y : Type 0} (f : X → Y) (xs : List X) (more : List Y) (i : ℕ) (x : X) → slice_get xs i ≡ Some x
+    → slice_get (map f xs ++ more) i ≡ Some (f x)
+moved_get f xs more i x is =
+    let below = slice_get_within xs i x is in
+    get_front (map f xs) more i (omega (arith, below, length-map xs f)) ∙ slice_get-map f xs i
+    ∙ ap (option_map f) is
+
+moved_found : {X Y : Type 0} (f : X → Y) (xs : List X) (more : List Y) (i : ℕ) (y : Y) → i < length xs
+    → slice_get (map f xs ++ more) i ≡ Some y → (x : X) × (slice_get xs i ≡ Some x) × (f x ≡ y)
+moved_found f xs more i y below is =
+    map_some f (slice_get xs i) y
+    (sym (slice_get-map f xs i) ∙ sym (get_front (map f xs) more i (omega (arith, below, length-map xs f))) ∙ is)
+
+-- an element of the list behind
+moved_behind : {X Y : Type 0} (f : X → Y) (xs : List X) (more : List Y) (i j : ℕ) → i ≡ length xs + j
+    → slice_get (map f xs ++ more) i ≡ slice_get more j
+moved_behind f xs more i j is =
+    let long = length-map xs f in
+    get_behind (map f xs) more i (omega (arith, is, long))
+    ∙ ap (slice_get more) (let e : i - length (map f xs) ≡ j = omega (arith, is, long) in e)
+
+-- an entry among all: the batch that it is of, and which entry of the batch alone
+pub record Found (batches : List PlacedBatch) (id i : ℕ) (e : Entry) : Type 0 where
+  pub which : ℕ
+  pub place : PlacedBatch
+  pub is_place : slice_get batches which ≡ Some place
+  pub inner : ℕ
+  pub entry : Entry
+  pub is_entry : slice_get (entries_of place.units) inner ≡ Some entry
+  pub begins : id + i ≡ place.first + inner
+  pub same : moved place.number place.first place.at entry ≡ e
+
+found_from : (number first at : ℕ) (bs : List (List DebugUnit)) (i : ℕ) (e : Entry)
+    → slice_get (entries_from number first at (joined bs)) i ≡ Some e
+    → Found (batches_from number first at bs) first i e
+found_from number first at [] i e is = absurd cc
+found_from number first at (units ∷ bs) i e is =
+    go (λ j. found_from (number + length units) (first + length (entries_of units)) (at + length (units_bytes units)) bs
+    j e) (two_ways i (length (entries_of units)))
   where
-    es : List Entry
-    es = node_entries unit None 0 None id (at + header_size u.header.kind) u.root
+    behind : List Entry
+    behind = entries_from (number + length units) (first + length (entries_of units))
+        (at + length (units_bytes units)) (joined bs)
 
-    fs : List Entry
-    fs = entries_from (suc unit) (id + node_count u.root) (at + length (unit_bytes u)) us
+    here : slice_get (map (moved number first at) (entries_of units) ++ behind) i ≡ Some e
+    here = ap (λ (es : List Entry). slice_get es i) (sym (batch_front number first at units (joined bs))) ∙ is
 
-    go : ((j : ℕ) → slice_get fs j ≡ Some e
-        → Found (placed_from (at + length (unit_bytes u)) (id + node_count u.root) us) (suc unit)
-        (id + node_count u.root) j e)
-        → (i < node_count u.root) ⊎ (node_count u.root ≤ i) → Found (placed_from at id (u ∷ us)) unit id i e
+    go : ((j : ℕ) → slice_get behind j ≡ Some e
+        → Found (batches_from (number + length units) (first + length (entries_of units))
+        (at + length (units_bytes units)) bs) (first + length (entries_of units)) j e)
+        → (i < length (entries_of units)) ⊎ (length (entries_of units) ≤ i)
+        → Found (batches_from number first at (units ∷ bs)) first i e
     go in_rest (inl below) =
-        let (d, is_d, same) = front_get unit id at u fs i e below is in
-        let number : unit + 0 ≡ unit = omega arith in
+        let (d, is_d, same) = moved_found (moved number first at) (entries_of units) behind i e below here in
         record {
-          number = 0;
-          place = record { at = at; first = id; unit = u };
+          which = 0;
+          place = record { number = number; first = first; at = at; units = units };
           is_place = refl;
           inner = i;
           entry = d;
           is_entry = is_d;
           begins = refl;
-          same = ap (λ (n : ℕ). moved n id at d) number ∙ same;
+          same = same;
         }
-    go in_rest (inr behind) =
-        let count = length-node_entries unit None 0 None id (at + header_size u.header.kind) u.root in
-        let rest : slice_get fs (i - node_count u.root) ≡ Some e =
-        ap (λ (n : ℕ). slice_get fs (i - n)) (sym count) ∙ sym (get_behind es fs i (omega (arith, count, behind)))
-        ∙ is in
-        let f = in_rest (i - node_count u.root) rest in
+    go in_rest (inr past) =
+        let f = in_rest (i - length (entries_of units))
+        (sym (moved_behind (moved number first at) (entries_of units) behind i (i - length (entries_of units))
+        (omega (arith, past))) ∙ here) in
         let begins = f.begins in
-        let number : unit + suc f.number ≡ suc unit + f.number = omega arith in
         record {
-          number = suc f.number;
+          which = suc f.which;
           place = f.place;
           is_place = f.is_place;
           inner = f.inner;
           entry = f.entry;
           is_entry = f.is_entry;
-          begins = omega (arith, begins, behind);
-          same = ap (λ (n : ℕ). moved n f.place.first f.place.at f.entry) number ∙ f.same;
+          begins = omega (arith, begins, past);
+          same = f.same;
         }
 
--- an entry of a unit alone is found in the unit's place
-get_from : (unit id at : ℕ) (us : List DebugUnit) (number : ℕ) (p : PlacedUnit) (inner : ℕ) (d : Entry)
-    → slice_get (placed_from at id us) number ≡ Some p → slice_get (entries_of (p.unit ∷ [])) inner ≡ Some d
-    → (i : ℕ) × (id + i ≡ p.first + inner)
-    × (slice_get (entries_from unit id at us) i ≡ Some (moved (unit + number) p.first p.at d))
-get_from unit id at [] number p inner d is is_d = absurd cc
-get_from unit id at (u ∷ us) zero p inner d is is_d =
-    let some : ◌≡◌ {A = Option PlacedUnit} (Some (record { at = at; first = id; unit = u })) (Some p) = is in
-    let same : ◌≡◌ {A = PlacedUnit} (record { at = at; first = id; unit = u }) p = cc in
-    let P : PlacedUnit → Type 0 = λ q. slice_get (entries_of (q.unit ∷ [])) inner ≡ Some d
-    → (i : ℕ) × (id + i ≡ q.first + inner)
-    × (slice_get (entries_from unit id at (u ∷ us)) i ≡ Some (moved (unit + 0) q.first q.at d)) in
-    subst P same (λ here. (inner, refl, in_front here)) is_d
-  where
-    in_front : slice_get (entries_of (u ∷ [])) inner ≡ Some d
-        → slice_get (entries_from unit id at (u ∷ us)) inner ≡ Some (moved (unit + 0) id at d)
-    in_front here =
-        let es : List Entry = node_entries unit None 0 None id (at + header_size u.header.kind) u.root in
-        let fs : List Entry = entries_from (suc unit) (id + node_count u.root) (at + length (unit_bytes u)) us in
-        let got = get_moved unit id at u inner d here in
-        let below = slice_get_within es inner (moved unit id at d) got in
-        let number : unit ≡ unit + 0 = omega arith in
-        get_front es fs inner below ∙ got ∙ ap (λ (n : ℕ). Some (moved n id at d)) number
-get_from unit id at (u ∷ us) (suc number) p inner d is is_d =
-    let (i, begins, got) = get_from (suc unit) (id + node_count u.root) (at + length (unit_bytes u)) us number p inner d
-    is is_d in
-    let es : List Entry = node_entries unit None 0 None id (at + header_size u.header.kind) u.root in
-    let fs : List Entry = entries_from (suc unit) (id + node_count u.root) (at + length (unit_bytes u)) us in
-    let count = length-node_entries unit None 0 None id (at + header_size u.header.kind) u.root in
-    let behind : length es + i - length es ≡ i = omega arith in
-    let same : suc unit + number ≡ unit + suc number = omega arith in (
-      length es + i,
-      omega (arith, begins, count),
-      get_behind es fs (length es + i) (omega arith) ∙ ap (slice_get fs) behind ∙ got
-          ∙ ap (λ (n : ℕ). Some (moved n p.first p.at d)) same,
+-- an entry of a batch alone is found in the batch's place
+get_from : (number first at : ℕ) (bs : List (List DebugUnit)) (k : ℕ) (p : PlacedBatch) (inner : ℕ) (d : Entry)
+    → slice_get (batches_from number first at bs) k ≡ Some p → slice_get (entries_of p.units) inner ≡ Some d
+    → (i : ℕ) × (first + i ≡ p.first + inner)
+    × (slice_get (entries_from number first at (joined bs)) i ≡ Some (moved p.number p.first p.at d))
+get_from number first at [] k p inner d is is_d = absurd cc
+get_from number first at (units ∷ bs) zero p inner d is is_d =
+    let some : ◌≡◌ {A = Option PlacedBatch} (Some (record { number = number; first = first; at = at; units = units }))
+    (Some p) = is in
+    let same : ◌≡◌ {A = PlacedBatch} (record { number = number; first = first; at = at; units = units }) p = cc in
+    let P : PlacedBatch → Type 0 = λ q. slice_get (entries_of q.units) inner ≡ Some d
+    → (i : ℕ) × (first + i ≡ q.first + inner)
+    × (slice_get (entries_from number first at (joined (units ∷ bs))) i ≡ Some (moved q.number q.first q.at d)) in
+    subst P same (λ here. (
+      inner,
+      refl,
+      ap (λ (es : List Entry). slice_get es inner) (batch_front number first at units (joined bs))
+          ∙ moved_get (moved number first at) (entries_of units)
+          (entries_from (number + length units) (first + length (entries_of units))
+          (at + length (units_bytes units)) (joined bs)) inner d here,
+    )) is_d
+get_from number first at (units ∷ bs) (suc k) p inner d is is_d =
+    let (i, begins, got) = get_from (number + length units) (first + length (entries_of units))
+    (at + length (units_bytes units)) bs k p inner d is is_d in (
+      length (entries_of units) + i,
+      omega (arith, begins),
+      ap (λ (es : List Entry). slice_get es (length (entries_of units) + i))
+          (batch_front number first at units (joined bs))
+          ∙ moved_behind (moved number first at) (entries_of units)
+          (entries_from (number + length units) (first + length (entries_of units))
+          (at + length (units_bytes units)) (joined bs)) (length (entries_of units) + i) i refl ∙ got,
+    )
+
+unit_from : (base number first at : ℕ) (bs : List (List DebugUnit)) (k : ℕ) (p : PlacedBatch) (j : ℕ) (q : PlacedUnit)
+    → slice_get (batches_from number first at bs) k ≡ Some p → slice_get (placed p.units) j ≡ Some q
+    → (i : ℕ) × (number + i ≡ p.number + j)
+    × (slice_get (placed_from at first (map (with_base base) (joined bs))) i ≡ Some (moved_unit base p.first p.at q))
+unit_from base number first at [] k p j q is is_q = absurd cc
+unit_from base number first at (units ∷ bs) zero p j q is is_q =
+    let some : ◌≡◌ {A = Option PlacedBatch} (Some (record { number = number; first = first; at = at; units = units }))
+    (Some p) = is in
+    let same : ◌≡◌ {A = PlacedBatch} (record { number = number; first = first; at = at; units = units }) p = cc in
+    let P : PlacedBatch → Type 0 = λ b. slice_get (placed b.units) j ≡ Some q
+    → (i : ℕ) × (number + i ≡ b.number + j)
+    × (slice_get (placed_from at first (map (with_base base) (joined (units ∷ bs)))) i
+    ≡ Some (moved_unit base b.first b.at q)) in
+    subst P same (λ here. (
+      j,
+      refl,
+      ap (λ (ps : List PlacedUnit). slice_get ps j) (placed_front base first at units (joined bs))
+          ∙ moved_get (moved_unit base first at) (placed units)
+          (placed_from (at + length (units_bytes units)) (first + length (entries_of units))
+          (map (with_base base) (joined bs))) j q here,
+    )) is_q
+unit_from base number first at (units ∷ bs) (suc k) p j q is is_q =
+    let (i, begins, got) = unit_from base (number + length units) (first + length (entries_of units))
+    (at + length (units_bytes units)) bs k p j q is is_q in
+    let long = length-placed_from 0 0 units in (
+      length units + i,
+      omega (arith, begins),
+      ap (λ (ps : List PlacedUnit). slice_get ps (length units + i)) (placed_front base first at units (joined bs))
+          ∙ moved_behind (moved_unit base first at) (placed units)
+          (placed_from (at + length (units_bytes units)) (first + length (entries_of units))
+          (map (with_base base) (joined bs)))
+          (length units + i) i (omega (arith, long)) ∙ got,
     )
 
 -- ---- the same of all entries
 
-pub record IsOf (us : List DebugUnit) (i : ℕ) (e : Entry) : Type 0 where
-  pub number : ℕ
-  pub place : PlacedUnit
-  pub is_place : slice_get (placed us) number ≡ Some place
+pub record IsOf (bs : List (List DebugUnit)) (i : ℕ) (e : Entry) : Type 0 where
+  pub which : ℕ
+  pub place : PlacedBatch
+  pub is_place : slice_get (placed_batches bs) which ≡ Some place
   pub inner : ℕ
   pub entry : Entry
-  pub is_entry : slice_get (entries_of (place.unit ∷ [])) inner ≡ Some entry
+  pub is_entry : slice_get (entries_of place.units) inner ≡ Some entry
   pub begins : i ≡ place.first + inner
-  pub same : moved number place.first place.at entry ≡ e
+  pub same : moved place.number place.first place.at entry ≡ e
 
-pub found : (us : List DebugUnit) (i : ℕ) (e : Entry) → slice_get (entries_of us) i ≡ Some e → IsOf us i e
-found us i e is =
-    let f = found_from 0 0 0 us i e is in
+pub found : (s : Sections) (bs : List (List DebugUnit)) (i : ℕ) (e : Entry)
+    → slice_get (entries_of (whole s bs)) i ≡ Some e
+    → IsOf bs i e
+found s bs i e is =
+    let f = found_from 0 0 0 bs i e
+    (ap (λ (es : List Entry). slice_get es i) (sym (entries_based s.base 0 0 0 (joined bs))) ∙ is) in
     let begins = f.begins in
-    let number : f.number ≡ 0 + f.number = omega arith in
     record {
-      number = f.number;
+      which = f.which;
       place = f.place;
       is_place = f.is_place;
       inner = f.inner;
       entry = f.entry;
       is_entry = f.is_entry;
       begins = omega (arith, begins);
-      same = ap (λ (n : ℕ). moved n f.place.first f.place.at f.entry) number ∙ f.same;
+      same = f.same;
     }
 
-pub get : (us : List DebugUnit) (number : ℕ) (p : PlacedUnit) (inner : ℕ) (d : Entry)
-    → slice_get (placed us) number ≡ Some p → slice_get (entries_of (p.unit ∷ [])) inner ≡ Some d
-    → slice_get (entries_of us) (p.first + inner) ≡ Some (moved number p.first p.at d)
-get us number p inner d is is_d =
-    let (i, begins, got) = get_from 0 0 0 us number p inner d is is_d in
+pub get : (s : Sections) (bs : List (List DebugUnit)) (k : ℕ) (p : PlacedBatch) (inner : ℕ) (d : Entry)
+    → slice_get (placed_batches bs) k ≡ Some p → slice_get (entries_of p.units) inner ≡ Some d
+    → slice_get (entries_of (whole s bs)) (p.first + inner) ≡ Some (moved p.number p.first p.at d)
+get s bs k p inner d is is_d =
+    let (i, begins, got) = get_from 0 0 0 bs k p inner d is is_d in
     let there : p.first + inner ≡ i = omega (arith, begins) in
-    let zero_more : 0 + number ≡ number = omega arith in
-    ap (slice_get (entries_of us)) there ∙ got ∙ ap (λ (n : ℕ). Some (moved n p.first p.at d)) zero_more
+    ap (λ (es : List Entry). slice_get es (p.first + inner)) (entries_based s.base 0 0 0 (joined bs))
+    ∙ ap (slice_get (entries_of (joined bs))) there ∙ got
+
+pub unit_get : (s : Sections) (bs : List (List DebugUnit)) (k : ℕ) (p : PlacedBatch) (j : ℕ) (q : PlacedUnit)
+    → slice_get (placed_batches bs) k ≡ Some p → slice_get (placed p.units) j ≡ Some q
+    → slice_get (placed (whole s bs)) (p.number + j) ≡ Some (moved_unit s.base p.first p.at q)
+unit_get s bs k p j q is is_q =
+    let (i, begins, got) = unit_from s.base 0 0 0 bs k p j q is is_q in
+    let there : p.number + j ≡ i = omega (arith, begins) in
+    ap (slice_get (placed (whole s bs))) there ∙ got

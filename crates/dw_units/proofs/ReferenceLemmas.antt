@@ -1,5 +1,5 @@
--- The rules on references: the failures among all are those of each unit alone.
-use Rattle.std.proofs.Common.{rules, ◌≡◌, ℕ, ◌+◌, ◌<◌, ◌==◌, true, false, List, [], ◌∷◌, length, Option, Some, None, sym, ap, subst, ◌∙◌, inl, inr, eq-eqb, arith}
+-- The rules on references: the failures among all are those of each batch alone.
+use Rattle.std.proofs.Common.{rules, ◌≡◌, ℕ, zero, suc, ◌+◌, ◌<◌, ◌≤◌, ◌==◌, true, false, List, [], ◌∷◌, length, map, Option, Some, None, refl, sym, ap, subst, ◌∙◌, inl, inr, eq-eqb, arith}
 use Rattle.std.proofs.lemmas.Grind.{common_steps}
 use Rattle.std.proofs.lemmas.Bool.{eqb-true}
 use Rattle.std.specs.Prelude.{slice_get}
@@ -7,24 +7,30 @@ use Rattle.std.specs.List.{AllByRecursion}
 use Rattle.dw_elf.specs.declared.sections.Sections.{Sections}
 use Rattle.dw_forms.specs.Value.{Datum, ref_unit, ref_info, ref_sig}
 use Rattle.dw_entries.specs.declared.fault.Rule.{Rule}
-use Rattle.dw_entries.specs.Units.{DebugUnit, AreUnits}
+use Rattle.dw_entries.specs.Units.{DebugUnit, unit_bytes}
 use Rattle.dw_entries.specs.Lookups.{entry_head}
-use Rattle.dw_entries.specs.Entries.{Entry, entries_of, PlacedUnit, placed}
+use Rattle.dw_entries.specs.Entries.{Entry, entries_of, node_count, PlacedUnit, placed_from, placed}
+use Rattle.dw_entries.specs.declared.fault.Rule.TheVariants.{NoEntry, WrongKind, NotNextSibling, NoSignature}
+use Rattle.dw_entries.specs.Places.{at_attribute}
+use Rattle.dw_entries.specs.Rules.{number_of}
+use Rattle.dw_entries.specs.Asked.{HasAttribute}
 use Rattle.dw_entries.specs.Failures.{HasNone}
-use Rattle.dw_entries.specs.Asked.{OffsetsRise}
-use Rattle.dw_entries.proofs.EntryFacts.{entries_rise}
+use Rattle.dw_entries.specs.UnitLaws.{with_base}
+use Rattle.dw_entries.proofs.HeadLaws.{all-append}
 use Rattle.dw_entries.proofs.Firsts.{same_some}
+use Rattle.dw_links.specs.Signatures.{type_in}
 use Rattle.dw_links.specs.Targets.{reach_of}
-use Rattle.dw_links.specs.References.{permits, NoSignatureThere, IsOtherThan, ReachesWrong, ReferenceFailsBy, ReferenceFails, HeaderFails, HeaderFailures, AttributeFailures, ReferenceFailures}
+use Rattle.dw_links.specs.References.{permits, is_reference_value, is_signature, NoSignatureThere, IsOtherThan, ReachesWrong, ReferenceFailsBy, ReferenceFails, HeaderFails, HeaderFailures, AttributeFailures, ReferenceFailures}
 use Rattle.dw_links.proofs.Skips.{there}
 use Rattle.std.proofs.lemmas.Option.{slice_get_within}
-use Rattle.dw_links.proofs.TargetLaws.{at_reach_in_unit}
-use Rattle.dw_units.specs.Alone.{leads_out, StandsAlone}
+use Rattle.dw_links.proofs.TargetLaws.{at_reach_in_unit, at_reach_in_info}
+use Rattle.dw_units.specs.Alone.{joined, whole, FollowFrom, HaveNoTypeUnit, StandsAlone}
+use Rattle.dw_units.proofs.Batches.{PlacedBatch, placed_batches, all_placed}
 use Rattle.dw_units.proofs.MovedEntries.{moved_number, none_moved, moved, get}
-use Rattle.dw_units.specs.ByUnit.{StaysAlone}
-use Rattle.dw_units.proofs.FirstLemmas.{AreOfUnits, none_of_units}
-use Rattle.dw_units.proofs.TextLemmas.{unit_zero, stays_at, stays_of, each_of, heads_units}
-use Rattle.dw_units.proofs.ReachLemmas.{reach_moved}
+use Rattle.dw_units.specs.ByUnit.{StaysAlone, AreApart, IsFirm, is_offset}
+use Rattle.dw_units.proofs.FirstLemmas.{AreOfBatches, none_of_batches}
+use Rattle.dw_units.proofs.TextLemmas.{stays_at, apart_of, each_of, unit_below, FailsBy, heads_batches}
+use Rattle.dw_units.proofs.ReachLemmas.{reach_either}
 
 pub some_moved : (first : ℕ) (o : Option ℕ) (id : ℕ) → moved_number first o ≡ Some id
     → (k : ℕ) × (o ≡ Some k) × (first + k ≡ id)
@@ -39,16 +45,18 @@ permits_moved : (number first at : ℕ) (e t : Entry) (attribute : ℕ)
     ≡ permits (entry_head e) attribute t
 permits_moved number first at e t attribute = search (rules, eqb_moved)
 
-reached_below : (entries : List Entry) (units : List PlacedUnit) (unit : ℕ) (v : Datum) (k : ℕ) → leads_out v ≡ false
+reached_below : (entries : List Entry) (units : List PlacedUnit) (unit : ℕ) (v : Datum) (k : ℕ) → is_signature v ≡ false
     → reach_of entries units unit v ≡ Some k → k < length entries
 reached_below entries units unit (ref_unit offset) k stays is =
     let r = at_reach_in_unit entries units unit offset k is in
     slice_get_within entries k r.target.entry r.target.is_entry
-reached_below entries units unit (ref_info offset) k stays is = let no : true ≡ false = stays in absurd cc
+reached_below entries units unit (ref_info offset) k stays is =
+    let r = at_reach_in_info entries units unit offset k is in
+    slice_get_within entries k r.target.entry r.target.is_entry
 reached_below entries units unit (ref_sig signature) k stays is = let no : true ≡ false = stays in absurd cc
 reached_below entries units unit v k stays is = absurd cc
 
-no_signature : (units : List PlacedUnit) (v : Datum) → leads_out v ≡ false → NoSignatureThere units v → ⊥
+no_signature : (units : List PlacedUnit) (v : Datum) → is_signature v ≡ false → NoSignatureThere units v → ⊥
 no_signature units v stays fails = search rules
 
 other_alone : (first : ℕ) (next alone : Option ℕ) → IsOtherThan (moved_number first next) (moved_number first alone)
@@ -61,33 +69,44 @@ other_in_place first None alone other = tt
 other_in_place first (Some next) alone (id, reached, apart) =
     (first + id, ap (moved_number first) reached, λ same. apart (omega (arith, same)))
 
-module _ (us : List DebugUnit) (rise : OffsetsRise (entries_of us)) (number : ℕ) (p : PlacedUnit)
-    (is : slice_get (placed us) number ≡ Some p)
-    (alone_rise : OffsetsRise (entries_of (p.unit ∷ []))) where
+next_none : (first : ℕ) (next reached : Option ℕ) → reached ≡ None → IsOtherThan next reached
+    → (there : Option ℕ) → IsOtherThan (moved_number first next) there
+next_none first None reached none apart there = tt
+next_none first (Some next) reached none (id, reaches, other) there =
+    let no : ◌≡◌ {A = Option ℕ} None (Some id) = sym none ∙ reaches in absurd cc
+
+one_least : (rule : Rule) → 1 ≤ number_of rule
+one_least rule = search (rules)
+
+module _ (s : Sections) (bs : List (List DebugUnit)) (all : AreApart s bs) (k : ℕ) (p : PlacedBatch)
+    (is : slice_get (placed_batches bs) k ≡ Some p) where
   wrong_alone : (e : Entry) (attribute : ℕ) (alone : Option ℕ)
-      → ((k : ℕ) → alone ≡ Some k → k < length (entries_of (p.unit ∷ [])))
-      → ReachesWrong (entries_of us) (entry_head (moved number p.first p.at e)) attribute (moved_number p.first alone)
-      → ReachesWrong (entries_of (p.unit ∷ [])) (entry_head e) attribute alone
+      → ((k : ℕ) → alone ≡ Some k → k < length (entries_of p.units))
+      → ReachesWrong (entries_of (whole s bs)) (entry_head (moved p.number p.first p.at e)) attribute
+      (moved_number p.first alone)
+      → ReachesWrong (entries_of p.units) (entry_head e) attribute alone
   wrong_alone e attribute alone below wrong =
-      let (k, is_k, same) = some_moved p.first alone wrong.id wrong.reaches in
-      let (t, is_t) = there (entries_of (p.unit ∷ [])) k (below k is_k) in
-      let target : wrong.target ≡ moved number p.first p.at t =
-      same_some (slice_get (entries_of us) wrong.id) wrong.target (moved number p.first p.at t) wrong.is_target
-      (ap (slice_get (entries_of us)) (sym same) ∙ get us number p k t is is_t) in
+      let (id, is_id, same) = some_moved p.first alone wrong.id wrong.reaches in
+      let (t, is_t) = there (entries_of p.units) id (below id is_id) in
+      let target : wrong.target ≡ moved p.number p.first p.at t =
+      same_some (slice_get (entries_of (whole s bs)) wrong.id) wrong.target (moved p.number p.first p.at t)
+      wrong.is_target
+      (ap (slice_get (entries_of (whole s bs))) (sym same) ∙ get s bs k p id t is is_t) in
       record {
-        id = k;
-        reaches = is_k;
+        id = id;
+        reaches = is_id;
         target = t;
         is_target = is_t;
-        wrong = sym (permits_moved number p.first p.at e t attribute)
-            ∙ ap (permits (entry_head (moved number p.first p.at e)) attribute) (sym target) ∙ wrong.wrong;
+        wrong = sym (permits_moved p.number p.first p.at e t attribute)
+            ∙ ap (permits (entry_head (moved p.number p.first p.at e)) attribute) (sym target) ∙ wrong.wrong;
       }
 
-  by_alone : (e : Entry) → (attribute : ℕ) (v : Datum) (rule : Rule) → leads_out v ≡ false
-      → reach_of (entries_of us) (placed us) number v
-      ≡ moved_number p.first (reach_of (entries_of (p.unit ∷ [])) (placed (p.unit ∷ [])) e.unit v)
-      → ReferenceFailsBy (entries_of us) (placed us) (entry_head (moved number p.first p.at e)) attribute v rule
-      → ReferenceFailsBy (entries_of (p.unit ∷ [])) (placed (p.unit ∷ [])) (entry_head e) attribute v rule
+  by_alone : (e : Entry) → (attribute : ℕ) (v : Datum) (rule : Rule) → is_signature v ≡ false
+      → reach_of (entries_of (whole s bs)) (placed (whole s bs)) (p.number + e.unit) v
+      ≡ moved_number p.first (reach_of (entries_of p.units) (placed p.units) e.unit v)
+      → ReferenceFailsBy (entries_of (whole s bs)) (placed (whole s bs)) (entry_head (moved p.number p.first p.at e))
+      attribute v rule
+      → ReferenceFailsBy (entries_of p.units) (placed p.units) (entry_head e) attribute v rule
   by_alone e attribute v rule stays reached fails =
       grind (
         arith,
@@ -101,101 +120,201 @@ module _ (us : List DebugUnit) (rise : OffsetsRise (entries_of us)) (number : �
         wrong_alone,
       )
 
-  pub reference_alone : (e : Entry) → e.unit ≡ 0 → (attribute : ℕ) (v : Datum) (rule : Rule) → leads_out v ≡ false
-      → ReferenceFails (entries_of us) (placed us) (entry_head (moved number p.first p.at e)) attribute v rule
-      → ReferenceFails (entries_of (p.unit ∷ [])) (placed (p.unit ∷ [])) (entry_head e) attribute v rule
-  reference_alone e of attribute v rule stays (reference, fails) = search (rules, by_alone, reach_moved, moved_number)
-
   wrong_in_place : (e : Entry) (attribute : ℕ) (alone : Option ℕ)
-      → ReachesWrong (entries_of (p.unit ∷ [])) (entry_head e) attribute alone
-      → ReachesWrong (entries_of us) (entry_head (moved number p.first p.at e)) attribute (moved_number p.first alone)
+      → ReachesWrong (entries_of p.units) (entry_head e) attribute alone
+      → ReachesWrong (entries_of (whole s bs)) (entry_head (moved p.number p.first p.at e)) attribute
+      (moved_number p.first alone)
   wrong_in_place e attribute alone wrong = record {
     id = p.first + wrong.id;
     reaches = ap (moved_number p.first) wrong.reaches;
-    target = moved number p.first p.at wrong.target;
-    is_target = get us number p wrong.id wrong.target is wrong.is_target;
-    wrong = permits_moved number p.first p.at e wrong.target attribute ∙ wrong.wrong;
+    target = moved p.number p.first p.at wrong.target;
+    is_target = get s bs k p wrong.id wrong.target is wrong.is_target;
+    wrong = permits_moved p.number p.first p.at e wrong.target attribute ∙ wrong.wrong;
   }
 
-  by_in_place : (e : Entry) → (attribute : ℕ) (v : Datum) (rule : Rule) → leads_out v ≡ false
-      → reach_of (entries_of us) (placed us) number v
-      ≡ moved_number p.first (reach_of (entries_of (p.unit ∷ [])) (placed (p.unit ∷ [])) e.unit v)
-      → ReferenceFailsBy (entries_of (p.unit ∷ [])) (placed (p.unit ∷ [])) (entry_head e) attribute v rule
-      → ReferenceFailsBy (entries_of us) (placed us) (entry_head (moved number p.first p.at e)) attribute v rule
+  by_in_place : (e : Entry) → (attribute : ℕ) (v : Datum) (rule : Rule) → is_signature v ≡ false
+      → reach_of (entries_of (whole s bs)) (placed (whole s bs)) (p.number + e.unit) v
+      ≡ moved_number p.first (reach_of (entries_of p.units) (placed p.units) e.unit v)
+      → ReferenceFailsBy (entries_of p.units) (placed p.units) (entry_head e) attribute v rule
+      → ReferenceFailsBy (entries_of (whole s bs)) (placed (whole s bs)) (entry_head (moved p.number p.first p.at e))
+      attribute v rule
   by_in_place e attribute v rule stays reached fails =
       grind (arith, common_steps, moved, moved_number, no_signature, other_in_place, wrong_in_place)
 
-  pub reference_in_place : (e : Entry) → e.unit ≡ 0 → (attribute : ℕ) (v : Datum) (rule : Rule) → leads_out v ≡ false
-      → ReferenceFails (entries_of (p.unit ∷ [])) (placed (p.unit ∷ [])) (entry_head e) attribute v rule
-      → ReferenceFails (entries_of us) (placed us) (entry_head (moved number p.first p.at e)) attribute v rule
-  reference_in_place e of attribute v rule stays (reference, fails) =
-      search (rules, by_in_place, reach_moved, moved_number)
+  -- another rule than NoEntry fails at a reference that reaches nothing, whatever it reaches in its place
+  by_none : (e : Entry) → (attribute : ℕ) (v : Datum) (rule : Rule) → is_signature v ≡ false
+      → reach_of (entries_of p.units) (placed p.units) e.unit v ≡ None → (rule ≡ NoEntry → ⊥)
+      → ReferenceFailsBy (entries_of p.units) (placed p.units) (entry_head e) attribute v rule
+      → ReferenceFailsBy (entries_of (whole s bs)) (placed (whole s bs)) (entry_head (moved p.number p.first p.at e))
+      attribute v rule
+  by_none e attribute v NoEntry stays none other fails = absurd (other refl)
+  by_none e attribute v WrongKind stays none other (inl form) = inl form
+  by_none e attribute v WrongKind stays none other (inr wrong) =
+      let no : ◌≡◌ {A = Option ℕ} None (Some wrong.id) = sym none ∙ wrong.reaches in absurd cc
+  by_none e attribute v NotNextSibling stays none other (sibling, apart) = (
+    sibling,
+    next_none p.first e.next (reach_of (entries_of p.units) (placed p.units) e.unit v) none apart
+        (reach_of (entries_of (whole s bs)) (placed (whole s bs)) (p.number + e.unit) v),
+  )
+  by_none e attribute v NoSignature stays none other fails = absurd (no_signature (placed p.units) v stays fails)
+  by_none e attribute v rule stays none other fails = absurd fails
 
-pub all_units : (s : Sections) (us : List DebugUnit) → AllByRecursion (StaysAlone s) us → AreUnits s.«abbrev».now us
-all_units s [] all = tt
-all_units s (u ∷ us) (one, more) = (one.is_unit, all_units s us more)
+  -- what fails in the place of the batch
+  pub reference_down : (inner : ℕ) (e : Entry) → slice_get (entries_of p.units) inner ≡ Some e
+      → (attribute : ℕ) (v : Datum) (rule : Rule) → is_signature v ≡ false
+      → ReferenceFails (entries_of (whole s bs)) (placed (whole s bs)) (entry_head (moved p.number p.first p.at e))
+      attribute v rule
+      → FailsBy (ReferenceFails (entries_of p.units) (placed p.units) (entry_head e) attribute v) rule
+  reference_down inner e is_e attribute v rule stays (reference, fails) =
+      let (q, is_q, below) = unit_below s p.units (stays_at s bs k p all is) inner e is_e in
+      elim (reach_either s bs all k p is e.unit q is_q below v stays) [
+        | inl reached ↦ (rule, (reference, by_alone e attribute v rule stays reached fails), omega arith)
+        | inr (offset, none) ↦ (NoEntry, (reference, (stays, none)), one_least rule)
+      ]
+
+  -- what fails at the batch alone
+  pub reference_up : (inner : ℕ) (e : Entry) → slice_get (entries_of p.units) inner ≡ Some e
+      → (position attribute : ℕ) (v : Datum) (rule : Rule) → HasAttribute e position attribute v
+      → is_signature v ≡ false
+      → ReferenceFails (entries_of p.units) (placed p.units) (entry_head e) attribute v rule → IsFirm p.units rule
+      → ReferenceFails (entries_of (whole s bs)) (placed (whole s bs)) (entry_head (moved p.number p.first p.at e))
+      attribute v rule
+  reference_up inner e is_e position attribute v rule has stays (reference, fails) firm =
+      let (q, is_q, below) = unit_below s p.units (stays_at s bs k p all is) inner e is_e in
+      elim (reach_either s bs all k p is e.unit q is_q below v stays) [
+        | inl reached ↦ (reference, by_in_place e attribute v rule stays reached fails)
+        | inr (offset, none) ↦ (
+          reference,
+          by_none e attribute v rule stays none
+              (λ is_none. let no : true ≡ false = sym offset ∙ firm is_none inner e is_e position attribute v has in cc)
+              fails,
+        )
+      ]
+
+no_header_in : (at first : ℕ) (us : List DebugUnit) → HaveNoTypeUnit us → (number : ℕ)
+    (q : PlacedUnit) → slice_get (placed_from at first us) number ≡ Some q → type_in q.unit.header.kind ≡ None
+no_header_in at first [] none number q is = absurd cc
+no_header_in at first (u ∷ us) (one, more) zero q is = search (rules)
+no_header_in at first (u ∷ us) (one, more) (suc number) q is =
+    no_header_in (at + length (unit_bytes u)) (first + node_count u.root) us more number q is
 
 -- no unit is a type unit, so no rule fails at a header
-no_header_fails : (s : Sections) (entries : List Entry) (us : List DebugUnit) → AllByRecursion (StaysAlone s) us
+no_header_fails : (entries : List Entry) (us : List DebugUnit) → HaveNoTypeUnit us
     → HasNone (HeaderFailures entries (placed us))
-no_header_fails s entries us all f fails =
+no_header_fails entries us none f fails =
     subst (λ (o : Option (ℕ × ℕ)). HeaderFails entries (placed us) fails.number fails.item.at o f.rule)
-    (stays_at s us fails.number fails.item all fails.is_item).no_type_unit fails.fails.fails
+    (no_header_in 0 0 us none fails.number fails.item fails.is_item) fails.fails.fails
 
-attributes_units : (s : Sections) (us : List DebugUnit) → AllByRecursion (StaysAlone s) us
-    → AreOfUnits us (AttributeFailures (entries_of us) (placed us))
-    (λ u. AttributeFailures (entries_of (u ∷ [])) (placed (u ∷ [])))
-attributes_units s us all =
-    heads_units s us (ReferenceFails (entries_of us) (placed us))
-    (λ u. ReferenceFails (entries_of (u ∷ [])) (placed (u ∷ []))) all
-    (λ number p is inner e is_e position attribute v rule has.
-    let alone = stays_at s us number p all is in
-    let rise = entries_rise s.«abbrev».now us (all_units s us all) in
-    let alone_rise = entries_rise s.«abbrev».now (p.unit ∷ []) (alone.is_unit, tt) in
-    let of = unit_zero p.unit inner e is_e in
-    let stays = alone.stays inner e is_e position attribute v has in (
-      reference_alone us rise number p is alone_rise e of attribute v rule stays,
-      reference_in_place us rise number p is
-          alone_rise e of attribute v rule stays,
+none_based : (base : ℕ) (us : List DebugUnit) → HaveNoTypeUnit us → HaveNoTypeUnit (map (with_base base) us)
+none_based base [] none = tt
+none_based base (u ∷ us) (one, more) = (one, none_based base us more)
+
+none_joined : (s : Sections) (bs : List (List DebugUnit)) → AllByRecursion (StaysAlone s) bs
+    → HaveNoTypeUnit (joined bs)
+none_joined s [] all = tt
+none_joined s (units ∷ bs) (one, more) =
+    all-append (λ (u : DebugUnit). type_in u.header.kind ≡ None) units (joined bs) one.no_type_unit
+    (none_joined s bs more)
+
+attributes_batches : (s : Sections) (bs : List (List DebugUnit)) → AreApart s bs
+    → AreOfBatches bs (AttributeFailures (entries_of (whole s bs)) (placed (whole s bs)))
+    (λ units. AttributeFailures (entries_of units) (placed units))
+attributes_batches s bs all =
+    heads_batches s bs (ReferenceFails (entries_of (whole s bs)) (placed (whole s bs)))
+    (λ units. ReferenceFails (entries_of units) (placed units)) all
+    (λ k p is inner e is_e position attribute v rule has.
+    let stays = (stays_at s bs k p all is).stays inner e is_e position attribute v has in (
+      reference_down s bs all k p is inner e is_e attribute v rule stays,
+      reference_up s bs all k p is inner e is_e position attribute v rule has stays,
     ))
 
 -- the failures at headers are none, so those at attributes are all
-pub references_units : (s : Sections) (us : List DebugUnit) → AllByRecursion (StaysAlone s) us
-    → AreOfUnits us (ReferenceFailures us) (λ u. ReferenceFailures (u ∷ []))
-references_units s us all =
-    let are = attributes_units s us all in
-    let no_header = λ (number : ℕ) (p : PlacedUnit) (is : slice_get (placed us) number ≡ Some p).
-    no_header_fails s (entries_of (p.unit ∷ [])) (p.unit ∷ []) (stays_at s us number p all is, tt) in
+pub references_batches : (s : Sections) (bs : List (List DebugUnit)) → AreApart s bs
+    → AreOfBatches bs (ReferenceFailures (whole s bs)) ReferenceFailures
+references_batches s bs all =
+    let are = attributes_batches s bs all in
+    let no_header = λ (k : ℕ) (p : PlacedBatch) (is : slice_get (placed_batches bs) k ≡ Some p).
+    no_header_fails (entries_of p.units) p.units (stays_at s bs k p all is).no_type_unit in
     record {
       down = λ f fails.
           elim fails [
-            | inl header ↦ absurd (no_header_fails s (entries_of us) us all f header)
+            | inl header ↦
+                absurd (no_header_fails (entries_of (whole s bs)) (whole s bs)
+                (none_based s.base (joined bs) (none_joined s bs all.stay)) f header)
             | inr attribute ↦
                 let i = are.down f attribute in
                 record {
-                  number = i.number;
+                  which = i.which;
                   place = i.place;
                   is_place = i.is_place;
                   failure = i.failure;
                   fails = inr i.fails;
-                  same = i.same;
+                  early = i.early;
                 }
           ];
-      up = λ number p is g fails.
+      up = λ k p is g fails firm.
           elim fails [
-            | inl header ↦ absurd (no_header number p is g header)
-            | inr attribute ↦ inr (are.up number p is g attribute)
+            | inl header ↦ absurd (no_header k p is g header)
+            | inr attribute ↦ inr (are.up k p is g attribute firm)
           ];
-      inside = λ number p is g fails.
+      inside = λ k p is g fails.
           elim fails [
-            | inl header ↦ absurd (no_header number p is g header)
-            | inr attribute ↦ are.inside number p is g attribute
+            | inl header ↦ absurd (no_header k p is g header)
+            | inr attribute ↦ are.inside k p is g attribute
           ];
     }
 
-pub references_join : (s : Sections) (us : List DebugUnit) → AllByRecursion (StandsAlone s) us
-    → HasNone (ReferenceFailures us)
-references_join s us all =
-    none_of_units us (ReferenceFailures us) (λ u. ReferenceFailures (u ∷ []))
-    (references_units s us (stays_of s us all))
-    (each_of (StandsAlone s) (λ u. HasNone (ReferenceFailures (u ∷ []))) us (λ u one. one.references) all)
+pub references_join : (s : Sections) (bs : List (List DebugUnit)) → AllByRecursion (StandsAlone s) bs
+    → FollowFrom s.base bs
+    → HasNone (ReferenceFailures (whole s bs))
+references_join s bs all follow =
+    none_of_batches bs (ReferenceFailures (whole s bs)) ReferenceFailures
+    (references_batches s bs (apart_of s bs all follow))
+    (each_of (StandsAlone s) (λ units. HasNone (ReferenceFailures units)) bs (λ units one. one.references) all)
+
+-- ---- where the rules on references hold of each batch
+
+-- the batches stay apart, and no rule on references fails at one of them
+pub record Refer (s : Sections) (bs : List (List DebugUnit)) : Type 0 where
+  pub apart : AreApart s bs
+  pub none : AllByRecursion (λ units. HasNone (ReferenceFailures units)) bs
+
+pub refer_of : (s : Sections) (bs : List (List DebugUnit)) → AllByRecursion (StandsAlone s) bs → FollowFrom s.base bs
+    → Refer s bs
+refer_of s bs all follow = record {
+  apart = apart_of s bs all follow;
+  none = each_of (StandsAlone s) (λ units. HasNone (ReferenceFailures units)) bs (λ units one. one.references) all;
+}
+
+offset_refers : (v : Datum) → is_offset v ≡ true → is_reference_value v ≡ true
+offset_refers v is = search (rules)
+
+-- so the values of an entry reach the same in the place of the batch
+pub value_moved : (s : Sections) (bs : List (List DebugUnit)) → Refer s bs → (k : ℕ) (p : PlacedBatch)
+    → slice_get (placed_batches bs) k ≡ Some p → (inner : ℕ) (e : Entry)
+    → slice_get (entries_of p.units) inner ≡ Some e
+    → (position attribute : ℕ) (v : Datum) → HasAttribute e position attribute v
+    → reach_of (entries_of (whole s bs)) (placed (whole s bs)) (p.number + e.unit) v
+    ≡ moved_number p.first (reach_of (entries_of p.units) (placed p.units) e.unit v)
+value_moved s bs refer k p is inner e is_e position attribute v has =
+    let stays = stays_at s bs k p refer.apart is in
+    let inside = stays.stays inner e is_e position attribute v has in
+    let (q, is_q, below) = unit_below s p.units stays inner e is_e in
+    elim (reach_either s bs refer.apart k p is e.unit q is_q below v inside) [
+      | inl same ↦ same
+      | inr (offset, none) ↦
+          absurd (all_placed (λ units. HasNone (ReferenceFailures units)) 0 0 0 bs k p refer.none is
+          (record { rule = NoEntry; place = at_attribute e.at position; attribute = attribute })
+          (inr (record {
+            number = inner;
+            item = e;
+            is_item = is_e;
+            fails = record {
+              position = position;
+              value = v;
+              has = has;
+              place = refl;
+              fails = (offset_refers v offset, (inside, none));
+            };
+          })))
+    ]

@@ -1,5 +1,6 @@
 -- Whole units, and then bytes at which a rule of trees fails: it fails there in the sections.
 use Rattle.std.proofs.Common.{rules, ◌≡◌, ℕ, zero, suc, ◌+◌, ◌<◌, ◌≤◌, List, [], ◌∷◌, ◌++◌, length, take, drop, length-drop, Result, Ok, Err, refl, sym, ap, subst, ◌∙◌, arith, append_assoc, append-nil, Bool, true, false, length-append}
+use Rattle.std.specs.List.{AllByRecursion, flat_map}
 use Rattle.std.proofs.lemmas.Grind.{flat_map-append}
 use Rattle.dw_forms.specs.declared.fault.AbbrevFault.{AbbrevFault}
 use Rattle.dw_forms.specs.Abbrev.{Declaration}
@@ -15,13 +16,13 @@ use Rattle.std.specs.Prelude.{nat_lt}
 use Rattle.byteorder.specs.Endian.{little_number, little_bytes}
 use Rattle.byteorder.specs.Numbers.{little_number-reads_back, length-bytes_low_first}
 use Rattle.std.proofs.lemmas.Bool.{le-ltb, lt-ltb, ltb-true}
-use Rattle.std.proofs.Math.Seq.{take-length}
+use Rattle.std.proofs.Math.Seq.{take-length, take-add, drop-append_seam}
 use Rattle.dw_entries.specs.Items.{items_bytes}
 use Rattle.dw_entries.specs.Units.{DebugUnit, IsUnit, AreUnits, body_bytes, unit_bytes, units_bytes}
 use Rattle.dw_entries.specs.Faults.{place_of, in_unit, FailsBehind, FailsAs, FailsHere, Fails}
 use Rattle.dw_entries.proofs.HeadLaws.{all-append}
 use Rattle.dw_units.specs.ByUnit.{moved_broken, TreesOfUnits}
-use Rattle.dw_units.specs.Parts.{IsWhole}
+use Rattle.dw_units.specs.Parts.{IsWhole, AreWhole}
 
 module _ (at : ℕ) where
   place_moved : (rule : Rule) (header offset there : ℕ) → there ≡ at + offset
@@ -80,7 +81,7 @@ trees_first s before rest broken are parts fails =
           (here_moved at s.«abbrev».now (length (units_bytes fails.units)) fails.rest broken fails.fails);
     }
 
--- ---- the bytes of one unit, and what comes after them
+-- ---- the bytes of whole units, and what comes after them
 
 drop_front : (n : ℕ) (xs ys : List ℕ) → n ≤ length xs → drop n (xs ++ ys) ≡ drop n xs ++ ys
 drop_front zero xs ys le = refl
@@ -139,13 +140,15 @@ header_alike size part more whole =
     (unit_alike part more whole (nat_lt (little_number 4 (take 4 part)) 0xfffffff0) refl ∙ ap unit_at (append-nil part))
 
 -- so what fails at the front of these bytes fails there with more behind them
-pub here_with_more : («abbrev» part more : List ℕ) (broken : Broken) → IsWhole part → FailsHere «abbrev» 0 part broken
-    → FailsHere «abbrev» 0 (part ++ more) broken
-here_with_more «abbrev» part more broken whole fails =
-    subst (λ (r : Result (UnitHeader × List ℕ) Rule). FailsAs «abbrev» 0 r broken)
-    (sym (header_alike (length «abbrev») part more whole)) fails
+here_with_more : («abbrev» : List ℕ) (at : ℕ) (part behind more : List ℕ) (broken : Broken) → IsWhole part
+    → FailsHere «abbrev» at (part ++ behind) broken
+    → FailsHere «abbrev» at ((part ++ behind) ++ more) broken
+here_with_more «abbrev» at part behind more broken whole fails =
+    subst (λ (r : Result (UnitHeader × List ℕ) Rule). FailsAs «abbrev» at r broken)
+    (header_alike (length «abbrev») part behind whole ∙ sym (header_alike (length «abbrev») part (behind ++ more) whole)
+    ∙ ap (header_at (length «abbrev»)) (sym (append_assoc part behind more))) fails
 
--- ---- such bytes are one unit, or begin with none
+-- ---- such bytes are a unit's, or begin with none
 
 first_four : («abbrev» : List ℕ) (u : DebugUnit) (x : List ℕ) → IsUnit «abbrev» u
     → little_number 4 (take 4 (unit_bytes u ++ x)) ≡ u.header.unit_length
@@ -168,54 +171,97 @@ first_four «abbrev» u x unit =
     ∙ ap (λ (k : ℕ). take k front) (sym len) ∙ take-length front in
     ap (little_number 4) (e ∙ sym (append-nil front)) ∙ little_number-reads_back 4 n [] (omega (arith, low))
 
-nothing_behind : («abbrev» part : List ℕ) (u : DebugUnit) (x : List ℕ) → IsWhole part → IsUnit «abbrev» u
-    → part ≡ unit_bytes u ++ x → length x ≡ 0
-nothing_behind «abbrev» part u x whole unit parts =
+-- what follows such bytes, at whose front are those of a unit, follows the unit
+behind_unit : («abbrev» part behind : List ℕ) (u : DebugUnit) (x : List ℕ) → IsWhole part → IsUnit «abbrev» u
+    → part ++ behind ≡ unit_bytes u ++ x → behind ≡ x
+behind_unit «abbrev» part behind u x whole unit parts =
     let long = whole.long in
     let counted = unit.unit_length in
     let front : List ℕ = little_bytes 4 u.header.unit_length in
-    let four : little_number 4 (take 4 part)
-    ≡ u.header.unit_length = ap (λ (xs : List ℕ). little_number 4 (take 4 xs)) parts
+    let four : little_number 4 (take 4 part) ≡ u.header.unit_length =
+    ap (little_number 4) (sym (take_front 4 part behind whole.four))
+    ∙ ap (λ (xs : List ℕ). little_number 4 (take 4 xs)) parts
     ∙ first_four «abbrev» u x unit in
+    let size : length part ≡ length (unit_bytes u) =
     omega (
       arith,
       long,
       four,
       counted,
-      ap length parts,
-      length-append (unit_bytes u) x,
       length-append (header_bytes u.header) (body_bytes u),
       length-append front (header_fields u.header),
       length-bytes_low_first 0 4 u.header.unit_length,
       length-append (header_fields u.header) (body_bytes u),
-    )
+    ) in
+    sym (drop-append_seam part behind) ∙ ap (drop (length part)) parts
+    ∙ ap (λ (n : ℕ). drop n (unit_bytes u ++ x)) size ∙ drop-append_seam (unit_bytes u) x
 
 no_elements : (xs : List ℕ) → length xs ≡ 0 → xs ≡ []
 no_elements [] is = refl
 no_elements (x ∷ xs) is = absurd (omega (arith, is))
 
--- a rule of trees that fails in the bytes of one unit fails with more behind them
-pub fails_with_more : («abbrev» part more : List ℕ) (broken : Broken) → IsWhole part → Fails «abbrev» part broken
-    → Fails «abbrev» (part ++ more) broken
-fails_with_more «abbrev» part more broken whole fails = go fails.units fails.are fails.parts fails.fails
+-- what follows units in such parts are such parts
+parts_after : («abbrev» : List ℕ) (units : List DebugUnit) (rest : List ℕ) (parts : List (List ℕ))
+    → AreUnits «abbrev» units → AllByRecursion IsWhole parts
+    → flat_map (λ part. part) parts ≡ units_bytes units ++ rest
+    → (behind : List (List ℕ)) × AllByRecursion IsWhole behind × (rest ≡ flat_map (λ part. part) behind)
+parts_after «abbrev» [] rest parts are whole same = (parts, whole, sym same)
+parts_after «abbrev» (u ∷ units) rest [] are whole same =
+    let long = ap length same in
+    let unit = are.0 in
+    absurd (omega (
+      arith,
+      long,
+      length-append (unit_bytes u ++ units_bytes units) rest,
+      length-append (unit_bytes u) (units_bytes units),
+      length-append (header_bytes u.header) (body_bytes u),
+      length-append (little_bytes 4 u.header.unit_length) (header_fields u.header),
+      length-bytes_low_first 0 4 u.header.unit_length,
+    ))
+parts_after «abbrev» (u ∷ units) rest (part ∷ parts) are whole same =
+    let behind = behind_unit «abbrev» part (flat_map (λ part. part) parts) u (units_bytes units ++ rest) whole.0 are.0
+    (same ∙ append_assoc (unit_bytes u) (units_bytes units) rest) in
+    parts_after «abbrev» units rest parts are.1 whole.1 behind
+
+-- a rule of trees that fails in such bytes fails with more behind them
+pub fails_with_more : («abbrev» bytes more : List ℕ) (broken : Broken) → AreWhole bytes → Fails «abbrev» bytes broken
+    → Fails «abbrev» (bytes ++ more) broken
+fails_with_more «abbrev» bytes more broken whole fails =
+    let (behind, each, rest) = parts_after «abbrev» fails.units fails.rest whole.parts fails.are whole.whole
+    (sym whole.are ∙ fails.parts) in
+    record {
+      units = fails.units;
+      rest = fails.rest ++ more;
+      are = fails.are;
+      parts =
+          ap (λ (xs : List ℕ). xs ++ more) fails.parts
+          ∙ append_assoc (units_bytes fails.units) fails.rest more;
+      more = λ none. fails.more (no_elements fails.rest
+          (let e = ap length none in omega (arith, e, length-append fails.rest more)));
+      fails = go behind each rest;
+    }
   where
-    go : (units : List DebugUnit) → AreUnits «abbrev» units → part ≡ units_bytes units ++ fails.rest
-        → FailsHere «abbrev» (length (units_bytes units)) fails.rest broken → Fails «abbrev» (part ++ more) broken
-    go [] are parts here =
-        let long = whole.four in
-        record {
-          units = [];
-          rest = part ++ more;
-          are = tt;
-          parts = refl;
-          more = λ none. (let e = ap length none in omega (arith, e, long, length-append part more));
-          fails =
-              here_with_more «abbrev» part more broken whole
-              (subst (λ (xs : List ℕ). FailsHere «abbrev» 0 xs broken) (sym parts) here);
-        }
-    go (u ∷ units) are parts here =
-        let behind : List ℕ = units_bytes units ++ fails.rest in
-        let empty = nothing_behind «abbrev» part u behind whole are.0
-        (parts ∙ append_assoc (unit_bytes u) (units_bytes units) fails.rest) in
-        absurd (fails.more (no_elements fails.rest
-        (omega (arith, empty, length-append (units_bytes units) fails.rest))))
+    go : (behind : List (List ℕ)) → AllByRecursion IsWhole behind → fails.rest ≡ flat_map (λ part. part) behind
+        → FailsHere «abbrev» (length (units_bytes fails.units)) (fails.rest ++ more) broken
+    go [] each rest = absurd (fails.more rest)
+    go (part ∷ behind) each rest =
+        subst (λ (xs : List ℕ). FailsHere «abbrev» (length (units_bytes fails.units)) (xs ++ more) broken) (sym rest)
+        (here_with_more «abbrev» (length (units_bytes fails.units)) part (flat_map (λ part. part) behind) more broken
+        each.0
+        (subst (λ (xs : List ℕ). FailsHere «abbrev» (length (units_bytes fails.units)) xs broken) rest fails.fails))
+
+-- ---- whole units, one after another
+
+pub one_whole : (part : List ℕ) → IsWhole part → AreWhole part
+one_whole part whole = record { parts = part ∷ []; whole = (whole, tt); are = sym (append-nil part) }
+
+pub more_whole : (bytes : List ℕ) (size next : ℕ) → AreWhole (take size bytes) → IsWhole (take next (drop size bytes))
+    → AreWhole (take (size + next) bytes)
+more_whole bytes size next before whole = record {
+  parts = before.parts ++ take next (drop size bytes) ∷ [];
+  whole = all-append IsWhole before.parts (take next (drop size bytes) ∷ []) before.whole (whole, tt);
+  are = take-add size next bytes ∙ ap (λ (xs : List ℕ). xs ++ take next (drop size bytes)) before.are
+      ∙ ap (λ (xs : List ℕ). flat_map (λ part. part) before.parts ++ xs)
+      (sym (append-nil (take next (drop size bytes))))
+      ∙ sym (flat_map-append (λ (part : List ℕ). part) before.parts (take next (drop size bytes) ∷ []));
+}

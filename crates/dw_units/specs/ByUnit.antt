@@ -1,38 +1,60 @@
--- Chapter: the first fault of sections whose units refer to nothing outside themselves: of the first faults of the
--- units alone the one of the least group, and in that group of the first unit, in the unit's place.
-use Rattle.std.specs.Prelude.{◌≡◌, ℕ, ◌+◌, ◌<◌, List, [], ◌∷◌, ◌++◌, length, map, None}
+-- Chapter: the first fault of sections whose batches refer to nothing outside themselves: of the first faults of the
+-- batches alone the one of the least group, and in that group of the first batch, in the batch's place.
+use Rattle.std.specs.Prelude.{◌≡◌, ℕ, Bool, true, false, ◌+◌, ◌<◌, List, ◌∷◌, ◌++◌, length, map}
 use Rattle.std.specs.List.{AllByRecursion}
 use Rattle.dw_elf.specs.declared.sections.Sections.{Sections}
 use Rattle.dw_entries.specs.declared.fault.Broken.{Broken}
 use Rattle.dw_entries.specs.declared.fault.Fault.{Fault}
+use Rattle.dw_entries.specs.declared.fault.Rule.{Rule}
+use Rattle.dw_entries.specs.declared.fault.Rule.TheVariants.{NoEntry}
 use Rattle.dw_entries.specs.declared.fault.Section.{Section}
 use Rattle.dw_entries.specs.declared.fault.Section.TheVariants.{Abbrev, Info}
-use Rattle.dw_entries.specs.Units.{DebugUnit, IsUnit, AreUnits, units_bytes}
-use Rattle.dw_entries.specs.Entries.{entries_of}
-use Rattle.dw_entries.specs.Asked.{EachEntry}
+use Rattle.dw_entries.specs.Units.{DebugUnit, AreUnits, units_bytes}
+use Rattle.dw_forms.specs.Value.{Datum, ref_info}
+use Rattle.dw_entries.specs.Entries.{Entry, entries_of}
+use Rattle.dw_entries.specs.Asked.{EachEntry, HasAttribute}
 use Rattle.dw_entries.specs.Failures.{HasNone, broken_of}
 use Rattle.dw_entries.specs.Faults.{Fails}
-use Rattle.dw_links.specs.Signatures.{type_in}
 use Rattle.dw_types.specs.FactsOf.{facts_in}
 use Rattle.dw_types.specs.SizeTables.{Size}
 use Rattle.dw_types.specs.Sizes.{IsSizeTable}
 use Rattle.dw_image.specs.First.{Group, sizes, turn_of, failures_of, IsFirstIn, FailsInTrees, IsFirstFault}
-use Rattle.dw_units.specs.Alone.{StaysInside}
+use Rattle.dw_units.specs.Alone.{joined, FollowFrom, StaysInside, HaveNoTypeUnit}
 
--- the unit is no type unit, and no value refers to another unit: what is asked of it does not depend on the others
-pub record StaysAlone (s : Sections) (u : DebugUnit) : Type 0 where
-  pub is_unit : IsUnit s.«abbrev».now u
-  pub no_type_unit : type_in u.header.kind ≡ None
-  pub stays : EachEntry StaysInside (entries_of (u ∷ []))
+-- none of the units is a type unit, and no value refers to a unit by its signature: but for offsets at which no entry
+-- of theirs starts, what is asked of them does not depend on the other units
+pub record StaysAlone (s : Sections) (units : List DebugUnit) : Type 0 where
+  pub are : AreUnits s.«abbrev».now units
+  pub no_type_unit : HaveNoTypeUnit units
+  pub stays : EachEntry StaysInside (entries_of units)
+
+-- the batches stay alone, and each begins where the one before it ends
+pub record AreApart (s : Sections) (batches : List (List DebugUnit)) : Type 0 where
+  pub stay : AllByRecursion (StaysAlone s) batches
+  pub follow : FollowFrom s.base batches
+
+-- a value that is an offset of .debug_info
+abbrev pub is_offset : Datum → Bool
+is_offset (ref_info offset) = true
+is_offset _ = false
+
+-- no value of the entry is
+abbrev pub HasNoOffset : Entry → Type 0
+HasNoOffset e = (position attribute : ℕ) (v : Datum) → HasAttribute e position attribute v → is_offset v ≡ false
+
+-- that the rule fails at the batch alone does not depend on the other units. Where no entry of the batch starts at an
+-- offset of .debug_info, one of another batch may
+abbrev pub IsFirm : List DebugUnit → Rule → Type 0
+IsFirm units rule = rule ≡ NoEntry → EachEntry HasNoOffset (entries_of units)
 
 -- ---- the place of a fault
 
--- an offset of .debug_info moves with the unit, one of .debug_abbrev stays
+-- an offset of .debug_info moves with the batch, one of .debug_abbrev stays
 abbrev pub moved_offset : Section → (at : ℕ) → ℕ → ℕ
 moved_offset Abbrev at offset = offset
 moved_offset Info at offset = at + offset
 
--- the fault of a unit alone, in the unit's place
+-- the fault of a batch alone, in the batch's place
 abbrev pub moved_broken : ℕ → Broken → Broken
 moved_broken at broken = record {
   rule = broken.rule;
@@ -48,40 +70,41 @@ pub record IsMoved (at : ℕ) (alone fault : Fault) : Type 0 where
 
 -- ---- the groups of rules
 
--- no rule of an earlier group fails at the unit alone
-abbrev pub PassesBelow : Sections → Group → DebugUnit → Type 0
-PassesBelow s group u = (earlier : Group) → turn_of earlier < turn_of group → HasNone (failures_of s (u ∷ []) earlier)
+-- no rule of an earlier group fails at the batch alone
+abbrev pub PassesBelow : Sections → Group → List DebugUnit → Type 0
+PassesBelow s group units = (earlier : Group) → turn_of earlier < turn_of group → HasNone (failures_of s units earlier)
 
 -- nor of this group
-abbrev pub PassesThrough : Sections → Group → DebugUnit → Type 0
-PassesThrough s group u = PassesBelow s group u × HasNone (failures_of s (u ∷ []) group)
+abbrev pub PassesThrough : Sections → Group → List DebugUnit → Type 0
+PassesThrough s group units = PassesBelow s group units × HasNone (failures_of s units group)
 
--- the unit alone has one table of sizes
-abbrev pub HasTable : DebugUnit → Type 0
-HasTable u = (table : ℕ → Size) × IsSizeTable (facts_in (u ∷ [])) table
+-- the batch alone has one table of sizes
+abbrev pub HasTable : List DebugUnit → Type 0
+HasTable units = (table : ℕ → Size) × IsSizeTable (facts_in units) table
 
 -- where sizes are asked, it has
-abbrev pub IsMeasured : Group → DebugUnit → Type 0
-IsMeasured sizes u = HasTable u
-IsMeasured _ u = Unit {0}
+abbrev pub IsMeasured : Group → List DebugUnit → Type 0
+IsMeasured sizes units = HasTable units
+IsMeasured _ units = Unit {0}
 
--- the fault is the first of the unit alone, in this group
-pub record FailsAlone (s : Sections) (u : DebugUnit) (group : Group) (fault : Fault) : Type 0 where
-  pub below : PassesBelow s group u
-  pub first : IsFirstIn s (u ∷ []) group fault
+-- the fault is the first of the batch alone, in this group
+pub record FailsAlone (s : Sections) (units : List DebugUnit) (group : Group) (fault : Fault) : Type 0 where
+  pub below : PassesBelow s group units
+  pub first : IsFirstIn s units group fault
+  pub firm : IsFirm units fault.rule
 
--- the units before pass through the group at which one fails, and those behind pass the earlier groups: then the
--- fault of that unit, in its place, is the first of the sections
+-- the batches before pass through the group at which one fails, and those behind pass the earlier groups: then the
+-- fault of that batch, in its place, is the first of the sections
 abbrev pub FirstOfUnits : Type 0
-FirstOfUnits = (s : Sections) (before : List DebugUnit) (u : DebugUnit) (behind : List DebugUnit) (group : Group)
-    (alone fault : Fault)
-    → AllByRecursion (StaysAlone s) (before ++ u ∷ behind)
-    → AllByRecursion (IsMeasured group) (before ++ u ∷ behind)
+FirstOfUnits = (s : Sections) (before : List (List DebugUnit)) (units : List DebugUnit)
+    (behind : List (List DebugUnit)) (group : Group) (alone fault : Fault)
+    → AreApart s (before ++ units ∷ behind)
+    → AllByRecursion (IsMeasured group) (before ++ units ∷ behind)
     → AllByRecursion (PassesThrough s group) before
-    → FailsAlone s u group alone
+    → FailsAlone s units group alone
     → AllByRecursion (PassesBelow s group) behind
-    → s.info.now ≡ units_bytes (before ++ u ∷ behind)
-    → IsMoved (length (units_bytes before)) alone fault
+    → s.info.now ≡ units_bytes (joined (before ++ units ∷ behind))
+    → IsMoved (length (units_bytes (joined before))) alone fault
     → IsFirstFault s fault
 
 -- whole units, and then bytes at which a rule of trees fails: it fails there in the sections

@@ -1,14 +1,11 @@
--- State: one unit of .debug_info, as sections of its own.
-use Rattle.std.specs.Prelude.{◌≡◌, ℕ, ◌+◌, ◌<◌, ◌≤◌, List, [], ◌∷◌, ◌++◌, length, take, Option, Some, None}
+-- State: one batch of units of .debug_info, as sections of its own.
+use Rattle.std.specs.Prelude.{◌≡◌, ℕ, ◌+◌, ◌<◌, ◌≤◌, List, ◌∷◌, ◌++◌, length, take, Option, Some, None}
 use Rattle.byteorder.specs.Endian.{little_number}
-use Rattle.std.specs.List.{AllByRecursion, count_by}
+use Rattle.std.specs.List.{AllByRecursion, count_by, flat_map}
 use Rattle.dw_elf.specs.declared.sections.Sections.{Sections}
-use Rattle.dw_entries.specs.Units.{DebugUnit, unit_bytes, units_bytes}
-use Rattle.dw_entries.specs.Entries.{entries_of}
+use Rattle.dw_entries.specs.Units.{DebugUnit, HaveBase, units_bytes}
+use Rattle.dw_entries.specs.Entries.{Entry, entries_of}
 use Rattle.dw_entries.specs.Asked.{EachEntry}
-use Rattle.dw_entries.specs.Views.{all_entries, units_of}
-use Rattle.dw_entries.specs.declared.entries.Entries.{Entries}
-use Rattle.dw_links.specs.Signatures.{type_in}
 use Rattle.dw_image.specs.Lookups.{is_type_entry}
 use Rattle.dw_entries.specs.declared.fault.Fault.{Fault}
 use Rattle.dw_entries.specs.declared.fault.Rule.{Rule}
@@ -20,10 +17,13 @@ use Rattle.dw_units.specs.declared.counting.Counts.{Counts}
 use Rattle.dw_units.specs.declared.counting.Found.{Found}
 use Rattle.dw_units.specs.declared.counting.Found.TheVariants as found
 use Rattle.dw_units.specs.declared.counting.SoFar.{SoFar}
+use Rattle.dw_units.specs.declared.alone.Elsewhere.{Elsewhere}
+use Rattle.dw_units.specs.declared.alone.Elsewhere.TheVariants.{Never, ByOffset, BySignature}
 use Rattle.dw_units.specs.declared.alone.Verified.{Verified}
 use Rattle.dw_units.specs.declared.alone.Verified.TheVariants as verified
-use Rattle.dw_units.specs.ByUnit.{StaysAlone, IsMoved, PassesBelow, PassesThrough, IsMeasured, FailsAlone}
-use Rattle.dw_units.specs.Alone.{StaysInside, StandsAlone}
+use Rattle.dw_units.specs.ByUnit.{StaysAlone, AreApart, HasNoOffset, IsFirm, IsMoved, PassesBelow, PassesThrough}
+use Rattle.dw_units.specs.ByUnit.{IsMeasured, FailsAlone}
+use Rattle.dw_units.specs.Alone.{joined, StaysInside, StandsAlone}
 use Rattle.dw_units.specs.Counted.{AreCounts}
 
 -- as many bytes as the unit_length at their front counts (DWARF 5, 7.5.1)
@@ -31,30 +31,37 @@ pub record IsWhole (part : List ℕ) : Type 0 where
   pub four : 4 ≤ length part
   pub long : length part ≡ 4 + little_number 4 (take 4 part)
 
--- the entries are those of one unit, which is no type unit, and no value refers to another unit
-pub record IsOneAlone (entries : Entries) : Type 0 where
-  pub unit : DebugUnit
-  pub one : units_of entries ≡ unit ∷ []
-  pub no_type_unit : type_in unit.header.kind ≡ None
-  pub stays : EachEntry StaysInside (all_entries entries)
+-- parts like that, one after another
+pub record AreWhole (bytes : List ℕ) : Type 0 where
+  pub parts : List (List ℕ)
+  pub whole : AllByRecursion IsWhole parts
+  pub are : bytes ≡ flat_map (λ part. part) parts
 
--- the bytes are one unit, which is valid alone, with these counts
-pub record IsAlone (s : Sections) (part : List ℕ) (c : Counts) : Type 0 where
-  pub unit : DebugUnit
-  pub alone : StandsAlone s unit
-  pub bytes : part ≡ unit_bytes unit
-  pub unit_count : c.units ≡ 1
-  pub entry_count : c.entries ≡ length (entries_of (unit ∷ []))
-  pub type_count : c.types ≡ count_by is_type_entry (entries_of (unit ∷ []))
+-- how the values of these entries refer to those of other units
+abbrev pub Refer : List Entry → Elsewhere → Type 0
+Refer entries Never = EachEntry StaysInside entries × EachEntry HasNoOffset entries
+Refer entries ByOffset = EachEntry StaysInside entries
+Refer entries BySignature = Unit {0}
 
--- the bytes are one unit that stays alone, and this is its first fault, in a group after the trees
-pub record IsFaultAlone (s : Sections) (part : List ℕ) (fault : Fault) : Type 0 where
-  pub unit : DebugUnit
-  pub stays : StaysAlone s unit
-  pub bytes : part ≡ unit_bytes unit
+-- the bytes from an offset on are a batch that is valid alone, with these counts
+pub record IsAlone (s : Sections) (at : ℕ) (part : List ℕ) (c : Counts) : Type 0 where
+  pub units : List DebugUnit
+  pub based : HaveBase (s.base + at) units
+  pub alone : StandsAlone s units
+  pub bytes : part ≡ units_bytes units
+  pub unit_count : c.units ≡ length units
+  pub entry_count : c.entries ≡ length (entries_of units)
+  pub type_count : c.types ≡ count_by is_type_entry (entries_of units)
+
+-- the bytes from an offset on are a batch that stays alone, and this is its first fault, in a group after the trees
+pub record IsFaultAlone (s : Sections) (at : ℕ) (part : List ℕ) (fault : Fault) : Type 0 where
+  pub units : List DebugUnit
+  pub based : HaveBase (s.base + at) units
+  pub stays : StaysAlone s units
+  pub bytes : part ≡ units_bytes units
   pub group : Group
-  pub fails : FailsAlone s unit group fault
-  pub measured : IsMeasured group unit
+  pub fails : FailsAlone s units group fault
+  pub measured : IsMeasured group units
   pub rank : group_of fault.rule ≡ turn_of group
 
 -- no rule fails of the groups before the one of the least fault so far, which there is
@@ -67,12 +74,13 @@ abbrev pub IsLess : (least : Option Rule) → Rule → Type 0
 IsLess None rule = Unit {0}
 IsLess (Some least) rule = group_of rule < group_of least
 
--- the bytes are one unit that stays alone, and it has no less fault
-pub record IsPassed (s : Sections) (least : Option Rule) (part : List ℕ) : Type 0 where
-  pub unit : DebugUnit
-  pub stays : StaysAlone s unit
-  pub bytes : part ≡ unit_bytes unit
-  pub passes : PassLess s (unit ∷ []) least
+-- the bytes from an offset on are a batch that stays alone, and it has no less fault
+pub record IsPassed (s : Sections) (at : ℕ) (least : Option Rule) (part : List ℕ) : Type 0 where
+  pub units : List DebugUnit
+  pub based : HaveBase (s.base + at) units
+  pub stays : StaysAlone s units
+  pub bytes : part ≡ units_bytes units
+  pub passes : PassLess s units least
 
 -- what is found of sections that these units spell: the counts are asked only if there is no fault so far
 abbrev pub IsVerdictOn : Sections → List DebugUnit → (least : Option Rule) → Verified → Type 0
@@ -80,51 +88,61 @@ IsVerdictOn s units least (verified.Sound c) = (least ≡ None) × AreCounts s c
 IsVerdictOn s units least verified.Passed = PassLess s units least
 IsVerdictOn s units least (verified.Fault fault) = IsFaultOf s fault × IsLess least fault.rule
 
--- what one unit alone is found to be
-abbrev pub IsFoundAlone : Sections → (least : Option Rule) → List ℕ → Verified → Type 0
-IsFoundAlone s least part (verified.Sound c) = (least ≡ None) × IsAlone s part c
-IsFoundAlone s least part verified.Passed = IsPassed s least part
-IsFoundAlone s least part (verified.Fault fault) = IsFaultAlone s part fault × IsLess least fault.rule
+-- a fault that is found does not depend on the other units
+abbrev pub IsFirmly : List DebugUnit → Verified → Type 0
+IsFirmly units (verified.Fault fault) = IsFirm units fault.rule
+IsFirmly units _ = Unit {0}
 
--- what is found is this fault of a unit alone, in the unit's place
+-- what is found is that, by values that refer so
+abbrev pub IsKept : Elsewhere → (found kept : Verified) → Type 0
+IsKept elsewhere found kept = (kept ≡ found)
+    × ((units : List DebugUnit) → Refer (entries_of units) elsewhere → IsFirmly units kept)
+
+-- what a batch alone is found to be
+abbrev pub IsFoundAlone : Sections → (at : ℕ) → (least : Option Rule) → List ℕ → Verified → Type 0
+IsFoundAlone s at least part (verified.Sound c) = (least ≡ None) × IsAlone s at part c
+IsFoundAlone s at least part verified.Passed = IsPassed s at least part
+IsFoundAlone s at least part (verified.Fault fault) = IsFaultAlone s at part fault × IsLess least fault.rule
+
+-- what is found is this fault of a batch alone, in the batch's place
 abbrev pub IsFoundAt : ℕ → Fault → Found → Type 0
 IsFoundAt at alone (found.Sound c) = ⊥
 IsFoundAt at alone (found.Fault fault) = IsMoved at alone fault
 
--- the fault is the least of these units: of the first unit in the least group, in its place
-pub record HasLeast (s : Sections) (units : List DebugUnit) (fault : Fault) : Type 0 where
-  pub before : List DebugUnit
-  pub unit : DebugUnit
-  pub behind : List DebugUnit
+-- the fault is the least of these batches: of the first batch in the least group, in its place
+pub record HasLeast (s : Sections) (batches : List (List DebugUnit)) (fault : Fault) : Type 0 where
+  pub before : List (List DebugUnit)
+  pub units : List DebugUnit
+  pub behind : List (List DebugUnit)
   pub group : Group
   pub alone : Fault
-  pub are : units ≡ before ++ unit ∷ behind
-  pub measured : AllByRecursion (IsMeasured group) units
+  pub are : batches ≡ before ++ units ∷ behind
+  pub measured : AllByRecursion (IsMeasured group) batches
   pub passed : AllByRecursion (PassesThrough s group) before
-  pub fails : FailsAlone s unit group alone
+  pub fails : FailsAlone s units group alone
   pub below : AllByRecursion (PassesBelow s group) behind
-  pub place : IsMoved (length (units_bytes before)) alone fault
+  pub place : IsMoved (length (units_bytes (joined before))) alone fault
   pub rank : group_of fault.rule ≡ turn_of group
 
--- the units each stand alone, and these are their counts
-pub record AreCounted (s : Sections) (units : List DebugUnit) (c : Counts) : Type 0 where
-  pub alone : AllByRecursion (StandsAlone s) units
-  pub unit_count : c.units ≡ length units
-  pub entry_count : c.entries ≡ length (entries_of units)
-  pub type_count : c.types ≡ count_by is_type_entry (entries_of units)
+-- the batches each stand alone, and these are the counts of their units
+pub record AreCounted (s : Sections) (batches : List (List DebugUnit)) (c : Counts) : Type 0 where
+  pub alone : AllByRecursion (StandsAlone s) batches
+  pub unit_count : c.units ≡ length (joined batches)
+  pub entry_count : c.entries ≡ length (entries_of (joined batches))
+  pub type_count : c.types ≡ count_by is_type_entry (entries_of (joined batches))
 
 -- without a fault they are counted
-abbrev pub AreVerified : Sections → List DebugUnit → Counts → Option Fault → Type 0
-AreVerified s units c None = AreCounted s units c
-AreVerified s units c (Some fault) = HasLeast s units fault
+abbrev pub AreVerified : Sections → List (List DebugUnit) → Counts → Option Fault → Type 0
+AreVerified s batches c None = AreCounted s batches c
+AreVerified s batches c (Some fault) = HasLeast s batches fault
 
--- the units so far, and the bytes after them
+-- the batches so far, and the bytes after them
 pub record AreSoFar (s : Sections) (rest : List ℕ) (so_far : SoFar) : Type 0 where
-  pub units : List DebugUnit
-  pub stay : AllByRecursion (StaysAlone s) units
-  pub bytes : s.info.now ≡ units_bytes units ++ rest
-  pub at : so_far.at ≡ length (units_bytes units)
-  pub verified : AreVerified s units so_far.counts so_far.least
+  pub batches : List (List DebugUnit)
+  pub apart : AreApart s batches
+  pub bytes : s.info.now ≡ units_bytes (joined batches) ++ rest
+  pub at : so_far.at ≡ length (units_bytes (joined batches))
+  pub verified : AreVerified s batches so_far.counts so_far.least
 
 -- the rule of the least fault
 abbrev pub least_rule : Option Fault → Option Rule

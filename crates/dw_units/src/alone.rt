@@ -1,14 +1,14 @@
-//! Whether each unit may be verified alone, and one unit verified as sections of its own.
+//! Batches of units that share an abbreviation table: whether each may be verified alone, and one batch verified as
+//! sections of its own.
 
-ghost use Rattle.std.specs.Prelude.{◌≡◌, None, IfErr, IfOk, IfSome, ◌<◌, ◌≤◌, length, take};
+ghost use Rattle.std.specs.Prelude.{◌≡◌, None, IfErr, IfOk, IfSome, ◌<◌, ◌≤◌, ◌+◌, length, take, drop};
 ghost use Rattle.std.specs.Bool.{OnTrue, OnFalse};
-ghost use Rattle.dw_entries.specs.Asked.{EachEntry};
 ghost use Rattle.dw_links.specs.Signatures.{type_in};
 ghost use Rattle.dw_entries.specs.Faults.{Fails};
 ghost use Rattle.dw_entries.specs.Stopped.{IfPlainFault};
 ghost use Rattle.dw_entries.specs.Views.{sections_of, all_entries, units_of};
-ghost use Rattle.dw_units.specs.Alone.{may_leave, StaysInside};
-ghost use Rattle.dw_units.specs.Parts.{IsWhole, IsOneAlone, IsVerdictOn, IsFoundAlone};
+ghost use Rattle.dw_units.specs.Alone.{leaves_by, HaveNoTypeUnit};
+ghost use Rattle.dw_units.specs.Parts.{IsWhole, AreWhole, Refer, IsVerdictOn, IsKept, IsFoundAlone};
 
 use crate::counting::Counts;
 use byteorder::{ByteOrder, LittleEndian};
@@ -48,6 +48,33 @@ fn table_offset(unit: &[u8]) -> Option<usize> {
     }
 }
 
+/// The size of the unit at the front, if its abbreviation table begins at this offset.
+fn same_table(info: &[u8], table: usize) -> Option<usize>
+    ensures within { IfSome result (λ n. (0 < n) × (n ≤ length info.now)) }
+    ensures whole { IfSome result (λ n. IsWhole (take n info.now)) }
+{
+    let size = unit_size(info)?;
+    if table_offset(&info[..size])? != table {
+        return None;
+    }
+    Some(size)
+}
+
+/// The size of the batch at the front: the unit there, and those after it that share its abbreviation table. None if
+/// the bytes end before, or no table is named.
+pub fn batch_size(info: &[u8]) -> Option<usize>
+    ensures within { IfSome result (λ n. (0 < n) × (n ≤ length info.now)) }
+    ensures whole { IfSome result (λ n. AreWhole (take n info.now)) }
+{
+    let first = unit_size(info)?;
+    let table = table_offset(&info[..first])?;
+    let mut size = first;
+    while let Some(next) = same_table(&info[size..], table) {
+        size += next;
+    }
+    Some(size)
+}
+
 /// An unsigned number, and the bytes after it.
 fn number(bytes: &[u8]) -> Option<(u64, &[u8])> {
     match read_uleb(bytes) {
@@ -67,8 +94,38 @@ fn after_form(form: Form, bytes: &[u8]) -> Option<&[u8]> {
     }
 }
 
-/// The bytes after a declaration's attributes. None if a form may lead to another unit.
-fn after_attributes(bytes: &[u8]) -> Option<&[u8]> {
+/// How the values of a batch may refer to entries of other units.
+#[derive(Clone, Copy)]
+pub(crate) enum Elsewhere {
+    /// Not at all.
+    Never,
+    /// By offsets of .debug_info (DW_FORM_ref_addr).
+    ByOffset,
+    /// By signatures, or in forms that the entries name.
+    BySignature,
+}
+
+/// How a value in this form may.
+pub(crate) fn leaves_by(form: Form) -> Elsewhere
+    ensures { result ≡ leaves_by form }
+{
+    match form {
+        Form::RefAddr => Elsewhere::ByOffset,
+        Form::RefSig8 | Form::Indirect => Elsewhere::BySignature,
+        _ => Elsewhere::Never,
+    }
+}
+
+/// Whether a batch may have values that refer so. Only where it has several units may one refer to another by offset.
+fn is_allowed(found: Elsewhere, most: Elsewhere) -> bool {
+    matches!(
+        (found, most),
+        (Elsewhere::Never, _) | (Elsewhere::ByOffset, Elsewhere::ByOffset)
+    )
+}
+
+/// The bytes after a declaration's attributes. None if a form lets a value refer out of the batch.
+fn after_attributes(bytes: &[u8], most: Elsewhere) -> Option<&[u8]> {
     let mut rest = bytes;
     for _ in 0..bytes.len() {
         let (_, after) = number(rest)?;
@@ -77,7 +134,7 @@ fn after_attributes(bytes: &[u8]) -> Option<&[u8]> {
             return Some(after);
         }
         let form = Form::from_code(code)?;
-        if may_leave(form) {
+        if !is_allowed(leaves_by(form), most) {
             return None;
         }
         rest = after_form(form, after)?;
@@ -85,8 +142,9 @@ fn after_attributes(bytes: &[u8]) -> Option<&[u8]> {
     None
 }
 
-/// The size of the abbreviation table at the front (DWARF 5, 7.5.3). None if a form may lead to another unit.
-fn table_size(bytes: &[u8]) -> Option<usize> {
+/// The size of the abbreviation table at the front (DWARF 5, 7.5.3). None if a form lets a value refer out of the
+/// batch.
+fn table_size(bytes: &[u8], most: Elsewhere) -> Option<usize> {
     let mut rest = bytes;
     for _ in 0..bytes.len() {
         let (code, after) = number(rest)?;
@@ -95,7 +153,7 @@ fn table_size(bytes: &[u8]) -> Option<usize> {
         }
         let (_, after) = number(after)?;
         let (_, after) = after.split_first()?;
-        rest = after_attributes(after)?;
+        rest = after_attributes(after, most)?;
     }
     None
 }
@@ -105,13 +163,13 @@ fn ends_with_zero(strings: &[u8]) -> bool {
     matches!(strings, [] | [.., 0])
 }
 
-/// The bytes after the unit at the front, and what is left of the budget.
-fn after_unit<'a>(
+/// The bytes after the batch at the front, and what is left of the budget.
+fn after_batch<'a>(
     sections: &Sections<'a>,
     rest: &'a [u8],
     budget: usize,
 ) -> Option<(&'a [u8], usize)> {
-    let size = unit_size(rest)?;
+    let size = batch_size(rest)?;
     if size == sections.info.len() {
         return None;
     }
@@ -119,15 +177,20 @@ fn after_unit<'a>(
     if offset > sections.abbrev.len() {
         return None;
     }
-    let table = table_size(&sections.abbrev[offset..])?;
+    let most = if unit_size(rest)? < size {
+        Elsewhere::ByOffset
+    } else {
+        Elsewhere::Never
+    };
+    let table = table_size(&sections.abbrev[offset..], most)?;
     let budget = budget.saturating_add(size / 16);
     let left = budget.checked_sub(table)?;
     Some((&rest[size..], left))
 }
 
-/// Whether to verify each unit alone: there are several, no form of their tables may lead to another unit, and what
-/// each unit costs besides its bytes is little beside them: the tables may have the bytes of .debug_abbrev, and one
-/// more for each 16 bytes of the units so far.
+/// Whether to verify each batch alone: there are several, no form of their tables lets a value refer out of one, and
+/// what each batch costs besides its bytes is little beside them: the tables may have the bytes of .debug_abbrev, and
+/// one more for each 16 bytes of the units so far.
 pub fn are_apart(sections: &Sections<'_>) -> bool {
     if !ends_with_zero(sections.str) || !ends_with_zero(sections.line_str) {
         return false;
@@ -138,7 +201,7 @@ pub fn are_apart(sections: &Sections<'_>) -> bool {
         if rest.is_empty() {
             return true;
         }
-        match after_unit(sections, rest, budget) {
+        match after_batch(sections, rest, budget) {
             Some((after, left)) => {
                 rest = after;
                 budget = left;
@@ -149,24 +212,24 @@ pub fn are_apart(sections: &Sections<'_>) -> bool {
     rest.is_empty()
 }
 
-/// Whether a value in this form may refer to another unit, or its entry names the form.
-pub(crate) fn may_leave(form: Form) -> bool
-    ensures { result ≡ may_leave form }
-{
-    matches!(form, Form::RefAddr | Form::RefSig8 | Form::Indirect)
-}
-
-/// Whether no form of the abbreviation tables lets a value refer to another unit.
-fn stays_inside(entries: &Entries<'_>) -> bool
-    ensures { OnTrue result (EachEntry StaysInside (all_entries entries.now)) }
+/// How the values of entries may refer to other units, by the forms of the abbreviation tables.
+fn elsewhere_of(entries: &Entries<'_>) -> Elsewhere
+    ensures { Refer (all_entries entries.now) result }
 {
     let decls = entries.decls();
+    let mut by_offset = false;
     for number in 0..decls.spec_count() {
-        if may_leave(decls.spec(number).form) {
-            return false;
+        match leaves_by(decls.spec(number).form) {
+            Elsewhere::Never => {}
+            Elsewhere::ByOffset => by_offset = true,
+            Elsewhere::BySignature => return Elsewhere::BySignature,
         }
     }
-    true
+    if by_offset {
+        Elsewhere::ByOffset
+    } else {
+        Elsewhere::Never
+    }
 }
 
 /// Whether a unit of this kind is a type unit.
@@ -176,21 +239,19 @@ fn is_type_unit(kind: HeaderKind) -> bool
     matches!(kind, HeaderKind::TypeUnit { .. })
 }
 
-/// Whether the entries are those of one unit, which is no type unit and refers to no other unit.
-fn is_one_alone(entries: &Entries<'_>) -> bool
-    ensures { OnTrue result (IsOneAlone entries.now) }
+/// Whether no unit is a type unit.
+fn have_no_type_unit(entries: &Entries<'_>) -> bool
+    ensures { OnTrue result (HaveNoTypeUnit (units_of entries.now)) }
 {
-    if entries.unit_count() != 1 {
-        return false;
+    for number in 0..entries.unit_count() {
+        if is_type_unit(entries.unit(number).header.kind) {
+            return false;
+        }
     }
-    let unit = entries.unit(0);
-    if is_type_unit(unit.header.kind) {
-        return false;
-    }
-    stays_inside(entries)
+    true
 }
 
-/// What one unit alone is found to be.
+/// What one batch alone is found to be.
 #[derive(Drop)]
 pub enum Verified {
     /// It is valid, and these are its counts.
@@ -201,7 +262,7 @@ pub enum Verified {
     Fault(Fault),
 }
 
-/// Verifies the entries of one unit. If there is a least fault so far, of this rule, only by the groups before the
+/// Verifies the entries of one batch. If there is a least fault so far, of this rule, only by the groups before the
 /// rule's.
 fn verify_one(
     alloc: Global,
@@ -222,35 +283,51 @@ fn verify_one(
     }
 }
 
-/// Verifies the bytes of one unit as the whole .debug_info; if there is a least fault so far, of this rule, only by the
-/// groups before the rule's. An error is the fault of a rule of trees, placed as if they were the whole. None if they
-/// are not one unit, and if the unit is a type unit or may refer to another unit.
+/// What is found of a batch alone. None if it depends on the other units: where no entry of the batch is at an offset
+/// of .debug_info, one of another batch may be.
+fn kept(found: Verified, elsewhere: Elsewhere) -> Option<Verified>
+    ensures { IfSome result (IsKept elsewhere found) }
+{
+    match elsewhere {
+        Elsewhere::Never => Some(found),
+        _ => match found {
+            Verified::Fault(fault) => match fault.rule {
+                Rule::NoEntry => None,
+                _ => Some(Verified::Fault(fault)),
+            },
+            Verified::Passed => Some(Verified::Passed),
+            Verified::Sound(counts) => Some(Verified::Sound(counts)),
+        },
+    }
+}
+
+/// Verifies one batch, so many bytes from an offset of .debug_info, as sections of its own; if there is a least fault
+/// so far, of this rule, only by the groups before the rule's. An error is the fault of a rule of trees, placed as if
+/// the batch were the whole. None if that depends on the other units.
 pub fn verify_alone<'a>(
     alloc: Global,
     sections: &Sections<'a>,
-    part: &'a [u8],
+    at: usize,
+    size: usize,
     least: Option<Rule>,
 ) -> Result<Option<Verified>, Stop<Fault>>
-    ensures found { IfOk result (λ found. IfSome found (IsFoundAlone sections.now least part.now)) }
-    ensures fault { IfErr result (IfPlainFault (Fails sections.now.«abbrev».now part.now)) }
+    requires { at + size ≤ length sections.now.info.now }
+    ensures found { IfOk result (λ found. IfSome found
+        (IsFoundAlone sections.now at least (take size (drop at sections.now.info.now)))) }
+    ensures fault { IfErr result (IfPlainFault
+        (Fails sections.now.«abbrev».now (take size (drop at sections.now.info.now)))) }
 {
-    let own = match Sections::new(
-        sections.abbrev,
-        part,
-        sections.str,
-        sections.line_str,
-        sections.str_offsets,
-        sections.addr,
-    ) {
-        Ok(own) => own,
-        Err(_) => return Ok(None),
-    };
+    let own = sections.part(at, at + size);
     let entries = scan(alloc, &own)?;
-    if !is_one_alone(&entries) {
+    if !have_no_type_unit(&entries) {
+        return Ok(None);
+    }
+    let elsewhere = elsewhere_of(&entries);
+    if let Elsewhere::BySignature = elsewhere {
         return Ok(None);
     }
     match verify_one(alloc, entries, least) {
-        Ok(found) => Ok(Some(found)),
+        Ok(found) => Ok(kept(found, elsewhere)),
         Err(NoMemory) => Err(Stop::Memory),
     }
 }

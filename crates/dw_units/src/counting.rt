@@ -1,4 +1,4 @@
-//! How many units, entries and types sound sections have, counted unit after unit.
+//! How many units, entries and types sound sections have, counted batch after batch.
 
 ghost use Rattle.std.specs.Prelude.{◌≡◌, ℕ, ◌+◌, ◌≤◌, List, [], length, map, take, drop, IfOk, IfSome};
 ghost use Rattle.dw_elf.specs.declared.sections.Sections.{Sections};
@@ -8,7 +8,7 @@ ghost use Rattle.dw_units.specs.ByUnit.{FirstOfUnits, TreesOfUnits, IsMoved, mov
 ghost use Rattle.dw_units.specs.Counted.{AreCounts, IsFound, counts_of};
 ghost use Rattle.dw_units.specs.Parts.{AreSoFar, IsFoundAlone, IsFoundAt, least_rule};
 
-use crate::alone::{Verified, are_apart, unit_size, verify_alone};
+use crate::alone::{Verified, are_apart, batch_size, verify_alone};
 use dw_elf::Sections;
 use dw_entries::{Fault, Rule, Section, Stop};
 use dw_image::{Image, NoMemory};
@@ -56,7 +56,7 @@ impl Counts {
 /// How many bytes of memory `keep_memory` asks for.
 const KEPT: usize = 4 << 20;
 
-/// Asks for memory and gives it back, so that what one unit gives back is used again for the next one. The C library
+/// Asks for memory and gives it back, so that what one batch gives back is used again for the next one. The C library
 /// keeps up to twice as much from then on (mallopt(3), `M_TRIM_THRESHOLD`), and the system does not clear its pages
 /// once more. It does no harm if there is no such memory.
 fn keep_memory(alloc: Global) {
@@ -93,7 +93,7 @@ fn least_rule(so_far: &SoFar) -> Option<Rule>
     }
 }
 
-/// An offset of a unit alone, in the unit's place. None if it exceeds u32.
+/// An offset of a batch alone, in the batch's place. None if it exceeds u32.
 fn moved_offset(section: Section, at: u32, offset: u32) -> Option<u32>
     ensures { IfSome result (λ n. n ≡ moved_offset section at offset) }
 {
@@ -103,7 +103,7 @@ fn moved_offset(section: Section, at: u32, offset: u32) -> Option<u32>
     }
 }
 
-/// The offsets of a cycle, in the unit's place. None if one exceeds u32.
+/// The offsets of a cycle, in the batch's place. None if one exceeds u32.
 fn moved_cycle(alloc: Global, cycle: &[u32], at: u32) -> Result<Option<Vec<u32>>, AllocError>
     ensures { IfOk result (λ found. IfSome found (λ moved. moved.items ≡ map (λ offset. at + offset) cycle.now)) }
 {
@@ -118,7 +118,7 @@ fn moved_cycle(alloc: Global, cycle: &[u32], at: u32) -> Result<Option<Vec<u32>>
     Ok(Some(moved))
 }
 
-/// The fault of a unit alone, in the unit's place. None if an offset exceeds u32.
+/// The fault of a batch alone, in the batch's place. None if an offset exceeds u32.
 fn moved_fault(alloc: Global, fault: &Fault, at: usize) -> Result<Option<Fault>, NoMemory>
     ensures { IfOk result (λ found. IfSome found (IsMoved at fault.now)) }
 {
@@ -144,7 +144,7 @@ fn moved_fault(alloc: Global, fault: &Fault, at: usize) -> Result<Option<Fault>,
     }))
 }
 
-/// The fault of a unit alone, in the unit's place, is what is found. None if an offset exceeds u32.
+/// The fault of a batch alone, in the batch's place, is what is found. None if an offset exceeds u32.
 fn found_at(alloc: Global, fault: Fault, at: usize) -> Result<Option<Found>, NoMemory>
     ensures { IfOk result (λ found. IfSome found (IsFoundAt at fault)) }
 {
@@ -154,7 +154,7 @@ fn found_at(alloc: Global, fault: Fault, at: usize) -> Result<Option<Found>, NoM
     }
 }
 
-/// What is known after one unit more, of so many bytes. None if a sum exceeds its type.
+/// What is known after one batch more, of so many bytes. None if a sum exceeds its type.
 fn one_more(
     alloc: Global,
     so_far: SoFar,
@@ -162,7 +162,7 @@ fn one_more(
     found: Verified,
 ) -> Result<Option<SoFar>, NoMemory>
     ensures { IfOk result (λ after. IfSome after (λ more. (s : Sections) (rest : List ℕ) → AreSoFar s rest so_far
-        → size ≤ length rest → IsFoundAlone s (least_rule so_far.least) (take size rest) found
+        → size ≤ length rest → IsFoundAlone s so_far.at (least_rule so_far.least) (take size rest) found
         → AreSoFar s (drop size rest) more)) }
 {
     let at = match so_far.at.checked_add(size) {
@@ -194,7 +194,7 @@ fn one_more(
     }
 }
 
-/// What is found after the last unit.
+/// What is found after the last batch.
 fn found_of(counts: Counts, least: Option<Fault>) -> Found
     ensures { (s : Sections) (so_far : SoFar) → so_far.counts ≡ counts → so_far.least ≡ least → AreSoFar s [] so_far
         → IsFound s result }
@@ -225,11 +225,11 @@ pub fn verify_by_unit<'a>(alloc: Global, sections: &Sections<'a>) -> Result<Opti
         least: None,
     };
     while !rest.is_empty() {
-        let size = match unit_size(rest) {
+        let size = match batch_size(rest) {
             Some(size) => size,
             None => return Ok(None),
         };
-        let found = match verify_alone(alloc, sections, &rest[..size], least_rule(&so_far)) {
+        let found = match verify_alone(alloc, sections, so_far.at, size, least_rule(&so_far)) {
             Ok(Some(found)) => found,
             Ok(None) => return Ok(None),
             Err(Stop::Fault(fault)) => return found_at(alloc, fault, so_far.at),
@@ -244,7 +244,7 @@ pub fn verify_by_unit<'a>(alloc: Global, sections: &Sections<'a>) -> Result<Opti
     Ok(Some(found_of(so_far.counts, so_far.least)))
 }
 
-/// Units that are each valid alone, and have no value that may refer to another unit, are valid together.
+/// Batches that are each valid alone, and have no value that may refer to another unit, are valid together.
 pub fn units_join()
     ensures { JoinsUnits }
 {}
@@ -254,7 +254,7 @@ pub fn trees_of_units()
     ensures { TreesOfUnits }
 {}
 
-/// The first fault of units without such values is the least, by group and then by unit, of the units' own.
+/// The first fault of batches without such values is the least, by group and then by batch, of the batches' own.
 pub fn first_of_units()
     ensures { FirstOfUnits }
 {}

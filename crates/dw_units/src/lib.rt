@@ -1,4 +1,4 @@
-//! Whether sections are sound, unit after unit, with the memory of one unit.
+//! Whether sections are sound, batch after batch of units, with the memory of one batch.
 #![tactic(auto)]
 
 mod alone;
