@@ -34,8 +34,8 @@ steps-long : (image : Image) → length (steps_in image) ≡ length (entries_in 
 unfolding units_in steps_in
 steps-long image = search (rules, length-by_value, length-facts_of)
 
--- an entry takes a byte, so there are fewer than 2 ^ 32
-pub few-entries : (image : Image) → length (entries_in image) < 4294967296
+-- an entry takes a byte, so there are fewer than 2 ^ 32 - 1
+pub few-entries : (image : Image) → length (entries_in image) < 4294967295
 unfolding units_in
 few-entries image =
     let scanned = image.entries.scanned in

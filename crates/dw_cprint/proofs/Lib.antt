@@ -19,6 +19,8 @@ pub mod LevelLemmas
 pub mod SurveyLemmas
 pub mod NumberLemmas
 pub mod ListingLemmas
+pub mod JudgementLemmas
+pub mod RowLemmas
 pub mod RefusalLemmas
 pub mod KindLemmas
 pub mod FaultLemmas

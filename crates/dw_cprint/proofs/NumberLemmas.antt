@@ -149,7 +149,7 @@ range-rising n i j d less w =
     (let long = length-range_with_len 0 n in
     omega (arith, get_or-range_with_len 0 n i d (omega arith), get_or-range_with_len 0 n j d (omega arith)))
 
-range-below : (n k : ℕ) → Contains (range_with_len 0 n) k → k < n
+pub range-below : (n k : ℕ) → Contains (range_with_len 0 n) k → k < n
 range-below n k (i, w, e) =
     (let long = length-range_with_len 0 n in omega (arith, get_or-range_with_len 0 n i k (omega arith), e))
 

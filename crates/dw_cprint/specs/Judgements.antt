@@ -1,13 +1,13 @@
 -- State: the judgement of a named type: it is printed, and its text is written, or the refusal that holds.
-use Rattle.std.specs.Prelude.{◌≡◌, ℕ, List, [], ◌∷◌, ◌++◌, Option, Some, None, is_some, if◌then◌else◌, nat_eq}
-use Rattle.std.specs.Prelude.{slice_get}
-use Rattle.indexmap.specs.IndexMap.{IndexMap, get, insert_entry}
+use Rattle.std.specs.Prelude.{◌≡◌, ℕ, List, [], ◌∷◌, ◌++◌, Option, Some, None, nat_eq, slice_get, slice_set}
+use Rattle.indexmap.specs.IndexSet.{insert_key}
 use Rattle.dw_cprint.specs.Declarations.{declaration_of}
 use Rattle.dw_cprint.specs.Listings.{text_if}
 use Rattle.dw_cprint.specs.Refusals.{PrintFault, HoldsNoneBelow, Refuses, IsPrinted}
 use Rattle.dw_cprint.specs.Shapes.{ShapeOf, SubjectOf}
 use Rattle.dw_cprint.specs.Terms.{Declaration}
 use Rattle.dw_cprint.specs.Writing.{written}
+use Rattle.dw_cprint.specs.declared.listing.Judgements.{Judgements}
 
 -- the draft has the text of the declaration
 abbrev pub IsDrafted : (ℕ → ShapeOf) → SubjectOf → Option (List ℕ) → Type 0
@@ -30,16 +30,21 @@ HasLine shapes subject None old new =
     IsPrinted shapes subject × (new ≡ old ++ (text_if (declaration_of shapes subject) ++ 10 ∷ []))
 HasLine shapes subject (Some rule) old new = Refuses shapes subject rule × (new ≡ old)
 
--- one named type more is judged: its number has its refusal, or none and its line is written
-abbrev pub IsAdded : (ℕ → ShapeOf) → ℕ → SubjectOf → (judged judged' : List (ℕ × Option PrintFault))
-    → (text text' : List ℕ) → Type 0
+-- the numbers of those that are printed, with one more if it is printed
+abbrev pub printed_with : List ℕ → ℕ → Option PrintFault → List ℕ
+printed_with printed number None = insert_key nat_eq printed number
+printed_with printed number (Some rule) = printed
+
+-- one named type more is judged: its number has its refusal, or is among those that are printed
+pub record IsJudgedMore (number : ℕ) (refusal : Option PrintFault) (judged judged' : Judgements) : Type 0 where
+  pub refusals : judged'.refusals.items ≡ slice_set judged.refusals.items number refusal
+  pub printed : judged'.printed.keys ≡ printed_with judged.printed.keys number refusal
+
+-- one named type more is judged, and its line is written if it is printed
+abbrev pub IsAdded : (ℕ → ShapeOf) → ℕ → SubjectOf → (judged judged' : Judgements) → (text text' : List ℕ) → Type 0
 IsAdded shapes number subject judged judged' text text' =
     (refusal : Option PrintFault) × HasLine shapes subject refusal text text'
-    × (judged' ≡ insert_entry nat_eq judged number refusal)
-
--- the named type with a number, if it is printed
-abbrev pub printed_entry : (named : List ℕ) → ℕ × Option PrintFault → Option ℕ
-printed_entry named judged = if is_some judged.1 then None else slice_get named judged.0
+    × IsJudgedMore number refusal judged judged'
 
 -- an entry with a refusal
 abbrev pub refused_pair : Option ℕ → Option (Option PrintFault) → Option (ℕ × PrintFault)
@@ -47,6 +52,5 @@ refused_pair (Some entry) (Some (Some rule)) = Some (entry, rule)
 refused_pair _ _ = None
 
 -- the named type with a number and its refusal, if it is refused
-abbrev pub refused_number : {S : Type 0} → (named : List ℕ) → IndexMap ℕ (Option PrintFault) S → ℕ
-    → Option (ℕ × PrintFault)
-refused_number named judged number = refused_pair (slice_get named number) (get nat_eq judged number)
+abbrev pub refused_number : (named : List ℕ) → (refusals : List (Option PrintFault)) → ℕ → Option (ℕ × PrintFault)
+refused_number named refusals number = refused_pair (slice_get named number) (slice_get refusals number)

@@ -20,6 +20,7 @@ pub mod Declarators
 pub mod Regular
 pub mod SameShapes
 pub mod Reach
+pub mod Rows
 pub mod Lengths
 pub mod Summaries
 pub mod Drafts

@@ -1,7 +1,8 @@
 -- Chapter: the listing of all named types of an image, and its text.
 use Rattle.std.specs.Prelude.{◌≡◌, ℕ, suc, ◌<◌, ◌⊎◌, ◌↔◌, Bool, true, false, List, [], ◌∷◌, ◌++◌}
 use Rattle.std.specs.Prelude.{Option, Some, None, is_some, codes, ◌&&◌, nat_lt, if◌then◌else◌}
-use Rattle.std.specs.Prelude.{length, slice_get, flat_map, Contains, AllPairs}
+use Rattle.std.specs.Prelude.{length, slice_get, slice_index, flat_map, Contains, AllPairs, IsPermutation}
+use Rattle.std.specs.List.{range_with_len}
 use Rattle.std.specs.Option.{option_map_or}
 use Rattle.dw_entries.specs.Entries.{Entry}
 use Rattle.dw_image.specs.declared.image.Image.{Image}
@@ -50,6 +51,13 @@ HoldsByValue graph from to = (k : ℕ) × Leads graph (suc k) from to
 -- one entry is before another: by rising level, then by rising offset
 abbrev pub StandsBefore : (ℕ → ℕ) → ℕ → ℕ → Type 0
 StandsBefore level a b = (level a < level b) ⊎ ((level a ≡ level b) × (a < b))
+
+-- the numbers of named types, by rising level, then by rising offset
+pub record AreRanked (image : Image) (named numbers : List ℕ) : Type 0 where
+  pub level : ℕ → ℕ
+  pub levels : AreLevels image level
+  pub all : IsPermutation (range_with_len 0 (length named)) numbers
+  pub by_level : AllPairs (λ j k. StandsBefore level (slice_index named j) (slice_index named k)) numbers
 
 -- all named types: those that are printed by level and offset, and the others by offset, each with its refusal
 pub record IsListing (image : Image) (order : List ℕ) (refused : List (ℕ × PrintFault)) : Type 0 where

@@ -9,6 +9,7 @@ mod listing;
 mod names;
 mod reaching;
 mod refusals;
+mod rows;
 mod shape;
 mod shape_reader;
 mod source;

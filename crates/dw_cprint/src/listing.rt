@@ -1,15 +1,14 @@
 //! The declaration of one entry, and the listing of all named types.
 
-ghost use Rattle.std.specs.Prelude.{◌≡◌, ◌≢◌, ◌<◌, ◌++◌, ◌^◌, length, map, slice_index, flat_map, All, AllPairs};
-ghost use Rattle.std.specs.Prelude.{IsPermutation, IfOk, OnOk, OnErr, Err, is_none};
-ghost use Rattle.std.specs.List.{filter_map, list_all, range_with_len};
-ghost use Rattle.indexmap.specs.IndexMap.{values};
+ghost use Rattle.std.specs.Prelude.{◌≡◌, ◌≢◌, ◌<◌, [], ◌++◌, ◌^◌, length, map, slice_get, slice_index, flat_map};
+ghost use Rattle.std.specs.Prelude.{All, AllPairs, IsPermutation, IfOk, OnOk, OnErr, Err};
+ghost use Rattle.std.specs.List.{filter_map, range_with_len};
 ghost use Rattle.dw_image.specs.Images.{entries_in};
 ghost use Rattle.dw_cprint.specs.EntryShapes.{shape_in, subject_in};
-ghost use Rattle.dw_cprint.specs.Judgements.{IsAdded, IsJudgement, printed_entry, refused_number};
+ghost use Rattle.dw_cprint.specs.Judgements.{IsAdded, IsJudgedMore, IsJudgement, refused_number};
 ghost use Rattle.dw_cprint.specs.Kept.{WritesDeclaration};
-ghost use Rattle.dw_cprint.specs.Listings.{AreLevels, AreNamedTypes, IsListing, StandsBefore, is_named_type};
-ghost use Rattle.dw_cprint.specs.Listings.{listing_text, named_number, refused_line, refused_line_in};
+ghost use Rattle.dw_cprint.specs.Listings.{AreLevels, AreNamedTypes, AreRanked, IsListing, StandsBefore, listing_text};
+ghost use Rattle.dw_cprint.specs.Listings.{refused_line, refused_line_in};
 ghost use Rattle.dw_cprint.specs.Refusals.{AppendsDeclaration, HasOneReading, IsPrinted, Refuses};
 ghost use Rattle.dw_cprint.specs.Shapes.{tag_subject, view_name, view_shape, view_subject};
 ghost use Rattle.dw_cprint.specs.Steps.{first_steps};
@@ -19,17 +18,17 @@ ghost use Rattle.dw_cprint.specs.declared.fault.PrintFault.TheVariants.{Memory};
 
 use crate::digits::put_hex;
 use crate::fault::PrintFault;
-use crate::reaching::all_types;
+use crate::reaching::put_declared_types;
+use crate::rows::{all_types, named_types, subject_at};
 use crate::shape::{Name, Shape, Subject};
 use crate::shape_reader::subject_of;
-use crate::source::{Source, flag_at, has_name, tag_at};
+use crate::source::Source;
 use crate::survey::Survey;
 use crate::text::{Draft, put_enumerators, put_tag};
 use crate::words::TagKeyword;
-use dw_entries::constants::*;
 use dw_image::{EntryId, Image, NoMemory};
 use dw_types::{Numbers, clear_nodes, longest_at, longest_rows};
-use indexmap::IndexMap;
+use indexmap::IndexSet;
 use std::alloc::{AllocError, Global};
 
 /// The most types on a path that is printed: 64 entries, and void after the last.
@@ -105,7 +104,9 @@ fn refusal_of(
     ensures { IfOk result (IsJudgement (shape_in source.now.image.now) (subject_in source.now.image.now id) draft.new) }
 {
     let subject = subject_of(alloc, source, id)?;
-    let survey = Survey::new(alloc, source, all_types(alloc, source.image, &[id])?)?;
+    let mut types = Vec::new(alloc);
+    put_declared_types(&mut types, &subject)?;
+    let survey = Survey::new(alloc, source, types)?;
     survey.refusal(alloc, &subject, draft)
 }
 
@@ -151,9 +152,41 @@ pub struct Listing {
     pub refused: Vec<(EntryId, PrintFault)>,
 }
 
-/// Why each named type is refused, if it is, by the number of the type among those in rising offset, which are 0, 1, 2
-/// and so on: no file chooses a key. The order is that in which the types are judged.
-type Judgements = IndexMap<u32, Option<PrintFault>>;
+/// The named types that are judged, by their numbers among those in rising offset, which are 0, 1, 2 and so on: no file
+/// chooses a key.
+#[derive(Drop)]
+pub struct Judgements {
+    /// Those that are printed, in the order of their lines.
+    pub printed: IndexSet<u32>,
+    /// Why each is refused, if it is.
+    pub refusals: Vec<Option<PrintFault>>,
+}
+
+impl Judgements {
+    /// None of so many is judged.
+    fn new(alloc: Global, count: usize) -> Result<Judgements, AllocError>
+        ensures printed { IfOk result (λ it. it.printed.keys ≡ []) }
+        ensures refusals { IfOk result (λ it. length it.refusals.items ≡ count) }
+    {
+        Ok(Judgements {
+            printed: IndexSet::with_capacity(alloc, count)?,
+            refusals: vec![in alloc; None; count]?,
+        })
+    }
+
+    /// Keeps why the one with a number is refused, or that it is printed.
+    fn add(&mut self, number: u32, refusal: Option<PrintFault>) -> Result<(), AllocError>
+        requires { number < length self.old.refusals.items }
+        ensures { OnOk result (IsJudgedMore number refusal self.old self.new) }
+    {
+        self.refusals[number as usize] = refusal;
+        if refusal.is_some() {
+            return Ok(());
+        }
+        self.printed.insert(number)?;
+        Ok(())
+    }
+}
 
 /// Judges a named type: writes its declaration and a line feed, or keeps why it is refused.
 fn judge<'a>(
@@ -165,49 +198,17 @@ fn judge<'a>(
     subject: &Subject<'a>,
     draft: &mut Draft,
 ) -> Result<(), AllocError>
+    requires { number < length judged.old.refusals.items }
     ensures { OnOk result (BySurvey survey.now (first_steps (view_subject subject.now)) (λ shapes.
-        IsAdded shapes number (view_subject subject.now) judged.old.entries judged.new.entries text.old.items
-        text.new.items)) }
+        IsAdded shapes number (view_subject subject.now) judged.old judged.new text.old.items text.new.items)) }
 {
     let refusal = survey.refusal(alloc, subject, draft)?;
     if refusal.is_none() {
         text.extend_from_slice(draft.bytes())?;
         text.push(b'\n')?;
     }
-    judged.insert(number, refusal)?;
+    judged.add(number, refusal)?;
     Ok(())
-}
-
-/// Whether an entry is a typedef, or a structure, union or enumeration that is not declared, and has a name.
-#[tactic(auto, unfolding(crate::specs::EntryShapes::subject_in))]
-fn is_named_type(image: &Image<'_>, id: EntryId) -> bool
-    requires { id < length (entries_in image.now) }
-    ensures { result ≡ is_named_type (subject_in image.now id) }
-{
-    match tag_at(image, id) {
-        DW_TAG_typedef => has_name(image, id),
-        DW_TAG_structure_type | DW_TAG_union_type | DW_TAG_enumeration_type => {
-            !flag_at(image, id, DW_AT_declaration) && has_name(image, id)
-        }
-        _ => false,
-    }
-}
-
-/// The entry with a number, if it is a named type.
-fn named_type(image: &Image<'_>, k: usize) -> Option<EntryId>
-    ensures { result ≡ named_number image.now k }
-{
-    let id = image.nth(k)?;
-    is_named_type(image, id).then_some(id)
-}
-
-/// The named types, in rising offset.
-fn named_types(alloc: Global, image: &Image<'_>) -> Result<Vec<EntryId>, AllocError>
-    ensures { IfOk result (λ named. AreNamedTypes image.now named.items) }
-{
-    (0..image.entries())
-        .filter_map(|k| named_type(image, k))
-        .collect(alloc)
 }
 
 /// The level of each entry: how many steps by value the longest path from it has.
@@ -260,28 +261,41 @@ fn numbers_by_level(alloc: Global, levels: &[usize]) -> Result<Vec<u32>, AllocEr
     Ok(numbers)
 }
 
-/// The named type with a number, if it is printed.
-#[inline]
-fn printed_at(named: &[EntryId], number: u32, refusal: Option<PrintFault>) -> Option<EntryId>
-    ensures { result ≡ printed_entry named.now (number, refusal) }
+/// The numbers of the named types, by rising level, then by rising offset.
+fn numbers_in_order(
+    alloc: Global,
+    image: &Image<'_>,
+    named: &[EntryId],
+) -> Result<Vec<u32>, AllocError>
+    requires { AreNamedTypes image.now named.now }
+    ensures { IfOk result (λ numbers. AreRanked image.now named.now numbers.items) }
 {
-    match refusal {
-        Some(_) => None,
-        None => named.get(number as usize).copied(),
-    }
+    let levels = levels_of(alloc, image)?;
+    let own = levels_in(alloc, named, &levels)?;
+    drop(levels);
+    let numbers = numbers_by_level(alloc, &own)?;
+    Ok(numbers)
 }
 
-/// Those that are printed, in the order in which they were judged.
+/// The named type with a number.
+#[inline]
+fn named_at(named: &[EntryId], number: u32) -> Option<EntryId>
+    ensures { result ≡ slice_get named.now number }
+{
+    named.get(number as usize).copied()
+}
+
+/// Those that are printed, in the order of their lines.
 fn order_of(
     alloc: Global,
     named: &[EntryId],
-    judged: &Judgements,
+    printed: &IndexSet<u32>,
 ) -> Result<Vec<EntryId>, AllocError>
-    ensures { IfOk result (λ order. order.items ≡ filter_map (printed_entry named.now) judged.now.entries) }
+    ensures { IfOk result (λ order. order.items ≡ filter_map (slice_get named.now) printed.now.keys) }
 {
     let mut order = Vec::new(alloc);
-    for (number, refusal) in judged {
-        if let Some(id) = printed_at(named, *number, *refusal) {
+    for number in printed {
+        if let Some(id) = named_at(named, *number) {
             order.push(id)?;
         }
     }
@@ -289,38 +303,31 @@ fn order_of(
 }
 
 /// The named type with a number and why it is refused, if it is.
-fn refused_at(named: &[EntryId], judged: &Judgements, number: u32) -> Option<(EntryId, PrintFault)>
-    ensures { result ≡ refused_number named.now judged.now number }
+fn refused_at(
+    named: &[EntryId],
+    refusals: &[Option<PrintFault>],
+    number: usize,
+) -> Option<(EntryId, PrintFault)>
+    ensures { result ≡ refused_number named.now refusals.now number }
 {
-    let id = named.get(number as usize)?;
-    match judged.get(&number) {
+    let id = named.get(number)?;
+    match refusals.get(number) {
         Some(Some(fault)) => Some((*id, *fault)),
         _ => None,
     }
-}
-
-/// Whether none is refused.
-fn are_all_printed(judged: &Judgements) -> bool
-    ensures { result ≡ list_all is_none (values judged.now) }
-{
-    judged.values().all(|refusal| refusal.is_none())
 }
 
 /// Those that are refused, in rising offset.
 fn refused_of(
     alloc: Global,
     named: &[EntryId],
-    judged: &Judgements,
+    refusals: &[Option<PrintFault>],
 ) -> Result<Vec<(EntryId, PrintFault)>, AllocError>
-    requires few { length named.now < 2 ^ 32 }
     ensures { IfOk result (λ refused. refused.items
-        ≡ filter_map (refused_number named.now judged.now) (range_with_len 0 (length named.now))) }
+        ≡ filter_map (refused_number named.now refusals.now) (range_with_len 0 (length named.now))) }
 {
-    if are_all_printed(judged) {
-        return Ok(Vec::new(alloc));
-    }
-    (0..named.len() as u32)
-        .filter_map(|number| refused_at(named, judged, number))
+    (0..named.len())
+        .filter_map(|number| refused_at(named, refusals, number))
         .collect(alloc)
 }
 
@@ -361,21 +368,19 @@ pub fn declare_all(alloc: Global, image: &Image<'_>) -> Result<Listing, NoMemory
     ensures listing { IfOk result (λ it. IsListing image.now it.order.items it.refused.items) }
     ensures text { IfOk result (λ it. it.text.items ≡ listing_text image.now it.order.items it.refused.items) }
 {
-    let named = named_types(alloc, image)?;
-    let levels = levels_of(alloc, image)?;
-    let own = levels_in(alloc, &named, &levels)?;
-    drop(levels);
-    let numbers = numbers_by_level(alloc, &own)?;
-    drop(own);
+    let mut named = named_types(alloc, image)?;
+    let numbers = numbers_in_order(alloc, image, &named.ids)?;
     let source = Source::read(alloc, image)?;
     let types = all_types(alloc, image, &named)?;
     let survey = Survey::new(alloc, &source, types)?;
-    let mut judged: Judgements = IndexMap::with_capacity(alloc, named.len())?;
+    let mut judged = Judgements::new(alloc, named.ids.len())?;
     let mut text = Vec::new(alloc);
     let mut draft = Draft::new(alloc);
     for place in 0..numbers.len() {
         let number = numbers[place];
-        let subject = subject_of(alloc, &source, named[number as usize])?;
+        let id = named.ids[number as usize];
+        let row = named.rows[number as usize];
+        let subject = subject_at(alloc, &source, id, row)?;
         judge(
             alloc,
             &mut judged,
@@ -387,8 +392,9 @@ pub fn declare_all(alloc: Global, image: &Image<'_>) -> Result<Listing, NoMemory
         )?;
     }
     drop((survey, numbers));
-    let order = order_of(alloc, &named, &judged)?;
-    let refused = refused_of(alloc, &named, &judged)?;
+    named.rows = Vec::new(alloc);
+    let order = order_of(alloc, &named.ids, &judged.printed)?;
+    let refused = refused_of(alloc, &named.ids, &judged.refusals)?;
     put_all_refused(&mut text, image, &refused)?;
     Ok(Listing {
         order,

@@ -51,7 +51,7 @@ fn push_row(
     ensures places { length places.new.items ≡ length places.old.items }
 {
     for at in types {
-        if let Some(entry) = *at {
+        if let Some(entry) = at.get() {
             steps.push(place_of(places, found, entry as usize)?)?;
         }
     }
@@ -135,7 +135,7 @@ fn member_type_at(image: &Image<'_>, id: EntryId) -> Option<TypeAt>
 }
 
 /// Appends the types of the members of a structure or union.
-fn put_types_of_members(
+pub fn put_types_of_members(
     types: &mut Vec<TypeAt>,
     image: &Image<'_>,
     id: EntryId,
@@ -149,39 +149,6 @@ fn put_types_of_members(
         }
     }
     Ok(())
-}
-
-/// Appends the types that an entry leads to where it is declared. Nothing else is read of it.
-#[tactic(auto, unfolding(crate::specs::EntryShapes::subject_in))]
-fn put_types_of(types: &mut Vec<TypeAt>, image: &Image<'_>, id: EntryId) -> Result<(), AllocError>
-    requires { id < length (entries_in image.now) }
-    ensures { OnOk result (types.new.items ≡ types.old.items ++ types_declared (subject_in image.now id)) }
-{
-    match tag_at(image, id) {
-        DW_TAG_typedef | DW_TAG_variable => types.push(type_at(image, id))?,
-        DW_TAG_structure_type | DW_TAG_union_type if !flag_at(image, id, DW_AT_declaration) => {
-            put_types_of_members(types, image, id)?;
-        }
-        _ => {}
-    }
-    Ok(())
-}
-
-/// The types that some declared entries lead to.
-pub fn all_types(
-    alloc: Global,
-    image: &Image<'_>,
-    ids: &[EntryId],
-) -> Result<Vec<TypeAt>, AllocError>
-    requires { All (λ id. id < length (entries_in image.now)) ids.now }
-    ensures { IfOk result (λ types. entries_of types.items
-        ≡ flat_map (λ id. first_steps (subject_in image.now id)) ids.now) }
-{
-    let mut types = Vec::new(alloc);
-    for id in ids {
-        put_types_of(&mut types, image, *id)?;
-    }
-    Ok(types)
 }
 
 /// Finds the entries that are reached from some types, and looks at no others. Of each, the survey keeps the node and

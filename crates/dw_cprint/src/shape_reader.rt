@@ -147,7 +147,7 @@ fn enumerator_at<'a>(source: &Source<'_, 'a>, id: EntryId) -> Option<Enumerator<
 }
 
 /// A structure, union or enumeration with its body. An inheritance or a variant part cannot be in a body of C.
-fn body_at<'a>(
+pub fn body_at<'a>(
     alloc: Global,
     source: &Source<'_, 'a>,
     id: EntryId,

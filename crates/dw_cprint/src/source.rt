@@ -1,6 +1,6 @@
 //! What is declared is read from: an image, and its strings. A string is not read again for each of its suffixes.
 
-ghost use Rattle.std.specs.Prelude.{◌≡◌, ◌<◌, ◌≤◌, length, drop, IfOk, option_map, is_some};
+ghost use Rattle.std.specs.Prelude.{◌≡◌, ◌<◌, ◌≤◌, length, drop, IfOk, IfSome, option_map};
 ghost use Rattle.dw_forms.specs.Value.{view};
 ghost use Rattle.dw_forms.specs.Codes.{DW_AT_bit_size};
 ghost use Rattle.dw_image.specs.Contributions.{string_at};
@@ -167,23 +167,26 @@ pub fn value_at<'a>(image: &Image<'a>, id: EntryId, attribute: Attribute) -> Opt
     image.value(id, attribute)
 }
 
-/// Whether an entry has a name. Its text is not read.
-#[tactic(auto, unfolding(crate::specs::LookUps::name_at))]
-pub fn has_name(image: &Image<'_>, id: EntryId) -> bool
+/// The number of the type that an entry has, if it has one.
+#[tactic(auto, unfolding(crate::specs::LookUps::type_at, dw_image::specs::Images::type_in))]
+fn type_number(image: &Image<'_>, id: EntryId) -> Option<u32>
     requires { id < length (entries_in image.now) }
-    ensures { result ≡ is_some (name_at image.now id) }
+    ensures number { result ≡ type_at image.now id }
+    ensures within { IfSome result (λ to. to < length (entries_in image.now)) }
 {
-    image.name_place(id).is_some()
+    let to = image.type_of(id)?;
+    Some(to.entry().number() as u32)
 }
 
 /// The type of an entry.
-#[tactic(auto, unfolding(crate::specs::LookUps::type_at, dw_image::specs::Images::type_in))]
 pub fn type_at(image: &Image<'_>, id: EntryId) -> TypeAt
     requires { id < length (entries_in image.now) }
     ensures { result ≡ type_at image.now id }
 {
-    let to = image.type_of(id)?;
-    Some(to.entry().number() as u32)
+    match type_number(image, id) {
+        Some(to) => TypeAt::some(to),
+        None => TypeAt::none(),
+    }
 }
 
 /// Whether a flag of an entry is there and true.

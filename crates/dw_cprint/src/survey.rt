@@ -69,7 +69,7 @@ impl<'a> Survey<'a> {
     fn summary(&self, at: TypeAt) -> Option<Summary>
         ensures { result ≡ summary_at VOID self.now.places.items self.now.summaries.items at }
     {
-        let Some(entry) = at else {
+        let Some(entry) = at.get() else {
             return Some(VOID);
         };
         let place = self.places.get(entry as usize)?;

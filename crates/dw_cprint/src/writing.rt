@@ -48,7 +48,7 @@ impl<'a> Survey<'a> {
     fn is_bracketed(&self, at: TypeAt) -> bool
         ensures { result ≡ is_bracketed (kind_at (kept self.now) at) }
     {
-        let Some(entry) = at else {
+        let Some(entry) = at.get() else {
             return false;
         };
         match self.kept_shape(entry as usize) {
@@ -218,7 +218,7 @@ impl<'a> Survey<'a> {
         if out.is_over() {
             return Ok(());
         }
-        let Some(entry) = at else {
+        let Some(entry) = at.get() else {
             put_qualifiers(out, &qualifiers)?;
             out.put(b"void")?;
             return put_gap(out, inside);
@@ -265,7 +265,7 @@ impl<'a> Survey<'a> {
         if out.is_over() {
             return Ok(());
         }
-        let Some(entry) = at else {
+        let Some(entry) = at.get() else {
             return Ok(());
         };
         let Some((shape, below)) = self.shape_within(entry as usize, depth) else {

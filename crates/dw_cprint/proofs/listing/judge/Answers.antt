@@ -1,7 +1,7 @@
 use Rattle.std.specs.Global.{Global}
 use Rattle.std.proofs.Common.{rules, Vec, ℕ, ap, ◌∙◌}
 use Rattle.dw_cprint.specs.Shapes.{view_subject}
-use Rattle.dw_cprint.proofs.ListingLemmas.{line-kept, line-written}
+use Rattle.dw_cprint.proofs.JudgementLemmas.{line-kept, line-written}
 use Rattle.dw_cprint.proofs.listing.judge.Goals.{then-is_none+in_ok-extend_from_slice+in_ok-push, else-is_none}
 use Rattle.dw_cprint.proofs.listing.judge.Goals as goal
 
@@ -22,5 +22,5 @@ returns c = λ shapes roots survey among.
             (search (rules, c.is_none.ensures))
             (ap (λ (v : Vec ℕ Global). v.items) w.text-is)
       ],
-      c.in_ok-insert.ensures.entries,
+      c.in_ok-add.ensures,
     )

@@ -1,6 +1,6 @@
-use Rattle.std.proofs.Common.{rules, ℕ, ◌<◌, ◌+◌, [], ◌∷◌, ◌++◌, length, arith, List, Option, Some, None, refl, sym, ap, ◌∙◌, take, append-nil, append_assoc, Vec}
+use Rattle.std.proofs.Common.{ℕ, ◌<◌, ◌+◌, [], ◌∷◌, ◌++◌, length, arith, List, Option, Some, None, refl, sym, ap, ◌∙◌, take, append-nil, append_assoc, Vec}
 use Rattle.std.specs.Global.{Global}
-use Rattle.std.proofs.lemmas.List.{get_or_default}
+use Rattle.std.proofs.lemmas.List.{get_or_read}
 use Rattle.std.proofs.lemmas.List.Elements.{All-contains}
 use Rattle.dw_cprint.specs.Steps.{entries_of}
 use Rattle.dw_cprint.proofs.ReachLemmas.{finds-none, finds-both, entries-take, entry-among, finds-as}
@@ -18,8 +18,8 @@ place_of-requires-clause-within c =
     c.requires.within (entry-among types c.in-Some.entry (
       c.loop-at.at-index,
       c.loop-at-test.true,
-      get_or_default types c.loop-at.at-index (Some c.in-Some.entry) None
-          c.loop-at-test.true ∙ c.in-Some.is,
+      sym (get_or_read types c.loop-at.at-index c.at-item.result c.loop-at-test.true c.at-item.is
+          (Some c.in-Some.entry)) ∙ sym c.get.ensures ∙ c.in-Some.is,
     )) in
     omega (arith, c.loop-at.invariant.1.len)
 
@@ -37,21 +37,31 @@ loop-at-preserved c =
     let after = entries_of (take (i + 1) types) in
     let items = λ (v : Vec ℕ Global). v.items in
     let split = sym (entries-take types i c.loop-at-test.true) in
+    let read = c.get.ensures ∙ get_or_read types i c.at-item.result c.loop-at-test.true c.at-item.is None in
     let (r, finds, all) = c.loop-at.invariant in
-    elim c.match-at.branch [
+    elim c.match-get.branch [
       | in-Some+in_ok-place_of+in_ok-push w ↦
           let place = w.in_ok-place_of.field-0 in
           let p = w.place_of.new.places.items in
           let r2 = r ++ place ∷ [] in (
             r2,
-            finds-as (before ++ w.in-Some.entry ∷ []) after p0 p c.match-at.places.items f0 w.place_of.new.found
-                c.match-at.found r2 r2
-                (ap (λ (o : Option ℕ). before ++ entries_of (o ∷ [])) (sym w.in-Some.is) ∙ split)
+            finds-as (before ++ w.in-Some.entry ∷ []) after p0 p c.match-get.places.items f0 w.place_of.new.found
+                c.match-get.found r2 r2
+                (ap (λ (o : Option ℕ). before ++ entries_of (o ∷ [])) (sym w.in-Some.is ∙ read) ∙ split)
                 (ap items (sym w.places-is)) (sym w.found-is) refl
                 (finds-both before (w.in-Some.entry ∷ []) p0 c.loop-at.places.items p f0 c.loop-at.found
                 w.place_of.new.found r (place ∷ []) finds w.in_ok-place_of.ensures.row),
             w.steps-is ∙ (w.in_ok-push.ensures
                 ∙ (ap (λ (xs : List ℕ). xs ++ place ∷ []) all ∙ append_assoc c.args.steps.now r (place ∷ []))),
           )
-      | in_default w ↦ search (rules, finds-as, append-nil, in_default)
+      | in_default w ↦ (
+        r,
+        finds-as before after p0 c.loop-at.places.items c.match-get.places.items f0 c.loop-at.found
+            c.match-get.found r r
+            (sym (append-nil before) ∙ ap (λ (o : Option ℕ). before ++ entries_of (o ∷ []))
+            (sym w.in_default.is ∙ read)
+            ∙ split)
+            (ap items (sym w.places-is)) (sym w.found-is) refl finds,
+        w.steps-is ∙ all,
+      )
     ]

@@ -1,7 +1,7 @@
 use Rattle.std.proofs.lemmas.Grind.{common_steps}
 use Rattle.std.proofs.Common.{arith, ◌≡◌, [], ◌∷◌, Bool, List, Some, None, true, refl, ap, sym, ◌∙◌, subst, get_or, map, append-nil, rules}
 use Rattle.std.specs.Prelude.{flat_map}
-use Rattle.std.proofs.lemmas.List.{drop_more, drop_all}
+use Rattle.std.proofs.lemmas.List.{drop_more, drop_all, get_or_read}
 use Rattle.dw_cprint.specs.Declarations.{term_at}
 use Rattle.dw_cprint.specs.Declarators.{before, gap, pointer_row}
 use Rattle.dw_cprint.specs.Drafts.{appended}
@@ -20,7 +20,8 @@ use Rattle.dw_cprint.proofs.survey.Survey.+writing.Goals as goal
 pub put_after-returns-in_ok-put_counts-in-Array : goal.put_after-returns-in_ok-put_counts-in-Array
 put_after-returns-in_ok-put_counts-in-Array t c =
     let seen = c.in-Some-shape_within in
-    let step = step-at _ _ _ _ _ _ _ c.in-Some.is seen.ensures.found (ap view_shape c.in-Array.is) in
+    let is = sym c.get.ensures ∙ c.in-Some.is in
+    let step = step-at _ _ _ _ _ _ _ is seen.ensures.found (ap view_shape c.in-Array.is) in
     ok_then _ _ _
     (array_after (term_at seen.below (kept c.args.self.now)) _ _ _ _ _ c.in-Array.field-1 c.in-Array.element step
     (as_tokens _ _ _ _ (ap (flat_map count_tokens) c.deref.ensures.value) c.in_ok-put_counts-in-Array.ensures))
@@ -29,14 +30,15 @@ put_after-returns-in_ok-put_counts-in-Array t c =
 pub put_after-returns-in_ok-put-in-Function-default-Some-2 : goal.put_after-returns-in_ok-put-in-Function-default-Some-2
 put_after-returns-in_ok-put-in-Function-default-Some-2 t c =
     let seen = c.in-Some-shape_within in
+    let is = sym c.get.ensures ∙ c.in-Some.is in
     let f = c.in-Function-default-Some in
-    let is : view_shape seen.shape.now ≡ function f.returned (Some f.parameters.items) = search rules in
+    let shape : view_shape seen.shape.now ≡ function f.returned (Some f.parameters.items) = search rules in
     let same : c.deref-in-Function-default-Some.result.now ≡ f.parameters.items = search rules in
     let P : List Parameter → Type 0 = λ us. WritesParameters c.args.self.now seen.below us
     c.put-in-Function-default-Some.new.self c.put_parameters.new.out in
     ok_then _ _ _
     (prototype_after (term_at seen.below (kept c.args.self.now)) _ _ _ _ _ _ f.returned f.parameters.items
-    (step-at _ _ _ _ _ _ _ c.in-Some.is seen.ensures.found is) c.in_ok-put-in-Function-default-Some.ensures
+    (step-at _ _ _ _ _ _ _ is seen.ensures.found shape) c.in_ok-put-in-Function-default-Some.ensures
     (subst P same c.in_ok-put_parameters-in-Function-default-Some.ensures)
     c.in_ok-put-in-Function-default-Some-2.ensures)
     c.put_after-in-Function-default-Some.ensures
@@ -44,7 +46,8 @@ put_after-returns-in_ok-put-in-Function-default-Some-2 t c =
 pub put_after-returns-in_ok-put_closed-in-Pointer : goal.put_after-returns-in_ok-put_closed-in-Pointer
 put_after-returns-in_ok-put_closed-in-Pointer t c =
     let seen = c.in-Some-shape_within in
-    let step = step-at _ _ _ _ _ _ _ c.in-Some.is seen.ensures.found (ap view_shape c.in-Pointer.is) in
+    let is = sym c.get.ensures ∙ c.in-Some.is in
+    let step = step-at _ _ _ _ _ _ _ is seen.ensures.found (ap view_shape c.in-Pointer.is) in
     ok_then _ _ _ (pointer_after (term_at seen.below (kept c.args.self.now)) _ _ _ _ c.in-Pointer.to step
     (c.in_ok-put_closed-in-Pointer.ensures seen.below)) c.put_after-in-Pointer.ensures
 
@@ -54,7 +57,8 @@ put_before-returns-in_default t c =
     let P : Term → Type 0 = λ u. Writes (before c.args.qualifiers.items u c.args.inside) c.args.out.now
     c.put_gap.new.out in
     ok_then _ (Writes (gap c.args.inside) c.put.new.self c.put_gap.new.out) _
-    (λ end u e. subst P (void-at (kept c.args.self.now) c.args.depth c.args.at u c.in_default.is e)
+    (λ end u e. subst P (void-at (kept c.args.self.now) c.args.depth c.args.at u (sym c.get.ensures ∙ c.in_default.is)
+    e)
     (both (qualifying c.args.qualifiers.items) (VoidWord ∷ gap c.args.inside) _ _ _ row
     (both (VoidWord ∷ []) (gap c.args.inside) _ _ _ c.in_ok-put.ensures end)))
     c.put_gap.ensures
@@ -63,7 +67,8 @@ pub put_before-returns-in_ok-put-in-Pointer : goal.put_before-returns-in_ok-put-
 put_before-returns-in_ok-put-in-Pointer t c =
     let s = c.args.self.now in
     let seen = c.in-Some-shape_within in
-    let step = step-at _ _ _ _ _ _ _ c.in-Some.is seen.ensures.found (ap view_shape c.in-Pointer.is) in
+    let is = sym c.get.ensures ∙ c.in-Some.is in
+    let step = step-at _ _ _ _ _ _ _ is seen.ensures.found (ap view_shape c.in-Pointer.is) in
     let P : List Qualifier → Type 0 = λ us. WritesBefore s seen.below c.in-Pointer.to us true c.args.out.now
     c.put_before-in-Pointer.new.out in
     let R : List Qualifier → Type 0 = λ us. Writes (pointer_row us c.args.inside) c.put-in-Pointer.new.self
@@ -80,8 +85,9 @@ pub put_before-returns-in-Array : goal.put_before-returns-in-Array
 put_before-returns-in-Array t c =
     let s = c.args.self.now in
     let seen = c.in-Some-shape_within in
+    let is = sym c.get.ensures ∙ c.in-Some.is in
     let a = c.in-Array in
-    let step = step-at _ _ _ _ _ _ _ c.in-Some.is seen.ensures.found (ap view_shape a.is) in
+    let step = step-at _ _ _ _ _ _ _ is seen.ensures.found (ap view_shape a.is) in
     let P : List Qualifier → Type 0 = λ us. WritesBefore s seen.below a.element us true c.args.out.now
     c.put_before-in-Array.new.out in
     ok_then _ _ _ (λ inner. array_before (term_at seen.below (kept s)) _ _ _ c.args.qualifiers.items c.args.inside
@@ -91,8 +97,9 @@ put_before-returns-in-Array t c =
 pub put_before-returns-in_ok-put_core-in_default-shape : goal.put_before-returns-in_ok-put_core-in_default-shape
 put_before-returns-in_ok-put_core-in_default-shape t c =
     let seen = c.in-Some-shape_within in
+    let is = sym c.get.ensures ∙ c.in-Some.is in
     let d = c.in_default-shape in
-    let step = step-at _ _ seen.below _ _ _ (view_shape seen.shape.now) c.in-Some.is seen.ensures.found refl in
+    let step = step-at _ _ seen.below _ _ _ (view_shape seen.shape.now) is seen.ensures.found refl in
     let row = as_tokens _ _ _ _ (ap qualifying c.deref-in_default-shape.ensures.value)
     c.in_ok-put_qualifiers-in_default-shape.ensures in
     ok_then _ _ _
@@ -146,9 +153,11 @@ put_parameters-loop-parameter-preserved t c =
     let i = c.loop-parameter.parameter-index in
     let P : List Parameter → Type 0 = λ left. IsLeft (parameters_left (term_at c.args.depth (kept c.args.self.now)))
     others c.put_parameter.new.out left c.loop-parameter.out in
+    let within = c.loop-parameter-test.true in
+    let item = get_or_read others i c.parameter-item.result within c.parameter-item.is (Typed None) in
     parameters_next c.args.self.now c.args.depth _ (get_or others i (Typed None)) _ _ _ _ _
-    (subst P (drop_more others i (Typed None) c.loop-parameter-test.true) c.loop-parameter.invariant)
-    c.in_ok-put.ensures c.in_ok-put_parameter-2.ensures
+    (subst P (drop_more others i (Typed None) within) c.loop-parameter.invariant)
+    c.in_ok-put.ensures (rw item at c.in_ok-put_parameter-2.ensures)
 
 pub put_parameters-returns : goal.put_parameters-returns
 put_parameters-returns t c =

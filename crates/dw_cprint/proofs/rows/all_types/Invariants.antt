@@ -2,9 +2,9 @@ use Rattle.std.proofs.Common.{◌≡◌, ◌++◌, ℕ, List, drop}
 use Rattle.std.specs.Prelude.{flat_map}
 use Rattle.dw_cprint.specs.EntryShapes.{subject_in}
 use Rattle.dw_cprint.specs.Steps.{entries_of, first_steps}
-use Rattle.dw_cprint.proofs.reaching.all_types.Given as goal
+use Rattle.dw_cprint.proofs.rows.all_types.Given as goal
 
-abbrev pub invariant-loop-id : goal.invariant-loop-id
-invariant-loop-id l =
+abbrev pub invariant-loop-k : goal.invariant-loop-k
+invariant-loop-k l =
     let f : ℕ → List ℕ = λ id. first_steps (subject_in l.image id) in
-    entries_of l.types.items ++ flat_map f (drop l.id-index l.ids) ≡ flat_map f l.ids
+    entries_of l.types.items ++ flat_map f (drop l.k l.named.ids.items) ≡ flat_map f l.named.ids.items
