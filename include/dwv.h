@@ -129,6 +129,107 @@ enum dwv_status dwv_entries(
     size_t *count,
     struct dwv_verdict *verdict);
 
+/* No row. */
+#define DWV_NONE UINT32_MAX
+
+/* A unit of a sound file. */
+struct dwv_unit {
+    uint64_t language;      /* as 0x1d for C11, or 0 */
+    uint32_t offset;        /* where it starts in .debug_info */
+    uint32_t version;       /* 4 or 5 */
+    uint32_t unit_type;     /* as in a header of version 5 */
+    uint32_t address_size;  /* 4 or 8 */
+    uint32_t first;         /* the row of its first entry */
+    uint32_t entries;       /* how many entries it has; their rows follow one another */
+    uint32_t rnglists_base; /* what indices of range lists count from in .debug_rnglists, or 0; it is not checked */
+    uint32_t loclists_base; /* what indices of location lists count from in .debug_loclists, or 0; it is not checked */
+};
+
+/* Where text and bytes are. */
+enum dwv_place {
+    DWV_NOWHERE = 0,
+    DWV_INFO = 1,    /* in .debug_info */
+    DWV_STR = 2,     /* in .debug_str */
+    DWV_LINE_STR = 3 /* in .debug_line_str */
+};
+
+/* An entry of a sound file, with its place among the others and its values. dwv_table counts `name` from the start of
+ * the file, and dwv_table_sections from the start of the section that `name_section` names. */
+struct dwv_table_entry {
+    uint64_t size;         /* in bytes, of a type that has a size, else 0 */
+    uint64_t name;         /* where its name starts, or 0 if it has none */
+    uint32_t offset;       /* where it starts in .debug_info */
+    uint32_t depth;        /* how many entries are above it */
+    uint32_t tag;          /* as 0x24 for a base type */
+    uint32_t has_size;     /* 1 for a type that has a size, else 0 */
+    uint32_t name_length;  /* how many bytes its name has before the zero byte that ends it, or 0 if it has none */
+    uint32_t name_section; /* which section its name is in, one of enum dwv_place; DWV_NOWHERE if it has none */
+    uint64_t first_value;  /* the row of its first value */
+    uint32_t values;       /* how many values it has; their rows follow one another */
+    uint32_t unit;         /* the row of its unit */
+    uint32_t parent;       /* the row of its parent, or DWV_NONE */
+    uint32_t next_sibling; /* the row of its next sibling, or DWV_NONE */
+};
+
+/* What a value means, and what `number` of its row is. `length` and `section` are 0 where no bytes are named. */
+enum dwv_kind {
+    DWV_UNSIGNED = 1,        /* a number without a sign; its attribute may say that its top bit is one */
+    DWV_SIGNED = 2,          /* a number with a sign, as (int64_t)number */
+    DWV_FLAG = 3,            /* 0 or 1 */
+    DWV_ADDRESS = 4,         /* an address; an index into .debug_addr is resolved */
+    DWV_TEXT = 5,            /* where the text starts; length: its bytes, before the zero byte that ends it */
+    DWV_BLOCK = 6,           /* where the bytes start; length: how many */
+    DWV_EXPRESSION = 7,      /* the same, of an expression */
+    DWV_WIDE = 8,            /* the same, of a number of 16 bytes, lowest first */
+    DWV_REFERENCE = 9,       /* the row of the entry that it refers to */
+    DWV_SECTION_OFFSET = 10, /* an offset into a section that the attribute implies; what is there is not checked */
+    DWV_LOCATION_LIST = 11,  /* the index of a location list, which is not checked */
+    DWV_RANGE_LIST = 12      /* the index of a range list, which is not checked */
+};
+
+/* A value of an entry of a sound file. For text and bytes, dwv_table counts `number` from the start of the file, and
+ * dwv_table_sections from the start of the section that `section` names. */
+struct dwv_value {
+    uint64_t number;
+    uint32_t length;
+    uint32_t section;   /* one of enum dwv_place */
+    uint32_t entry;     /* the row of its entry */
+    uint32_t attribute; /* as 0x49 for a type */
+    uint32_t kind;      /* one of enum dwv_kind */
+    uint32_t zero;      /* 0 */
+};
+
+/* How many rows a sound file has. */
+struct dwv_counts {
+    uint64_t units, entries, values;
+};
+
+/* Checks a file, and writes a row for each unit, each entry and each value of a sound one, in the order of the file:
+ * DWV_SOUND, DWV_FAULT, DWV_NO_MEMORY, or DWV_TOO_SHORT if one array has no room for all its rows: then `counts` says
+ * how many there are, and no array is written. Rows past the last are not written. An entry of one byte may have many
+ * values: make room by the counts of a first call, not by the length of the file. */
+enum dwv_status dwv_table(
+    const uint8_t *file, size_t file_length,
+    struct dwv_unit *units, size_t unit_capacity,
+    struct dwv_table_entry *entries, size_t entry_capacity,
+    struct dwv_value *values, size_t value_capacity,
+    struct dwv_counts *counts,
+    struct dwv_verdict *verdict);
+
+/* The same for six sections, which may come from a file of any format, as for dwv_check_sections. */
+enum dwv_status dwv_table_sections(
+    const uint8_t *info, size_t info_length,
+    const uint8_t *abbrev, size_t abbrev_length,
+    const uint8_t *str, size_t str_length,
+    const uint8_t *line_str, size_t line_str_length,
+    const uint8_t *str_offsets, size_t str_offsets_length,
+    const uint8_t *addr, size_t addr_length,
+    struct dwv_unit *units, size_t unit_capacity,
+    struct dwv_table_entry *entries, size_t entry_capacity,
+    struct dwv_value *values, size_t value_capacity,
+    struct dwv_counts *counts,
+    struct dwv_verdict *verdict);
+
 #ifdef __cplusplus
 }
 #endif

@@ -10,6 +10,7 @@ use Rattle.dw_forms.specs.declared.fault.Stop.TheVariants.{Fault, Memory}
 use Rattle.dwv_c.specs.declared.verdict.Verdict.{Verdict}
 use Rattle.dwv_c.specs.Verdicts.{AreOfFile, IsSoundFile, AreCountsOfFile, AreCountsOfSix, Checks, HaveBytes, IsFaultOfFile, IsFaultOfSix, IsFaultOfSections, violates, sound, fault, memory}
 use Rattle.dwv_c.specs.Checked.{IsErrorOf, status_of, verdict_after}
+use Rattle.dwv_c.specs.Tables.{IsSoundSix}
 
 checked_by : {X : Type 0} (P Q : Verdict → Type 0) (A B : X → Type 0) → ((v : Verdict) → P v → Q v)
     → ((x : X) → A x → B x)
@@ -56,3 +57,15 @@ pub told : (IsOfFault : Verdict → Type 0) (AreSound : Counts → Type 0) (r : 
 told IsOfFault AreSound (Ok c) old new status is_status is_new is = rw (is_status, is_new) (sound c is)
 told IsOfFault AreSound (Err (Fault v)) old new status is_status is_new is = rw (is_status, is_new) (fault v is)
 told IsOfFault AreSound (Err Memory) old new status is_status is_new is = rw (is_status, is_new) memory
+
+-- the image of six sections
+pub verified_six : (info abbrevs strs line_strs offsets addrs : List ℕ) (s : Sections) (r : Result Image (Stop Verdict))
+    → HaveBytes s info abbrevs strs line_strs offsets addrs
+    → MatchResult r (IsImageOf s) (IsErrorOf (IsFaultOfSections s))
+    → MatchResult r (IsSoundSix info abbrevs strs line_strs offsets addrs)
+    (IsErrorOf (IsFaultOfSix info abbrevs strs line_strs offsets addrs))
+verified_six info abbrevs strs line_strs offsets addrs s r have =
+    checked_by (IsFaultOfSections s) (IsFaultOfSix info abbrevs strs line_strs offsets addrs) (IsImageOf s)
+    (IsSoundSix info abbrevs strs line_strs offsets addrs)
+    (λ v fault. violates s v have fault)
+    (λ i image. record { sections = s; bytes = have; image = image }) r

@@ -1,5 +1,5 @@
 -- Where texts of sections are in the file.
-use Rattle.std.proofs.Common.{◌≡◌, ℕ, zero, suc, ◌+◌, ◌-◌, ◌<◌, ◌≤◌, ◌==◌, ◌⊎◌, true, false, List, [], ◌∷◌, ◌++◌, get_or, length, length-drop, take, drop, sym, ap, subst, ◌∙◌, drop-drop, take-append-drop, take_at, append_assoc, refl, arith, inl, inr}
+use Rattle.std.proofs.Common.{◌≡◌, ℕ, zero, suc, ◌+◌, ◌-◌, ◌<◌, ◌≤◌, ◌==◌, ◌⊎◌, true, false, List, [], ◌∷◌, ◌++◌, get_or, length, length-drop, length-take, min, take, drop, sym, ap, subst, ◌∙◌, drop-drop, take-append-drop, take_at, append_assoc, refl, arith, inl, inr}
 use Rattle.std.proofs.Math.Seq.{take-suc}
 use Rattle.std.proofs.lemmas.List.{drop-append-le, get_or-drop}
 use Rattle.std.proofs.lemmas.Bool.{ne_eqb}
@@ -65,3 +65,20 @@ string_in_file file section start offset is ends =
     subst (IsAt file (start + offset)) (string_ends section offset ends)
     (part_at file section start offset (suc (position_or_len (λ byte. byte == 0) (drop offset section))) is
     (let p = ends.behind in let q = ends.within in omega (arith, p, q)))
+
+-- bytes of a section that starts somewhere in the file
+pub part_in_file : (file section bytes : List ℕ) (start offset : ℕ) → IsAt file start section
+    → IsAt section offset bytes → offset ≤ length section
+    → IsAt file (start + offset) bytes
+part_in_file file section bytes start offset is part within =
+    subst (IsAt file (start + offset)) part (part_at file section start offset (length bytes) is within)
+
+-- a string of such a section starts in the file
+pub starts_within : (file section : List ℕ) (start offset : ℕ) → IsAt file start section → Ends section offset
+    → start + offset < length file
+starts_within file section start offset is ends =
+    let p = ends.behind in let q = ends.within in
+    let taken : min (length section) (length file - start) ≡ length section =
+    ap (min (length section)) (sym (length-drop start file)) ∙ sym (length-take (length section) (drop start file))
+    ∙ ap length is in
+    omega (arith, p, q, taken)

@@ -19,12 +19,13 @@ use Rattle.dwv_c.specs.Rows.{FillsRows, HasName, HasSize, HaveRows, IsRow, PutsR
 use Rattle.dwv_c.specs.Checked.{IsErrorOf, status_of, verdict_after}
 use Rattle.dwv_c.specs.Verdicts.{SOUND, IsSoundFile, IsFaultOfFile, of_image}
 
-get_set_same : {X : Type 0} (xs : List X) (k : ℕ) (y : X) → k < length xs → slice_get (slice_set xs k y) k ≡ Some y
+pub get_set_same : {X : Type 0} (xs : List X) (k : ℕ) (y : X) → k < length xs → slice_get (slice_set xs k y) k ≡ Some y
 get_set_same [] k y less = absurd (omega (arith, less))
 get_set_same (x ∷ xs) zero y less = refl
 get_set_same (x ∷ xs) (suc k) y less = get_set_same xs k y (omega (arith, less))
 
-get_set_other : {X : Type 0} (xs : List X) (n k : ℕ) (y : X) → k < n → slice_get (slice_set xs n y) k ≡ slice_get xs k
+pub get_set_other : {X : Type 0} (xs : List X) (n k : ℕ) (y : X) → k < n
+    → slice_get (slice_set xs n y) k ≡ slice_get xs k
 get_set_other [] n k y less = refl
 get_set_other (x ∷ xs) zero k y less = absurd (omega (arith, less))
 get_set_other (x ∷ xs) (suc n) zero y less = refl
@@ -33,7 +34,7 @@ get_set_other (x ∷ xs) (suc n) (suc k) y less = get_set_other xs n k y (omega 
 some_is : {X : Type 0} {x y : X} → Some x ≡ Some y → x ≡ y
 some_is e = cc
 
-below_or_not : (k n : ℕ) → (k < n) ⊎ (n ≤ k)
+pub below_or_not : (k n : ℕ) → (k < n) ⊎ (n ≤ k)
 below_or_not k n = grind arith
 
 -- the depth by the parent's row is the entry's

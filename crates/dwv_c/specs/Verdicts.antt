@@ -106,7 +106,7 @@ pub data IsFaultOfFile (bytes : List ℕ) : Verdict → Type 0 where
   fails : (f : ElfFault) → length bytes ≤ file_limit → IsFault bytes f → IsFaultOfFile bytes (of_file_fault f)
   violates : (s : Sections) (v : Verdict) → AreOfFile bytes s → IsFaultOfSections s v → IsFaultOfFile bytes v
 
--- the sections have these bytes
+-- the sections have these bytes, .debug_info from its start
 pub record HaveBytes (s : Sections) (info abbrevs strs line_strs offsets addrs : List ℕ) : Type 0 where
   pub info_is : s.info.now ≡ info
   pub abbrev_is : s.«abbrev».now ≡ abbrevs
@@ -114,6 +114,7 @@ pub record HaveBytes (s : Sections) (info abbrevs strs line_strs offsets addrs :
   pub line_str_is : s.line_str.now ≡ line_strs
   pub str_offsets_is : s.str_offsets.now ≡ offsets
   pub addr_is : s.addr.now ≡ addrs
+  pub base_is : s.base ≡ 0
 
 -- six sections are sound, and these are their counts
 pub record AreCountsOfSix (info abbrevs strs line_strs offsets addrs : List ℕ) (c : Counts) : Type 0 where

@@ -5,12 +5,18 @@ ghost use Rattle.dw_report.specs.Reports.{status_code};
 ghost use Rattle.dwv_c.specs.Verdicts.{AreCountsOfFile, AreCountsOfSix, Checks, IsFaultOfFile, IsFaultOfSix};
 ghost use Rattle.dwv_c.specs.Verdicts.{AreOfFile, IsSoundFile, IsFaultOfSections};
 ghost use Rattle.dwv_c.specs.Rows.{PutsRows};
+ghost use Rattle.dwv_c.specs.Tables.{IsSoundSix, PutsTable, arrays, held_by_image};
+ghost use Rattle.dwv_c.specs.ValueRows.{held_by_file};
 ghost use Rattle.dwv_c.specs.Texts.{PutsReport, request_of};
 ghost use Rattle.dwv_c.specs.Checked.{status_of, verdict_after, IsErrorOf};
 ghost use Rattle.dw_image.specs.Headline.{IsImageOf};
 ghost use Rattle.dw_units.specs.Counted.{AreCounts};
 
+use crate::meaning::ValueRow;
+use crate::places::Ground;
 use crate::rows::{EntryRow, put_rows};
+use crate::table::put_table;
+use crate::table_rows::{TableCounts, TableEntry, UnitRow};
 use crate::verdict::{
     FAULT, NO_MEMORY, NO_REQUEST, SOUND, TOO_SHORT, Verdict, put_text, verdict_of_counts,
     verdict_of_fault, verdict_of_file_fault, verdict_of_large,
@@ -54,7 +60,7 @@ pub fn verify_file<'a>(alloc: Global, file: &'a [u8]) -> Result<Image<'a>, Stop<
     verify_sections(alloc, sections)
 }
 
-/// The counts of sound sections. They are verified unit after unit if the units can be verified alone.
+/// The counts of sound sections. They are verified batch after batch if the batches can be verified alone.
 fn count_sections(alloc: Global, sections: Sections<'_>) -> Result<Counts, Stop<Verdict>>
     ensures { MatchResult result (AreCounts sections.entry) (IsErrorOf (IsFaultOfSections sections.entry)) }
 {
@@ -91,6 +97,25 @@ pub fn count_six(
 {
     match Sections::new(abbrev, info, str, line_str, str_offsets, addr) {
         Ok(sections) => count_sections(alloc, sections),
+        Err(TooLarge) => Err(Stop::Fault(verdict_of_large())),
+    }
+}
+
+/// The image of six sound sections.
+pub fn verify_six<'a>(
+    alloc: Global,
+    info: &'a [u8],
+    abbrev: &'a [u8],
+    str: &'a [u8],
+    line_str: &'a [u8],
+    str_offsets: &'a [u8],
+    addr: &'a [u8],
+) -> Result<Image<'a>, Stop<Verdict>>
+    ensures { MatchResult result (IsSoundSix info.now «abbrev».now str.now line_str.now str_offsets.now addr.now)
+        (IsErrorOf (IsFaultOfSix info.now «abbrev».now str.now line_str.now str_offsets.now addr.now)) }
+{
+    match Sections::new(abbrev, info, str, line_str, str_offsets, addr) {
+        Ok(sections) => verify_sections(alloc, sections),
         Err(TooLarge) => Err(Stop::Fault(verdict_of_large())),
     }
 }
@@ -206,6 +231,65 @@ pub extern "C" fn dwv_entries(
 {
     match verify_file(alloc, file) {
         Ok(image) => put_rows(alloc, file, &image, rows, count, verdict),
+        Err(error) => put_verdict(Err(error), verdict),
+    }
+}
+
+/// Checks a file, and writes a row for each unit, each entry and each value of a sound one: all rows and SOUND, or none
+/// and TOO_SHORT, FAULT or NO_MEMORY. `counts` says how many rows there are. Places are counted from the file's start.
+#[unsafe(no_mangle)]
+pub extern "C" fn dwv_table(
+    alloc: Global,
+    file: &[u8],
+    units: &mut [UnitRow],
+    entries: &mut [TableEntry],
+    values: &mut [ValueRow],
+    counts: &mut TableCounts,
+    verdict: &mut Verdict,
+) -> u32
+    ensures { PutsTable (IsFaultOfFile file.now) (IsSoundFile file.now) (λ _. held_by_file file.now)
+        (arrays units.old entries.old values.old) counts.old verdict.old result
+        (arrays units.new entries.new values.new) counts.new verdict.new }
+{
+    match verify_file(alloc, file) {
+        Ok(image) => {
+            let ground = Ground::File(file);
+            put_table(
+                alloc, ground, &image, units, entries, values, counts, verdict,
+            )
+        }
+        Err(error) => put_verdict(Err(error), verdict),
+    }
+}
+
+/// The same of six sections of a file of any format. Places are counted from the start of their section.
+#[unsafe(no_mangle)]
+pub extern "C" fn dwv_table_sections(
+    alloc: Global,
+    info: &[u8],
+    abbrev: &[u8],
+    str: &[u8],
+    line_str: &[u8],
+    str_offsets: &[u8],
+    addr: &[u8],
+    units: &mut [UnitRow],
+    entries: &mut [TableEntry],
+    values: &mut [ValueRow],
+    counts: &mut TableCounts,
+    verdict: &mut Verdict,
+) -> u32
+    ensures { PutsTable (IsFaultOfSix info.now «abbrev».now str.now line_str.now str_offsets.now addr.now)
+        (IsSoundSix info.now «abbrev».now str.now line_str.now str_offsets.now addr.now) held_by_image
+        (arrays units.old entries.old values.old) counts.old verdict.old result
+        (arrays units.new entries.new values.new) counts.new verdict.new }
+{
+    match verify_six(alloc, info, abbrev, str, line_str, str_offsets, addr) {
+        Ok(image) => {
+            let ground = Ground::Sections;
+            put_table(
+                alloc, ground, &image, units, entries, values, counts, verdict,
+            )
+        }
         Err(error) => put_verdict(Err(error), verdict),
     }
 }

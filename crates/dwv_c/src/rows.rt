@@ -10,8 +10,8 @@ ghost use Rattle.dwv_c.specs.Verdicts.{IsSoundFile, of_image};
 ghost use Rattle.dwv_c.specs.Rows.{HasSize, HaveRows, IsRow, PutsRows};
 ghost use Rattle.dwv_c.specs.Filling.{HasPlace, IsNamePlace, depth_under};
 
+use crate::strings::Strings;
 use crate::verdict::{NO_MEMORY, SOUND, TOO_SHORT, Verdict, verdict_of_counts};
-use dw_cprint::Source;
 use dw_elf::{DebugSection, section_start};
 use dw_image::{EntryId, Image, Tag, TextPlace};
 use dw_report::size_of_entry;
@@ -23,14 +23,14 @@ use std::alloc::{AllocError, Global};
 pub struct Names<'i, 'a> {
     /// The bytes of the file.
     pub file: &'a [u8],
-    pub source: Source<'i, 'a>,
+    pub strings: Strings<'i, 'a>,
     /// Where .debug_info starts in the file, .debug_str and .debug_line_str.
     info_start: usize,
     str_start: usize,
     line_str_start: usize,
-    ghost info_at: { IsAt file.now info_start (sections_in source.image.now).info.now },
-    ghost str_at: { IsAt file.now str_start (sections_in source.image.now).str.now },
-    ghost line_str_at: { IsAt file.now line_str_start (sections_in source.image.now).line_str.now },
+    ghost info_at: { IsAt file.now info_start (sections_in strings.image.now).info.now },
+    ghost str_at: { IsAt file.now str_start (sections_in strings.image.now).str.now },
+    ghost line_str_at: { IsAt file.now line_str_start (sections_in strings.image.now).line_str.now },
 }
 
 impl<'i, 'a> Names<'i, 'a> {
@@ -43,12 +43,12 @@ impl<'i, 'a> Names<'i, 'a> {
         requires passes { ChecksPass file.now }
         requires sections { AreSections file.now (sections_in image.now) }
         ensures file { IfOk result (λ it. it.file ≡ file.entry) }
-        ensures image { IfOk result (λ it. it.source.image ≡ image.entry) }
+        ensures image { IfOk result (λ it. it.strings.image ≡ image.entry) }
     {
-        let source = Source::read(alloc, image)?;
+        let strings = Strings::read(alloc, image)?;
         Ok(Names {
             file,
-            source,
+            strings,
             info_start: section_start(file, DebugSection::Info),
             str_start: section_start(file, DebugSection::Str),
             line_str_start: section_start(file, DebugSection::LineStr),
@@ -57,8 +57,8 @@ impl<'i, 'a> Names<'i, 'a> {
 
     /// Where a text starts in the file. A zero byte ends it there.
     fn start_of(&self, place: TextPlace) -> usize
-        requires { BeginsString (sections_in self.now.source.image.now) place }
-        ensures { IsAt self.now.file.now result (text_there (sections_in self.now.source.image.now) place ++ 0 ∷ []) }
+        requires { BeginsString (sections_in self.now.strings.image.now) place }
+        ensures { IsAt self.now.file.now result (text_there (sections_in self.now.strings.image.now) place ++ 0 ∷ []) }
     {
         match place {
             TextPlace::Info(offset) => self.info_start + offset,
@@ -70,14 +70,14 @@ impl<'i, 'a> Names<'i, 'a> {
     /// Where the name of an entry starts in the file and how many bytes it has, if it has one. A name in .debug_str or
     /// .debug_line_str is not read to its end.
     fn place(&self, id: EntryId) -> Option<(u64, u32)>
-        requires { id < length (entries_in self.now.source.image.now) }
-        ensures { IfSome (slice_get (entries_in self.now.source.image.now) id)
-            (λ e. IsNamePlace self.now.file.now (name_in self.now.source.image.now e) result) }
+        requires { id < length (entries_in self.now.strings.image.now) }
+        ensures { IfSome (slice_get (entries_in self.now.strings.image.now) id)
+            (λ e. IsNamePlace self.now.file.now (name_in self.now.strings.image.now e) result) }
     {
-        match self.source.image.name_place(id) {
+        match self.strings.image.name_place(id) {
             Some(place) => {
-                let text = self.source.text(place);
-                Some((self.start_of(place) as u64, text.bytes.len() as u32))
+                let length = self.strings.length(place) as u32;
+                Some((self.start_of(place) as u64, length))
             }
             None => None,
         }
@@ -153,13 +153,13 @@ fn row_with(
 
 /// The row of an entry, after the rows of all entries before it.
 fn row_at(rows: &[EntryRow], names: &Names<'_, '_>, id: EntryId) -> EntryRow
-    requires entry { id < length (entries_in names.now.source.image.now) }
+    requires entry { id < length (entries_in names.now.strings.image.now) }
     requires room { id ≤ length rows.now }
-    requires before { HaveRows names.now.file.now names.now.source.image.now id rows.now }
-    ensures { IfSome (slice_get (entries_in names.now.source.image.now) id)
-        (λ e. IsRow names.now.file.now names.now.source.image.now id e result) }
+    requires before { HaveRows names.now.file.now names.now.strings.image.now id rows.now }
+    ensures { IfSome (slice_get (entries_in names.now.strings.image.now) id)
+        (λ e. IsRow names.now.file.now names.now.strings.image.now id e result) }
 {
-    let image = names.source.image;
+    let image = names.strings.image;
     let depth = depth_by_rows(rows, image.parent(id));
     let size = size_of_entry(image, id);
     row_with(
@@ -173,26 +173,26 @@ fn row_at(rows: &[EntryRow], names: &Names<'_, '_>, id: EntryId) -> EntryRow
 
 /// Writes the row of the entry with a number, after the rows of all entries before it.
 fn put_row(rows: &mut [EntryRow], names: &Names<'_, '_>, number: usize)
-    requires entry { number < length (entries_in names.now.source.image.now) }
+    requires entry { number < length (entries_in names.now.strings.image.now) }
     requires room { number < length rows.old }
-    requires before { HaveRows names.now.file.now names.now.source.image.now number rows.old }
-    ensures rows { HaveRows names.now.file.now names.now.source.image.now (number + 1) rows.new }
+    requires before { HaveRows names.now.file.now names.now.strings.image.now number rows.old }
+    ensures rows { HaveRows names.now.file.now names.now.strings.image.now (number + 1) rows.new }
     ensures rest { drop (number + 1) rows.new ≡ drop (number + 1) rows.old }
 {
-    if let Some(id) = names.source.image.nth(number) {
+    if let Some(id) = names.strings.image.nth(number) {
         rows[number] = row_at(rows, names, id);
     }
 }
 
 /// Writes the rows of all entries.
 fn put_all(rows: &mut [EntryRow], names: &Names<'_, '_>)
-    requires { entry_count names.now.source.image.now ≤ length rows.old }
-    ensures rows { HaveRows names.now.file.now names.now.source.image.now (entry_count names.now.source.image.now)
+    requires { entry_count names.now.strings.image.now ≤ length rows.old }
+    ensures rows { HaveRows names.now.file.now names.now.strings.image.now (entry_count names.now.strings.image.now)
         rows.new }
-    ensures rest { drop (entry_count names.now.source.image.now) rows.new
-        ≡ drop (entry_count names.now.source.image.now) rows.old }
+    ensures rest { drop (entry_count names.now.strings.image.now) rows.new
+        ≡ drop (entry_count names.now.strings.image.now) rows.old }
 {
-    for number in 0..names.source.image.entries() {
+    for number in 0..names.strings.image.entries() {
         put_row(rows, names, number);
     }
 }

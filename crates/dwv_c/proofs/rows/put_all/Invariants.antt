@@ -5,6 +5,6 @@ use Rattle.dwv_c.proofs.rows.put_all.Given as goal
 
 abbrev pub invariant-loop-number : goal.invariant-loop-number
 invariant-loop-number l =
-    HaveRows l.names.file.now l.names.source.image.now l.number l.rows
+    HaveRows l.names.file.now l.names.strings.image.now l.number l.rows
     × (drop l.number l.rows ≡ drop l.number l.fn.rows)
-    × (l.number ≤ entry_count l.names.source.image.now)
+    × (l.number ≤ entry_count l.names.strings.image.now)

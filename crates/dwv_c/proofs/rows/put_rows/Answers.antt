@@ -19,7 +19,7 @@ returns c =
     let names = c.in-Ok.names in
     puts_sound c.args.file.now c.args.rows.now c.args.count.now c.args.verdict.now c.args.image.now SOUND
     c.put_all.new.rows c.put_counts-2.new.count c.put_counts-2.new.verdict c.requires
-    (all_rows c.args.file.now names.file.now c.args.image.now names.source.image.now c.args.rows.now c.put_all.new.rows
+    (all_rows c.args.file.now names.file.now c.args.image.now names.strings.image.now c.args.rows.now c.put_all.new.rows
     (ap (λ b. b.now) c.in-Ok.ensures.file) (ap (λ b. b.now) c.in-Ok.ensures.image)
     (subst (λ n. n ≤ length c.args.rows.now) c.entries.ensures c.if-entries-rows.false) c.put_all.ensures.rows
     c.put_all.ensures.rest)

@@ -5,13 +5,13 @@ use Rattle.dwv_c.proofs.rows.row_at.Goals as goal
 
 pub depth_by_rows-depth-requires : goal.depth_by_rows-depth-requires
 depth_by_rows-depth-requires c =
-    let image = c.args.names.now.source.image.now in
+    let image = c.args.names.now.strings.image.now in
     parent_before image c.args.id (length c.args.rows.now) (slice_get (entries_in image) c.args.id)
     c.parent.result c.requires.room refl c.requires.entry c.parent.ensures
 
 pub returns : goal.returns
 returns c =
-    let image = c.args.names.now.source.image.now in
+    let image = c.args.names.now.strings.image.now in
     row_told c.args.names.now.file.now image c.args.id c.args.rows.now (slice_get (entries_in image) c.args.id)
     c.offset.result c.tag.result c.parent.result c.depth_by_rows-depth.result c.size_of_entry-size.result
     c.place.result c.row_with.result refl

@@ -1,0 +1,171 @@
+-- The rows of a table: that of an entry by what is told of it, and what a call returns.
+use Rattle.std.proofs.Common.{◌≡◌, ℕ, suc, ◌+◌, ◌-◌, ◌<◌, ◌≤◌, List, [], ◌∷◌, ◌++◌, length, min, Option, Some, None, Err, IfSome, refl, sym, ap, subst, ◌∙◌, arith}
+use Rattle.std.specs.Prelude.{slice_get, slice_set, option_map}
+use Rattle.std.specs.Option.{IsSomeAnd}
+use Rattle.dw_elf.specs.Checks.{ChecksPass}
+use Rattle.dw_elf.specs.Sections.{AreSections, IsAt}
+use Rattle.dw_elf.specs.declared.sections.Sections.{Sections}
+use Rattle.dw_entries.specs.Asked.{values_of}
+use Rattle.dw_entries.specs.Entries.{Entry}
+use Rattle.dw_entries.proofs.DepthLaws.{no_depth, one_deeper}
+use Rattle.dw_forms.specs.declared.fault.Stop.{Stop}
+use Rattle.dw_forms.specs.declared.fault.Stop.TheVariants.{Fault, Memory}
+use Rattle.dw_image.specs.declared.image.Image.{Image}
+use Rattle.dw_image.specs.Headline.{IsImageOf}
+use Rattle.dw_links.proofs.Skips.{there}
+use Rattle.dw_image.specs.Images.{entries_in, entry_count, name_in, sections_in, units_in}
+use Rattle.dw_report.specs.Shown.{entry_size}
+use Rattle.dwv_c.specs.declared.places.Span.{Span}
+use Rattle.dwv_c.specs.declared.table_rows.Links.{Links}
+use Rattle.dwv_c.specs.declared.table_rows.TableCounts.{TableCounts}
+use Rattle.dwv_c.specs.declared.meaning.ValueRow.{ValueRow}
+use Rattle.dwv_c.specs.declared.table_rows.TableEntry.{TableEntry}
+use Rattle.dwv_c.specs.declared.table_rows.UnitRow.{UnitRow}
+use Rattle.dwv_c.specs.declared.verdict.Verdict.{Verdict}
+use Rattle.dwv_c.specs.Checked.{IsErrorOf, status_of, verdict_after}
+use Rattle.dwv_c.specs.Rows.{greatest}
+use Rattle.dwv_c.specs.Tables.{AreTable, Arrays, HasName, HasRoom, HasSize, HaveEntries, IsTableEntry, LacksRoom, PutsTable, arrays, counts_of, row_of, sound, fault, memory, short, values_before, whole}
+use Rattle.dwv_c.specs.TableState.{HasLinks, HasNameSpan, IsNameSpan, Puts, depth_by, filled}
+use Rattle.dwv_c.specs.TableState as state
+use Rattle.dwv_c.specs.ValueRows.{Holders, held_in}
+use Rattle.dwv_c.specs.Verdicts.{NO_MEMORY, SOUND, TOO_SHORT, IsSoundFile, of_image}
+use Rattle.dwv_c.proofs.TableLemmas.{have_more}
+
+some_is : {X : Type 0} {x y : X} → Some x ≡ Some y → x ≡ y
+some_is e = cc
+
+-- the depth by the parent's row is the entry's
+depth_told : (h : Holders) (i : Image) (k : ℕ) (e : Entry) (rows : List TableEntry) (d : ℕ)
+    → slice_get (entries_in i) k ≡ Some e
+    → HaveEntries h i k rows → depth_by rows e.parent ≡ Some d → d ≡ min e.depth greatest
+depth_told h i k e rows d is so_far told = go e.parent refl told
+  where
+    by_row : (p : ℕ) (above : Entry) (o : Option TableEntry) → e.depth ≡ suc above.depth
+        → IsSomeAnd o (IsTableEntry h i p above)
+        → option_map (λ (r : TableEntry). min (suc r.depth) greatest) o ≡ Some d → d ≡ min e.depth greatest
+    by_row p above None deeper row told = absurd row
+    by_row p above (Some r) deeper row told = omega (arith, some_is told, row.depth, deeper)
+
+    go : (above : Option ℕ) → e.parent ≡ above → depth_by rows above ≡ Some d → d ≡ min e.depth greatest
+    go None top told = omega (arith, some_is told, no_depth (units_in i) k e is top)
+    go (Some p) under told =
+        let (above, at, deeper, less) = one_deeper (units_in i) k p e is under in
+        by_row p above (slice_get rows p) deeper (so_far p above less at) told
+
+has_name : (h : Holders) (name : Option (List ℕ)) (s : Option Span) (r : TableEntry) → IsNameSpan h name s
+    → HasNameSpan s r → HasName h name r
+has_name h None None r is has = has
+has_name h None (Some s) r is has = absurd is
+has_name h (Some text) None r is has = absurd is
+has_name h (Some text) (Some s) r is has = (
+  subst (λ (n : ℕ). IsAt (held_in h r.name_section) n (text ++ 0 ∷ [])) (sym has.0)
+      (subst (λ (n : ℕ). IsAt (held_in h n) s.start (text ++ 0 ∷ [])) (sym has.2) is.place),
+  has.1 ∙ is.length_is,
+)
+
+-- what is told of an entry makes its row
+pub entry_told : (h : Holders) (i : Image) (k : ℕ) (rows : List TableEntry) (found : Option Entry) (offset tag : ℕ)
+    (above : Option ℕ) (d : ℕ) (size : Option ℕ)
+    (name : Option Span) (l : Links) (r : TableEntry) → slice_get (entries_in i) k ≡ found → HaveEntries h i k rows
+    → IfSome found (λ e. offset ≡ e.at) → IfSome found (λ e. tag ≡ e.head.decl.tag)
+    → IfSome found (λ e. above ≡ e.parent)
+    → depth_by rows above ≡ Some d → IfSome found (λ e. size ≡ entry_size i k e)
+    → IfSome found (λ e. IsNameSpan h (name_in i e) name)
+    → l.first_value ≡ values_before i k → IfSome found (λ e. l.values ≡ length (values_of e.head))
+    → IfSome found (λ e. l.unit ≡ e.unit)
+    → IfSome found (λ e. l.parent ≡ e.parent) → IfSome found (λ e. l.next_sibling ≡ e.next)
+    → r.offset ≡ offset → r.depth ≡ d → r.tag ≡ tag → HasSize size r → HasNameSpan name r → HasLinks l r
+    → IfSome found (λ e. IsTableEntry h i k e r)
+entry_told h i k rows None offset tag above d size name l r at so_far is_offset is_tag is_above is_depth is_size is_name
+    first
+    values unit parent next r_offset r_depth r_tag r_size r_name r_links =
+    tt
+entry_told h i k rows (Some e) offset tag above d size name l r at so_far is_offset is_tag is_above is_depth is_size
+    is_name
+    first values unit parent next r_offset r_depth r_tag r_size r_name r_links =
+    record {
+      offset = r_offset ∙ is_offset;
+      depth = r_depth ∙ depth_told h i k e rows d at so_far (ap (depth_by rows) (sym is_above) ∙ is_depth);
+      tag = r_tag ∙ is_tag;
+      size = subst (λ (s : Option ℕ). HasSize s r) is_size r_size;
+      name = has_name h (name_in i e) name r is_name r_name;
+      first_value = r_links.first_value ∙ first;
+      values = r_links.values ∙ ap (λ (n : ℕ). min n greatest) values;
+      unit = r_links.unit ∙ unit;
+      parent = r_links.parent ∙ ap row_of parent;
+      next_sibling = r_links.next_sibling ∙ ap row_of next;
+    }
+
+-- the rows of entries and that of the next one
+pub entries_more : (h : Holders) (i : Image) (n : ℕ) (rows : List TableEntry) (r : TableEntry) → n < length rows
+    → HaveEntries h i n rows
+    → IfSome (slice_get (entries_in i) n) (λ e. IsTableEntry h i n e r) → HaveEntries h i (n + 1) (slice_set rows n r)
+entries_more h i n rows r room so_far says =
+    have_more (IsTableEntry h i) (entries_in i) n rows r room so_far (λ e is. rw is at says)
+
+-- the values of an entry come after those before it
+pub rises : (i : Image) (id from next : ℕ) → id < entry_count i
+    → IfSome (slice_get (entries_in i) id) (λ e. next ≡ from + length (values_of e.head)) → from ≤ next
+rises i id from next below told =
+    let (e, is) = there (entries_in i) id below in
+    let here : next ≡ from + length (values_of e.head) = rw is at told in
+    omega (arith, here)
+
+pub told_length : (i : Image) (id from next : ℕ)
+    → IfSome (slice_get (entries_in i) id) (λ e. next ≡ from + length (values_of e.head))
+    → IfSome (slice_get (entries_in i) id) (λ e. next - from ≡ length (values_of e.head))
+told_length i id from next told = go (slice_get (entries_in i) id) told
+  where
+    go : (o : Option Entry) → IfSome o (λ e. next ≡ from + length (values_of e.head))
+        → IfSome o (λ e. next - from ≡ length (values_of e.head))
+    go None told = tt
+    go (Some e) told = omega (arith, told)
+
+-- ---- what a call returns
+
+-- one of the arrays is too short
+pub puts_short : (h : Holders) (i : Image) (old : Arrays) (counts counts' : TableCounts) (v v' : Verdict)
+    → LacksRoom i old → counts' ≡ counts_of i → v' ≡ of_image i → Puts h i old counts v TOO_SHORT old counts' v'
+puts_short h i old counts counts' v v' lacks is_counts is_v =
+    rw (is_counts, is_v) (filled TOO_SHORT old (short lacks))
+
+-- all rows are written
+pub puts_whole : (h : Holders) (i : Image) (old new : Arrays) (counts counts' : TableCounts) (v v' : Verdict)
+    → HasRoom i old → AreTable h i old new → counts' ≡ counts_of i → v' ≡ of_image i
+    → Puts h i old counts v SOUND new counts' v'
+puts_whole h i old new counts counts' v v' room are is_counts is_v =
+    rw (is_counts, is_v) (filled SOUND new (whole new room are))
+
+-- an allocation failed
+pub puts_none : (h : Holders) (i : Image) (units units' : List UnitRow) (entries entries' : List TableEntry)
+    (values values' : List ValueRow) (counts : TableCounts) (v : Verdict)
+    → (units' ≡ units) × (entries' ≡ entries) × (values' ≡ values)
+    → Puts h i (arrays units entries values) counts v NO_MEMORY (arrays units' entries' values') counts v
+puts_none h i units units' entries entries' values values' counts v same =
+    rw (same.0, same.1, same.2) state.memory
+
+pub puts_found : (IsOfFault : Verdict → Type 0) (IsSoundBy : Image → Type 0) (holders : Image → Holders) (i : Image)
+    (old new : Arrays) (counts counts' : TableCounts)
+    (v v' : Verdict) (status : ℕ) → IsSoundBy i → Puts (holders i) i old counts v status new counts' v'
+    → PutsTable IsOfFault IsSoundBy holders old counts v status new counts' v'
+puts_found IsOfFault IsSoundBy holders i old new counts counts' v v' status is (filled s n fills) =
+    sound i status new is fills
+puts_found IsOfFault IsSoundBy holders i old new counts counts' v v' status is state.memory = memory
+
+-- for sections that are not sound, or if an allocation failed
+pub puts_fault : (IsOfFault : Verdict → Type 0) (IsSoundBy : Image → Type 0) (holders : Image → Holders) (old : Arrays)
+    (counts : TableCounts) (v v' : Verdict)
+    (e : Stop Verdict) (status : ℕ) → status ≡ status_of (Err e) → v' ≡ verdict_after (Err e) v → IsErrorOf IsOfFault e
+    → PutsTable IsOfFault IsSoundBy holders old counts v status old counts v'
+puts_fault IsOfFault IsSoundBy holders old counts v v' (Fault f) status is_status is_v is =
+    rw (is_status, is_v) (fault f is)
+puts_fault IsOfFault IsSoundBy holders old counts v v' Memory status is_status is_v is = rw (is_status, is_v) memory
+
+-- an image is of its own sections
+pub own_sections : (s : Sections) (i : Image) → IsImageOf s i → IsImageOf (sections_in i) i
+own_sections s i is = subst (λ (x : Sections). IsImageOf x i) (sym is.sections) is
+
+-- the file has them
+pub file_ground : (bytes : List ℕ) (i : Image) → IsSoundFile bytes i
+    → ChecksPass bytes × AreSections bytes (sections_in i)
+file_ground bytes i is = (is.of_file.passes, subst (AreSections bytes) (sym is.image.sections) is.of_file.are)

@@ -1,0 +1,16 @@
+use Rattle.dwv_c.specs.Meanings.{holders_of}
+use Rattle.dwv_c.proofs.MeaningLemmas.{index_means, index_slot}
+use Rattle.dwv_c.proofs.values.Resolver.address.Goals as goal
+
+pub slot-requires : goal.slot-requires
+slot-requires c =
+    rw c.sections.ensures (index_slot c.args.self.now.image.now c.args.unit.now c.requires.unit c.requires.sound
+    c.args.id c.args.attribute
+    c.in-AddrIndex.index (rw c.in-AddrIndex.is at c.requires.value))
+
+pub returns-in-AddrIndex : goal.returns-in-AddrIndex
+returns-in-AddrIndex c =
+    rw c.in-AddrIndex.is (index_means c.args.self.now.image.now c.args.unit.now c.requires.unit c.requires.sound
+    c.args.id c.args.attribute c.in-AddrIndex.index
+    (rw c.in-AddrIndex.is at c.requires.value) (holders_of c.args.self.now.places.now) c.slot.result
+    (rw c.sections.ensures at c.slot.ensures))

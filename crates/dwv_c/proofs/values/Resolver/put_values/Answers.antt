@@ -1,0 +1,91 @@
+use Rattle.std.proofs.Common.{rules, ◌≡◌, ◌≤◌, ℕ, List, length, IfSome, refl, ap, subst, ◌∙◌, arith}
+use Rattle.dw_forms.specs.Value.{Datum, view}
+use Rattle.dw_entries.specs.Placed.{EndsAt, placed_left}
+use Rattle.dw_image.specs.Images.{entries_in, units_in, sections_in}
+use Rattle.std.specs.Prelude.{slice_get}
+use Rattle.dwv_c.specs.Meanings.{Means, holders_of}
+use Rattle.dw_forms.specs.declared.value.Value.{Value}
+use Rattle.dwv_c.specs.Tables.{value_count}
+use Rattle.dwv_c.proofs.TableLemmas.{IsAtValue, at_entry, at_last, at_next, counted_to, name_at_last, rest_more, value_of_entry, values_more}
+use Rattle.dwv_c.proofs.values.Resolver.put_values.Goals as goal
+
+pub items-init : goal.items-init
+unfolding units_in sections_in
+items-init c = record {
+  here =
+      at_entry (holders_of c.args.self.now.places.now) c.args.self.now.image.now c.args.id c.args.from
+      (placed_left c.placed-left.result) c.requires.id
+      c.requires.from
+      (rw c.scanned.ensures at c.placed-left.ensures.left);
+  info = rw c.scanned.ensures at c.placed-left.ensures.info;
+  rows = c.requires.before;
+  rest = refl;
+}
+
+pub meaning-meaning-requires-clause-value : goal.meaning-meaning-requires-clause-value
+meaning-meaning-requires-clause-value c =
+    let h = holders_of c.args.self.now.places.now in
+    let i = c.args.self.now.image.now in
+    let w = subst (λ (l : List (ℕ × Datum)). IsAtValue h i c.args.id c.items.at l c.items.named) c.in-Some.ensures.steps
+    c.items.invariant.here in
+    let own = value_of_entry h i c.args.unit.now c.args.id c.items.at _ (placed_left c.take.new.self) c.items.named w
+    c.requires.in_unit in
+    search (rules, own)
+
+pub meaning-meaning-requires-clause-place : goal.meaning-meaning-requires-clause-place
+meaning-meaning-requires-clause-place c =
+    let place = subst (λ (s : List ℕ). EndsAt s (view c.in-Some.value) c.in-Some.end) c.items.invariant.info
+    c.in-Some.ensures.place in
+    search (rules, place)
+
+-- what the value that was taken means
+means_there : (c : goal.After-named_after-named)
+    → IfSome (slice_get (entries_in c.args.self.now.image.now) c.args.id) (λ e.
+    Means (holders_of c.args.self.now.places.now) c.args.self.now.image.now e (view c.in-Some.value)
+    c.meaning-meaning.result)
+means_there c =
+    let same : ◌≡◌ {A = Value} _ c.in-Some.value = search (rules, c.in-Some.value-is) in
+    subst (λ (v : Value). IfSome (slice_get (entries_in c.args.self.now.image.now) c.args.id) (λ e.
+    Means (holders_of c.args.self.now.places.now) c.args.self.now.image.now e (view v) c.meaning-meaning.result)) same
+    c.meaning-meaning.ensures
+
+pub items-preserved : goal.items-preserved
+items-preserved c =
+    let h = holders_of c.args.self.now.places.now in
+    let i = c.args.self.now.image.now in
+    let w = subst (λ (l : List (ℕ × Datum)). IsAtValue h i c.args.id c.items.at l c.items.named) c.in-Some.ensures.steps
+    c.items.invariant.here in
+    let row = c.value_row-row.result in
+    let attribute : row.attribute ≡ c.in-Some.attribute = search rules in
+    let means = means_there c in
+    let room : value_count i ≤ length c.items.values = search rules in
+    record {
+      here =
+          rw c.named_after-named.ensures (at_next h i c.args.id c.items.at _ (placed_left c.take.new.self) c.items.named
+          w _ row attribute c.value_row-row.ensures.meaning means);
+      info = c.take.ensures.info ∙ c.items.invariant.info;
+      rows =
+          values_more h i c.args.id c.items.at _ (placed_left c.take.new.self) c.items.named w _ row
+          c.meaning-meaning.result room c.items.invariant.rows (c.value_row-row.ensures.entry ∙ c.number.ensures)
+          attribute
+          c.value_row-row.ensures.meaning c.value_row-row.ensures.zero means;
+      rest = rest_more c.items.values c.args.values.now c.items.at row c.items.invariant.rest;
+    }
+
+pub items-smaller : goal.items-smaller
+items-smaller c = omega (arith, ap length c.in-Some.ensures.steps)
+
+pub returns-clause-next : goal.returns-clause-next
+returns-clause-next c =
+    at_last (holders_of c.args.self.now.places.now) c.args.self.now.image.now c.args.id c.items.at
+    (placed_left c.items.left) c.items.named c.in_default.ensures.steps.0 c.items.invariant.here
+
+pub returns-clause-count : goal.returns-clause-count
+returns-clause-count c =
+    counted_to (holders_of c.args.self.now.places.now) c.args.self.now.image.now c.args.id c.items.at c.args.from
+    (placed_left c.items.left) c.items.named c.in_default.ensures.steps.0 c.requires.from c.items.invariant.here
+
+pub returns-clause-name : goal.returns-clause-name
+returns-clause-name c =
+    rw c.flatten.ensures (name_at_last (holders_of c.args.self.now.places.now) c.args.self.now.image.now c.args.id
+    c.items.at (placed_left c.items.left) c.items.named c.in_default.ensures.steps.0 c.items.invariant.here)

@@ -1,0 +1,36 @@
+use Rattle.dwv_c.specs.Meanings.{holders_of}
+use Rattle.dwv_c.proofs.MeaningLemmas.{index_ends, index_string_slot, index_text, line_str_ends, str_ends}
+use Rattle.dwv_c.proofs.values.Resolver.text.Goals as goal
+
+pub text_at-requires : goal.text_at-requires
+text_at-requires c =
+    str_ends c.args.self.now.image.now c.args.self.now.places.now.strings.image.now c.args.unit.now c.args.self.now.same
+    c.requires.unit c.requires.sound
+    c.args.id c.args.attribute c.in-Str.offset (rw c.in-Str.is at c.requires.value)
+
+pub text_at-requires-in-LineStr : goal.text_at-requires-in-LineStr
+text_at-requires-in-LineStr c =
+    line_str_ends c.args.self.now.image.now c.args.self.now.places.now.strings.image.now c.args.unit.now
+    c.args.self.now.same c.requires.unit
+    c.requires.sound c.args.id c.args.attribute c.in-LineStr.offset (rw c.in-LineStr.is at c.requires.value)
+
+pub slot-offset-requires : goal.slot-offset-requires
+slot-offset-requires c =
+    rw c.sections.ensures (index_string_slot c.args.self.now.image.now c.args.unit.now c.requires.unit c.requires.sound
+    c.args.id c.args.attribute
+    c.in-StrIndex.index (rw c.in-StrIndex.is at c.requires.value))
+
+pub text_at-requires-in-StrIndex : goal.text_at-requires-in-StrIndex
+text_at-requires-in-StrIndex c =
+    rw c.args.self.now.same (index_ends c.args.self.now.image.now c.args.unit.now c.requires.unit c.requires.sound
+    c.args.id c.args.attribute
+    c.in-StrIndex.index (rw c.in-StrIndex.is at c.requires.value) c.slot-offset.result
+    (rw c.sections.ensures at c.slot-offset.ensures))
+
+pub returns-in-StrIndex : goal.returns-in-StrIndex
+returns-in-StrIndex c =
+    rw c.in-StrIndex.is (index_text c.args.self.now.image.now c.args.unit.now c.requires.unit c.requires.sound c.args.id
+    c.args.attribute c.in-StrIndex.index
+    (rw c.in-StrIndex.is at c.requires.value) (holders_of c.args.self.now.places.now) c.slot-offset.result _
+    (rw c.sections.ensures at c.slot-offset.ensures)
+    (rw c.args.self.now.same at c.text_at-in-StrIndex.ensures))

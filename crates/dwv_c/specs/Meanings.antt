@@ -1,0 +1,140 @@
+-- State: what a value means before its row is written, and the unit at hand.
+use Rattle.std.specs.Prelude.{◌≡◌, ℕ, ◌+◌, ◌*◌, ◌≤◌, List, [], ◌∷◌, ◌++◌, length, ◌==◌, Bool, true, false}
+use Rattle.std.specs.Prelude.{if◌then◌else◌}
+use Rattle.std.specs.Prelude.{Option, None, Some, slice_get}
+use Rattle.std.specs.Int.{cast_unsigned, w64}
+use Rattle.dw_elf.specs.Sections.{IsAt}
+use Rattle.dw_forms.specs.Codes.{DW_AT_name, DW_AT_str_offsets_base, DW_AT_addr_base}
+use Rattle.dw_forms.specs.Value.{Datum, address, block, unsigned, signed, wide, text, flag, str, line_str, str_index}
+use Rattle.dw_forms.specs.Value.{sec_offset, expr, addr_index, loc_index, rng_index}
+use Rattle.dw_entries.specs.Asked.{HasAttribute}
+use Rattle.dw_entries.specs.Entries.{Entry, PlacedUnit, placed}
+use Rattle.dw_entries.specs.Header.{IsSize}
+use Rattle.dw_links.specs.Bases.{base_in}
+use Rattle.dw_image.specs.declared.image.Image.{Image}
+use Rattle.dw_image.specs.Images.{entries_in, units_in}
+use Rattle.dwv_c.specs.declared.meaning.Meaning.{Meaning}
+use Rattle.dwv_c.specs.declared.meaning.Meaning.TheVariants as means
+use Rattle.dwv_c.specs.declared.places.Places.{Places}
+use Rattle.dwv_c.specs.declared.places.Span.{Span}
+use Rattle.dwv_c.specs.declared.meaning.ValueRow.{ValueRow}
+use Rattle.dwv_c.specs.declared.values.UnitAtHand.{UnitAtHand}
+use Rattle.dwv_c.specs.ValueRows.{HasNumber, Holders, Says, held_in}
+use Rattle.dwv_c.specs.ValueRows.{UNSIGNED, SIGNED, FLAG, ADDRESS, TEXT, BLOCK, EXPRESSION, WIDE, REFERENCE}
+use Rattle.dwv_c.specs.ValueRows.{SECTION_OFFSET, LOCATION_LIST, RANGE_LIST}
+
+-- ---- places
+
+-- what places are counted from
+abbrev pub holders_of : Places → Holders
+holders_of p = record { info = p.info.bytes.now; str = p.str.bytes.now; line_str = p.line_str.bytes.now }
+
+-- these bytes are in a section at an offset
+pub record IsPart (section : List ℕ) (offset : ℕ) (bytes : List ℕ) : Type 0 where
+  pub place : IsAt section offset bytes
+  pub within : offset + length bytes ≤ length section
+
+-- these bytes are there
+pub record IsSpan (h : Holders) (bytes : List ℕ) (s : Span) : Type 0 where
+  pub place : IsAt (held_in h s.section) s.start bytes
+  pub length_is : s.length ≡ length bytes
+
+-- this text is there, and a zero byte follows it
+pub record IsTextSpan (h : Holders) (text : List ℕ) (s : Span) : Type 0 where
+  pub place : IsAt (held_in h s.section) s.start (text ++ 0 ∷ [])
+  pub length_is : s.length ≡ length text
+
+-- ---- meanings
+
+-- a row has this kind, and these bytes
+pub record HasSpan (kind : ℕ) (s : Span) (r : ValueRow) : Type 0 where
+  pub kind_is : r.kind ≡ kind
+  pub section_is : r.section ≡ s.section
+  pub start : r.number ≡ s.start
+  pub length_is : r.length ≡ s.length
+
+-- the row of a meaning
+abbrev pub HasMeaning : Meaning → ValueRow → Type 0
+HasMeaning (means.Unsigned n) r = HasNumber UNSIGNED n r
+HasMeaning (means.Signed z) r = HasNumber SIGNED (cast_unsigned w64 z) r
+HasMeaning (means.Flag b) r = HasNumber FLAG (if b then 1 else 0) r
+HasMeaning (means.Address n) r = HasNumber ADDRESS n r
+HasMeaning (means.Text s) r = HasSpan TEXT s r
+HasMeaning (means.Block s) r = HasSpan BLOCK s r
+HasMeaning (means.Expression s) r = HasSpan EXPRESSION s r
+HasMeaning (means.Wide s) r = HasSpan WIDE s r
+HasMeaning (means.Reference n) r = HasNumber REFERENCE n r
+HasMeaning (means.SectionOffset n) r = HasNumber SECTION_OFFSET n r
+HasMeaning (means.LocationList n) r = HasNumber LOCATION_LIST n r
+HasMeaning (means.RangeList n) r = HasNumber RANGE_LIST n r
+
+-- a meaning is that of a value of an entry: a row that has it says what the row of the value must say
+abbrev pub Means : (h : Holders) → Image → Entry → Datum → Meaning → Type 0
+Means h i e v m = (r : ValueRow) → HasMeaning m r → Says h i e v r
+
+-- the value is a number, a flag, or an offset or an index that no rule is on: its meaning is in itself
+abbrev pub is_plain : Datum → Bool
+is_plain (unsigned n) = true
+is_plain (signed z) = true
+is_plain (flag b) = true
+is_plain (sec_offset n) = true
+is_plain (loc_index n) = true
+is_plain (rng_index n) = true
+is_plain _ = false
+
+-- it is a text
+abbrev pub is_text : Datum → Bool
+is_text (text bytes) = true
+is_text (str offset) = true
+is_text (line_str offset) = true
+is_text (str_index index) = true
+is_text _ = false
+
+-- it has bytes whose meaning the attribute says
+abbrev pub is_bytes : Datum → Bool
+is_bytes (block bytes) = true
+is_bytes (expr bytes) = true
+is_bytes (wide bytes) = true
+is_bytes _ = false
+
+-- it is an address
+abbrev pub is_address : Datum → Bool
+is_address (address n) = true
+is_address (addr_index index) = true
+is_address _ = false
+
+-- ---- names
+
+-- where the text of a row is, if it has one
+abbrev pub text_span : ValueRow → Option Span
+text_span r =
+    if r.kind == TEXT then Some (record { section = r.section; start = r.number; length = r.length }) else None
+
+-- what is known of an entry's name after one more row of its values: where it is, or that it is no text
+abbrev pub named_after : Option (Option Span) → ValueRow → Option (Option Span)
+named_after (Some name) r = Some name
+named_after None r = if r.attribute == DW_AT_name then Some (text_span r) else None
+
+-- ---- the unit at hand
+
+-- what is known of it is right
+pub record IsAtHand (i : Image) (u : UnitAtHand) : Type 0 where
+  pub place : PlacedUnit
+  pub is_place : slice_get (placed (units_in i)) u.number ≡ Some place
+  pub offset : u.offset ≡ place.at
+  pub header : u.header ≡ place.unit.header
+  pub str_base : u.str_base ≡ base_in (entries_in i) place DW_AT_str_offsets_base
+  pub addr_base : u.addr_base ≡ base_in (entries_in i) place DW_AT_addr_base
+
+-- an entry of the unit at hand has this value
+pub record HasValue (i : Image) (u : UnitAtHand) (id attribute : ℕ) (v : Datum) : Type 0 where
+  pub entry : Entry
+  pub is_entry : slice_get (entries_in i) id ≡ Some entry
+  pub in_unit : entry.unit ≡ u.number
+  pub position : ℕ
+  pub has : HasAttribute entry position attribute v
+
+-- the slot of an index, of so many bytes from a base on, is within a section
+abbrev pub HasSlot : (section : List ℕ) → (size : ℕ) → (base : Option ℕ) → (index : ℕ) → Type 0
+HasSlot section size None index = ⊥
+HasSlot section size (Some base) index = IsSize size × (base + size * index + size ≤ length section)

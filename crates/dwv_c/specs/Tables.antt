@@ -1,0 +1,179 @@
+-- Chapter: all that a sound file says as rows in three arrays of the caller.
+use Rattle.std.specs.Prelude.{◌≡◌, ℕ, ◌<◌, ◌≤◌, ◌⊎◌, List, [], ◌∷◌, ◌++◌, length, take, drop, min, slice_get}
+use Rattle.std.specs.Prelude.{Option, Some, None}
+use Rattle.std.specs.Prelude.{unwrap_or}
+use Rattle.std.specs.Option.{IsSomeAnd}
+use Rattle.dw_elf.specs.Checks.{ChecksPass}
+use Rattle.dw_elf.specs.Sections.{AreSections, IsAt}
+use Rattle.dw_elf.specs.declared.sections.Sections.{Sections}
+use Rattle.dw_forms.specs.Codes.{DW_AT_language}
+use Rattle.dw_entries.specs.Asked.{values_of}
+use Rattle.dw_entries.specs.Entries.{Entry, PlacedUnit, node_count, placed}
+use Rattle.dw_entries.specs.Header.{code_of_type, version_of}
+use Rattle.dw_entries.specs.Lookups.{unit_head, value_at_entry}
+use Rattle.dw_links.specs.Bases.{section_offset_of}
+use Rattle.dw_types.specs.Constants.{constant_of, natural_of}
+use Rattle.dw_image.specs.declared.image.Image.{Image}
+use Rattle.dw_image.specs.Headline.{IsImageOf}
+use Rattle.dw_image.specs.Images.{entries_in, entry_count, name_in, sections_in, unit_count, units_in}
+use Rattle.dw_report.specs.Shown.{entry_size}
+use Rattle.dwv_c.specs.declared.meaning.ValueRow.{ValueRow}
+use Rattle.dwv_c.specs.declared.places.Ground.{Ground}
+use Rattle.dwv_c.specs.declared.places.Ground.TheVariants.{File, Sections as BySection}
+use Rattle.dwv_c.specs.declared.table_rows.TableCounts.{TableCounts}
+use Rattle.dwv_c.specs.declared.table_rows.TableEntry.{TableEntry}
+use Rattle.dwv_c.specs.declared.table_rows.UnitRow.{UnitRow}
+use Rattle.dwv_c.specs.declared.verdict.Verdict.{Verdict}
+use Rattle.dwv_c.specs.Rows.{greatest}
+use Rattle.dwv_c.specs.ValueRows.{Holders, IsValueRow, Told, held_alone, held_by_file, held_in, values_from, values_in}
+use Rattle.dwv_c.specs.Verdicts.{SOUND, FAULT, NO_MEMORY, TOO_SHORT, HaveBytes, of_image}
+
+-- where a unit's range lists are counted from in .debug_rnglists, and its location lists in .debug_loclists (DWARF 5,
+-- table 7.5)
+abbrev pub DW_AT_rnglists_base : ℕ
+DW_AT_rnglists_base = 0x74
+
+abbrev pub DW_AT_loclists_base : ℕ
+DW_AT_loclists_base = 0x8c
+
+-- the row of an entry, or the greatest number of 32 bits for none
+abbrev pub row_of : Option ℕ → ℕ
+row_of None = greatest
+row_of (Some number) = number
+
+-- how many values an image has
+abbrev pub value_count : Image → ℕ
+value_count i = length (values_in i)
+
+-- how many values the entries before a number have
+abbrev pub values_before : Image → ℕ → ℕ
+values_before i number = length (values_from 0 (take number (entries_in i)))
+
+-- the number under an attribute of an entry, or 0 if there is none that is 0 or more
+abbrev pub number_under : Option Entry → ℕ → ℕ
+number_under None attribute = 0
+number_under (Some e) attribute = unwrap_or (natural_of (constant_of (value_at_entry e attribute))) 0
+
+-- the offset into a section under an attribute of an entry, or 0 if there is none
+abbrev pub offset_under : Option Entry → ℕ → ℕ
+offset_under None attribute = 0
+offset_under (Some e) attribute = unwrap_or (section_offset_of e attribute) 0
+
+-- the row of a unit; the last three are of its first entry
+pub record IsUnitRow (i : Image) (p : PlacedUnit) (r : UnitRow) : Type 0 where
+  pub offset : r.offset ≡ p.at
+  pub version : r.version ≡ version_of p.unit.header.kind
+  pub type : r.unit_type ≡ code_of_type (unit_head p).unit_type
+  pub address_size : r.address_size ≡ p.unit.header.address_size
+  pub first : r.first ≡ p.first
+  pub entries : r.entries ≡ min (node_count p.unit.root) greatest
+  pub language : r.language ≡ number_under (slice_get (entries_in i) p.first) DW_AT_language
+  pub rnglists_base : r.rnglists_base ≡ offset_under (slice_get (entries_in i) p.first) DW_AT_rnglists_base
+  pub loclists_base : r.loclists_base ≡ offset_under (slice_get (entries_in i) p.first) DW_AT_loclists_base
+
+-- a row has this size, or none
+abbrev pub HasSize : Option ℕ → TableEntry → Type 0
+HasSize None r = (r.size ≡ 0) × (r.has_size ≡ 0)
+HasSize (Some n) r = (r.size ≡ n) × (r.has_size ≡ 1)
+
+-- a row says where this name is, with a zero byte after it, or that there is none
+abbrev pub HasName : (h : Holders) → Option (List ℕ) → TableEntry → Type 0
+HasName h None r = (r.name ≡ 0) × (r.name_length ≡ 0) × (r.name_section ≡ 0)
+HasName h (Some text) r = IsAt (held_in h r.name_section) r.name (text ++ 0 ∷ []) × (r.name_length ≡ length text)
+
+-- the row of the entry with a number: what dwv_entries says of it, and its place among the others
+pub record IsTableEntry (h : Holders) (i : Image) (number : ℕ) (e : Entry) (r : TableEntry) : Type 0 where
+  pub offset : r.offset ≡ e.at
+  pub depth : r.depth ≡ min e.depth greatest
+  pub tag : r.tag ≡ e.head.decl.tag
+  pub size : HasSize (entry_size i number e) r
+  pub name : HasName h (name_in i e) r
+  pub first_value : r.first_value ≡ values_before i number
+  pub values : r.values ≡ min (length (values_of e.head)) greatest
+  pub unit : r.unit ≡ e.unit
+  pub parent : r.parent ≡ row_of e.parent
+  pub next_sibling : r.next_sibling ≡ row_of e.next
+
+-- the first n rows are those of the first n units
+abbrev pub HaveUnits : Image → ℕ → List UnitRow → Type 0
+HaveUnits i n rows = (k : ℕ) (p : PlacedUnit) → k < n → slice_get (placed (units_in i)) k ≡ Some p
+    → IsSomeAnd (slice_get rows k) (IsUnitRow i p)
+
+-- the first n rows are those of the first n entries
+abbrev pub HaveEntries : (h : Holders) → Image → ℕ → List TableEntry → Type 0
+HaveEntries h i n rows = (k : ℕ) (e : Entry) → k < n → slice_get (entries_in i) k ≡ Some e
+    → IsSomeAnd (slice_get rows k) (IsTableEntry h i k e)
+
+-- the first n rows are those of the first n values
+abbrev pub HaveValues : (h : Holders) → Image → ℕ → List ValueRow → Type 0
+HaveValues h i n rows = (k : ℕ) (t : Told) → k < n → slice_get (values_in i) k ≡ Some t
+    → IsSomeAnd (slice_get rows k) (IsValueRow h i t)
+
+-- the three arrays, as they are before or after a call
+pub record Arrays : Type 0 where
+  pub units : List UnitRow
+  pub entries : List TableEntry
+  pub values : List ValueRow
+
+-- there is room for all rows
+pub record HasRoom (i : Image) (a : Arrays) : Type 0 where
+  pub units : unit_count i ≤ length a.units
+  pub entries : entry_count i ≤ length a.entries
+  pub values : value_count i ≤ length a.values
+
+-- one of the arrays is too short
+abbrev pub LacksRoom : Image → Arrays → Type 0
+LacksRoom i a = (length a.units < unit_count i) ⊎ (length a.entries < entry_count i)
+    ⊎ (length a.values < value_count i)
+
+-- the arrays have a row for each unit, entry and value, and the rest is as it was
+pub record AreTable (h : Holders) (i : Image) (old new : Arrays) : Type 0 where
+  pub units : HaveUnits i (unit_count i) new.units
+  pub entries : HaveEntries h i (entry_count i) new.entries
+  pub values : HaveValues h i (value_count i) new.values
+  pub other_units : drop (unit_count i) new.units ≡ drop (unit_count i) old.units
+  pub other_entries : drop (entry_count i) new.entries ≡ drop (entry_count i) old.entries
+  pub other_values : drop (value_count i) new.values ≡ drop (value_count i) old.values
+
+-- what is returned for sound sections, and the arrays then
+pub data FillsTable (h : Holders) (i : Image) (old : Arrays) : ℕ → Arrays → Type 0 where
+  whole : (new : Arrays) → HasRoom i old → AreTable h i old new → FillsTable h i old SOUND new
+  short : LacksRoom i old → FillsTable h i old TOO_SHORT old
+
+-- how many rows an image has
+abbrev pub counts_of : Image → TableCounts
+counts_of i = record { units = unit_count i; entries = entry_count i; values = value_count i }
+
+-- what is returned, and the arrays, the counts and the verdict then. If an allocation failed, the arrays are as they
+-- were
+pub data PutsTable (IsOfFault : Verdict → Type 0) (IsSoundBy : Image → Type 0) (holders : Image → Holders)
+    (old : Arrays) (counts : TableCounts) (v : Verdict) : ℕ → Arrays → TableCounts → Verdict → Type 0 where
+  sound : (i : Image) (status : ℕ) (new : Arrays) → IsSoundBy i → FillsTable (holders i) i old status new
+      → PutsTable IsOfFault IsSoundBy holders old counts v status new (counts_of i) (of_image i)
+  fault : (found : Verdict) → IsOfFault found
+      → PutsTable IsOfFault IsSoundBy holders old counts v FAULT old counts found
+  memory : PutsTable IsOfFault IsSoundBy holders old counts v NO_MEMORY old counts v
+
+-- the arrays of these rows
+abbrev pub arrays : List UnitRow → List TableEntry → List ValueRow → Arrays
+arrays units entries values = record { units = units; entries = entries; values = values }
+
+-- six sections are sound, and the image is of them
+pub record IsSoundSix (info abbrevs strs line_strs offsets addrs : List ℕ) (i : Image) : Type 0 where
+  pub sections : Sections
+  pub bytes : HaveBytes sections info abbrevs strs line_strs offsets addrs
+  pub image : IsImageOf sections i
+
+-- places are counted from the start of each section of an image
+abbrev pub held_by_image : Image → Holders
+held_by_image i = held_alone (sections_in i)
+
+-- what places are counted from
+abbrev pub held_on : Ground → Image → Holders
+held_on (File file) i = held_by_file file.now
+held_on BySection i = held_by_image i
+
+-- the file has the sections of an image
+abbrev pub IsGround : Ground → Image → Type 0
+IsGround (File file) i = ChecksPass file.now × AreSections file.now (sections_in i)
+IsGround BySection i = Unit {0}

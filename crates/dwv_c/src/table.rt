@@ -1,0 +1,307 @@
+//! All that sound sections say, as rows in three arrays of the caller.
+
+ghost use Rattle.std.specs.Prelude.{◌≡◌, ◌+◌, ◌<◌, ◌≤◌, length, drop, slice_get, IfSome};
+ghost use Rattle.std.specs.Bool.{OnTrue, OnFalse};
+ghost use Rattle.dw_entries.specs.Asked.{values_of};
+ghost use Rattle.dw_image.specs.Headline.{IsImageOf};
+ghost use Rattle.dw_image.specs.Images.{entries_in, entry_count, name_in, sections_in, unit_count};
+ghost use Rattle.dwv_c.specs.Meanings.{IsAtHand, holders_of};
+ghost use Rattle.dwv_c.specs.Tables.{AreTable, HasRoom, HaveEntries, HaveUnits, HaveValues, IsTableEntry, LacksRoom};
+ghost use Rattle.dwv_c.specs.Tables.{IsGround, arrays, counts_of, held_on, value_count, values_before};
+ghost use Rattle.dwv_c.specs.TableState.{IsNameSpan, Puts};
+ghost use Rattle.dwv_c.specs.Verdicts.{of_image};
+
+use crate::meaning::{ValueRow, named_after, value_row};
+use crate::places::{Ground, Places, Span};
+use crate::table_rows::{
+    Links, TableCounts, TableEntry, UnitRow, depth_by_rows, row_with, unit_row,
+};
+use crate::values::{Resolver, UnitAtHand};
+use crate::verdict::{NO_MEMORY, SOUND, TOO_SHORT, Verdict, verdict_of_counts};
+use dw_entries::{Cursor, EntryId};
+use dw_image::Image;
+use dw_report::size_of_entry;
+use dw_units::Counts;
+use std::alloc::Global;
+
+impl<'p, 'i, 'a> Resolver<'p, 'i, 'a> {
+    /// Writes the rows of an entry's values from a row on. Returns which row follows them, and where the entry's name
+    /// is.
+    #[tactic(auto, unfolding(dw_image::specs::Images::units_in, dw_image::specs::Images::sections_in))]
+    fn put_values(
+        &self,
+        unit: &UnitAtHand,
+        values: &mut [ValueRow],
+        from: usize,
+        id: EntryId,
+    ) -> (usize, Option<Span>)
+        requires sound { IsImageOf (sections_in self.now.image.now) self.now.image.now }
+        requires unit { IsAtHand self.now.image.now unit.now }
+        requires id { id < length (entries_in self.now.image.now) }
+        requires in_unit { IfSome (slice_get (entries_in self.now.image.now) id) (λ e. unit.now.number ≡ e.unit) }
+        requires room { value_count self.now.image.now ≤ length values.old }
+        requires from { from ≡ values_before self.now.image.now id }
+        requires before { HaveValues (holders_of self.now.places.now) self.now.image.now from values.old }
+        ensures next { result.0 ≡ values_before self.now.image.now (id + 1) }
+        ensures count { IfSome (slice_get (entries_in self.now.image.now) id)
+            (λ e. result.0 ≡ from + length (values_of e.head)) }
+        ensures name { IfSome (slice_get (entries_in self.now.image.now) id)
+            (λ e. IsNameSpan (holders_of self.now.places.now) (name_in self.now.image.now e) result.1) }
+        ensures rows { HaveValues (holders_of self.now.places.now) self.now.image.now result.0 values.new }
+        ensures rest { drop result.0 values.new ≡ drop result.0 values.old }
+    {
+        let mut left = self.image.scanned().placed(id, unit.number);
+        let mut at = from;
+        let mut named = None;
+        'items: while let Some((attribute, value, end)) = left.take() {
+            let meaning = self.meaning(unit, id, attribute, &value, end);
+            let row = value_row(id.number() as u32, attribute, meaning);
+            values[at] = row;
+            named = named_after(named, &row);
+            at += 1;
+        }
+        (at, named.flatten())
+    }
+
+    /// The row of an entry, after the rows of all entries before it.
+    #[tactic(auto, unfolding(dw_image::specs::Images::units_in))]
+    fn entry_row(
+        &self,
+        unit: &UnitAtHand,
+        entries: &[TableEntry],
+        from: usize,
+        next: usize,
+        name: Option<Span>,
+        id: EntryId,
+    ) -> TableEntry
+        requires unit { IsAtHand self.now.image.now unit.now }
+        requires id { id < length (entries_in self.now.image.now) }
+        requires in_unit { IfSome (slice_get (entries_in self.now.image.now) id) (λ e. unit.now.number ≡ e.unit) }
+        requires room { id ≤ length entries.now }
+        requires before { HaveEntries (holders_of self.now.places.now) self.now.image.now id entries.now }
+        requires from { from ≡ values_before self.now.image.now id }
+        requires next { IfSome (slice_get (entries_in self.now.image.now) id)
+            (λ e. next ≡ from + length (values_of e.head)) }
+        requires name { IfSome (slice_get (entries_in self.now.image.now) id)
+            (λ e. IsNameSpan (holders_of self.now.places.now) (name_in self.now.image.now e) name) }
+        ensures { IfSome (slice_get (entries_in self.now.image.now) id)
+            (λ e. IsTableEntry (holders_of self.now.places.now) self.now.image.now id e result) }
+    {
+        let image = self.image;
+        let depth = depth_by_rows(entries, image.parent(id));
+        let size = size_of_entry(image, id);
+        let links = Links {
+            first_value: from,
+            values: next - from,
+            unit: unit.number,
+            parent: image.parent(id),
+            next_sibling: image.scanned().next_sibling(id),
+        };
+        row_with(image.offset(id), depth, image.tag(id), size, name, links)
+    }
+
+    /// A unit, which may be at hand.
+    fn unit_from(&self, unit: UnitAtHand, number: usize) -> UnitAtHand
+        requires number { number < unit_count self.now.image.now }
+        requires unit { IsAtHand self.now.image.now unit }
+        ensures unit { IsAtHand self.now.image.now result }
+        ensures number { result.number ≡ number }
+    {
+        if unit.number == number {
+            unit
+        } else {
+            self.unit(number)
+        }
+    }
+
+    /// Writes the rows of an entry and of its values, and says which row follows these.
+    #[tactic(auto, unfolding(dw_image::specs::Images::units_in))]
+    fn put_entry(
+        &self,
+        cursor: &mut Cursor<'i, 'a>,
+        unit: &mut UnitAtHand,
+        entries: &mut [TableEntry],
+        values: &mut [ValueRow],
+        number: usize,
+        from: usize,
+    ) -> usize
+        requires sound { IsImageOf (sections_in self.now.image.now) self.now.image.now }
+        requires cursor { cursor.old.entries.now ≡ self.now.image.now.entries }
+        requires unit { IsAtHand self.now.image.now unit.old }
+        requires number { number < entry_count self.now.image.now }
+        requires room { number < length entries.old }
+        requires value_room { value_count self.now.image.now ≤ length values.old }
+        requires from { from ≡ values_before self.now.image.now number }
+        requires entries { HaveEntries (holders_of self.now.places.now) self.now.image.now number entries.old }
+        requires values { HaveValues (holders_of self.now.places.now) self.now.image.now from values.old }
+        ensures cursor { cursor.new.entries.now ≡ cursor.old.entries.now }
+        ensures unit { IsAtHand self.now.image.now unit.new }
+        ensures next { result ≡ values_before self.now.image.now (number + 1) }
+        ensures entries { HaveEntries (holders_of self.now.places.now) self.now.image.now (number + 1) entries.new }
+        ensures other_entries { drop (number + 1) entries.new ≡ drop (number + 1) entries.old }
+        ensures values { HaveValues (holders_of self.now.places.now) self.now.image.now result values.new }
+        ensures other_values { drop result values.new ≡ drop result values.old }
+    {
+        let id = self.image.scanned().id(number);
+        let entry = cursor.at(id);
+        *unit = self.unit_from(*unit, entry.unit());
+        let (next, name) = self.put_values(unit, values, from, id);
+        entries[number] = self.entry_row(unit, entries, from, next, name, id);
+        next
+    }
+
+    /// Writes the rows of all entries and values.
+    #[tactic(auto, unfolding(dw_image::specs::Images::units_in))]
+    fn put_entries(&self, entries: &mut [TableEntry], values: &mut [ValueRow])
+        requires sound { IsImageOf (sections_in self.now.image.now) self.now.image.now }
+        requires room { entry_count self.now.image.now ≤ length entries.old }
+        requires value_room { value_count self.now.image.now ≤ length values.old }
+        ensures entries { HaveEntries (holders_of self.now.places.now) self.now.image.now
+            (entry_count self.now.image.now) entries.new }
+        ensures values { HaveValues (holders_of self.now.places.now) self.now.image.now
+            (value_count self.now.image.now) values.new }
+        ensures other_entries { drop (entry_count self.now.image.now) entries.new
+            ≡ drop (entry_count self.now.image.now) entries.old }
+        ensures other_values { drop (value_count self.now.image.now) values.new
+            ≡ drop (value_count self.now.image.now) values.old }
+    {
+        if self.image.units() == 0 {
+            return;
+        }
+        let mut cursor = self.image.scanned().cursor();
+        let mut unit = self.unit(0);
+        let mut at = 0;
+        for number in 0..self.image.entries() {
+            at = self.put_entry(&mut cursor, &mut unit, entries, values, number, at);
+        }
+    }
+}
+
+/// Writes the rows of all units.
+#[tactic(auto, unfolding(dw_image::specs::Images::units_in))]
+fn put_units(image: &Image<'_>, units: &mut [UnitRow])
+    requires { unit_count image.now ≤ length units.old }
+    ensures rows { HaveUnits image.now (unit_count image.now) units.new }
+    ensures rest { drop (unit_count image.now) units.new ≡ drop (unit_count image.now) units.old }
+{
+    for number in 0..image.units() {
+        units[number] = unit_row(image, number);
+    }
+}
+
+/// How many values an entry has.
+#[tactic(auto, unfolding(dw_image::specs::Images::units_in))]
+fn count_entry(image: &Image<'_>, id: EntryId) -> u32
+    requires { id < length (entries_in image.now) }
+    ensures { IfSome (slice_get (entries_in image.now) id) (λ e. result ≡ length (values_of e.head)) }
+{
+    let mut count = 0;
+    let mut left = image.scanned().decl(id).attributes();
+    'attributes: while let Some((_, after)) = left.split_first() {
+        count += 1;
+        left = after;
+    }
+    count
+}
+
+/// How many values the entries have.
+#[tactic(auto, unfolding(dw_image::specs::Images::units_in))]
+fn count_values(image: &Image<'_>) -> usize
+    ensures { result ≡ value_count image.now }
+{
+    let mut count = 0;
+    for number in 0..image.entries() {
+        count += count_entry(image, image.scanned().id(number)) as usize;
+    }
+    count
+}
+
+/// Writes how many rows there are, and the verdict.
+fn put_counts(image: &Image<'_>, values: usize, counts: &mut TableCounts, verdict: &mut Verdict)
+    requires { values ≡ value_count image.now }
+    ensures counts { counts.new ≡ counts_of image.now }
+    ensures verdict { verdict.new ≡ of_image image.now }
+{
+    let found = Counts::of(image);
+    *counts = TableCounts {
+        units: found.units as u64,
+        entries: found.entries as u64,
+        values: values as u64,
+    };
+    *verdict = verdict_of_counts(found);
+}
+
+/// Whether each array has room for its rows.
+fn is_room(
+    image: &Image<'_>,
+    count: usize,
+    units: &[UnitRow],
+    entries: &[TableEntry],
+    values: &[ValueRow],
+) -> bool
+    requires { count ≡ value_count image.now }
+    ensures room { OnTrue result (HasRoom image.now (arrays units.now entries.now values.now)) }
+    ensures none { OnFalse result (LacksRoom image.now (arrays units.now entries.now values.now)) }
+{
+    image.units() <= units.len() && image.entries() <= entries.len() && count <= values.len()
+}
+
+/// Writes all rows, for which there is room. False if an allocation failed: then nothing is written.
+fn put_rows(
+    alloc: Global,
+    ground: Ground<'_>,
+    image: &Image<'_>,
+    units: &mut [UnitRow],
+    entries: &mut [TableEntry],
+    values: &mut [ValueRow],
+) -> bool
+    requires sound { IsImageOf (sections_in image.now) image.now }
+    requires ground { IsGround ground image.now }
+    requires room { HasRoom image.now (arrays units.old entries.old values.old) }
+    ensures whole { OnTrue result (AreTable (held_on ground.entry image.now) image.now
+        (arrays units.old entries.old values.old) (arrays units.new entries.new values.new)) }
+    ensures none { OnFalse result ((units.new ≡ units.old) × (entries.new ≡ entries.old) × (values.new ≡ values.old)) }
+{
+    let Ok(places) = Places::read(alloc, ground, image) else {
+        return false;
+    };
+    let Ok(hints) = image.scanned().hints(alloc) else {
+        return false;
+    };
+    let resolver = Resolver {
+        places: &places,
+        image,
+        hints,
+    };
+    put_units(image, units);
+    resolver.put_entries(entries, values);
+    true
+}
+
+/// Writes all rows if there is room for them, how many there are, and the verdict.
+pub fn put_table(
+    alloc: Global,
+    ground: Ground<'_>,
+    image: &Image<'_>,
+    units: &mut [UnitRow],
+    entries: &mut [TableEntry],
+    values: &mut [ValueRow],
+    counts: &mut TableCounts,
+    verdict: &mut Verdict,
+) -> u32
+    requires sound { IsImageOf (sections_in image.now) image.now }
+    requires ground { IsGround ground image.now }
+    ensures { Puts (held_on ground.entry image.now) image.now (arrays units.old entries.old values.old) counts.old
+        verdict.old result (arrays units.new entries.new values.new) counts.new verdict.new }
+{
+    let count = count_values(image);
+    if !is_room(image, count, units, entries, values) {
+        put_counts(image, count, counts, verdict);
+        return TOO_SHORT;
+    }
+    if !put_rows(alloc, ground, image, units, entries, values) {
+        return NO_MEMORY;
+    }
+    put_counts(image, count, counts, verdict);
+    SOUND
+}
