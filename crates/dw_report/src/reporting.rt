@@ -169,7 +169,7 @@ fn answer_of_sound(alloc: Global, request: Request, image: &Image<'_>) -> Result
     }
 }
 
-/// The result of `check` unit after unit. None for the other requests, and if nothing follows from the units alone.
+/// The result of `check` batch after batch. None for the other requests, and if nothing follows from the batches alone.
 fn answer_by_unit(
     alloc: Global,
     request: Request,
