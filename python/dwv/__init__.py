@@ -9,8 +9,8 @@ fault E2 NotElf64 at section 0
 A fault is false in a condition, and counts are true. `verify` raises `NotSound` in place of returning a fault. A file
 is given by its path, or as bytes, a bytearray, a memoryview or an mmap, of which a copy is checked.
 
-The library is the one of the path in DWV_LIBRARY, or in this package, or the one that the system finds. Other threads
-run during a call.
+The library is the one of the path in DWV_LIBRARY, or in this package, or beside it as `make lib` or `make install` put
+it, or the one that the system finds. Other threads run during a call.
 """
 import ctypes
 import mmap
@@ -18,9 +18,11 @@ import os
 import pathlib
 from typing import List, NamedTuple, Optional, Tuple, Union
 
+from dwv import tables
+
 __version__ = "0.9.0"
 __all__ = ["CHECK", "CHECK_JSON", "SHOW", "TYPES", "SIZE", "Counts", "Fault", "Entry", "NotSound", "File", "check",
-           "check_sections", "verify", "entries", "report"]
+           "check_sections", "verify", "entries", "table", "table_sections", "report"]
 
 CHECK, CHECK_JSON, SHOW, TYPES, SIZE = range(5)
 
@@ -115,6 +117,23 @@ def entries(file: File) -> Union[List[Entry], Fault]:
             raise MemoryError
 
 
+def table(file: File, limit: Optional[int] = None) -> tables.Table:
+    """The units, entries and values of a sound file. Any other raises NotSound, with the fault.
+
+    A small file may have very many values, of 32 bytes each. If it has more than the limit, MemoryError is raised.
+    """
+    data = _bytes(file)
+    return _table(_library.dwv_table, [data, len(data)], (data,) * 4, limit)
+
+
+def table_sections(*, info: bytes = b"", abbrev: bytes = b"", str: bytes = b"", line_str: bytes = b"",
+                   str_offsets: bytes = b"", addr: bytes = b"", limit: Optional[int] = None) -> tables.Table:
+    """The same of six sections, which may come from a file of any format. One that is not given is empty."""
+    given = [bytes(it) for it in (info, abbrev, str, line_str, str_offsets, addr)]
+    words = [word for data in given for word in (data, len(data))]
+    return _table(_library.dwv_table_sections, words, (b"", given[0], given[2], given[3]), limit)
+
+
 def report(file: File, request: int = CHECK, offset: int = 0) -> Tuple[int, bytes]:
     """The exit status of a command of the program, and what it prints."""
     data = _bytes(file)
@@ -131,6 +150,17 @@ def report(file: File, request: int = CHECK, offset: int = 0) -> Tuple[int, byte
             raise ValueError("there is no such request")
         if status != 5:
             return status, buffer.raw[: needed.value]
+
+
+def _table(call, words, parts, limit):
+    """The table that a call writes. `parts` has the bytes that places count in, by the number of the section."""
+    raw = _Verdict()
+    found = tables.read(lambda rooms, counts: call(*words, *rooms, counts, ctypes.byref(raw)), parts, limit)
+    if found == 1:
+        raise NotSound(_fault(raw))
+    if found == 4:
+        raise MemoryError
+    return found
 
 
 class _Verdict(ctypes.Structure):
@@ -197,8 +227,10 @@ def _bytes(file):
 
 def _loaded():
     """The library, with the types of its calls."""
-    packed = pathlib.Path(__file__).parent / "libdwv.so.0"
-    path = os.environ.get("DWV_LIBRARY") or (packed if packed.exists() else "libdwv.so.0")
+    here = pathlib.Path(__file__).resolve().parent
+    # In a wheel, in a checkout, and where `make install` puts it.
+    places = [here / "libdwv.so.0", here.parents[1] / "out/lib/libdwv.so.0", here.parents[2] / "lib/libdwv.so.0"]
+    path = os.environ.get("DWV_LIBRARY") or next(filter(pathlib.Path.exists, places), "libdwv.so.0")
     try:
         # ctypes.CDLL releases the lock of the interpreter during a call; PyDLL would not.
         library = ctypes.CDLL(os.fspath(path))
@@ -211,7 +243,11 @@ def _loaded():
     library.dwv_report.argtypes = [ctypes.c_char_p, size, ctypes.c_uint32, ctypes.c_uint32, ctypes.c_char_p, size,
                                    pointer(size)]
     library.dwv_entries.argtypes = [ctypes.c_char_p, size, pointer(_Entry), size, pointer(size), pointer(_Verdict)]
-    for call in (library.dwv_check, library.dwv_check_sections, library.dwv_report, library.dwv_entries):
+    rooms = [ctypes.c_void_p, size] * 3 + [ctypes.c_void_p, pointer(_Verdict)]
+    library.dwv_table.argtypes = [ctypes.c_char_p, size, *rooms]
+    library.dwv_table_sections.argtypes = [ctypes.c_char_p, size] * 6 + rooms
+    for call in (library.dwv_check, library.dwv_check_sections, library.dwv_report, library.dwv_entries,
+                 library.dwv_table, library.dwv_table_sections):
         call.restype = ctypes.c_uint32
     return library
 

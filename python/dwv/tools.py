@@ -41,6 +41,12 @@ def c_header() -> None:
     _script("c-header")
 
 
+def table() -> int:
+    """dwv-table"""
+    from dwv import saving
+    return saving.main(sys.argv[1:])
+
+
 def _answer(words: List[str]):
     """The exit status and the output for the words of a command line."""
     command, *rest = words or [""]
