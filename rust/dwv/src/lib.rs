@@ -7,11 +7,15 @@
 //! }
 //! ```
 #![warn(missing_docs)]
+pub mod constants;
+mod rows;
 mod rule;
+pub mod table;
 
 use std::{error, fmt};
 
 pub use rule::Rule;
+pub use table::Table;
 
 /// The version of this crate and of the library that it is for.
 pub const VERSION: &str = env!("CARGO_PKG_VERSION");

@@ -1,4 +1,4 @@
-use dwv::{Counts, Entry, Error, Fault, Request, Rule, Section, Sections, Status};
+use dwv::{constants::*, table::Value, Counts, Entry, Error, Fault, Request, Rule, Section, Sections, Status, Table};
 use std::{collections::BTreeSet, thread};
 
 const SAMPLE: &[u8] = include_bytes!("../../../crates/dwv/data/X1");
@@ -37,6 +37,44 @@ fn sections_alone() {
     assert_eq!(dwv::check_sections(&sections), Ok(SOUND));
     let result = dwv::check_sections(&Sections { info, ..Sections::default() });
     assert!(matches!(result, Err(Error::Fault(Fault { rule: Rule::BadAbbrevOffset, .. }))));
+}
+
+#[test]
+fn a_table() -> Result<(), Error> {
+    let table = Table::of(SAMPLE)?;
+    let entries: Vec<_> = table.entries().collect();
+    assert_eq!((table.units().len(), entries.len()), (1, 2));
+    let (unit, number) = (entries[0], entries[1]);
+    assert_eq!((unit.tag(), unit.name(), unit.size()), (DW_TAG_compile_unit, Some(&b"a"[..]), None));
+    assert_eq!((number.offset(), number.depth(), number.size()), (15, 1, Some(4)));
+    assert_eq!(number.attribute(DW_AT_name), Some(Value::Text(b"int")));
+    assert_eq!(number.attribute(DW_AT_byte_size), Some(Value::Unsigned(4)));
+    assert_eq!((number.attribute(DW_AT_type), number.attributes().len()), (None, 3));
+    assert_eq!((number.parent(), unit.parent()), (Some(unit), None));
+    assert!(unit.children().eq([number]) && number.children().next().is_none());
+    Ok(())
+}
+
+#[test]
+fn a_table_of_sections() -> Result<(), Error> {
+    let sections = Sections { abbrev: &SAMPLE[0x40..0x53], info: &SAMPLE[0x53..0x6a], ..Sections::default() };
+    let table = Table::of_sections(&sections)?;
+    let names: Vec<_> = table.entries().map(|entry| entry.name()).collect();
+    assert_eq!(names, [Some(&b"a"[..]), Some(&b"int"[..])]);
+    assert!(matches!(Table::of(b"no ELF file"), Err(Error::Fault(Fault { rule: Rule::NotElf64, .. }))));
+    Ok(())
+}
+
+#[test]
+fn names_of_codes() {
+    let named = include_str!("../../../contrib/dwv_tools/names.txt");
+    let constants = include_str!("../src/constants.rs");
+    let wanted = named.lines().filter(|line| line.contains(" DW_TAG_") || line.contains(" DW_AT_"));
+    assert!(wanted.clone().all(|line| {
+        let (code, name) = line.split_at(4);
+        constants.contains(&format!("pub const {}: u32 = 0x{};", name.trim(), code.trim_start_matches('0')))
+    }));
+    assert_eq!(constants.matches("pub const").count(), wanted.count());
 }
 
 #[test]
