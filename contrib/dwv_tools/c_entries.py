@@ -6,11 +6,11 @@ types`, and a vector has its attribute.
 """
 import re
 
-from dwv_tools import c_types, c_writing, names, reading
+from dwv_tools import c_types, c_writing, names
+from dwv_tools.c_file import ALIGNMENT, ARRAY, BIT_SIZE, BYTE_SIZE, DECLARATION, POINTER, SUBRANGE
 from dwv_tools.c_types import (
     Array, Basic, Body, Declaration, Enum, Function, Member, Name, Pointer, Qualified, Tag, Vector, Void, bare,
 )
-from dwv_tools.entries import ARRAY, POINTER, SUBRANGE, count_of, is_vector, name_of, number_of, target_of, whole_size
 
 KINDS = {0x13: "struct", 0x17: "union", 0x04: "enum"}
 QUALIFIERS = {0x26: "const", 0x35: "volatile", 0x37: "restrict", 0x47: "_Atomic"}
@@ -33,7 +33,7 @@ class Unsaid(Exception):
 
 
 def identifier(entry):
-    name = name_of(entry)
+    name = entry.name()
     if name is None or not re.fullmatch(r"[A-Za-z_]\w*", name, re.ASCII) or name in RESERVED:
         raise Unsaid("a name that C does not have")
     return name
@@ -41,7 +41,7 @@ def identifier(entry):
 
 def base_type(entry):
     """A base type by its encoding and its size, or by its name."""
-    name, size, encoding = name_of(entry) or "", number_of(entry, reading.BYTE_SIZE), number_of(entry, ENCODING)
+    name, size, encoding = entry.name() or "", entry.number(BYTE_SIZE), entry.number(ENCODING)
     if encoding == COMPLEX_FLOAT and size in FLOATS:
         return Basic(("_Complex", *FLOATS[size].split()))
     if encoding in COMPLEX_INTEGER and "complex" in name and size in INTEGERS:
@@ -53,14 +53,14 @@ def base_type(entry):
 
 
 def array(entry, depth):
-    found = said(target_of(entry, reading.TYPE), depth)
-    if is_vector(entry):
-        size = whole_size(entry)
+    found = said(entry.type(), depth)
+    if entry.is_vector():
+        size = entry.size()
         if type(found) not in (Basic, Name) or not size:
             raise Unsaid("a vector of elements without a size")
         return Vector(size, None, found)
-    for dimension in reversed([it for it in entry.unit.children(entry) if it.tag == SUBRANGE]):
-        found = Array(count_of(dimension), found)
+    for dimension in reversed([it for it in entry.children() if it.tag == SUBRANGE]):
+        found = Array(dimension.count(), found)
     return found
 
 
@@ -74,11 +74,11 @@ def qualified(word, t):
 
 
 def function(entry, depth):
-    children = list(entry.unit.children(entry))
-    found = tuple(said(target_of(it, reading.TYPE), depth) for it in children if it.tag == PARAMETER)
+    children = list(entry.children())
+    found = tuple(said(it.type(), depth) for it in children if it.tag == PARAMETER)
     is_variadic = any(it.tag == UNSPECIFIED for it in children)
-    has_prototype = found or number_of(entry, PROTOTYPED)
-    return Function(said(target_of(entry, reading.TYPE), depth), found if has_prototype else None,
+    has_prototype = found or entry.number(PROTOTYPED)
+    return Function(said(entry.type(), depth), found if has_prototype else None,
                     bool(is_variadic and found))
 
 
@@ -89,7 +89,7 @@ def said(entry, depth=0):
     if entry is None:
         return Void()
     if entry.tag in KINDS:
-        return Tag(KINDS[entry.tag], identifier(entry)) if name_of(entry) is not None else body(entry, depth + 1)
+        return Tag(KINDS[entry.tag], identifier(entry)) if entry.name() is not None else body(entry, depth + 1)
     if entry.tag == BASE:
         return base_type(entry)
     if entry.tag == TYPEDEF:
@@ -99,37 +99,37 @@ def said(entry, depth=0):
     if entry.tag == FUNCTION:
         return function(entry, depth + 1)
     if entry.tag == POINTER or entry.tag in QUALIFIERS:
-        of = said(target_of(entry, reading.TYPE), depth + 1)
+        of = said(entry.type(), depth + 1)
         return Pointer((), of) if entry.tag == POINTER else qualified(QUALIFIERS[entry.tag], of)
     raise Unsaid("a type that C does not have")
 
 
 def body(entry, depth):
     """What is in the braces of a structure, a union or an enumeration."""
-    children = list(entry.unit.children(entry))
+    children = list(entry.children())
     if KINDS[entry.tag] == "enum":
-        constants = tuple((identifier(it), number_of(it, CONSTANT)) for it in children if it.tag == ENUMERATOR)
+        constants = tuple((identifier(it), it.number(CONSTANT)) for it in children if it.tag == ENUMERATOR)
         if not constants or None in (value for _, value in constants):
             raise Unsaid("an enumeration without values")
         return Enum(constants)
     members = []
     for it in (it for it in children if it.tag == MEMBER):
-        name = identifier(it) if name_of(it) is not None else None
-        t = said(target_of(it, reading.TYPE), depth)
+        name = identifier(it) if it.name() is not None else None
+        t = said(it.type(), depth)
         if name is None and type(bare(t)) is not Body:
             raise Unsaid("a member without a name")
-        members.append(Member(name, t, number_of(it, reading.BIT_SIZE)))
+        members.append(Member(name, t, it.number(BIT_SIZE)))
     return Body(KINDS[entry.tag], tuple(members))
 
 
 def declaration_at(file, at):
     """The declaration of the named type whose entry is at an offset."""
-    entry = file.unit_of(at).entry(at)
+    entry = file.at(at)
     if entry.tag == TYPEDEF:
-        t, alignment = said(target_of(entry, reading.TYPE)), number_of(entry, reading.ALIGNMENT)
+        t, alignment = said(entry.type()), entry.number(ALIGNMENT)
         is_aligned = type(t) is Vector and alignment not in (None, t.size)
         return Declaration("typedef", identifier(entry), t._replace(alignment=alignment) if is_aligned else t)
-    if entry.tag in KINDS and not number_of(entry, reading.DECLARATION):
+    if entry.tag in KINDS and not entry.number(DECLARATION):
         return Declaration(KINDS[entry.tag], identifier(entry), body(entry, 0))
     raise Unsaid("no named type")
 
@@ -140,21 +140,10 @@ def line_at(file, at):
         found = declaration_at(file, at)
         line = c_writing.Writer(True).declaration(found)
         return line if c_types.read(line) == found else None
-    except (Unsaid, c_types.Malformed, reading.Unreadable, RecursionError):
+    except (Unsaid, c_types.Malformed, RecursionError):
         return None
 
 
 def line_of(file, at):
     """The same for an entry of a unit in C."""
-    try:
-        unit = file.unit_of(at)
-        language = number_of(unit.entry(unit.first), reading.LANGUAGE)
-    except reading.Unreadable:
-        return None
-    return line_at(file, at) if names.name("LANG", language or 0) in C else None
-
-
-def has_vectors(file):
-    """Whether a declaration of the file may have DW_AT_GNU_vector."""
-    abbrev = file.abbrev
-    return file.data.find(b"\x87\x42", abbrev.start, abbrev.start + abbrev.size) >= 0
+    return line_at(file, at) if names.name("LANG", file.at(at).language()) in C else None

@@ -3,8 +3,7 @@ from dwv_tools import dwarf, reading
 
 # A type has the size of its type, if it is one of these: typedef, const, volatile, restrict, atomic.
 SAME_SIZE = {0x16, 0x26, 0x35, 0x37, 0x47}
-POINTER, ARRAY, SUBRANGE = 0x0F, 0x01, 0x21
-UPPER, COUNT, VECTOR = 0x2F, 0x37, 0x2107
+POINTER = 0x0F
 
 
 def readable(unit, at):
@@ -58,32 +57,3 @@ def size_of(entry):
         if entry is None:
             return None
     return None
-
-
-def count_of(entry):
-    """The count of a dimension, or None."""
-    count, upper = number_of(entry, COUNT), number_of(entry, UPPER)
-    count = upper + 1 if count is None and upper is not None else count
-    return None if count is None or count >= 2**63 else count
-
-
-def is_vector(entry):
-    return entry.tag == ARRAY and dwarf.find(entry, VECTOR) is not None
-
-
-def whole_size(entry):
-    """The size of a type, also of an array that has none of its own: the element's by the counts. Or None."""
-    if entry is None or size_of(entry) is not None:
-        return size_of(entry) if entry else None
-    if entry.tag in SAME_SIZE:
-        return whole_size(target_of(entry, reading.TYPE))
-    if entry.tag != ARRAY:
-        return None
-    size = whole_size(target_of(entry, reading.TYPE))
-    dimensions = [it for it in entry.unit.children(entry) if it.tag == SUBRANGE]
-    for it in dimensions:
-        count = count_of(it)
-        size = None if None in (size, count) else size * count
-    if is_vector(entry) and size:
-        size = 1 << (size - 1).bit_length()
-    return size if dimensions else None

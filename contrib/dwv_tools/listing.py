@@ -1,15 +1,13 @@
-"""Reads what `dwv types` and `dwv show` print of a file: each line once, and where the entries of its types are."""
+"""Reads what `dwv types` prints of a file: each line once; and where the entries of its types are."""
 import array
 import re
 import subprocess
 
-from dwv_tools import members, reading
+from dwv_tools import members
 from dwv_tools.running import show_progress
 
 REFUSED = re.compile(rb"/\* 0x([0-9a-f]{8}) (P\d \w+) \*/")
-# In the lines of `dwv show`: a structure, union, enumeration or typedef with a name.
-SHOWN = re.compile(rb'^0x([0-9a-f]{8}) +0x00(13|17|04|16) "([^"\n]*)"(?: size (\d+))?$', re.MULTILINE)
-KINDS = {b"13": "struct", b"17": "union", b"04": "enum", b"16": "typedef"}
+KINDS = {0x13: "struct", 0x17: "union", 0x04: "enum", 0x16: "typedef"}
 BLOCK = 2**20
 # How many entries of a name are kept: enough for the different types that have it.
 MOST = 8
@@ -51,29 +49,23 @@ class Listing:
 class Places:
     """Where the entries of named types are, and the names of the refused ones."""
 
-    def __init__(self, dwv, path, file, wanted, refused):
+    def __init__(self, file, wanted, refused):
         self.file, self.names = file, {}
         self.at = {node: array.array("Q") for node in wanted}
-        done = 0
-        for block in output(dwv, "show", path):
-            for at, tag, name, size in map(re.Match.groups, SHOWN.finditer(block)):
-                kind, name, at = KINDS[tag], name.decode("ascii", "replace"), int(at, 16)
-                found = self.at.get((kind, name))
-                if found is not None and len(found) < MOST and (size or kind == "typedef"):
-                    found.append(at)
-                if at in refused:
-                    self.names[at] = f"{kind} {name}"
-            done += len(block)
-            show_progress(f"{done >> 20} MB of entries")
+        table, offsets, tags = file.table, file.offsets, file.tags
+        for row in file.named(KINDS):
+            kind, name = KINDS[tags[row]], table.name(row).decode("ascii", "replace")
+            found = self.at.get((kind, name))
+            if found is not None and len(found) < MOST and (kind == "typedef" or table.size(row) is not None):
+                found.append(offsets[row])
+            if offsets[row] in refused:
+                self.names[offsets[row]] = f"{kind} {name}"
 
     def shapes(self, declaration):
         """What the file says of the layouts that a declaration may have, each once, after the offset of its entry."""
         seen = []
         for at in self.at.get(declaration[:2], ()):
-            try:
-                shape = members.shape_at(self.file, declaration, at)
-            except reading.Unreadable:
-                continue
+            shape = members.shape_at(self.file, declaration, at)
             if shape is not None and shape not in seen:
                 seen.append(shape)
                 yield at, shape

@@ -1,0 +1,100 @@
+"""The entries of a sound file, by the table that the C library makes. The module `dwv` of python/ calls it."""
+import bisect
+import functools
+import pathlib
+import sys
+
+# The module is beside these scripts where they are installed, and in python/ of a checkout.
+sys.path.append(str(pathlib.Path(__file__).resolve().parents[2] / "python"))
+
+# A type has the size of its type, if it is one of these: typedef, const, volatile, restrict, atomic.
+SAME_SIZE = {0x16, 0x26, 0x35, 0x37, 0x47}
+POINTER, ARRAY, SUBRANGE = 0x0F, 0x01, 0x21
+NAME, BYTE_SIZE, BIT_OFFSET, BIT_SIZE, LANGUAGE, UPPER = 0x03, 0x0B, 0x0C, 0x0D, 0x13, 0x2F
+COUNT, MEMBER_LOCATION, DECLARATION, TYPE, BIT_POSITION, ALIGNMENT, VECTOR = 0x37, 0x38, 0x3C, 0x49, 0x6B, 0x88, 0x2107
+# The kinds of values that are numbers: without a sign, with a sign, flags (enum dwv_kind of dwv.h).
+NUMBERS, SIGNED = {1, 2, 3}, 2
+# How many entries are kept that types refer to.
+KEPT = 2**14
+
+
+class Entry:
+    """An entry of a file, by its row."""
+
+    __slots__ = ("file", "row", "tag", "values")
+
+    def __init__(self, file, row):
+        self.file, self.row, self.tag = file, row, file.tags[row]
+        first, count = file.first[row], file.count[row]
+        self.values = dict(zip(file.attributes[first : first + count], range(first, first + count)))
+
+    @property
+    def at(self):
+        """Where it starts in `.debug_info`."""
+        return self.file.offsets[self.row]
+
+    def name(self):
+        """The name, or None."""
+        name = self.file.table.name(self.row)
+        return None if name is None else name.decode(errors="backslashreplace")
+
+    def number(self, attribute):
+        """The number that an attribute has, or None."""
+        found = self.values.get(attribute)
+        if found is None or (kind := self.file.kinds[found]) not in NUMBERS:
+            return None
+        number = self.file.numbers[found]
+        return number - 2**64 if kind == SIGNED and number >= 2**63 else number
+
+    def has(self, attribute):
+        return attribute in self.values
+
+    def type(self):
+        """The entry that DW_AT_type refers to, or None. It is always a reference."""
+        found = self.values.get(TYPE)
+        return None if found is None else self.file.entry(self.file.numbers[found])
+
+    def children(self):
+        """The entries right below."""
+        return (Entry(self.file, row) for row in self.file.table.children(self.row))
+
+    def language(self):
+        """The language of its unit."""
+        return self.file.table.columns["units"]["language"][self.file.units[self.row]]
+
+    def size(self):
+        """The size of a type, or None. That of a vector is a power of 2."""
+        size = self.file.table.size(self.row)
+        return 1 << (size - 1).bit_length() if size and self.is_vector() else size
+
+    def is_vector(self):
+        return self.tag == ARRAY and self.has(VECTOR)
+
+    def count(self):
+        """The count of a dimension, or None."""
+        count, upper = self.number(COUNT), self.number(UPPER)
+        count = upper + 1 if count is None and upper is not None else count
+        return None if count is None or not 0 <= count < 2**63 else count
+
+
+class File:
+    """The table of a file."""
+
+    def __init__(self, path):
+        import dwv
+        self.table = dwv.table(path)
+        entries, values = self.table.columns["entries"], self.table.columns["values"]
+        self.tags, self.offsets, self.units = entries["tag"], entries["offset"], entries["unit"]
+        self.first, self.count, self.attributes = entries["first_value"], entries["values"], values["attribute"]
+        self.numbers, self.kinds = values["number"], values["kind"]
+        self.has_vectors = VECTOR in self.attributes.tolist()
+        self.entry = functools.lru_cache(KEPT)(functools.partial(Entry, self))
+
+    def at(self, offset):
+        """The entry at an offset."""
+        return Entry(self, bisect.bisect_left(self.offsets, offset))
+
+    def named(self, tags):
+        """The rows of the entries with these tags and a name."""
+        sections = self.table.columns["entries"]["name_section"]
+        return (row for row, tag in enumerate(self.tags) if tag in tags and sections[row])
