@@ -55,9 +55,10 @@ test:
 	tests/preparing.py
 	tests/explain.py
 	tests/explain-html.py
+	tests/library.sh
+	tests/table.py
 	tests/c-header.py
 	tests/layouts.py
-	tests/library.sh
 	$(MAKE) --no-print-directory pytest
 
 # The tests that pytest runs, in whichever Python has it, side by side if that has the module xdist too:
@@ -101,10 +102,10 @@ NEW = crates/dwv/out/dwv
 same-answers:
 	tests/same-answers.py $(OLD) $(NEW)
 
-# Installs the program that `make` built, the scripts beside it (as dwv-explain, ..), the manual page, the completions,
-# the integrations (in share/dwv/integrations), and the C library if `make lib` built it. `make install
-# PREFIX=$HOME/.local` chooses the folder. It builds and proves nothing. DESTDIR is put before all paths, as packages
-# need it.
+# Installs the program that `make` built, the scripts beside it (as dwv-explain, ..) with the Python package by which
+# they call the C library, the manual page, the completions, the integrations (in share/dwv/integrations), and the C
+# library if `make lib` built it. `make install PREFIX=$HOME/.local` chooses the folder. It builds and proves nothing.
+# DESTDIR is put before all paths, as packages need it.
 PREFIX = /usr/local
 bin = $(DESTDIR)$(PREFIX)/bin
 man = $(DESTDIR)$(PREFIX)/share/man/man1
@@ -129,6 +130,8 @@ install:
 	install -d "$(share)/dwv_tools"
 	install -m 755 $(scripts:%=contrib/%) "$(share)"
 	install -m 644 contrib/dwv_tools/*.py contrib/dwv_tools/*.txt "$(share)/dwv_tools"
+	install -d "$(share)/dwv"
+	install -m 644 $(filter-out %/tools.py,$(wildcard python/dwv/*.py)) "$(share)/dwv"
 	for it in $(integrations); do \
 	    install -d "$(share)/$$(dirname $$it)" && \
 	    install -m $$([ -x contrib/$$it ] && echo 755 || echo 644) contrib/$$it "$(share)/$$it" || exit 1; \

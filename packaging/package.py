@@ -100,7 +100,8 @@ LIBRARIES = "lib/x86_64-linux-gnu"
 # Debian's packages: the section, the other fields, the first line of the description and what this package has. The
 # first has all files that no other one has.
 DEBS = {
-    "dwv": ("devel", "Recommends: python3, python3-pyelftools\nSuggests: binutils, dwz, python3-zstandard\n"
+    "dwv": ("devel", f"Recommends: libdwv{MAJOR} (= {VERSION}), python3, python3-pyelftools\n"
+            "Suggests: binutils, dwz, python3-zstandard\n"
             "Provides: dh-sequence-dwv\n", "verify DWARF debugging information",
             "the program, its scripts in Python, and an addon of debhelper"),
     f"libdwv{MAJOR}": ("libs", "", "verify DWARF debugging information, C library", "the shared library"),

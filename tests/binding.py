@@ -4,6 +4,7 @@ import doctest
 import json
 import mmap
 import os
+import sqlite3
 import struct
 
 import common
@@ -11,11 +12,10 @@ import examples
 import pytest
 from common import BROKEN, SAMPLE
 
-LEAST = 11
-LIBRARY = common.TOP / "out/lib/libdwv.so.0"
-if not LIBRARY.exists():
+LEAST = 14
+if not common.LIBRARY.exists():
     common.lack("the C library is not built (make lib)", allow_module_level=True)
-os.environ.setdefault("DWV_LIBRARY", str(LIBRARY))
+os.environ.setdefault("DWV_LIBRARY", str(common.LIBRARY))
 import dwv
 
 SOUND = dwv.Counts(units=1, entries=2, types=1)
@@ -50,11 +50,16 @@ def test_lines():
         assert f"{dwv.check(data)}\n".encode() == dwv.report(data)[1]
 
 
-def test_sections():
+def sections_of_sample():
     file, found = SAMPLE.read_bytes(), {}
     for name, header in (("abbrev", 1), ("info", 2)):
         start, length = struct.unpack_from("<QQ", file, struct.unpack_from("<Q", file, 40)[0] + 64 * header + 24)
         found[name] = file[start : start + length]
+    return found
+
+
+def test_sections():
+    found = sections_of_sample()
     assert dwv.check_sections(**found) == SOUND
     assert dwv.check_sections() == dwv.Counts(0, 0, 0)
     assert dwv.check_sections(info=found["info"]).rule == "U6"
@@ -72,6 +77,66 @@ def test_entries():
     number = dwv.Entry(offset=15, depth=1, tag=0x24, size=4, name=b"int")
     assert dwv.entries(SAMPLE) == [unit, number]
     assert dwv.entries(BROKEN) == FAULT
+
+
+def test_table():
+    table = dwv.table(SAMPLE)
+    assert repr(table) == "Table(1 units, 2 entries, 4 values)"
+    assert [table.tag(it) for it in range(len(table))] == ["DW_TAG_compile_unit", "DW_TAG_base_type"]
+    assert (table.name(1), table.size(1), table.size(0), table.parent(1), table.parent(0)) == (b"int", 4, None, 0, None)
+    assert table.attributes(1) == {"DW_AT_name": b"int", "DW_AT_byte_size": 4, "DW_AT_encoding": 5}
+    assert table.attribute(1, 0x0B) == table.attribute(1, "DW_AT_byte_size") == 4
+    assert table.attribute(1, "DW_AT_type") is None
+    assert (list(table.children(0)), list(table.children(1))) == ([1], [])
+    assert len(dwv.table(SAMPLE, limit=4)) == 2
+    with pytest.raises(MemoryError):
+        dwv.table(SAMPLE, limit=3)
+    with pytest.raises(dwv.NotSound) as raised:
+        dwv.table(BROKEN)
+    assert raised.value.fault == FAULT
+
+
+def test_table_of_sections():
+    sections = sections_of_sample()
+    table = dwv.table_sections(**sections)
+    assert table.attributes(1) == dwv.table(SAMPLE).attributes(1)
+    assert table.columns["entries"]["name"].tolist() == [sections["info"].index(it) for it in (b"a\0", b"int\0")]
+
+
+def test_frames():
+    numpy, pandas = pytest.importorskip("numpy"), pytest.importorskip("pandas")
+    table = dwv.table(SAMPLE)
+    assert table.arrays.entries["tag"].tolist() == [0x11, 0x24]
+    memory = numpy.frombuffer(table.columns["entries"]["tag"].obj, "u1")
+    assert numpy.shares_memory(table.arrays.entries, memory)
+    entries, values = table.entries(), table.values()
+    assert entries["name"].tolist() == ["a", "int"]
+    assert entries["tag"].dtype == "category" and entries["size"][1] == 4
+    assert entries["parent"].isna().tolist() == [True, False]
+    assert values["attribute"].tolist()[2:] == ["DW_AT_byte_size", "DW_AT_encoding"]
+    assert values["kind"].tolist() == ["text", "text", "unsigned", "unsigned"]
+    assert len(table.units()) == 1 and isinstance(values, pandas.DataFrame)
+
+
+def test_arrow():
+    pytest.importorskip("pyarrow")
+    assert dwv.table(SAMPLE).to_arrow()["entries"].num_rows == 2
+
+
+def test_saving(tmp_path):
+    from dwv import saving
+    database, folder = tmp_path / "a.db", tmp_path / "a"
+    assert saving.main(["--sqlite", "-o", str(database), str(SAMPLE)]) == 0
+    wanted = [("DW_TAG_compile_unit", "a", None), ("DW_TAG_base_type", "int", 4)]
+    assert sqlite3.connect(database).execute("SELECT tag, name, size FROM entries").fetchall() == wanted
+    assert saving.main(["--csv", "-o", str(folder), str(SAMPLE)]) == 0
+    assert (folder / "attributes.csv").read_text().splitlines()[3] == "2,1,DW_AT_byte_size,unsigned,4,0,"
+    (tmp_path / "broken").write_bytes(BROKEN)
+    assert saving.main(["--csv", "-o", str(folder), str(tmp_path / "broken")]) == 1
+    assert saving.main(["--csv", "-o", str(tmp_path / "no/folder"), str(SAMPLE)]) == 3
+    numpy = pytest.importorskip("numpy")
+    assert saving.main(["-o", str(tmp_path / "a.npz"), str(SAMPLE)]) == 0
+    assert len(numpy.load(tmp_path / "a.npz")["values"]) == 4
 
 
 def test_reports():

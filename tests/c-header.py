@@ -16,7 +16,7 @@ from dwv_tools import c_types, c_writing
 STAND_IN = """#!/bin/sh
 case $1 in
     check) echo "sound: 1 units, 1 entries, 1 types" ;;
-    types) cat "$2" ;;
+    types) cat "$LISTING" ;;
 esac
 """
 # The most lines of a listing that must take less than SECONDS of processor time.
@@ -49,7 +49,7 @@ LISTINGS = [
     ("an enumeration in several places", "struct s { enum { A = 0 } x; enum { A = 0 } y; };\n"
      "typedef enum { A = 0 } t;\n", ["enum of_A {"]),
     ("refused types", "typedef gone *p;\nstruct s { p x; };\nstruct v { struct nobody *n; };\n"
-     "/* 0x00000010 P2 BadName */\n", ["/* refused: 0x00000010 P2 BadName", "struct nobody;", "2 left out"]),
+     "/* 0x0000000f P2 BadName */\n", ["/* refused: 0x0000000f P2 BadName", "struct nobody;", "2 left out"]),
     ("an enumeration that is only named", "struct s { enum gone *x; };\n", ["enum gone;"]),
     ("names of the compiler", "typedef __builtin_va_list __gnuc_va_list;\n"
      "typedef struct __va_list_tag __builtin_va_list[1];\nstruct __va_list_tag { int x; };\n"
@@ -154,7 +154,7 @@ def listings(folder):
     for name, text, wanted in LISTINGS:
         path = folder / "listing"
         path.write_text(text)
-        status, header, errors = run(*(["--all"] if "--all" in name else []), path, DWV=folder / "dwv")
+        status, header, errors = run(*(["--all"] if "--all" in name else []), common.SAMPLE, DWV=folder / "dwv", LISTING=path)
         wrong = [it for it in wanted if it.startswith("!") == (it.removeprefix("!") in header)]
         tally.add(name, errors or wrong or status or refusals(header))
         for line in text.splitlines():
@@ -168,7 +168,7 @@ def listings(folder):
         path = folder / "listing"
         path.write_text(text)
         before = resource.getrusage(resource.RUSAGE_CHILDREN).ru_utime
-        status, _, errors = run(path, DWV=folder / "dwv")
+        status, _, errors = run(common.SAMPLE, DWV=folder / "dwv", LISTING=path)
         used = resource.getrusage(resource.RUSAGE_CHILDREN).ru_utime - before
         tally.add(f"{MANY} lines, {name}", errors or status or (used if used > SECONDS else ""))
 
@@ -218,6 +218,7 @@ def words(folder):
 
 def main():
     common.build()
+    common.build_library()
     with common.empty_folder() as folder:
         (folder / "dwv").write_text(STAND_IN)
         (folder / "dwv").chmod(0o755)

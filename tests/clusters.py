@@ -203,6 +203,24 @@ def module(folder, env):
     tally.add("dask, by the Python module", None if is_right else errors[-500:] or said)
 
 
+def census(folder, env):
+    """The types of all files by contrib/census.py, and once more from its store."""
+    if not os.path.exists(LIBRARY):
+        tally.skip("the C library is not built (make lib)")
+        return
+    env = {**env, "DWV_LIBRARY": LIBRARY}
+    names = sorted(it.name for it in folder.glob("file *"))
+    for title in ("census", "census, from the store"):
+        status, said, errors = common.run("/usr/bin/python3", common.TOP / "contrib/census.py", "--store", "store",
+                                          "--sqlite", "census.db", *names, text=True, cwd=folder, env=env, timeout=300)
+        parts = {it: it.stat().st_mtime_ns for it in (folder / "store").glob("*.csv")}
+        is_right = status == 0 and len(parts) == FILES and "G1 UndeclaredCode" in said
+        tally.add(title, None if is_right else errors[-500:] or said)
+        if title != "census":
+            tally.same("the store is not written again", parts, before)
+        before = parts
+
+
 def main():
     common.build()
     with common.empty_folder() as folder:
@@ -218,6 +236,7 @@ def main():
         if common.run("/usr/bin/python3", "-c", "import distributed")[0] == 0:
             dask(folder, env)
             module(folder, env)
+            census(folder, env)
         else:
             tally.skip("Dask (python3-distributed) is not installed")
     return tally.end()

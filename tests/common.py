@@ -21,6 +21,8 @@ SAMPLE = CRATE / "data/X1"
 BROKEN = SAMPLE.read_bytes().replace(b"\x02int", b"\x03int")
 # The program: that of the variable DWV, or the one that `make` built.
 DWV = pathlib.Path(os.environ.get("DWV", CRATE / "out/dwv")).absolute()
+# The library that `make lib` built.
+LIBRARY = TOP / "out/lib/libdwv.so.0"
 sys.path[:0] = [str(TOP / folder) for folder in ("contrib", "bench")]
 
 # What the tests need besides make, python3 and the toolchain: .ci/run installs it. If CI is set, as CI services do, a
@@ -38,6 +40,12 @@ def build():
     """Proves and builds the program, if there is none."""
     if not DWV.exists():
         subprocess.run(["rt", "run", "--", "check", "data/X1"], cwd=CRATE, check=True)
+
+
+def build_library():
+    """Proves and builds the C library, if there is none."""
+    if "DWV_LIBRARY" not in os.environ and not LIBRARY.exists():
+        subprocess.run(["make", "--no-print-directory", "lib"], cwd=TOP, check=True, stdout=subprocess.DEVNULL)
 
 
 def has(tool):

@@ -19,6 +19,8 @@ INSTALLED = ["644 share/bash-completion/completions/dwv", "644 share/fish/vendor
 for path in sorted((TOP / "contrib/integrations").glob("*/*")):
     mode = "755" if os.access(path, os.X_OK) else "644"
     INSTALLED.append(f"{mode} share/dwv/{path.relative_to(TOP / 'contrib')}")
+for path in (TOP / "python/dwv").glob("*.py"):
+    INSTALLED += [f"644 share/dwv/dwv/{path.name}"] if path.name != "tools.py" else []
 for script in SCRIPTS:
     INSTALLED += [f"../share/dwv/{script} bin/dwv-{script}", f"755 share/dwv/{script}",
                   f"dwv share/bash-completion/completions/dwv-{script}", f"dwv.1 share/man/man1/dwv-{script}.1"]
@@ -80,7 +82,9 @@ def test_program(installed):
 
 @pytest.mark.parametrize("script", SCRIPTS)
 def test_script(installed, script):
-    env = {**os.environ, "PATH": f"{installed}/bin:{os.environ['PATH']}"}
+    if script == "c-header" and not common.LIBRARY.exists():
+        common.lack("the C library is not built (make lib)")
+    env = {"DWV_LIBRARY": str(common.LIBRARY), **os.environ, "PATH": f"{installed}/bin:{os.environ['PATH']}"}
     path = installed / f"bin/dwv-{script}"
     assert sum("sound" in line for line in common.run(path, SAMPLE, text=True, env=env)[1].splitlines()) == 1
     assert common.run(path, text=True, env=env)[2].split()[:2] == ["usage:", f"dwv-{script}"]

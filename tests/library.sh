@@ -15,7 +15,7 @@ passed=0
 failed=0
 skipped=0
 # How many checks there are at least, if no tool is missing that they need.
-least=45
+least=52
 lacking=
 
 # is NAME SAID WANTED: the two texts must be the same.
@@ -75,7 +75,7 @@ is 'make lib ends' "$?" 0
 names() {
     sed -n "s/^[0-9a-f ]* [$1] \\([A-Za-z0-9_.]*\\)\$/\\1/p" | sort -u | xargs
 }
-calls='dwv_check dwv_check_sections dwv_entries dwv_report dwv_version'
+calls='dwv_check dwv_check_sections dwv_entries dwv_report dwv_table dwv_table_sections dwv_version'
 needs='free malloc memcpy memmove memset realloc'
 if has nm; then
     is 'what libdwv.a has' "$(nm -g out/lib/libdwv.a | names TDBRVWC)" "$calls"
@@ -112,10 +112,14 @@ layout() {
     echo '#include "dwv.h"'
     layout crates/dwv_c/src/verdict.rt Verdict dwv_verdict
     layout crates/dwv_c/src/rows.rt EntryRow dwv_entry
+    layout crates/dwv_c/src/table_rows.rt UnitRow dwv_unit
+    layout crates/dwv_c/src/table_rows.rt TableEntry dwv_table_entry
+    layout crates/dwv_c/src/meaning.rt ValueRow dwv_value
+    layout crates/dwv_c/src/table_rows.rt TableCounts dwv_counts
     sed -n 's/^pub const \([A-Z_]*\): u32 = \([0-9]*\);/_Static_assert(DWV_\1 == \2, "\1");/p' \
-        crates/dwv_c/src/verdict.rt
+        crates/dwv_c/src/verdict.rt crates/dwv_c/src/places.rt
 } > "$folder/layout.c"
-is 'tests of the layout' "$(grep -c '^_Static_assert' "$folder/layout.c")" 39
+is 'tests of the layout' "$(grep -c '^_Static_assert' "$folder/layout.c")" 110
 
 # Files: a sound one, one with a fault, and one of each compiler. Names are in .debug_info, .debug_str and
 # .debug_line_str, and in clang's program at indexed offsets.
@@ -138,11 +142,14 @@ for compiler in gcc clang; do
     }
     ends "$compiler: the layout of the structs" "$compiler" "${flags[@]}" -c -o "$folder/layout.o" "$folder/layout.c"
     ends "$compiler: calls.c compiles" build -o "$folder/calls" "$tests/calls.c"
+    ends "$compiler: table.c compiles" build -o "$folder/table" "$tests/table.c"
     for file in "${files[@]}"; do
         name=$(basename "$file")
         is "$compiler: check of $name" "$("$folder/calls" check "$file" 2>&1; echo $?)" \
             "$("$dwv" check "$file"; echo $?)"
         is "$compiler: entries of $name" "$("$folder/calls" entries "$file" 2>&1 | md5sum)" \
+            "$("$dwv" show "$file" | sed '/^fault/d' | md5sum)"
+        is "$compiler: table of $name" "$("$folder/table" "$file" 2>&1 | md5sum)" \
             "$("$dwv" show "$file" | sed '/^fault/d' | md5sum)"
     done
     wraps=(-Wl,--wrap=malloc,--wrap=realloc,--wrap=free)
@@ -152,14 +159,27 @@ for compiler in gcc clang; do
     ends "$compiler: eight threads" "$folder/threads" "${files[@]:0:2}"
 done
 
-# block LANGUAGE: the example of docs/LIBRARY.md in this language.
+# block LANGUAGE [NUMBER]: the example of docs/LIBRARY.md in this language, the first one or that of the number.
 block() {
-    sed -n "/^\`\`\`$1\$/,/^\`\`\`\$/{/^\`\`\`/!p}" docs/LIBRARY.md
+    awk -v start="\`\`\`$1" -v number="${2:-1}" '
+        /^```$/ { inside = 0 } inside { print } $0 == start { inside = ++count == number }' docs/LIBRARY.md
 }
 wanted=$(printf 'sound, 2 entries\nG1 UndeclaredCode at .debug_info+0x0000000f')
 block c > "$folder/example.c"
+block c 2 > "$folder/functions.c"
 block c++ > "$folder/example.cc"
 block go > "$folder/example.go"
+
+# The functions in what `nm -S` prints, as the example with the table prints them: start, end and name. Those of the C
+# runtime have no entry.
+functions_of() {
+    while read -r start size kind name; do
+        case $kind:$name in
+        [Tt]:_*) ;;
+        [Tt]:*) printf '%#x %#x %s\n' "0x$start" "$((0x$start + 0x$size))" "$name" ;;
+        esac
+    done
+}
 
 # What the Rust example with gimli prints of a file.
 read_by_gimli() {
@@ -193,6 +213,14 @@ if has pkg-config && has gcc; then
     ends 'the C example compiles by pkg-config' \
         gcc -Wall -Wextra -Werror -o "$folder/c" "$folder/example.c" "${words[@]}"
     is 'the C example' "$(LD_LIBRARY_PATH="$installed/lib" "$folder/c" "$sample" "$folder/broken")" "$wanted"
+    ends 'the C example with the table compiles' \
+        gcc -Wall -Wextra -Werror -o "$folder/functions" "$folder/functions.c" "${words[@]}"
+    if [ -e "$folder/program-gcc" ] && has nm; then
+        # Functions of the program, as nm has them: where each starts and ends.
+        is 'the C example with the table' \
+            "$(LD_LIBRARY_PATH="$installed/lib" "$folder/functions" < "$folder/program-gcc" | sort)" \
+            "$(nm -S "$folder/program-gcc" | functions_of | sort)"
+    fi
     if has g++; then
         ends 'the C++ example compiles' \
             g++ -std=c++17 -Wall -Wextra -Werror -o "$folder/cc" "$folder/example.cc" "${words[@]}"

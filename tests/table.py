@@ -1,0 +1,225 @@
+#!/usr/bin/env python3
+"""Compares the table of dwv with other readers, on programs of each compiler: `tests/table.py [FILE..]`.
+
+pyelftools reads each unit, entry and value of a program, and the value is resolved here by its form: each row of the
+table must be that. It does not read type units, so there readelf gives the entries, the names and the targets of
+references. With FILEs, these are compared in place of the programs. It prints a line a program, and ends with 'N
+passed, N failed, N skipped'.
+"""
+import importlib.util
+import os
+import re
+import subprocess
+import sys
+
+sys.dont_write_bytecode = True
+import common
+
+sys.path.append(str(common.TOP / "python"))
+CPP = """namespace outer { enum class color : unsigned char { red, green = 200 };
+struct base { virtual ~base() {} int a = 1; static const long shared = -5; };
+template <typename T, int N> struct box : base { T values[N]; T &first() { return values[0]; } };
+struct key { unsigned low : 3, high : 7; color shade; int base::*member; const key *next; };
+inline int sum(box<int, 3> &of, int &&by) { int s = by; for (int it : of.values) s += it; return s; } }
+using outer::key; key one; outer::box<key, 4> keys; outer::box<int, 3> numbers; __int128 wide = 1;
+static int twice(int x) { return x * 2 + numbers.first(); } int main() { return outer::sum(numbers, twice(one.low)); }
+"""
+RUST = """use std::collections::HashMap; #[derive(Debug)] enum Shape { Dot, Line(u8, u64), Text { of: String } }
+fn main() { let mut all = HashMap::new(); all.insert(1u8, Shape::Line(1, 2)); all.insert(2, Shape::Dot);
+all.insert(3, Shape::Text { of: String::new() }); println!("{:?}", all); }
+"""
+NUMBERS = {f"DW_FORM_data{size}" for size in (1, 2, 4, 8)} | {"DW_FORM_udata"}
+BLOCKS = {"DW_FORM_block", "DW_FORM_block1", "DW_FORM_block2", "DW_FORM_block4"}
+OTHERS = {"DW_FORM_sec_offset": "section_offset", "DW_FORM_loclistx": "location_list", "DW_FORM_rnglistx": "range_list"}
+INSIDE = {f"DW_FORM_ref{size}" for size in (1, 2, 4, 8, "_udata")}
+tally = common.Tally(30)
+
+
+class Reader:
+    """What pyelftools says of a file, with the values resolved."""
+
+    def __init__(self, elf):
+        def section(name):
+            found = elf.get_section_by_name(name)
+            return found.data() if found else b""
+
+        self.dwarf = elf.get_dwarf_info(relocate_dwarf_sections=False)
+        self.str, self.line_str = section(".debug_str"), section(".debug_line_str")
+        self.offsets, self.addresses = section(".debug_str_offsets"), section(".debug_addr")
+        self.rows, self.entries = {}, []
+        for unit in self.dwarf.iter_CUs():
+            above = []
+            for entry in unit.iter_DIEs():
+                if entry.is_null():
+                    above.pop()
+                    continue
+                self.rows[entry.offset] = len(self.entries)
+                self.entries.append((unit, entry, list(above)))
+                if entry.has_children:
+                    above.append(self.rows[entry.offset])
+
+    def text(self, unit, form, value):
+        """The bytes of a text."""
+        if form == "DW_FORM_string":
+            return value
+        if form.startswith("DW_FORM_strx"):
+            base = unit.get_top_DIE().attributes["DW_AT_str_offsets_base"].value
+            value = int.from_bytes(self.offsets[base + 4 * value :][:4], "little")
+        section = self.line_str if form == "DW_FORM_line_strp" else self.str
+        return section[value : section.index(b"\0", value)]
+
+    def meaning(self, unit, form, value):
+        """What a value means: its kind, and what `Table.value` must return."""
+        if form in NUMBERS:
+            return "unsigned", value
+        if form in ("DW_FORM_sdata", "DW_FORM_implicit_const"):
+            return "signed", value
+        if form in ("DW_FORM_flag", "DW_FORM_flag_present"):
+            return "flag", form == "DW_FORM_flag_present" or value != 0
+        if form == "DW_FORM_addr":
+            return "address", value
+        if form.startswith("DW_FORM_addrx"):
+            size, base = unit["address_size"], unit.get_top_DIE().attributes["DW_AT_addr_base"].value
+            return "address", int.from_bytes(self.addresses[base + size * value :][:size], "little")
+        if form in ("DW_FORM_string", "DW_FORM_strp", "DW_FORM_line_strp") or form.startswith("DW_FORM_strx"):
+            return "text", self.text(unit, form, value)
+        if form in BLOCKS or form == "DW_FORM_exprloc":
+            return "block" if form in BLOCKS else "expression", bytes(value)
+        if form == "DW_FORM_data16":
+            return "wide", int.from_bytes(bytes(value), "little")
+        if form in INSIDE or form == "DW_FORM_ref_addr":
+            return "reference", self.rows[value + unit.cu_offset * (form in INSIDE)]
+        return OTHERS.get(form, form), value
+
+
+def differences(path):
+    """What pyelftools and the table say otherwise, and how many values were compared."""
+    from elftools.dwarf import enums
+    from elftools.elf.elffile import ELFFile
+    with open(path, "rb") as file:
+        found, table = Reader(ELFFile(file)), dwv.table(path)
+        units, entries, values = (table.columns[it] for it in ("units", "entries", "values"))
+        wrong, value, last, starts = [], 0, {}, {}
+        for row, (unit, entry, above) in enumerate(found.entries):
+            number = starts.setdefault(unit.cu_offset, len(starts))
+            tag = enums.ENUM_DW_TAG.get(entry.tag, entry.tag)
+            said = tuple(entries[it][row] for it in ("offset", "tag", "depth", "unit", "first_value", "values"))
+            if said != (entry.offset, tag, len(above), number, value, len(entry.attributes)):
+                wrong.append(f"entry {row}: {said}")
+            parent = above[-1] if above else None
+            if table.parent(row) != parent or entries["next_sibling"][row] != NONE and row + 1 == len(table):
+                wrong.append(f"entry {row}: its parent, {table.parent(row)}")
+            if (number, parent) in last and entries["next_sibling"][last[number, parent]] != row:
+                wrong.append(f"entry {row}: it is not the next sibling")
+            last[number, parent] = row
+            for name, attribute in entry.attributes.items():
+                code = enums.ENUM_DW_AT.get(name, name)
+                wanted = (row, code, *found.meaning(unit, attribute.form, attribute.raw_value))
+                said = (values["entry"][value], values["attribute"][value], table.kind(value), table.value(value))
+                if said != wanted:
+                    wrong.append(f"value {value}, {attribute.form}: {said}, wanted {wanted}")
+                is_text = wanted[2] == "text"
+                end = values["number"][value] + values["length"][value]
+                if is_text and table.parts[values["section"][value]][end] != 0:
+                    wrong.append(f"value {value}: no zero byte ends the text")
+                value += 1
+        wrong += [f"entry {row}: the last one has a sibling" for row in last.values() if
+                  entries["next_sibling"][row] != NONE]
+        for number, unit in enumerate(found.dwarf.iter_CUs()):
+            rows = [row for row in range(units["first"][number], units["first"][number] + units["entries"][number])]
+            language = unit.get_top_DIE().attributes.get("DW_AT_language")
+            said = tuple(units[it][number] for it in ("offset", "version", "address_size", "language"))
+            if said != (unit.cu_offset, unit["version"], unit["address_size"], language.value if language else 0):
+                wrong.append(f"unit {number}: {said}")
+            if {entries["unit"][row] for row in rows} != {number}:
+                wrong.append(f"unit {number}: its entries")
+        if (len(found.entries), value, len(starts)) != (len(table), len(values["entry"]), len(units["offset"])):
+            wrong.append(f"{len(found.entries)} entries, {value} values, and {table}")
+    return wrong, value
+
+
+def typed_differences(path):
+    """The same by readelf: offsets, depths and tags of all entries, and names and references by DW_AT_type."""
+    table, found, types, unit = dwv.table(path), common.readelf_entries(path), {}, {}
+    header = subprocess.run(["readelf", "--debug-dump=info", path], capture_output=True, text=True).stdout
+    start, signature = 0, None
+    for line in header.splitlines():
+        if it := re.match(r" *Compilation Unit @ offset (?:0x)?([0-9a-f]+)", line):
+            start = int(it[1], 16)
+        elif it := re.match(r" *Signature: +0x([0-9a-f]+)", line):
+            signature = int(it[1], 16)
+        elif it := re.match(r" *Type Offset: +0x([0-9a-f]+)", line):
+            types[signature] = start + int(it[1], 16)
+    wrong, count, entries = [], 0, table.columns["entries"]
+    if len(found) != len(table):
+        return [f"{len(found)} entries by readelf, {len(table)} in the table"], 0
+    for row, entry in enumerate(found):
+        # readelf cuts some names short.
+        said, is_tag = (entries["offset"][row], entries["depth"][row]), table.tag(row).startswith(f"DW_TAG_{entry.tag}")
+        if said != (entry.at, entry.depth) or not is_tag:
+            wrong.append(f"entry {row}: {said} {table.tag(row)}, wanted {entry}")
+        for name, text in entry.attributes.items():
+            value = table.attribute(row, f"DW_AT_{name}")
+            if it := re.fullmatch(r"(?:\(\w+\) )?<0x([0-9a-f]+)>", text):
+                said, wanted = entries["offset"][value], int(it[1], 16)
+            elif it := re.fullmatch(r"(?:\(\w+\) )?signature: (?:0x)?([0-9a-f]+)", text):
+                said, wanted = entries["offset"][value], types[int(it[1], 16)]
+            elif name == "name" and entry.depth:    # before the base of a unit, readelf does not know its texts
+                said, wanted = value.decode(), text
+            else:
+                continue
+            count += 1
+            if said != wanted:
+                wrong.append(f"entry {row}, {name}: {said}, wanted {wanted}")
+    return wrong, count
+
+
+def programs(folder):
+    """The programs: a title, the path, and whether it has type units."""
+    (folder / "types.cc").write_text(CPP)
+    (folder / "main.rs").write_text(RUST)
+    path = folder / "program"
+    plans = [(f"{compiler} -gdwarf-{version} {more} -shared -fPIC", source)
+             for compiler in ("gcc", "clang") for version in (4, 5) for more in ("-O0", "-O2")
+             for source in ("shapes.c", "calls.c", "library.c")]
+    plans += [(f"{compiler} -gdwarf-{version} {more}", folder / "types.cc")
+              for compiler in ("g++", "clang++") for version in (4, 5) for more in ("-O0", "-O2")]
+    plans += [(f"clang++ -gdwarf-5 -fdebug-types-section {more}", folder / "types.cc") for more in ("-O0", "-O2")]
+    plans += [(f"rustc -g --cap-lints allow -C opt-level={level}", folder / "main.rs") for level in (0, 2)]
+    for command, source in plans:
+        if tally.has(command.split()[0]):
+            title = f"{command} {source if isinstance(source, str) else source.name}"
+            words = [*command.split(), *([] if command.startswith("rustc") else ["-w"]), "-o", path]
+            if subprocess.run([*words, common.PROGRAMS / source], capture_output=True).returncode == 0:
+                yield title, path, "types-section" in command
+            else:
+                tally.lack(f"{title} does not compile")
+
+
+def compare(title, path, has_types):
+    try:
+        wrong, count = typed_differences(path) if has_types else differences(path)
+    except dwv.NotSound as error:
+        # The compilers write some files that are not sound; docs/COMPILERS.md has their faults.
+        tally.skip(f"{title}: {error}")
+        return
+    tally.add(title, "; ".join(wrong[:5]) or (None if count else "nothing was compared"), f"{count} values")
+
+
+def main():
+    with common.empty_folder() as folder:
+        for title, path, has_types in ((it, it, False) for it in sys.argv[1:]) if sys.argv[1:] else programs(folder):
+            compare(title, path, has_types)
+    return tally.end()
+
+
+if __name__ == "__main__":
+    common.build_library()
+    if not importlib.util.find_spec("elftools"):
+        if common.PYTHON != sys.executable:
+            os.execv(common.PYTHON, [common.PYTHON, *sys.argv])
+        tally.lack("pyelftools is not installed")
+        sys.exit(tally.end())
+    import dwv
+    from dwv.tables import NONE
+    sys.exit(main())
