@@ -1,177 +1,107 @@
--- The next declaration of a table is read as it is spelled, and no other way.
-use Rattle.std.proofs.Common.{rules, ◌≡◌, ℕ, zero, suc, ◌<◌, Bool, true, false, cond, eqb, ltb, List, [], ◌∷◌, ◌++◌, Option, Some, None, Result, Ok, Err, refl, sym, ap, subst, ◌∙◌, inl, inr, append_assoc, arith}
-use Rattle.std.specs.Prelude.{MatchResult, ◌⊎◌, ◌||◌}
-use Rattle.std.proofs.lemmas.Result.{MatchResult-at_ok}
-use Rattle.std.proofs.lemmas.Bool.{ltb-false, eqb-true, eqb-false, ne_eqb, le-ltb, or_parts}
-use Rattle.dw_forms.specs.declared.decl.AttributeSpec.{AttributeSpec}
+-- What is spelled as an attribute or a declaration is allowed, and what follows a number or a tag is an end of the bytes.
+use Rattle.std.proofs.Common.{rules, ◌≡◌, ℕ, ◌<◌, Bool, true, false, cond, eqb, ltb, List, [], ◌∷◌, ◌++◌, Option, Some, None, Ok, refl, sym, ap, subst, ◌∙◌, arith}
+use Rattle.std.specs.Prelude.{◌||◌, All, not}
+use Rattle.std.proofs.lemmas.Bool.{ltb-false, eqb-false, or_parts}
+use Rattle.std.proofs.lemmas.List.Elements.{All-nil, All-cons}
+use Rattle.dw_forms.specs.declared.form.Form.{Form}
+use Rattle.dw_forms.specs.declared.abbrev.AttributeSpec.{AttributeSpec}
 use Rattle.dw_forms.specs.declared.fault.DeclFault.{DeclFault}
-use Rattle.dw_forms.specs.declared.fault.AbbrevRule.TheVariants.{AbbrevCut, CodeTwice, BadTag, BadChildren}
-use Rattle.dw_forms.specs.Steps.{◌>>=◌}
-use Rattle.dw_forms.specs.Front.{Takes}
-use Rattle.dw_forms.specs.Leb.{Uleb}
-use Rattle.dw_forms.specs.Abbrev.{Declaration, SpellsPair, SpellsDecl, children_byte, IsCode16, IsDeclaration, IsNewCode, broken, NumberFails, AttributesFail, DeclFails, code_number, code_twice, tag_number, bad_tag, children_cut, bad_children, attributes_fail}
-use Rattle.dw_forms.specs.AbbrevReading.{unsigned_at, children_at, attributes_of, has_code, tagged_at, decl_at}
-use Rattle.dw_forms.specs.Says.{bind_says, cond_says}
+use Rattle.dw_forms.specs.Abbrev.{Declaration, IsCode16, AreAttributes, IsDeclaration, AreDeclarations, Decls, is_code16, number, pair, attributes, specifications, tag_and_children, code_or_end, declarations}
+use Rattle.dw_forms.specs.AbbrevReading.{unsigned_at, tagged_at}
+use Rattle.dw_forms.specs.Elements.{SpellsElement}
+use Rattle.dw_forms.specs.Formats.{Format, nothing, failing, choose, found, tested}
+use Rattle.dw_forms.specs.ListFormats.{SpellsEach}
 use Rattle.dw_forms.specs.Readers.{takes}
-use Rattle.dw_forms.proofs.Keys.{Lacks, lacks_from, lacks_test, any_from}
-use Rattle.dw_forms.proofs.AttributeLaws.{number_reader, pair_takes}
-use Rattle.dw_forms.proofs.AttributesLaws.{SpellsAll, attributes_reader}
-use Rattle.dw_forms.proofs.SpelledLists.{NextOf}
+use Rattle.dw_forms.proofs.SpelledLists.{some_is, never_none}
 
-abbrev pub code_of_decl : Declaration → ℕ
-code_of_decl d = d.code
+-- ---- what the tests of a format say of a value that is spelled
 
--- what follows the earlier declarations: the end, or a declaration whose code none of them has
-abbrev pub NextDecl : List Declaration → List ℕ → Option Declaration → Type 0
-NextDecl = NextOf code_of_decl IsDeclaration SpellsDecl (λ text. Uleb text 0)
+tested_on : {A E : Type 0} (test : A → Bool) (wrong : E) (x a : A) (b : Bool) (text : List ℕ) → test x ≡ b
+    → (choose b (nothing x) (failing wrong)).Spells text a → test a ≡ true
+tested_on test wrong x a true text e s = ap test s.1 ∙ e
+tested_on test wrong x a false text e s = absurd s
 
-abbrev Next : List Declaration → List ℕ → Option Declaration × List ℕ → Type 0
-Next earlier bytes x = Takes (NextDecl earlier) bytes x.0 x.1
+tested_is : {A E : Type 0} (test : A → Bool) (wrong : E) (f : Format A E) (text : List ℕ) (a : A)
+    → (tested test wrong f).Spells text a → test a ≡ true
+tested_is test wrong f text a s = tested_on test wrong s.value a (test s.value) s.second refl s.is_second
 
--- ---- the byte of the children
+code16_on : (n : ℕ) → (eqb n 0 || ltb 65535 n) ≡ false → IsCode16 n
+code16_on n e = search (rules, or_parts, eqb-false, ltb-false)
 
-abbrev ChildrenFails : List ℕ → DeclFault → Type 0
-ChildrenFails bytes fault =
-    ((bytes ≡ []) × (fault ≡ broken AbbrevCut 0))
-    ⊎ ((byte : ℕ) × (rest : List ℕ) × (bytes ≡ byte ∷ rest) × (1 < byte) × (fault ≡ broken BadChildren 0))
+not_true : (b : Bool) → not b ≡ true → b ≡ false
+not_true true e = sym e
+not_true false e = refl
 
-children_says : (bytes : List ℕ)
-    → MatchResult (children_at bytes) (λ (x : Bool × List ℕ). bytes ≡ children_byte x.0 ∷ x.1) (ChildrenFails bytes)
-children_says [] = inl (refl, refl)
-children_says (zero ∷ bytes) = refl
-children_says (suc zero ∷ bytes) = refl
-children_says (suc (suc byte) ∷ bytes) = inr (suc (suc byte), bytes, refl, omega arith, refl)
+code16_is : (n : ℕ) → is_code16 n ≡ true → IsCode16 n
+code16_is n e = code16_on n (not_true (eqb n 0 || ltb 65535 n) e)
 
-pub children_again : (b : Bool) (rest : List ℕ) → children_at (children_byte b ∷ rest) ≡ Ok (b, rest)
-children_again true rest = refl
-children_again false rest = refl
+-- ---- attributes
 
--- ---- the steps
+pair_on : (ends wrong : Bool) (o : Option Form) (bad unknown : DeclFault) (a : ℕ) (text : List ℕ) (p : ℕ × Form)
+    → (choose {A = Option (ℕ × Form)} ends (nothing None) (choose wrong (failing bad)
+    (found o (failing unknown) (λ form. nothing (Some (a, form)))))).Spells text (Some p)
+    → (wrong ≡ false) × (p.0 ≡ a)
+pair_on true wrong o bad unknown a text p s = absurd (never_none (sym s.1))
+pair_on false true o bad unknown a text p s = absurd s
+pair_on false false None bad unknown a text p s = absurd s
+pair_on false false (Some form) bad unknown a text p s = (refl, ap (λ (q : ℕ × Form). q.0) (some_is s.1))
 
-pub tag_is : (tag : ℕ) → (eqb tag 0 || ltb 65535 tag) ≡ false → IsCode16 tag
-tag_is tag e = search (rules, or_parts, eqb-false, ltb-false)
+pair_good : (text : List ℕ) (p : ℕ × Form) → pair.Spells text (Some p) → IsCode16 p.0
+unfolding pair
+pair_good text p s =
+    let h = pair_on _ _ _ _ _ s.value s.is_second.second p s.is_second.is_second in
+    subst IsCode16 (sym h.1) (code16_pair s.value s.is_second.value h.0)
+  where
+    code16_pair : (a c : ℕ) → (eqb a 0 || eqb c 0 || ltb 65535 a) ≡ false → IsCode16 a
+    code16_pair a c e = search (rules, or_parts, eqb-false, ltb-false)
 
-tag_isnt : (tag : ℕ) → (eqb tag 0 || ltb 65535 tag) ≡ true → IsCode16 tag → ⊥
-tag_isnt tag e good = search (rules, ne_eqb, le-ltb)
+pub attribute_good : (text : List ℕ) (s : AttributeSpec) → SpellsElement specifications text s → IsCode16 s.attribute
+attribute_good text s h =
+    subst IsCode16 (sym (specifications.named h.begins h.others s h.is_rest)) (pair_good h.first h.begins h.is_first)
 
-abbrev pub made : ℕ → ℕ → Bool → List AttributeSpec → Declaration
-made code tag children attributes = record { code = code; tag = tag; has_children = children; attributes = attributes }
+-- each element of a list is good, if what is spelled is
+each_good : {X : Type 0} (Spells : List ℕ → X → Type 0) (End : List ℕ → Type 0) (Good : X → Type 0)
+    → ((text : List ℕ) (x : X) → Spells text x → Good x) → (xs : List X) (text : List ℕ)
+    → SpellsEach Spells End xs text → All Good xs
+each_good Spells End Good good [] text s = All-nil Good
+each_good Spells End Good good (x ∷ xs) text s =
+    All-cons Good x xs (good s.0 x s.3) (each_good Spells End Good good xs s.1 s.4)
 
-abbrev pub after_tag : ℕ → ℕ → List ℕ → Result (Option Declaration × List ℕ) DeclFault
-after_tag code tag bytes =
-    cond (eqb tag 0 || ltb 65535 tag) (Err (broken BadTag 0))
-    (children_at bytes >>= λ children. attributes_of children.1 >>= λ attributes. Ok
-    (Some (made code tag children.0 attributes.0), attributes.1))
+attributes_good : (text : List ℕ) (specs : List AttributeSpec) → attributes.Spells text specs → AreAttributes specs
+attributes_good text specs s = record {
+  each = each_good _ _ (λ (spec : AttributeSpec). IsCode16 spec.attribute) attribute_good specs text s.spelled;
+  distinct = s.distinct;
+}
 
-abbrev after_code : List Declaration → ℕ → List ℕ → Result (Option Declaration × List ℕ) DeclFault
-after_code earlier code bytes =
-    cond (eqb code 0) (Ok (None, bytes))
-    (cond (has_code code earlier) (Err (broken CodeTwice 0))
-    (unsigned_at bytes >>= λ tag. after_tag code tag.0 tag.1))
+-- ---- declarations
 
-module _ (earlier : List Declaration) (bytes : List ℕ) (code tag : ℕ) (behind : List ℕ)
-    (t : Takes SpellsPair bytes (code, tag) behind) (new : IsNewCode earlier code) where
-  decl_takes : IsCode16 tag → (children : Bool) (others : List ℕ) → behind ≡ children_byte children ∷ others
-      → (attributes : List AttributeSpec) (rest : List ℕ) → Takes SpellsAll others attributes rest
-      → Next earlier bytes (Some (made code tag children attributes), rest)
-  decl_takes good children others e attributes rest u = record {
-    text = t.text ++ (children_byte children ∷ u.text);
-    parts =
-        t.parts ∙ ap (λ (r : List ℕ). t.text ++ r) (e ∙ ap (λ (r : List ℕ). children_byte children ∷ r) u.parts)
-        ∙ sym (append_assoc t.text (children_byte children ∷ u.text) rest);
-    spelled = search (rules);
-  }
+tag_good : (text : List ℕ) (t : ℕ × Bool) → tag_and_children.Spells text t → IsCode16 t.0
+unfolding tag_and_children
+tag_good text t s =
+    subst (λ (x : ℕ × Bool). IsCode16 x.0) (sym s.is_second.2)
+    (code16_is s.value (tested_is is_code16 _ number s.first s.value s.is_first))
 
-  children_fail : IsCode16 tag → (fault : DeclFault) → ChildrenFails behind fault → DeclFails earlier bytes fault
-  children_fail good fault (inl h) =
-      children_cut code tag (subst (Takes SpellsPair bytes (code, tag)) h.0 t) new good h.1
-  children_fail good fault (inr h) =
-      bad_children code tag h.0 h.1 (subst (Takes SpellsPair bytes (code, tag)) h.2 t) new good h.3 h.4
+code_on : (b : Bool) (x code : ℕ) → eqb x 0 ≡ b → cond b None (Some x) ≡ Some code → 0 < code
+code_on true x code e s = absurd (never_none s)
+code_on false x code e s = subst (λ (n : ℕ). 0 < n) (some_is s) (let ne = eqb-false x 0 e in omega arith)
 
-  after_tag_says : MatchResult (after_tag code tag behind) (Next earlier bytes) (DeclFails earlier bytes)
-  after_tag_says =
-      cond_says (eqb tag 0 || ltb 65535 tag) _ _ (Next earlier bytes) (DeclFails earlier bytes)
-      (λ wrong. bad_tag code tag behind t new (tag_isnt tag wrong) refl)
-      (λ right. let good = tag_is tag right in
-      bind_says (children_at behind)
-      (λ children. attributes_of children.1 >>= λ attributes. Ok
-      (Some (made code tag children.0 attributes.0), attributes.1))
-      (λ (x : Bool × List ℕ). behind ≡ children_byte x.0 ∷ x.1) (ChildrenFails behind) (Next earlier bytes)
-      (DeclFails earlier bytes)
-      (children_says behind)
-      (λ children e. bind_says (attributes_of children.1)
-      (λ attributes. Ok (Some (made code tag children.0 attributes.0), attributes.1))
-      (λ (x : List AttributeSpec × List ℕ). Takes SpellsAll children.1 x.0 x.1) (AttributesFail children.1)
-      (Next earlier bytes) (DeclFails earlier bytes)
-      (attributes_reader.says children.1)
-      (λ attributes u. decl_takes good children.0 children.1 e attributes.0 attributes.1 u)
-      (λ fault h. attributes_fail code tag children.0 children.1 (subst (Takes SpellsPair bytes (code, tag)) e t) new
-      good h))
-      (λ fault h. children_fail good fault h))
+code_good : (text : List ℕ) (code : ℕ) → code_or_end.Spells text (Some code) → 0 < code
+unfolding code_or_end
+code_good text code s = code_on (eqb s.0 0) s.0 code refl (sym s.2)
 
-after_code_says : (earlier : List Declaration) (bytes : List ℕ) (code : ℕ) (rest : List ℕ) → Takes Uleb bytes code rest
-    → MatchResult (after_code earlier code rest) (Next earlier bytes) (DeclFails earlier bytes)
-after_code_says earlier bytes code rest t =
-    cond_says (eqb code 0) _ _ (Next earlier bytes) (DeclFails earlier bytes)
-    (λ none. record { text = t.text; parts = t.parts; spelled = subst (Uleb t.text) (eqb-true code 0 none) t.spelled })
-    (λ some. let ne = eqb-false code 0 some in
-    cond_says (has_code code earlier) _ _ (Next earlier bytes) (DeclFails earlier bytes)
-    (λ twice. code_twice code rest t (omega arith) (any_from code_of_decl code earlier twice) refl)
-    (λ once. let new : IsNewCode earlier code =
-    record { some = omega arith; new = lacks_from code_of_decl code earlier once } in
-    bind_says (unsigned_at rest) (λ tag. after_tag code tag.0 tag.1) (λ (x : ℕ × List ℕ). Takes Uleb rest x.0 x.1)
-    (NumberFails rest) (Next earlier bytes) (DeclFails earlier bytes)
-    (number_reader.says rest)
-    (λ tag u. after_tag_says earlier bytes code tag.0 tag.1 (pair_takes bytes code tag.0 rest tag.1 t u) new)
-    (λ fault h. tag_number code rest t new h)))
+decl_good : (text : List ℕ) (d : Declaration) → SpellsElement declarations text d → IsDeclaration d
+decl_good text d s =
+    let tag = s.is_rest.is_first in
+    let specs = s.is_rest.is_second in
+    subst IsDeclaration (sym specs.2) (record {
+      code = code_good s.first s.begins s.is_first;
+      tag = tag_good s.is_rest.first s.is_rest.value tag;
+      attributes = attributes_good s.is_rest.second specs.0 specs.1;
+    })
 
-pub decl_says : (earlier : List Declaration) (bytes : List ℕ)
-    → MatchResult (decl_at earlier bytes) (λ (x : Option Declaration × List ℕ). Takes (NextDecl earlier) bytes x.0 x.1)
-    (DeclFails earlier bytes)
-unfolding decl_at
-decl_says earlier bytes =
-    bind_says (unsigned_at bytes) (λ code. after_code earlier code.0 code.1)
-    (λ (x : ℕ × List ℕ). Takes Uleb bytes x.0 x.1) (NumberFails bytes) (Next earlier bytes)
-    (DeclFails earlier bytes)
-    (number_reader.says bytes) (λ code t. after_code_says earlier bytes code.0 code.1 t) (λ fault h. code_number h)
-
--- ---- what is spelled is read
-
-module _ (earlier : List Declaration) (rest : List ℕ) where
-  pub end_again : (text : List ℕ) → Uleb text 0 → decl_at earlier (text ++ rest) ≡ Ok (None, rest)
-  unfolding decl_at
-  end_again text u = rw (number_reader.again text rest 0 u) refl
-
-  pub next_again : (text : List ℕ) (d : Declaration) → SpellsDecl text d → IsDeclaration d
-      → Lacks code_of_decl d.code earlier → decl_at earlier (text ++ rest) ≡ Ok (Some d, rest)
-  unfolding decl_at
-  next_again text d p good lacks =
-      let behind = children_byte d.has_children ∷ (p.attributes ++ rest) in
-      let parts : text ++ rest ≡ p.is_pair.first ++ (p.is_pair.second ++ behind) =
-      ap (λ (t : List ℕ). t ++ rest) p.parts ∙ append_assoc p.pair (children_byte d.has_children ∷ p.attributes) rest
-      ∙ ap (λ (t : List ℕ). t ++ behind) p.is_pair.parts ∙ append_assoc p.is_pair.first p.is_pair.second behind in
-      let first : unsigned_at (text ++ rest)
-      ≡ Ok (d.code, p.is_pair.second ++ behind) = ap unsigned_at parts
-      ∙ number_reader.again p.is_pair.first (p.is_pair.second ++ behind) d.code p.is_pair.is_first in
-      let second : unsigned_at (p.is_pair.second ++ behind)
-      ≡ Ok (d.tag, behind) = number_reader.again p.is_pair.second behind d.tag p.is_pair.is_second in
-      let code_some : eqb d.code 0 ≡ false = ne_eqb d.code 0 (λ same. let h = good.code in absurd (omega arith)) in
-      let tag_some : eqb d.tag 0 ≡ false = ne_eqb d.tag 0 (λ same. let h = good.tag.some in absurd (omega arith)) in
-      let tag_small : ltb 65535 d.tag ≡ false = le-ltb 65535 d.tag good.tag.small in
-      let once : has_code d.code earlier ≡ false = lacks_test code_of_decl d.code earlier lacks in
-      let last : attributes_of (p.attributes ++ rest)
-      ≡ Ok (d.attributes, rest) = attributes_reader.again p.attributes rest d.attributes
-      (record { spelled = p.are_attributes; allowed = good.attributes }) in
-      rw (
-        first,
-        code_some,
-        once,
-        second,
-        tag_some,
-        tag_small,
-        children_again d.has_children (p.attributes ++ rest),
-        last,
-      ) refl
+pub decls_good : (text : List ℕ) (ds : List Declaration) → Decls text ds → AreDeclarations ds
+decls_good text ds s =
+    record { each = each_good _ _ IsDeclaration decl_good ds text s.spelled; distinct = s.distinct }
 
 -- ---- the bytes after a code, and after a tag and the byte of the children
 
@@ -179,37 +109,13 @@ module _ (earlier : List Declaration) (rest : List ℕ) where
 abbrev pub EndsIn : List ℕ → List ℕ → Type 0
 EndsIn bytes rest = (text : List ℕ) × (bytes ≡ text ++ rest)
 
+ends_in : {V E : Type 0} (f : Format V E) (bytes : List ℕ) (v : V) (rest : List ℕ) → f.read bytes ≡ Ok (v, rest)
+    → EndsIn bytes rest
+ends_in f bytes v rest e = let t = takes f.read f.Spells f.Fails f.is_reader bytes v rest e in (t.text, t.parts)
+
 pub number_ends : (bytes : List ℕ) (number : ℕ) (rest : List ℕ) → unsigned_at bytes ≡ Ok (number, rest)
     → EndsIn bytes rest
-number_ends bytes number rest e =
-    let t = takes unsigned_at Uleb NumberFails number_reader bytes number rest e in (t.text, t.parts)
+number_ends = ends_in number
 
-tagged_says : (bytes : List ℕ)
-    → MatchResult (tagged_at bytes) (λ (x : ℕ × Bool × List ℕ). EndsIn bytes x.2) (λ (fault : DeclFault). Unit {0})
-unfolding tagged_at
-tagged_says bytes =
-    bind_says (unsigned_at bytes) (λ tag. cond (eqb tag.0 0 || ltb 65535 tag.0) (Err (broken BadTag 0))
-    (children_at tag.1 >>= λ children. Ok (tag.0, children.0, children.1)))
-    (λ (x : ℕ × List ℕ). Takes Uleb bytes x.0 x.1) (NumberFails bytes) (λ (x : ℕ × Bool × List ℕ). EndsIn bytes x.2)
-    (λ (fault : DeclFault). Unit {0})
-    (number_reader.says bytes)
-    (λ tag t. cond_says (eqb tag.0 0 || ltb 65535 tag.0) _ _ (λ (x : ℕ × Bool × List ℕ). EndsIn bytes x.2)
-    (λ (fault : DeclFault). Unit {0})
-    (λ wrong. tt)
-    (λ right. bind_says (children_at tag.1) (λ children. Ok (tag.0, children.0, children.1))
-    (λ (x : Bool × List ℕ). tag.1 ≡ children_byte x.0 ∷ x.1) (ChildrenFails tag.1)
-    (λ (x : ℕ × Bool × List ℕ). EndsIn bytes x.2) (λ (fault : DeclFault). Unit {0})
-    (children_says tag.1)
-    (λ children e. (
-      t.text ++ children_byte children.0 ∷ [],
-      t.parts ∙ ap (λ (r : List ℕ). t.text ++ r) e
-          ∙ sym (append_assoc t.text (children_byte children.0 ∷ []) children.1),
-    ))
-    (λ fault h. tt)))
-    (λ fault h. tt)
-
-pub tag_ends : (bytes : List ℕ) (tag : ℕ) (children : Bool) (rest : List ℕ) → tagged_at bytes ≡ Ok (tag, children, rest)
-    → EndsIn bytes rest
-tag_ends bytes tag children rest e =
-    MatchResult-at_ok (λ (x : ℕ × Bool × List ℕ). EndsIn bytes x.2) (λ (fault : DeclFault). Unit {0})
-    (tag, children, rest) e (tagged_says bytes)
+pub tag_ends : (bytes : List ℕ) (t : ℕ × Bool) (rest : List ℕ) → tagged_at bytes ≡ Ok (t, rest) → EndsIn bytes rest
+tag_ends = ends_in tag_and_children

@@ -9,9 +9,9 @@ use Rattle.std.proofs.lemmas.Map.Made.{IsDistinct-from_AllPairs}
 use Rattle.std.proofs.lemmas.Map.Steps.{length-le_from_distinct_below}
 use Rattle.std.proofs.lemmas.List.Elements.{All-map}
 use Rattle.dw_forms.specs.declared.form.Form.TheVariants.{Addr}
-use Rattle.dw_forms.specs.declared.decl.AttributeSpec.{AttributeSpec}
+use Rattle.dw_forms.specs.declared.abbrev.AttributeSpec.{AttributeSpec}
 use Rattle.dw_forms.specs.Abbrev.{AreAttributes}
-use Rattle.dw_forms.proofs.AttributeLaws.{attribute_of}
+use Rattle.dw_forms.specs.Abbrev.{attribute_of}
 
 codes : List AttributeSpec → List ℕ
 codes specs = map attribute_of specs

@@ -1,7 +1,7 @@
 -- A declaration is read by its code, its tag, and the list of its attributes.
 use Rattle.std.proofs.Common.{◌≡◌, ℕ, ◌-◌, Bool, List, [], ◌++◌, length, drop, Some, None, Result, Ok, Err, refl, sym, ap, ◌∙◌, append_assoc}
 use Rattle.std.proofs.lemmas.Bool.{ne_eqb}
-use Rattle.dw_forms.specs.declared.decl.AttributeSpec.{AttributeSpec}
+use Rattle.dw_forms.specs.declared.abbrev.AttributeSpec.{AttributeSpec}
 use Rattle.dw_forms.specs.declared.attribute_lists.Node.{Node}
 use Rattle.dw_forms.specs.declared.fault.DeclFault.{DeclFault}
 use Rattle.dw_forms.specs.declared.fault.Stop.{Stop}
@@ -39,11 +39,11 @@ module _ (section : List ℕ) (offset : ℕ) where
       tag_breaks (stops.Fault fault) e =
           (fault, decl_by (drop offset section) code rest code_is (ne_eqb code 0 some) ∙ rw e refl)
 
-      module _ (tag : ℕ) (children : Bool) (after : List ℕ) (tag_is : tagged_at rest ≡ Ok (tag, children, after)) where
+      module _ (tag : ℕ × Bool) (after : List ℕ) (tag_is : tagged_at rest ≡ Ok (tag, after)) where
         after_is : after ≡ drop (length section - length after) section
         after_is =
             let first = number_ends (drop offset section) code rest code_is in
-            let second = tag_ends rest tag children after tag_is in
+            let second = tag_ends rest tag after tag_is in
             rest_of section offset (first.0 ++ second.0) after
             (first.1 ∙ ap (λ (r : List ℕ). first.0 ++ r) second.1 ∙ sym (append_assoc first.0 second.0 after))
 
@@ -52,7 +52,7 @@ module _ (section : List ℕ) (offset : ℕ) where
             → IsListAt section nodes (length section - length after) first end
             → decl_at [] (drop offset section)
             ≡ Ok (
-              Some (record { code = code; tag = tag; has_children = children; attributes = list_in nodes first }),
+              Some (record { code = code; tag = tag.0; has_children = tag.1; attributes = list_in nodes first }),
               drop end section,
             )
         next_some nodes first end is =

@@ -2,14 +2,10 @@ pub mod FewBytes
 pub mod SpellingSteps
 pub mod AbbrevSteps
 pub mod Texts
-pub mod Keys
 pub mod Places
-pub mod AttributeLaws
-pub mod AttributesLaws
 pub mod SpelledLists
 pub mod DeclLaws
 pub mod TableLaws
-pub mod NumberFaults
 pub mod TableFaults
 pub mod BitLaws
 pub mod ChainLaws

@@ -3,10 +3,10 @@ use Rattle.std.proofs.Common.{◌≡◌, ℕ, suc, ◌<◌, ◌≤◌, List, [],
 use Rattle.std.specs.Prelude.{get_or}
 use Rattle.std.proofs.lemmas.Bool.{cases_eq}
 use Rattle.std.proofs.lemmas.List.{length-append, get_or_append_left, get_or_at}
-use Rattle.dw_forms.specs.declared.decl.AttributeSpec.{AttributeSpec}
+use Rattle.dw_forms.specs.declared.abbrev.AttributeSpec.{AttributeSpec}
 use Rattle.dw_forms.specs.declared.attribute_lists.Node.{Node}
 use Rattle.dw_forms.specs.declared.offsets.Placed.{Placed}
-use Rattle.dw_forms.specs.Abbrev.{IsCode16, broken}
+use Rattle.dw_forms.specs.Abbrev.{IsCode16, attribute_of, specifications, broken}
 use Rattle.dw_forms.specs.declared.fault.AbbrevRule.TheVariants.{AbbrevCut}
 use Rattle.dw_forms.specs.declared.fault.Stop.{Stop}
 use Rattle.dw_forms.specs.declared.fault.DeclFault.{DeclFault}
@@ -16,15 +16,20 @@ use Rattle.dw_forms.specs.Chains.{Numbered, items_of}
 use Rattle.dw_forms.specs.AttributeLists.{numbered_in, list_in, IsLast, AddedSpec}
 use Rattle.dw_forms.specs.Offsets.{BeginsAt, NothingAt, AreAlong, AreNew, Stay}
 use Rattle.dw_forms.specs.ListOffsets.{IsListAt, ArePlaced, NoListAt, IsPairAt, Leads}
+use Rattle.dw_forms.specs.ListFormats.{ReadsNext, reads_next}
+use Rattle.dw_forms.specs.Elements.{SpellsElement, SpellsEnd, NextFails}
 use Rattle.dw_forms.specs.Stops.{IfFault, FailsOrMemory}
 use Rattle.dw_forms.proofs.ChainLaws.{chain_none}
-use Rattle.dw_forms.proofs.Keys.{lacks_from, lacks_test}
+use Rattle.dw_forms.specs.Keys.{lacks_from, lacks_test}
 use Rattle.dw_forms.proofs.ListLaws.{rest_of}
-use Rattle.dw_forms.proofs.AttributeLaws.{attribute_of}
-use Rattle.dw_forms.proofs.AttributesLaws.{reads_attributes}
-use Rattle.dw_forms.proofs.SpelledLists.{taken, is_good, list_more, list_end, none_before, none_twice, none_broken}
+use Rattle.dw_forms.proofs.DeclLaws.{attribute_good}
+use Rattle.dw_forms.proofs.SpelledLists.{taken, list_more, list_end, none_before, none_twice, none_broken}
 use Rattle.dw_forms.proofs.NodeLaws.{old_list, new_list}
 use Rattle.dw_forms.proofs.OffsetLaws.{begins_within, apart_push, along_pop, along_back, new_pop, new_stay}
+
+reads_attributes : ReadsNext attribute_of (SpellsElement specifications) (SpellsEnd specifications)
+    (NextFails specifications) pair_at (broken AbbrevCut 0)
+reads_attributes = reads_next specifications (broken AbbrevCut 0)
 
 -- ---- what stays
 
@@ -75,7 +80,9 @@ module _ {section : List ℕ} {old : List Node} {starts : List ℕ} {offset firs
   pair_less = let e = popped.1 in omega (arith, e.rises, e.fits)
 
   pub code_before : IsCode16 p.item.attribute
-  code_before = is_good reads_attributes (drop p.at section) (drop leads.next section) p.item popped.1.is
+  code_before =
+      let t = taken reads_attributes (drop p.at section) (Some p.item) (drop leads.next section) popped.1.is in
+      attribute_good t.text p.item t.spelled.0
 
   pub no_list : (new : List Node) → AddedSpec p.item first old new None → NoListAt section offset
   no_list new added =

@@ -4,22 +4,19 @@ use Rattle.std.proofs.lemmas.Grind.{common_steps}
 use Rattle.std.specs.Prelude.{◌==◌, not, get_or}
 use Rattle.std.proofs.lemmas.Bool.{cases_eq}
 use Rattle.std.proofs.lemmas.List.{length-append, length-map, map-append, get_or_append_left, get_or_at, get_or_default}
-use Rattle.dw_forms.specs.declared.decl.AttributeSpec.{AttributeSpec}
+use Rattle.std.proofs.lemmas.List.Elements.{All-nil}
+use Rattle.dw_forms.specs.declared.abbrev.AttributeSpec.{AttributeSpec}
 use Rattle.dw_forms.specs.declared.attribute_lists.Node.{Node}
 use Rattle.dw_forms.specs.declared.chains.Link.{Link}
-use Rattle.dw_forms.specs.Abbrev.{IsCode16, AreAttributes}
+use Rattle.dw_forms.specs.Abbrev.{IsCode16, AreAttributes, attribute_of}
 use Rattle.dw_forms.specs.AbbrevReading.{has_attribute}
 use Rattle.dw_forms.specs.AttributeLists.{spec_of, specs_of, numbered_in, list_in, Knows, IsKnown, AreKnown, AreCoded}
 use Rattle.dw_forms.specs.Chains.{Numbered, chain_in, chains_of, codes_of, codes_in, number_in, number_where}
 use Rattle.dw_forms.specs.Walks.{IsStep}
-use Rattle.dw_forms.proofs.SpelledLists.{none_apart}
 use Rattle.dw_forms.proofs.BitLaws.{eq_true, differ}
 use Rattle.dw_forms.proofs.CodeLaws.{codes_long}
-use Rattle.dw_forms.proofs.Keys.{apart_cons, lacks_from}
+use Rattle.dw_forms.specs.Keys.{apart_cons, lacks_from}
 use Rattle.dw_forms.proofs.ChainLaws.{chain_none, chain_map, where_map, are_numbered, none_has, some_has, old_chain, new_chain}
-
-abbrev pub attribute_of : AttributeSpec → ℕ
-attribute_of spec = spec.attribute
 
 -- the code of an attribute, with the number of the list after it
 abbrev pub code_part : (AttributeSpec × ℕ) → ℕ × ℕ
@@ -97,7 +94,10 @@ attributes_more spec specs are code none = grind (arith, common_steps, apart_con
 
 pub attributes_in : (nodes : List Node) (number : ℕ) → AreKnown nodes → number ≤ length nodes
     → AreAttributes (list_in nodes number)
-attributes_in nodes zero known within = rw (chain_none (specs_of nodes)) none_apart
+attributes_in nodes zero known within = rw (chain_none (specs_of nodes)) (record {
+  each = All-nil (λ (s : AttributeSpec). IsCode16 s.attribute);
+  distinct = λ i j d lt long. absurd (omega arith);
+})
 attributes_in [] (suc k) known within = absurd (omega (arith, within))
 attributes_in (d ∷ nodes) (suc k) known within =
     (known k (get_or (d ∷ nodes) k d) (omega (arith, within))

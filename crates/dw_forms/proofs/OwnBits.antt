@@ -6,11 +6,11 @@ use Rattle.std.specs.List.{list_any}
 use Rattle.std.proofs.lemmas.Bool.{cases_eq}
 use Rattle.std.proofs.lemmas.Nat.{pow_pos}
 use Rattle.std.proofs.lemmas.Nat.Bits.{bit_at_or, bit_at-pow_same, bit_at-pow_other, bit_at-zero, bit_at-lt, and_pow}
-use Rattle.dw_forms.specs.declared.decl.AttributeSpec.{AttributeSpec}
+use Rattle.dw_forms.specs.declared.abbrev.AttributeSpec.{AttributeSpec}
 use Rattle.dw_forms.specs.AbbrevReading.{has_attribute}
 use Rattle.dw_forms.specs.AttributeBits.{place_from, bit_of, asked, AreBitsOf}
 use Rattle.dw_forms.proofs.BitLaws.{eq_true, differ}
-use Rattle.dw_forms.proofs.Keys.{lacks_from, lacks_test}
+use Rattle.dw_forms.specs.Keys.{lacks_from, lacks_test}
 
 -- ---- bits as factors
 

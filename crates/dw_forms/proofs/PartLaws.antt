@@ -3,7 +3,7 @@ use Rattle.std.proofs.Common.{rules, ◌≡◌, ℕ, zero, suc, ◌-◌, ◌<◌
 use Rattle.std.specs.Prelude.{◌||◌, get_or}
 use Rattle.std.specs.List.{list_any}
 use Rattle.std.proofs.lemmas.List.{get_or_default}
-use Rattle.dw_forms.specs.declared.decl.AttributeSpec.{AttributeSpec}
+use Rattle.dw_forms.specs.declared.abbrev.AttributeSpec.{AttributeSpec}
 use Rattle.dw_forms.specs.declared.attribute_lists.Node.{Node}
 use Rattle.dw_forms.specs.Chains.{Numbered, items_of, number_where}
 use Rattle.dw_forms.specs.AttributeLists.{spec_of, specs_of, numbered_in, AreKnown, IsKnown, EndsWith}

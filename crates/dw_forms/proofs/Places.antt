@@ -12,7 +12,7 @@ use Rattle.dw_forms.specs.Abbrev.{table_view, views}
 use Rattle.dw_forms.specs.AbbrevReading.{has_code}
 use Rattle.dw_forms.specs.Places.{IsIndex, IsPlace, StandsAt}
 use Rattle.dw_forms.proofs.AbbrevSteps.{has_code_views, find_views}
-use Rattle.dw_forms.proofs.Keys.{Apart, Lacks, lacks_from, lacks_test, apart_push, find_at, find_none}
+use Rattle.dw_forms.specs.Keys.{Apart, Lacks, lacks_from, lacks_test, apart_push, find_at, find_none}
 
 abbrev pub code_of_decl : Decl → ℕ
 code_of_decl d = d.code

@@ -12,8 +12,8 @@ use Rattle.dw_forms.specs.AbbrevReading.{has_code}
 use Rattle.dw_forms.specs.KeptDecls.{Tables, kept_view, table_in, tables_of}
 use Rattle.dw_forms.specs.Offsets.{NothingAt, AreAlong, AreNew}
 use Rattle.dw_forms.specs.TableStarts.{IsTableIn, AreStarts, Stay, NoTable, IsDeclAt, GoesOn, IsAddedTable}
-use Rattle.dw_forms.proofs.Keys.{Lacks, lacks_from, lacks_test}
-use Rattle.dw_forms.proofs.DeclLaws.{code_of_decl}
+use Rattle.dw_forms.specs.Keys.{Lacks, lacks_from, lacks_test}
+use Rattle.dw_forms.specs.Abbrev.{code_of_decl}
 use Rattle.dw_forms.proofs.KeptLaws.{tables_long, table_none}
 use Rattle.dw_forms.proofs.OffsetLaws.{begins_within, apart_push, along_pop, new_pop, new_stay}
 use Rattle.dw_forms.proofs.TailLaws.{table_more, twice_none, none_along, table_allowed, table_fewer}

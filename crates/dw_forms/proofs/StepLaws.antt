@@ -1,6 +1,6 @@
 -- The first step in a list with one attribute more.
 use Rattle.std.proofs.Common.{rules, ◌≡◌, ℕ, ◌+◌, ◌≤◌, true, false, List, ◌∷◌}
-use Rattle.dw_forms.specs.declared.decl.AttributeSpec.{AttributeSpec}
+use Rattle.dw_forms.specs.declared.abbrev.AttributeSpec.{AttributeSpec}
 use Rattle.dw_forms.specs.declared.attribute_lists.Step.{Step}
 use Rattle.dw_forms.specs.Chains.{Numbered}
 use Rattle.dw_forms.specs.Plans.{known_size}

@@ -5,7 +5,7 @@ use Rattle.std.specs.Prelude.{All, find, Some, None}
 use Rattle.std.specs.List.{list_any, slice_range}
 use Rattle.std.proofs.lemmas.Bool.{eqb-true, or_parts}
 use Rattle.std.proofs.lemmas.List.{length-append, get_or_append_left, get_or_at}
-use Rattle.dw_forms.specs.declared.decl.AttributeSpec.{AttributeSpec}
+use Rattle.dw_forms.specs.declared.abbrev.AttributeSpec.{AttributeSpec}
 use Rattle.dw_forms.specs.declared.attribute_lists.Node.{Node}
 use Rattle.dw_forms.specs.declared.attributes.Attributes.{Attributes}
 use Rattle.dw_forms.specs.declared.value.ValueFault.{ValueFault}
@@ -18,8 +18,9 @@ use Rattle.dw_forms.specs.Suffixes.{nodes_of, numbered, specs_in, Ends, IsFrom}
 use Rattle.dw_forms.specs.Value.{Datum}
 use Rattle.dw_forms.specs.ValueReading.{value_at}
 use Rattle.dw_forms.proofs.ChainLaws.{chain_none, are_numbered, none_has, some_has}
-use Rattle.dw_forms.proofs.Keys.{lacks_from}
-use Rattle.dw_forms.proofs.NodeLaws.{attribute_of, code_is, links_long}
+use Rattle.dw_forms.specs.Keys.{lacks_from}
+use Rattle.dw_forms.proofs.NodeLaws.{code_is, links_long}
+use Rattle.dw_forms.specs.Abbrev.{attribute_of}
 use Rattle.dw_forms.proofs.PartLaws.{IsSplit, split}
 use Rattle.dw_forms.proofs.PassSteps.{items_append, run}
 

@@ -1,58 +1,30 @@
 -- A table is its declarations, one after another, up to the code 0.
-use Rattle.std.proofs.Common.{rules, ◌≡◌, ℕ, ◌+◌, ◌-◌, ◌<◌, ◌≤◌, List, [], length, drop, Option, Result, Ok, Err, refl, sym, ap, ◌∙◌, arith}
-use Rattle.std.specs.Prelude.{MatchResult, IfOk, IfErr}
+use Rattle.std.proofs.Common.{◌≡◌, ℕ, ◌+◌, ◌-◌, ◌≤◌, List, length, drop, Result, Ok, Err, sym, ap, ◌∙◌, arith}
+use Rattle.std.specs.Prelude.{IfOk, IfErr}
 use Rattle.std.proofs.lemmas.List.{length-append, length-drop}
-use Rattle.dw_forms.specs.declared.fault.DeclFault.{DeclFault}
 use Rattle.dw_forms.specs.declared.fault.AbbrevFault.{AbbrevFault}
 use Rattle.dw_forms.specs.declared.fault.AbbrevRule.TheVariants.{AbbrevCut}
 use Rattle.dw_forms.specs.declared.fault.Stop.{Stop}
 use Rattle.dw_forms.specs.declared.fault.Stop.TheVariants as stops
 use Rattle.dw_forms.specs.AbbrevFaults.{fault_at}
 use Rattle.dw_forms.specs.Steps.{◌>>=◌}
-use Rattle.dw_forms.specs.Front.{BeginsWith, BeginsWithNone, Takes}
-use Rattle.dw_forms.specs.Leb.{Uleb}
-use Rattle.dw_forms.specs.Abbrev.{Declaration, SpellsDecl, IsDeclaration, DeclFails, Decls, FailsAfter, TableFails}
-use Rattle.dw_forms.specs.AbbrevReading.{decl_at, placed, placed_decl_at, decls_at, table_at}
-use Rattle.dw_forms.specs.Readers.{IsReader, read_is, not_both, reader_begins, reader_none, reader_fails}
+use Rattle.dw_forms.specs.Front.{BeginsWith, BeginsWithNone}
+use Rattle.dw_forms.specs.Abbrev.{broken, Declaration, Decls, TableFails, code_of_decl, declarations, table}
+use Rattle.dw_forms.specs.AbbrevReading.{placed_decl_at, decls_at, table_at}
+use Rattle.dw_forms.specs.Elements.{SpellsElement, SpellsEnd}
+use Rattle.dw_forms.specs.ListFormats.{ReadsNext, renamed_next, reads_renamed}
+use Rattle.dw_forms.specs.Readers.{read_is, fault_is, not_both, reader_begins, reader_none, reader_fails}
 use Rattle.dw_forms.specs.Stops.{IfFault, GivesOrMemory}
-use Rattle.dw_forms.proofs.AttributesLaws.{uleb_some}
-use Rattle.dw_forms.proofs.SpelledLists.{ReadsNext, list_reader}
-use Rattle.dw_forms.proofs.DeclLaws.{code_of_decl, NextDecl, decl_says, end_again, next_again}
 
-pub decl_some : (text : List ℕ) (d : Declaration) → SpellsDecl text d → 0 < length text
-decl_some text d p = search (rules, uleb_some, length-append)
-
--- the fault of a declaration, at its place
-abbrev PlacedFails : ℕ → List Declaration → List ℕ → AbbrevFault → Type 0
-PlacedFails len earlier bytes fault =
-    (reason : DeclFault) × DeclFails earlier bytes reason × (fault ≡ fault_at (len - length bytes) reason)
-
-placed_says : {A : Type 0} (place : ℕ) (P : A → Type 0) (Q : DeclFault → Type 0) (r : Result A DeclFault)
-    → MatchResult r P Q → MatchResult (placed place r) P
-    (λ fault. (reason : DeclFault) × Q reason × (fault ≡ fault_at place reason))
-placed_says place P Q (Ok x) h = h
-placed_says place P Q (Err reason) h = (reason, h, refl)
-
-pub reads_decls : (len : ℕ) → ReadsNext code_of_decl IsDeclaration SpellsDecl (λ text. Uleb text 0) (PlacedFails len)
-    (placed_decl_at len) (record { rule = AbbrevCut; at = len; attribute = 0 })
-reads_decls len = record {
-  some = decl_some;
-  says =
-      λ earlier bytes. placed_says (len - length bytes)
-      (λ (x : Option Declaration × List ℕ). Takes (NextDecl earlier) bytes x.0 x.1) (DeclFails earlier bytes)
-      (decl_at earlier bytes) (decl_says earlier bytes);
-  ends = λ earlier text rest e. rw (end_again earlier rest text e) refl;
-  more = λ earlier text rest d s good lacks. rw (next_again earlier rest text d s good lacks) refl;
-}
+-- the declarations of a table at the end of a section of this length
+pub reads_decls : (len : ℕ) → ReadsNext code_of_decl (SpellsElement declarations) (SpellsEnd declarations)
+    (λ earlier. (renamed_next declarations (λ bytes. fault_at (len - length bytes)) earlier).Fails)
+    (placed_decl_at len) (fault_at len (broken AbbrevCut 0))
+reads_decls len =
+    reads_renamed declarations (λ bytes. fault_at (len - length bytes)) (fault_at len (broken AbbrevCut 0))
 
 abbrev pub DeclsFail : ℕ → List ℕ → AbbrevFault → Type 0
-DeclsFail len = FailsAfter SpellsDecl IsDeclaration code_of_decl (PlacedFails len) []
-
-pub decls_reader : (len : ℕ) → IsReader (decls_at len) Decls (DeclsFail len)
-decls_reader len = list_reader (reads_decls len)
-
-fault_is : {A : Type 0} {f g : AbbrevFault} → ◌≡◌ {A = Result A AbbrevFault} (Err f) (Err g) → f ≡ g
-fault_is e = cc
+DeclsFail len = (table len).Fails
 
 -- ---- the table at an offset
 
@@ -69,7 +41,7 @@ module _ (section : List ℕ) (offset : ℕ) where
         rest = f.rest;
         parts = f.parts;
         spelled = f.spelled;
-        allowed = f.allowed;
+        distinct = f.distinct;
         reason = f.fails.0;
         fails = f.fails.1;
         is = f.fails.2 ∙ ap (λ (p : ℕ). fault_at p f.fails.0) place;
@@ -91,20 +63,20 @@ module _ (section : List ℕ) (offset : ℕ) where
       let r = table_result (decls_at (length section) (drop offset section)) ds e in (
         length (drop offset section) - length r.0,
         reader_begins (decls_at (length section)) Decls
-            (DeclsFail (length section)) (decls_reader (length section)) (drop offset section) ds r.0 r.1,
+            (DeclsFail (length section)) (table (length section)).is_reader (drop offset section) ds r.0 r.1,
       )
 
   pub table_none : (fault : AbbrevFault) → table_at section offset ≡ Err fault
       → BeginsWithNone Decls (drop offset section)
   table_none fault e =
-      reader_none (decls_at (length section)) Decls (DeclsFail (length section)) (decls_reader (length section))
+      reader_none (decls_at (length section)) Decls (DeclsFail (length section)) (table (length section)).is_reader
       (drop offset section) fault (table_error (decls_at (length section) (drop offset section)) fault e)
 
   pub table_fails : offset ≤ length section → (fault : AbbrevFault) → table_at section offset ≡ Err fault
       → TableFails section offset fault
   table_fails within fault e =
       fails_at within fault (reader_fails (decls_at (length section)) Decls (DeclsFail (length section))
-      (decls_reader (length section)) (drop offset section) fault
+      (table (length section)).is_reader (drop offset section) fault
       (table_error (decls_at (length section) (drop offset section)) fault e))
 
   -- ---- the clauses of the call

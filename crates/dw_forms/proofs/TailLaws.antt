@@ -8,20 +8,21 @@ use Rattle.dw_forms.specs.declared.fault.Stop.{Stop}
 use Rattle.dw_forms.specs.declared.fault.AbbrevFault.{AbbrevFault}
 use Rattle.dw_forms.specs.declared.fault.Stop.TheVariants as stops
 use Rattle.dw_forms.specs.AbbrevFaults.{fault_at}
-use Rattle.dw_forms.specs.Leb.{Uleb}
-use Rattle.dw_forms.specs.Abbrev.{Declaration, AreDeclarations, TableFails}
+use Rattle.dw_forms.specs.Abbrev.{Declaration, AreDeclarations, TableFails, code_of_decl, code_or_end, declarations}
 use Rattle.dw_forms.specs.AbbrevReading.{decl_at, placed_decl_at, decls_at, table_at}
 use Rattle.dw_forms.specs.declared.attribute_lists.Node.{Node}
 use Rattle.dw_forms.specs.KeptDecls.{kept_view}
 use Rattle.dw_forms.specs.TableStarts.{NoTable, IsDeclAt, IfNoDecl}
+use Rattle.dw_forms.specs.Elements.{SpellsEnd}
+use Rattle.dw_forms.specs.LebLaws.{uleb_some}
 use Rattle.dw_forms.specs.Offsets.{AreAlong, Stay}
+use Rattle.dw_forms.specs.ListFormats.{each_fits}
 use Rattle.dw_forms.specs.Stops.{IfFault, FailsOrMemory}
 use Rattle.dw_forms.proofs.KeptLaws.{view_stays, has_stays}
-use Rattle.dw_forms.proofs.Keys.{Lacks}
+use Rattle.dw_forms.specs.Keys.{Lacks}
 use Rattle.dw_forms.proofs.OffsetLaws.{along_back, along_same}
-use Rattle.dw_forms.proofs.AttributesLaws.{uleb_some}
-use Rattle.dw_forms.proofs.DeclLaws.{code_of_decl}
-use Rattle.dw_forms.proofs.SpelledLists.{NoList, each_fits, list_more, list_end, none_broken, none_before, none_twice}
+use Rattle.dw_forms.proofs.DeclLaws.{decls_good}
+use Rattle.dw_forms.proofs.SpelledLists.{NoList, list_more, list_end, none_broken, none_before, none_twice}
 use Rattle.dw_forms.proofs.TableLaws.{reads_decls, table_result, table_found, table_fails}
 
 module _ (section : List ℕ) where
@@ -105,13 +106,19 @@ module _ (section : List ℕ) where
 
 pub table_allowed : (section : List ℕ) (offset : ℕ) (ds : List Declaration) → table_at section offset ≡ Ok ds
     → AreDeclarations ds
-table_allowed section offset ds is = let (len, b) = table_found section offset ds is in b.spelled.allowed
+table_allowed section offset ds is = let (len, b) = table_found section offset ds is in
+    decls_good (take len (drop offset section)) ds b.spelled
+
+-- the end has a byte
+end_some : (text : List ℕ) → SpellsEnd declarations text → 1 ≤ length text
+unfolding code_or_end
+end_some text s = uleb_some text s.0 s.1
 
 pub table_fewer : (section : List ℕ) (offset : ℕ) (ds : List Declaration) → table_at section offset ≡ Ok ds
     → length ds < length section
 table_fewer section offset ds is =
     let (len, b) = table_found section offset ds is in
-    let few = each_fits (reads_decls 0) (λ text. Uleb text 0) 1 (λ text u. uleb_some text 0 u) ds
+    let few = each_fits (reads_decls 0) (SpellsEnd declarations) 1 end_some ds
     (take len (drop offset section)) b.spelled.spelled in
     omega (arith, few, length-take len (drop offset section), length-drop offset section)
 

@@ -2,13 +2,14 @@
 -- any entry is read. A list is a chain of attributes.
 use Rattle.std.specs.Prelude.{◌≡◌, ℕ, suc, ◌*◌, ◌<◌, ◌≤◌, ◌==◌, if◌then◌else◌, List, [], ◌∷◌, ◌++◌, length, map}
 use Rattle.std.specs.Prelude.{get_or, Bool, true, false, Option, Some, None}
-use Rattle.dw_forms.specs.declared.decl.AttributeSpec.{AttributeSpec}
+use Rattle.dw_forms.specs.declared.abbrev.AttributeSpec.{AttributeSpec}
 use Rattle.dw_forms.specs.declared.attribute_lists.Node.{Node}
 use Rattle.dw_forms.specs.declared.chains.Link.{Link}
 use Rattle.dw_forms.specs.Abbrev.{AreAttributes}
 use Rattle.dw_forms.specs.AbbrevReading.{has_attribute}
 use Rattle.dw_forms.specs.Chains.{Numbered, items_of, chain_in, chains_of, number_where, codes_of}
-use Rattle.dw_forms.specs.Plans.{known_sum, does_vary, is_stop}
+use Rattle.dw_forms.specs.Plans.{known_sum, does_vary}
+use Rattle.dw_forms.specs.Classes.{is_open}
 use Rattle.dw_forms.specs.AttributeBits.{AreBitsOf}
 use Rattle.dw_forms.specs.Sizes.{are_allowed}
 use Rattle.dw_forms.specs.Walks.{IsStep}
@@ -40,7 +41,7 @@ has_this code spec = spec.attribute == code
 -- this is known of a list: the next lists whose first attribute is of a kind, and the sums of the sizes of values
 pub record Knows (list : List (Numbered AttributeSpec)) (n : Node) : Type 0 where
   pub varying : n.next_varying ≡ number_where varies list
-  pub stop : n.next_stop ≡ number_where is_stop list
+  pub next_open : n.next_open ≡ number_where is_open list
   pub known_with_4 : n.known_with_4 ≡ known_sum 4 (items_of list)
   pub known_with_8 : n.known_with_8 ≡ known_sum 8 (items_of list)
   pub small_4 : n.known_with_4 ≤ 0xff * length list

@@ -1,7 +1,7 @@
 -- State: the place of the first attribute with a code, and its value.
 use Rattle.std.specs.Prelude.{◌≡◌, ◌≢◌, ℕ, ◌<◌, List, length, Option, Some, None, Result, Ok, Err, All, slice_index_or}
 use Rattle.std.specs.List.{slice_range}
-use Rattle.dw_forms.specs.declared.decl.AttributeSpec.{AttributeSpec}
+use Rattle.dw_forms.specs.declared.abbrev.AttributeSpec.{AttributeSpec}
 use Rattle.dw_forms.specs.declared.form.Form.{Form}
 use Rattle.dw_forms.specs.declared.value.Value.{Value}
 use Rattle.dw_forms.specs.declared.value.ValueFault.{ValueFault}

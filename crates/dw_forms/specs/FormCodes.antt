@@ -64,6 +64,11 @@ forms =
 unfoldable pub form_of : ℕ → Option Form
 form_of code = find (λ form. code_of form == code) forms
 
+-- a form without the number of an implicit constant
+abbrev pub bare : Form → Form
+bare (ImplicitConst number) = ImplicitConst (pos 0)
+bare f = f
+
 -- the forms of version 4 are those of the codes 0x01, 0x03 to 0x19 and 0x20. Version 5 has them all
 abbrev pub is_allowed : ℕ → Form → Bool
 is_allowed version form =

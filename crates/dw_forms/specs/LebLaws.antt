@@ -1,10 +1,10 @@
 -- Laws: reading a LEB128 number from left to right agrees with the grammar: the number is the one that is spelled, and
 -- the fault the one that the grammar names.
-use Rattle.std.proofs.Common.{◌≡◌, ℕ, ◌^◌, ◌<◌, ◌≤◌, Bool, true, false, cond, ltb, List, ◌++◌, length, Result, Ok, Err}
-use Rattle.std.proofs.Common.{refl, sym, ap, subst, ◌∙◌, inl, inr, arith}
+use Rattle.std.proofs.Common.{◌≡◌, ℕ, ◌^◌, ◌<◌, ◌≤◌, Bool, true, false, cond, ltb, List, [], ◌∷◌, ◌++◌, length}
+use Rattle.std.proofs.Common.{Result, Ok, Err, refl, sym, ap, subst, ◌∙◌, inl, inr, arith}
 use Rattle.std.specs.Prelude.{MatchResult, ◌⊎◌, IfOk, IfErr, OnErr, ℤ, pos, negsuc}
 use Rattle.std.proofs.lemmas.Int.{ints}
-use Rattle.std.proofs.lemmas.Bool.{lt-ltb, ltb-true, ltb-false, false≢true}
+use Rattle.std.proofs.lemmas.Bool.{lt-ltb, le-ltb, ltb-true, ltb-false, false≢true, cases_lt}
 use Rattle.std.proofs.lemmas.Result.{MatchResult-weaker}
 use Rattle.std.proofs.lemmas.List.{take_at, length-append}
 use Rattle.dw_forms.specs.declared.leb.Spelling.{Spelling}
@@ -15,7 +15,8 @@ use Rattle.dw_forms.specs.Leb.{IsEnded, sum_from, Uleb, Sleb, IsI64, unsigned_va
 use Rattle.dw_forms.specs.Leb.{HasValueOutside, UlebFails, SlebFails}
 use Rattle.dw_forms.specs.Steps.{◌>>=◌}
 use Rattle.dw_forms.specs.LebReading.{spelling_at, uleb_at, sleb_at, fits_i64, signed_of}
-use Rattle.dw_forms.specs.SpellingLaws.{IsWhole, WholeFails, whole_of, whole_says, whole_again}
+use Rattle.dw_forms.specs.SpellingLaws.{IsWhole, WholeFails, whole_of, whole_says, whole_again, cut_at, unending_at}
+use Rattle.dw_forms.specs.SpellingLaws.{outside_at}
 
 -- ---- what the readers share
 
@@ -143,7 +144,7 @@ uleb_again bytes text rest n parts u =
 
 -- ---- signed numbers
 
-pub fits_is : (z : ℤ) → fits_i64 z ≡ true → IsI64 z
+fits_is : (z : ℤ) → fits_i64 z ≡ true → IsI64 z
 fits_is (pos n) e = let lt = ltb-true _ _ e in record { low = omega (arith, ints); high = omega (arith, ints) }
 fits_is (negsuc n) e = let lt = ltb-true _ _ e in record { low = omega (arith, ints); high = omega (arith, ints) }
 
@@ -188,6 +189,38 @@ unfolding sleb_at
 sleb_again bytes text rest n parts u =
     reads_again Sleb signed_of (λ s. fits_i64 (signed_of s))
     (λ text. IsI64 (signed_value text)) sleb_spelled sleb_parts sleb_outside bytes text rest n parts u
+
+-- a number has some bytes
+ended_some : (text : List ℕ) → IsEnded text → 0 < length text
+ended_some [] h = absurd h
+ended_some (b ∷ text) h = omega arith
+
+pub uleb_some : (text : List ℕ) (n : ℕ) → Uleb text n → 0 < length text
+uleb_some text n u = ended_some text u.ended
+
+-- ---- the fault is the one that reading gives
+
+pub uleb_refuses : (bytes : List ℕ) (f : NumberFault) → UlebFails bytes f → uleb_at bytes ≡ Err f
+unfolding uleb_at
+uleb_refuses bytes Cut c = rw (cut_at bytes c) refl
+uleb_refuses bytes BadNumber (inl u) = rw (unending_at bytes u) refl
+uleb_refuses bytes BadNumber (inr h) =
+    let big : 2 ^ 64 ≤ unsigned_value h.text = elim (cases_lt (unsigned_value h.text) (2 ^ 64))
+    [ inl lt ↦ absurd (h.outside lt) | inr ge ↦ ge ] in
+    rw (outside_at (λ text. unsigned_value text < 2 ^ 64) bytes h, le-ltb (unsigned_value h.text) (2 ^ 64) big) refl
+
+misfits : (z : ℤ) (b : Bool) → fits_i64 z ≡ b → (IsI64 z → ⊥) → fits_i64 z ≡ false
+misfits z true e outside = absurd (outside (fits_is z e))
+misfits z false e outside = e
+
+pub sleb_refuses : (bytes : List ℕ) (f : NumberFault) → SlebFails bytes f → sleb_at bytes ≡ Err f
+unfolding sleb_at
+sleb_refuses bytes Cut c = rw (cut_at bytes c) refl
+sleb_refuses bytes BadNumber (inl u) = rw (unending_at bytes u) refl
+sleb_refuses bytes BadNumber (inr h) =
+    let big : fits_i64 (signed_value h.text)
+    ≡ false = misfits (signed_value h.text) (fits_i64 (signed_value h.text)) refl h.outside in
+    rw (outside_at (λ text. IsI64 (signed_value text)) bytes h, big) refl
 
 -- ---- the clauses of the two calls, of an answer that reading gives
 

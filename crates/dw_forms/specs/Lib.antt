@@ -4,18 +4,26 @@ pub mod Front
 pub mod Codes
 pub mod FormCodes
 pub mod ValueFaults
-pub mod Value
 pub mod AbbrevFaults
-pub mod Abbrev
 pub mod Steps
 pub mod LebReading
-pub mod ValueReading
-pub mod AbbrevReading
 -- Laws.
 pub mod Says
 pub mod Readers
 pub mod SpellingLaws
 pub mod LebLaws
+pub mod Keys
+-- Chapters, in reading order.
+pub mod Formats
+pub mod BaseFormats
+pub mod Elements
+pub mod ListFormats
+pub mod Value
+pub mod ValueReading
+pub mod Classes
+pub mod Abbrev
+pub mod AbbrevReading
+-- Laws.
 pub mod FormLaws
 pub mod ValueLaws
 pub mod TableGrammar

@@ -1,6 +1,6 @@
 -- State: the lists of attributes that begin at offsets of a section.
 use Rattle.std.specs.Prelude.{◌≡◌, ℕ, suc, ◌<◌, ◌≤◌, List, [], length, drop, get_or, Some, Ok}
-use Rattle.dw_forms.specs.declared.decl.AttributeSpec.{AttributeSpec}
+use Rattle.dw_forms.specs.declared.abbrev.AttributeSpec.{AttributeSpec}
 use Rattle.dw_forms.specs.declared.attribute_lists.Node.{Node}
 use Rattle.dw_forms.specs.declared.list_reader.KeptLists.{KeptLists}
 use Rattle.dw_forms.specs.declared.offsets.Placed.{Placed}

@@ -1,18 +1,13 @@
 -- State: what is known of the values of an attribute before any entry is read, and the bytes after values.
-use Rattle.std.specs.Prelude.{ℕ, nat_eq, nat_lt, if◌then◌else◌, Bool, true, List, [], ◌∷◌, length, drop, is_none}
+use Rattle.std.specs.Prelude.{ℕ, nat_lt, if◌then◌else◌, Bool, true, List, [], ◌∷◌, length, drop, is_none}
 use Rattle.std.specs.Prelude.{Result, Ok, Err, Option, Some, None, false, find, ◌==◌}
 use Rattle.std.specs.Option.{unwrap_or}
 use Rattle.std.specs.List.{sum_by, list_any}
 use Rattle.dw_forms.specs.declared.form.Form.{Form}
-use Rattle.dw_forms.specs.declared.form.Form.TheVariants.{FlagPresent, ImplicitConst}
+use Rattle.dw_forms.specs.declared.form.Form.TheVariants.{FlagPresent}
 use Rattle.dw_forms.specs.declared.value.ValueFault.{ValueFault}
 use Rattle.dw_forms.specs.declared.value.ValueFault.TheVariants.{Cut}
-use Rattle.dw_forms.specs.declared.decl.AttributeSpec.{AttributeSpec}
-use Rattle.dw_forms.specs.Codes.{DW_AT_sibling, DW_AT_name, DW_AT_byte_size, DW_AT_bit_size, DW_AT_import}
-use Rattle.dw_forms.specs.Codes.{DW_AT_lower_bound, DW_AT_prototyped, DW_AT_bit_stride, DW_AT_upper_bound}
-use Rattle.dw_forms.specs.Codes.{DW_AT_abstract_origin, DW_AT_count, DW_AT_data_member_location, DW_AT_declaration}
-use Rattle.dw_forms.specs.Codes.{DW_AT_encoding, DW_AT_specification, DW_AT_type, DW_AT_byte_stride, DW_AT_signature}
-use Rattle.dw_forms.specs.Codes.{DW_AT_data_bit_offset, DW_AT_str_offsets_base, DW_AT_addr_base}
+use Rattle.dw_forms.specs.declared.abbrev.AttributeSpec.{AttributeSpec}
 use Rattle.dw_forms.specs.Steps.{◌>>=◌}
 use Rattle.dw_forms.specs.Sizes.{fixed_size_of, rest_at}
 
@@ -27,34 +22,6 @@ does_vary form = is_none (fixed_size_of 8 form)
 -- the sum of the sizes of the values of these attributes, as far as they have one size each
 abbrev pub known_sum : ℕ → List AttributeSpec → ℕ
 known_sum size specs = sum_by (λ (spec : AttributeSpec). known_size size spec.form) specs
-
--- the code is one of these
-abbrev pub is_one_of : List ℕ → ℕ → Bool
-is_one_of codes code = list_any (nat_eq code) codes
-
--- attributes whose values are no flags (7.5.4, table 7.5)
-abbrev pub not_flags : List ℕ
-not_flags =
-    DW_AT_sibling ∷ DW_AT_name ∷ DW_AT_byte_size ∷ DW_AT_bit_size ∷ DW_AT_import ∷ DW_AT_lower_bound
-    ∷ DW_AT_bit_stride ∷ DW_AT_upper_bound ∷ DW_AT_abstract_origin ∷ DW_AT_count ∷ DW_AT_data_member_location
-    ∷ DW_AT_encoding ∷ DW_AT_specification ∷ DW_AT_type ∷ DW_AT_byte_stride ∷ DW_AT_signature
-    ∷ DW_AT_data_bit_offset ∷ DW_AT_str_offsets_base ∷ DW_AT_addr_base ∷ []
-
--- attributes whose values are no constants (7.5.4, table 7.5)
-abbrev pub not_constants : List ℕ
-not_constants =
-    DW_AT_sibling ∷ DW_AT_name ∷ DW_AT_import ∷ DW_AT_prototyped ∷ DW_AT_abstract_origin ∷ DW_AT_declaration
-    ∷ DW_AT_specification ∷ DW_AT_type ∷ DW_AT_signature ∷ DW_AT_str_offsets_base ∷ DW_AT_addr_base ∷ []
-
--- a search stops at an attribute of this form: its values take bytes, or have a class that is none of the attribute's
-abbrev pub stops_in : Form → ℕ → Bool
-stops_in FlagPresent attribute = is_one_of not_flags attribute
-stops_in (ImplicitConst number) attribute = is_one_of not_constants attribute
-stops_in _ attribute = true
-
--- a search stops at the attribute
-abbrev pub is_stop : AttributeSpec → Bool
-is_stop spec = stops_in spec.form spec.attribute
 
 -- what a form says of a flag without a value: flag_present is true (DWARF 5, 7.5.5)
 abbrev pub known_flag : Form → Option Bool

@@ -1,6 +1,7 @@
 -- Laws: readers of values: a reader finds what is spelled at the front of some bytes, whatever follows, so no spelling
 -- is a prefix of another.
-use Rattle.std.proofs.Common.{◌≡◌, ℕ, ◌-◌, List, ◌++◌, length, take, Result, Ok, Err, refl, sym, ap, subst, ◌∙◌, arith}
+use Rattle.std.proofs.Common.{◌≡◌, ℕ, ◌-◌, List, ◌++◌, length, take, Result, Ok, Err}
+use Rattle.std.proofs.Common.{sym, ap, subst, ◌∙◌, append_assoc, arith}
 use Rattle.std.specs.Prelude.{MatchResult}
 use Rattle.std.proofs.lemmas.List.{take_at, length-append}
 use Rattle.std.proofs.lemmas.Result.{MatchResult-at_ok, MatchResult-at_err}
@@ -15,6 +16,13 @@ pub record IsReader {V E : Type 0} (read : List ℕ → Result (V × List ℕ) E
 pub read_is : {V E : Type 0} {x y : V} → ◌≡◌ {A = Result V E} (Ok x) (Ok y) → x ≡ y
 read_is e = cc
 
+pub fault_is : {V E : Type 0} {f g : E} → ◌≡◌ {A = Result V E} (Err f) (Err g) → f ≡ g
+fault_is e = cc
+
+-- the bytes of one spelling after another
+pub joined : (a b rest bytes after : List ℕ) → bytes ≡ a ++ after → after ≡ b ++ rest → bytes ≡ (a ++ b) ++ rest
+joined a b rest bytes after p q = p ∙ ap (λ (r : List ℕ). a ++ r) q ∙ sym (append_assoc a b rest)
+
 pub not_both : {V E : Type 0} {x : V} {f : E} → ◌≡◌ {A = Result V E} (Err f) (Ok x) → ⊥
 not_both e = cc
 
@@ -23,6 +31,9 @@ module _ {V E : Type 0} (read : List ℕ → Result (V × List ℕ) E) (Spells :
   pub takes : (bytes : List ℕ) (v : V) (rest : List ℕ) → read bytes ≡ Ok (v, rest) → Takes Spells bytes v rest
   takes bytes v rest e = MatchResult-at_ok (λ (x : V × List ℕ). Takes Spells bytes x.0 x.1) (Fails bytes) (v, rest) e
       (reader.says bytes)
+
+  pub reads_on : (bytes : List ℕ) (v : V) (rest : List ℕ) → Takes Spells bytes v rest → read bytes ≡ Ok (v, rest)
+  reads_on bytes v rest t = ap read t.parts ∙ reader.again t.text rest v t.spelled
 
   pub reader_fails : (bytes : List ℕ) (f : E) → read bytes ≡ Err f → Fails bytes f
   reader_fails bytes f e =
@@ -49,16 +60,3 @@ module _ {V E : Type 0} (read : List ℕ → Result (V × List ℕ) E) (Spells :
               ap (λ (p : V × List ℕ). p.0) same,
             );
       }
-
--- no spelling begins another
-pub reader_apart : {V E : Type 0} (read : List ℕ → Result (V × List ℕ) E) (Spells : List ℕ → V → Type 0)
-    → ((text rest : List ℕ) (v : V) → Spells text v → read (text ++ rest) ≡ Ok (v, rest))
-    → (a b x y : List ℕ) (v w : V) → Spells a v → Spells b w → a ++ x ≡ b ++ y → (a ≡ b) × (v ≡ w)
-reader_apart {V} read Spells again a b x y v w s t e =
-    let same : ◌≡◌ {A = V × List ℕ} (v, x) (w, y) = read_is (sym (again a x v s) ∙ ap read e ∙ again b y w t) in
-    let rests : x ≡ y = ap (λ (p : V × List ℕ). p.1) same in
-    let long : length a ≡ length b =
-    omega (arith, ap length e, length-append a x, length-append b y, ap length rests) in (
-      sym (take_at a x (length b) long) ∙ ap (take (length b)) e ∙ take_at b y (length b) refl,
-      ap (λ (p : V × List ℕ). p.0) same,
-    )

@@ -6,13 +6,14 @@ use Rattle.std.proofs.lemmas.List.{drop-drop, length-drop}
 use Rattle.dw_forms.specs.declared.form.Form.{Form}
 use Rattle.dw_forms.specs.declared.form.Form.TheVariants as form
 use Rattle.dw_forms.specs.declared.value.ValueFault.TheVariants.{Cut}
-use Rattle.dw_forms.specs.declared.decl.AttributeSpec.{AttributeSpec}
+use Rattle.dw_forms.specs.declared.abbrev.AttributeSpec.{AttributeSpec}
 use Rattle.dw_forms.specs.declared.value.ValueFault.{ValueFault}
 use Rattle.dw_forms.specs.FormCodes.{is_allowed}
 use Rattle.dw_forms.specs.Steps.{◌>>=◌}
 use Rattle.dw_forms.specs.Value.{Datum, Layout, layout_of, fixed, leb, signed_leb, counted, leb_counted, ended, exactly}
-use Rattle.dw_forms.specs.Value.{nothing, named}
-use Rattle.dw_forms.specs.ValueReading.{fixed_at, block_at, layout_at, value_at}
+use Rattle.dw_forms.specs.BaseFormats.{taken_at}
+use Rattle.dw_forms.specs.Value.{nothing, named, laid_out}
+use Rattle.dw_forms.specs.ValueReading.{layout_at, value_at}
 use Rattle.dw_forms.specs.Sizes.{size_of, fixed_size_of, rest_at, plus, allowed_size, fixed_sum, ValuesEnd}
 
 some_is : {A : Type 0} {x y : A} → ◌≡◌ {A = Option A} (Some x) (Some y) → x ≡ y
@@ -23,33 +24,23 @@ none_is_not e = cc
 
 layout_skips : (layout : Layout) (n : ℕ) (bytes : List ℕ) → size_of layout ≡ Some n → n ≤ length bytes
     → (layout_at layout bytes >>= λ x. Ok x.1) ≡ Ok (drop n bytes)
-unfolding layout_at fixed_at block_at
+unfolding laid_out taken_at
 layout_skips (fixed size of) n bytes e le = let le' = subst (λ (k : ℕ). k ≤ length bytes) (sym (some_is e)) le in
     rw (le-ltb _ _ le', some_is e) refl
 layout_skips (exactly size of) n bytes e le = let le' = subst (λ (k : ℕ). k ≤ length bytes) (sym (some_is e)) le in
     rw (le-ltb _ _ le', some_is e) refl
 layout_skips (nothing datum) n bytes e le = rw (← some_is e) refl
-layout_skips (leb of) n bytes e le = absurd (none_is_not e)
-layout_skips (signed_leb of) n bytes e le = absurd (none_is_not e)
-layout_skips (counted size of) n bytes e le = absurd (none_is_not e)
-layout_skips (leb_counted of) n bytes e le = absurd (none_is_not e)
-layout_skips (ended of) n bytes e le = absurd (none_is_not e)
-layout_skips named n bytes e le = absurd (none_is_not e)
+layout_skips _ n bytes e le = absurd (none_is_not e)
 
 layout_cuts : (layout : Layout) (n : ℕ) (bytes : List ℕ) → size_of layout ≡ Some n → length bytes < n
     → (layout_at layout bytes >>= λ x. Ok x.1) ≡ Err Cut
-unfolding layout_at fixed_at block_at
+unfolding laid_out taken_at
 layout_cuts (fixed size of) n bytes e lt =
     rw (lt-ltb _ _ (subst (λ (k : ℕ). length bytes < k) (sym (some_is e)) lt)) refl
 layout_cuts (exactly size of) n bytes e lt =
     rw (lt-ltb _ _ (subst (λ (k : ℕ). length bytes < k) (sym (some_is e)) lt)) refl
 layout_cuts (nothing datum) n bytes e lt = absurd (omega (arith, some_is e, lt))
-layout_cuts (leb of) n bytes e lt = absurd (none_is_not e)
-layout_cuts (signed_leb of) n bytes e lt = absurd (none_is_not e)
-layout_cuts (counted size of) n bytes e lt = absurd (none_is_not e)
-layout_cuts (leb_counted of) n bytes e lt = absurd (none_is_not e)
-layout_cuts (ended of) n bytes e lt = absurd (none_is_not e)
-layout_cuts named n bytes e lt = absurd (none_is_not e)
+layout_cuts _ n bytes e lt = absurd (none_is_not e)
 
 pub rest_skips : (version : ℕ) (f : Form) (size n : ℕ) (bytes : List ℕ) → fixed_size_of size f ≡ Some n
     → n ≤ length bytes → rest_at version f size bytes ≡ Ok (drop n bytes)

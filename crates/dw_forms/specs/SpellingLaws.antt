@@ -1,15 +1,16 @@
 -- Laws: reading the bytes of a LEB128 number from left to right agrees with the grammar.
-use Rattle.std.proofs.Common.{◌≡◌, ℕ, suc, ◌+◌, ◌-◌, ◌*◌, ◌^◌, ◌%◌, ◌<◌, ◌≤◌, List, [], ◌∷◌, ◌++◌, length, take, Ok}
-use Rattle.std.proofs.Common.{refl, ap, ◌∙◌, inl, inr, arith}
+use Rattle.std.proofs.Common.{◌≡◌, ℕ, zero, suc, ◌+◌, ◌-◌, ◌*◌, ◌^◌, ◌%◌, ◌<◌, ◌≤◌, List, [], ◌∷◌, ◌++◌, length, take}
+use Rattle.std.proofs.Common.{All, Ok, Err, refl, ap, ◌∙◌, inl, inr, arith}
 use Rattle.std.specs.Prelude.{MatchResult}
 use Rattle.std.specs.List.{AllByRecursion}
 use Rattle.std.proofs.lemmas.Bool.{lt-ltb, le-ltb, cases_lt}
-use Rattle.std.proofs.lemmas.List.Elements.{All-from_recursion}
+use Rattle.std.proofs.lemmas.List.Elements.{All-from_recursion, All-head, All-tail}
 use Rattle.std.proofs.lemmas.Result.{MatchResult-weaker}
 use Rattle.dw_forms.specs.declared.leb.Spelling.{Spelling}
 use Rattle.dw_forms.specs.declared.leb.NumberFault.{NumberFault}
 use Rattle.dw_forms.specs.declared.leb.NumberFault.TheVariants.{Cut, BadNumber}
 use Rattle.dw_forms.specs.Leb.{IsEnded, sum_from, last_of, IsCut, IsUnending}
+use Rattle.dw_forms.specs.Leb.{HasValueOutside}
 use Rattle.dw_forms.specs.LebReading.{spelling_from, spelling_at}
 
 -- what is read of a text whose first byte has this place
@@ -158,3 +159,34 @@ whole_found bytes s f = record {
 pub whole_says : (bytes : List ℕ) → MatchResult (spelling_at bytes) (IsWhole bytes) (WholeFails bytes)
 whole_says bytes = MatchResult-weaker (spelling_at bytes) (spelling_says bytes 0 0 (omega arith))
     (λ s f. whole_found bytes s f) (λ f h. whole_fails bytes f h)
+
+-- ---- where no number is spelled
+
+cut_from : (bytes : List ℕ) (place sum : ℕ) → place + length bytes < 10 → All (λ b. 128 ≤ b) bytes
+    → spelling_from place sum bytes ≡ Err Cut
+unfolding spelling_from
+cut_from [] place sum short high = refl
+cut_from (b ∷ bytes) place sum short high =
+    rw (le-ltb b 128 (All-head (λ b. 128 ≤ b) b bytes high), lt-ltb place 9 (omega arith))
+    (cut_from bytes (place + 1) _ (omega arith) (All-tail (λ b. 128 ≤ b) b bytes high))
+
+unending_from : (n : ℕ) (bytes : List ℕ) (place sum : ℕ) → place + suc n ≡ 10 → suc n ≤ length bytes
+    → All (λ b. 128 ≤ b) (take (suc n) bytes) → spelling_from place sum bytes ≡ Err BadNumber
+unfolding spelling_from
+unending_from n [] place sum e long high = absurd (omega arith)
+unending_from zero (b ∷ bytes) place sum e long high =
+    rw (le-ltb b 128 (All-head (λ b. 128 ≤ b) b [] high), le-ltb place 9 (omega arith)) refl
+unending_from (suc n) (b ∷ bytes) place sum e long high =
+    rw (le-ltb b 128 (All-head (λ b. 128 ≤ b) b (take (suc n) bytes) high), lt-ltb place 9 (omega arith))
+    (unending_from n bytes (place + 1) _ (omega arith) (omega arith)
+    (All-tail (λ b. 128 ≤ b) b (take (suc n) bytes) high))
+
+pub cut_at : (bytes : List ℕ) → IsCut bytes → spelling_at bytes ≡ Err Cut
+cut_at bytes c = cut_from bytes 0 0 (let h = c.short in omega arith) c.open_ended
+
+pub unending_at : (bytes : List ℕ) → IsUnending bytes → spelling_at bytes ≡ Err BadNumber
+unending_at bytes u = unending_from 9 bytes 0 0 (omega arith) (let h = u.long in omega arith) u.open_ended
+
+pub outside_at : (Fits : List ℕ → Type 0) (bytes : List ℕ) (h : HasValueOutside Fits bytes)
+    → spelling_at bytes ≡ Ok (whole_of h.text)
+outside_at Fits bytes h = ap spelling_at h.parts ∙ whole_again h.text h.rest h.ended h.short

@@ -1,17 +1,16 @@
 -- Chapter: the values of attributes (DWARF 5, 7.5.5 and 7.5.6): which bytes spell which value.
-use Rattle.std.specs.Prelude.{◌≡◌, ℕ, ◌<◌, List, [], ◌∷◌, ◌++◌, length, Bool, true, false, not, ◌==◌, All, ℤ, ◌⊎◌}
-use Rattle.byteorder.specs.Endian.{little_number}
+use Rattle.std.specs.Prelude.{ℕ, List, Bool, true, false, not, Option, ◌==◌, ℤ}
 use Rattle.dw_forms.specs.declared.form.Form.{Form}
 use Rattle.dw_forms.specs.declared.form.Form.TheVariants as form
 use Rattle.dw_forms.specs.declared.value.Value.{Value}
 use Rattle.dw_forms.specs.declared.value.Value.TheVariants as value
-use Rattle.dw_forms.specs.declared.leb.NumberFault.{NumberFault}
 use Rattle.dw_forms.specs.declared.value.ValueFault.{ValueFault}
 use Rattle.dw_forms.specs.declared.value.ValueFault.TheVariants.{Cut, BadIndirect}
 use Rattle.dw_forms.specs.ValueFaults.{value_fault_of}
-use Rattle.dw_forms.specs.Leb.{Uleb, Sleb, UlebFails, SlebFails}
-use Rattle.dw_forms.specs.FormCodes.{code_of, is_allowed}
-use Rattle.dw_forms.specs.Front.{Takes}
+use Rattle.dw_forms.specs.FormCodes.{form_of, is_allowed}
+use Rattle.dw_forms.specs.Formats.{Format, and_then, nothing as no_bytes, failing, mapped, choose, found, renamed}
+use Rattle.dw_forms.specs.BaseFormats.{uleb}
+use Rattle.dw_forms.specs.BaseFormats.{sleb, so_many, fixed_number, zero_ended}
 
 -- a value without where its bytes lie in memory
 pub data Datum : Type 0 where
@@ -121,42 +120,33 @@ layout_of size form.Addrx2 = fixed 2 addr_index
 layout_of size form.Addrx3 = fixed 3 addr_index
 layout_of size form.Addrx4 = fixed 4 addr_index
 
--- the bytes are a number of so many bytes, lowest first
-pub record Fixed (size : ℕ) (bytes : List ℕ) (n : ℕ) : Type 0 where
-  pub wide : length bytes ≡ size
-  pub value : n ≡ little_number size bytes
+-- an unsigned LEB128 number
+unfoldable pub leb_number : Format ℕ ValueFault
+leb_number = renamed (λ bytes. value_fault_of) uleb
 
--- where a value is what `of` makes of what the bytes spell
-abbrev pub Makes : {V : Type 0} → (List ℕ → V → Type 0) → (V → Datum) → List ℕ → Datum → Type 0
-Makes {V} Spells of bytes datum = (v : V) × Spells bytes v × (datum ≡ of v)
+-- a signed LEB128 number
+unfoldable pub signed_leb_number : Format ℤ ValueFault
+signed_leb_number = renamed (λ bytes. value_fault_of) sleb
 
--- a count, and as many bytes
-pub record Counted (Count : List ℕ → ℕ → Type 0) (bytes content : List ℕ) : Type 0 where
-  pub count : List ℕ
-  pub parts : bytes ≡ count ++ content
-  pub counts : Count count (length content)
+-- as many bytes as a number of so many bytes says
+unfoldable pub counted_bytes : ℕ → Format (List ℕ) ValueFault
+counted_bytes size = and_then (fixed_number Cut size) (so_many Cut)
 
--- the bytes before a zero byte, none of them zero
-pub record Ended (bytes content : List ℕ) : Type 0 where
-  pub parts : bytes ≡ content ++ 0 ∷ []
-  pub none_before : All (λ byte. 0 < byte) content
+-- as many bytes as a LEB128 number says
+unfoldable pub leb_counted_bytes : Format (List ℕ) ValueFault
+leb_counted_bytes = and_then leb_number (so_many Cut)
 
--- so many bytes, and no others
-pub record Exactly (size : ℕ) (bytes content : List ℕ) : Type 0 where
-  pub same : bytes ≡ content
-  pub wide : length content ≡ size
-
--- the bytes spell the value in this layout, which is not that of indirect
-abbrev pub SpellsPlain : Layout → List ℕ → Datum → Type 0
-SpellsPlain (fixed size of) = Makes (Fixed size) of
-SpellsPlain (leb of) = Makes Uleb of
-SpellsPlain (signed_leb of) = Makes Sleb of
-SpellsPlain (counted size of) = Makes (Counted (Fixed size)) of
-SpellsPlain (leb_counted of) = Makes (Counted Uleb) of
-SpellsPlain (ended of) = Makes Ended of
-SpellsPlain (exactly size of) = Makes (Exactly size) of
-SpellsPlain (nothing datum) = λ bytes v. (bytes ≡ []) × (v ≡ datum)
-SpellsPlain named = λ bytes v. ⊥
+-- the value in a layout
+unfoldable pub laid_out : Layout → Format Datum ValueFault
+laid_out (fixed size of) = mapped of (fixed_number Cut size)
+laid_out (leb of) = mapped of leb_number
+laid_out (signed_leb of) = mapped of signed_leb_number
+laid_out (counted size of) = mapped of (counted_bytes size)
+laid_out (leb_counted of) = mapped of leb_counted_bytes
+laid_out (ended of) = mapped of (zero_ended Cut)
+laid_out (exactly size of) = mapped of (so_many Cut size)
+laid_out (nothing datum) = no_bytes datum
+laid_out named = failing BadIndirect
 
 -- whether an indirect value may name the form, in a unit of this version
 abbrev pub may_be_named : ℕ → Form → Bool
@@ -164,67 +154,20 @@ may_be_named version form.Indirect = false
 may_be_named version (form.ImplicitConst number) = false
 may_be_named version f = is_allowed version f
 
--- an indirect value may name the form
-abbrev pub MayBeNamed : ℕ → Form → Type 0
-MayBeNamed version f = may_be_named version f ≡ true
+-- the value of a form that an indirect value names, in a unit of this version where an address has this size
+abbrev pub named_value : ℕ → ℕ → Option Form → Format Datum ValueFault
+named_value version size o = found o (failing BadIndirect) (λ f.
+    choose (may_be_named version f) (laid_out (layout_of size f)) (failing BadIndirect))
 
--- the code of a form that may be named, and that form's value
-pub record Named (version size : ℕ) (bytes : List ℕ) (v : Datum) : Type 0 where
-  pub form : Form
-  pub code : List ℕ
-  pub content : List ℕ
-  pub parts : bytes ≡ code ++ content
-  pub is_code : Uleb code (code_of form)
-  pub allowed : MayBeNamed version form
-  pub is_value : SpellsPlain (layout_of size form) content v
+-- the value of a form, in a unit of this version where an address has this size
+abbrev pub attribute_value : ℕ → Form → ℕ → Format Datum ValueFault
+attribute_value version form.Indirect size = and_then leb_number (λ code. named_value version size (form_of code))
+attribute_value version f size = laid_out (layout_of size f)
 
--- the bytes spell the value in this layout, in a unit of this version and address size
-abbrev pub SpellsIn : Layout → ℕ → ℕ → List ℕ → Datum → Type 0
-SpellsIn named version size = Named version size
-SpellsIn layout version size = SpellsPlain layout
-
--- the bytes spell the value in this form, in a unit of this version where an address has this size
+-- the bytes spell the value in this form
 abbrev pub Val : ℕ → Form → ℕ → List ℕ → Datum → Type 0
-Val version f size = SpellsIn (layout_of size f) version size
+Val version f size = (attribute_value version f size).Spells
 
--- the bytes don't hold a number of this size
-abbrev pub IsTooShort : ℕ → List ℕ → ValueFault → Type 0
-IsTooShort size bytes f = (length bytes < size) × (f ≡ Cut)
-
--- the bytes begin with no accepted unsigned or signed LEB128 number
-abbrev pub LebFails : List ℕ → ValueFault → Type 0
-LebFails bytes f = (g : NumberFault) × UlebFails bytes g × (f ≡ value_fault_of g)
-
--- the bytes begin with no accepted signed LEB128 number
-abbrev pub SignedFails : List ℕ → ValueFault → Type 0
-SignedFails bytes f = (g : NumberFault) × SlebFails bytes g × (f ≡ value_fault_of g)
-
--- the first part of the layout, from the left, that the bytes don't hold
-abbrev pub PlainFails : Layout → List ℕ → ValueFault → Type 0
-PlainFails (fixed size of) bytes f = IsTooShort size bytes f
-PlainFails (leb of) bytes f = LebFails bytes f
-PlainFails (signed_leb of) bytes f = SignedFails bytes f
-PlainFails (counted size of) bytes f =
-    IsTooShort size bytes f ⊎ ((n : ℕ) × (rest : List ℕ) × Takes (Fixed size) bytes n rest × IsTooShort n rest f)
-PlainFails (leb_counted of) bytes f =
-    LebFails bytes f ⊎ ((n : ℕ) × (rest : List ℕ) × Takes Uleb bytes n rest × IsTooShort n rest f)
-PlainFails (ended of) bytes f = All (λ byte. 0 < byte) bytes × (f ≡ Cut)
-PlainFails (exactly size of) bytes f = IsTooShort size bytes f
-PlainFails (nothing datum) bytes f = ⊥
-PlainFails named bytes f = f ≡ BadIndirect
-
--- after the code of an indirect value: it names no form that may be named, or that form's value is wrong
-abbrev pub NamedFails : ℕ → ℕ → ℕ → List ℕ → ValueFault → Type 0
-NamedFails version code size bytes f =
-    (((g : Form) → code_of g ≡ code → MayBeNamed version g → ⊥) × (f ≡ BadIndirect))
-    ⊎ ((g : Form) × (code_of g ≡ code) × MayBeNamed version g × PlainFails (layout_of size g) bytes f)
-
--- why the bytes begin with no value in this layout, by the first part that is wrong
-abbrev pub FailsIn : Layout → ℕ → ℕ → List ℕ → ValueFault → Type 0
-FailsIn named version size bytes f =
-    LebFails bytes f ⊎ ((code : ℕ) × (rest : List ℕ) × Takes Uleb bytes code rest × NamedFails version code size rest f)
-FailsIn layout version size bytes f = PlainFails layout bytes f
-
--- why the bytes begin with no value of this form
+-- why the bytes begin with no value of this form, by the first part that is wrong
 abbrev pub ValFails : ℕ → Form → ℕ → List ℕ → ValueFault → Type 0
-ValFails version form size bytes f = FailsIn (layout_of size form) version size bytes f
+ValFails version f size = (attribute_value version f size).Fails

@@ -8,11 +8,18 @@ ghost use Rattle.dw_forms.specs.Abbrev.{table_view};
 ghost use Rattle.dw_forms.specs.Places.{IsIndex, IsPlace, StandsAt};
 ghost use Rattle.dw_forms.specs.AbbrevReading.{has_code};
 
-use crate::constants::Tag;
-use crate::decl::AttributeSpec;
+use crate::constants::{Attribute, Tag};
+use crate::form::Form;
 use std::alloc::{AllocError, Global};
 use std::collections::BTreeMap;
 use std::marker::Model;
+
+/// An attribute specification: an attribute, and the form of its values.
+#[derive(Clone, Copy, Debug, PartialEq, Eq)]
+pub struct AttributeSpec {
+    pub attribute: Attribute,
+    pub form: Form,
+}
 
 /// A declaration as its table has it.
 #[derive(Debug, Drop)]

@@ -7,12 +7,13 @@ ghost use Rattle.dw_forms.specs.Abbrev.{table_view, Decls, IsCode16, TableFails}
 ghost use Rattle.dw_forms.specs.Seen.{AreSeen};
 ghost use Rattle.dw_forms.specs.AbbrevReading.{has_attribute, has_code, unsigned_at, signed_at};
 ghost use Rattle.dw_forms.specs.AbbrevReading.{form_at, begun_at, pair_at, tagged_at, attributes_of, children_at};
-ghost use Rattle.dw_forms.specs.AbbrevReading.{decl_at, placed, table_at};
+ghost use Rattle.dw_forms.specs.AbbrevReading.{decl_at, table_at};
+ghost use Rattle.dw_forms.specs.AbbrevFaults.{fault_at};
+ghost use Rattle.dw_forms.specs.Formats.{as_other};
 ghost use Rattle.dw_forms.specs.Stops.{IfFault, GivesOrMemory};
 
-use crate::abbrev::{AbbrevTable, Decl};
+use crate::abbrev::{AbbrevTable, AttributeSpec, Decl};
 use crate::constants::{Attribute, Tag};
-use crate::decl::AttributeSpec;
 use crate::fault::{AbbrevFault, AbbrevRule, DeclFault, Stop};
 use crate::form::Form;
 use crate::leb::{read_sleb, read_uleb};
@@ -81,7 +82,7 @@ fn add(
 }
 
 /// The next attribute and its form, without the number of a constant, or none at the pair 0, 0.
-#[tactic(auto, unfolding(crate::specs::AbbrevReading::begun_at))]
+#[tactic(auto, unfolding(crate::specs::Abbrev::pair))]
 pub fn pair_of(bytes: &[u8]) -> Result<(Option<(u16, Form)>, &[u8]), Stop<DeclFault>>
     ensures exact { GivesOrMemory (λ x. (x.0, x.1.now)) result (begun_at bytes.now) }
     ensures shorter { IfOk result (λ x. length x.1.now < length bytes.now) }
@@ -102,7 +103,7 @@ pub fn pair_of(bytes: &[u8]) -> Result<(Option<(u16, Form)>, &[u8]), Stop<DeclFa
 }
 
 /// The next pair after the earlier ones of its declaration, or none at the pair 0, 0.
-#[tactic(auto, using(crate::proofs::AbbrevSteps::pair_by))]
+#[tactic(auto, unfolding(crate::specs::Elements::next_at))]
 fn next_attribute<'a>(
     earlier: &[AttributeSpec],
     seen: &BTreeSet<u16>,
@@ -174,9 +175,9 @@ pub fn code_of(bytes: &[u8]) -> Result<(u64, &[u8]), Stop<DeclFault>>
 }
 
 /// The tag of a declaration, whether entries have children, and the bytes after both.
-#[tactic(auto, unfolding(crate::specs::AbbrevReading::tagged_at))]
+#[tactic(auto, unfolding(crate::specs::Abbrev::tag_and_children))]
 pub fn tag_and_children(bytes: &[u8]) -> Result<(Tag, bool, &[u8]), Stop<DeclFault>>
-    ensures exact { GivesOrMemory (λ x. (x.0, x.1, x.2.now)) result (tagged_at bytes.now) }
+    ensures exact { GivesOrMemory (λ x. ((x.0, x.1), x.2.now)) result (tagged_at bytes.now) }
     ensures code { IfOk result (λ x. IsCode16 x.0) }
     ensures shorter { IfOk result (λ x. length x.2.now < length bytes.now) }
 {
@@ -189,7 +190,7 @@ pub fn tag_and_children(bytes: &[u8]) -> Result<(Tag, bool, &[u8]), Stop<DeclFau
 }
 
 /// The next declaration after the earlier ones of its table, or none at the code 0.
-#[tactic(auto, unfolding(crate::specs::AbbrevReading::decl_at, crate::specs::AbbrevReading::tagged_at))]
+#[tactic(auto, unfolding(crate::specs::Elements::next_at, crate::specs::Abbrev::code_or_end))]
 fn next_decl<'a>(
     alloc: Global,
     earlier: &AbbrevTable,
@@ -228,7 +229,7 @@ fn next_decl_at<'a>(
     place: usize,
 ) -> Result<(Option<Decl>, &'a [u8]), Stop<AbbrevFault>>
     ensures exact { GivesOrMemory
-        (λ x. (option_map table_view x.0, x.1.now)) result (placed place (decl_at earlier.now bytes.now)) }
+        (λ x. (option_map table_view x.0, x.1.now)) result (as_other (fault_at place) (decl_at earlier.now bytes.now)) }
     ensures new { IfOk result (λ x. IfSome x.0 (λ d. has_code d.code earlier.now ≡ false)) }
     ensures shorter { IfOk result (λ x. length x.1.now < length bytes.now) }
 {

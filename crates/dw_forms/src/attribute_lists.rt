@@ -1,18 +1,19 @@
 //! The lists of attributes of a section, with each attribute kept once.
 
 ghost use Rattle.std.specs.Prelude.{◌≡◌, ◌≤◌, ◌<◌, ◌∷◌, List, [], length, IfOk, if◌then◌else◌};
-ghost use Rattle.dw_forms.specs.Plans.{known_size, does_vary, is_one_of, is_stop, not_flags, not_constants};
+ghost use Rattle.dw_forms.specs.Plans.{known_size, does_vary};
 ghost use Rattle.dw_forms.specs.Walks.{may_lead, does_lead, stops_at, reference_lead, value_lead, lead_of, IsStep};
-ghost use Rattle.dw_forms.specs.declared.decl.AttributeSpec.{AttributeSpec as SpecData};
+ghost use Rattle.dw_forms.specs.declared.abbrev.AttributeSpec.{AttributeSpec as SpecData};
 ghost use Rattle.dw_forms.specs.Chains.{Numbered};
 ghost use Rattle.dw_forms.specs.Abbrev.{IsCode16};
 ghost use Rattle.dw_forms.specs.AbbrevReading.{has_attribute};
 ghost use Rattle.dw_forms.specs.AttributeLists.{Knows, AreKnown, AreCoded, AddedSpec, numbered_in, list_in, spec_of};
 
+use crate::abbrev::AttributeSpec;
 use crate::attribute_bits::{OWN_BITS, bit_of, mask_of};
 use crate::chains::Chains;
+use crate::class::is_open;
 use crate::constants::*;
-use crate::decl::AttributeSpec;
 use crate::form::Form;
 use std::alloc::{AllocError, Global};
 
@@ -32,65 +33,6 @@ fn does_vary(form: Form) -> bool
     ensures { result ≡ does_vary form }
 {
     form.fixed_size(8).is_none()
-}
-
-/// Whether the attribute has values, but no flags (DWARF 5, 7.5.4).
-fn is_no_flag(attribute: Attribute) -> bool
-    ensures { result ≡ is_one_of not_flags attribute }
-{
-    matches!(
-        attribute,
-        DW_AT_sibling
-            | DW_AT_name
-            | DW_AT_byte_size
-            | DW_AT_bit_size
-            | DW_AT_import
-            | DW_AT_lower_bound
-            | DW_AT_bit_stride
-            | DW_AT_upper_bound
-            | DW_AT_abstract_origin
-            | DW_AT_count
-            | DW_AT_data_member_location
-            | DW_AT_encoding
-            | DW_AT_specification
-            | DW_AT_type
-            | DW_AT_byte_stride
-            | DW_AT_signature
-            | DW_AT_data_bit_offset
-            | DW_AT_str_offsets_base
-            | DW_AT_addr_base
-    )
-}
-
-/// Whether the attribute has values, but no constants (DWARF 5, 7.5.4).
-fn is_no_constant(attribute: Attribute) -> bool
-    ensures { result ≡ is_one_of not_constants attribute }
-{
-    matches!(
-        attribute,
-        DW_AT_sibling
-            | DW_AT_name
-            | DW_AT_import
-            | DW_AT_prototyped
-            | DW_AT_abstract_origin
-            | DW_AT_declaration
-            | DW_AT_specification
-            | DW_AT_type
-            | DW_AT_signature
-            | DW_AT_str_offsets_base
-            | DW_AT_addr_base
-    )
-}
-
-/// Whether a search stops at the attribute: its values take bytes, or have a class that is none of the attribute's.
-pub fn is_stop(spec: &AttributeSpec) -> bool
-    ensures { result ≡ is_stop spec.now }
-{
-    match spec.form {
-        Form::FlagPresent => is_no_flag(spec.attribute),
-        Form::ImplicitConst(_) => is_no_constant(spec.attribute),
-        _ => true,
-    }
 }
 
 /// Whether values of the form may lead elsewhere: to a string, an address or an entry, or by another form.
@@ -247,8 +189,8 @@ pub struct Node {
     pub next: u32,
     /// The first list from here on whose first value has no one size, or 0.
     pub next_varying: u32,
-    /// The first list from here on at whose first attribute a search stops, or 0.
-    pub next_stop: u32,
+    /// The first list from here on whose first attribute is open, or 0.
+    pub next_open: u32,
     /// The sum of the sizes of the values that have one size each, where addresses have 4 bytes.
     pub known_with_4: u32,
     /// The same where addresses have 8 bytes.
@@ -305,7 +247,7 @@ fn node_before(number: u32, spec: AttributeSpec, rest: u32, next: Node, after: S
         form: spec.form,
         next: rest,
         next_varying: number_or(number, does_vary(spec.form), next.next_varying),
-        next_stop: number_or(number, is_stop(&spec), next.next_stop),
+        next_open: number_or(number, is_open(&spec), next.next_open),
         known_with_4: next.known_with_4 + known_size(spec.form, 4),
         known_with_8: next.known_with_8 + known_size(spec.form, 8),
         bits: next.bits | mask_of(spec.attribute),
@@ -323,7 +265,7 @@ fn no_node() -> Node
         form: Form::Flag,
         next: 0,
         next_varying: 0,
-        next_stop: 0,
+        next_open: 0,
         known_with_4: 0,
         known_with_8: 0,
         bits: 0,

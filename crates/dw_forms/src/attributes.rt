@@ -1,18 +1,19 @@
 //! The attributes of a declaration, and where their values begin.
 
 ghost use Rattle.std.specs.Prelude.{◌≡◌, ◌≢◌, ◌≤◌, ◌⊎◌, ◌↔◌, List, [], length, All, IfSome, IfNone, IsTrue};
-ghost use Rattle.dw_forms.specs.declared.decl.AttributeSpec.{AttributeSpec as SpecData};
+ghost use Rattle.dw_forms.specs.declared.abbrev.AttributeSpec.{AttributeSpec as SpecData};
 ghost use Rattle.dw_forms.specs.Chains.{Numbered, items_of};
 ghost use Rattle.dw_forms.specs.AttributeLists.{known_of, has_this, IsKnown};
 ghost use Rattle.dw_forms.specs.FirstPlaces.{AnswersFirst};
-ghost use Rattle.dw_forms.specs.Plans.{cut_at, flag_in, known_flag, known_sum, values_end, is_stop, whole_in};
+ghost use Rattle.dw_forms.specs.Plans.{cut_at, flag_in, known_flag, known_sum, values_end, whole_in};
+ghost use Rattle.dw_forms.specs.Classes.{is_open};
 ghost use Rattle.dw_forms.specs.Sizes.{are_allowed, rest_at};
 ghost use Rattle.dw_forms.specs.ValueReading.{Gives};
 ghost use Rattle.dw_forms.specs.Walks.{IsStep};
 
+use crate::abbrev::AttributeSpec;
 use crate::attribute_lists::{AttributeLists, Node, Step};
 use crate::constants::Attribute;
-use crate::decl::AttributeSpec;
 use crate::form::Form;
 use crate::value::{Value, ValueFault};
 use crate::value_reader::{read_any, skip_long};
@@ -162,13 +163,12 @@ impl<'a> Attributes<'a> {
         }
     }
 
-    /// The attributes from the first one on at which a search stops, or none: its value takes bytes, or has a class
-    /// that is none of the attribute's.
-    pub fn next_stop(&self) -> Attributes<'a>
-        ensures { IsFrom is_stop self.now result }
+    /// The attributes from the first open one on, or none.
+    pub fn next_open(&self) -> Attributes<'a>
+        ensures { IsFrom is_open self.now result }
     {
         match self.node() {
-            Some(node) => Attributes::new(self.lists, node.next_stop),
+            Some(node) => Attributes::new(self.lists, node.next_open),
             None => *self,
         }
     }

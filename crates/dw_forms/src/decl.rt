@@ -6,19 +6,13 @@ ghost use Rattle.dw_forms.specs.AttributeLists.{spec_of};
 ghost use Rattle.dw_forms.specs.DeclaredLists.{HasList};
 ghost use Rattle.dw_forms.specs.Codes.{is_type_tag};
 
+use crate::abbrev::AttributeSpec;
 use crate::attribute_lists::{AttributeLists, Step};
 use crate::attributes::{Attributes, cut_at};
 use crate::constants::{Attribute, Tag};
 use crate::form::Form;
 use crate::known_places::KnownPlace;
 use crate::value::{Value, ValueFault};
-
-/// An attribute specification: an attribute, and the form of its values.
-#[derive(Clone, Copy, Debug, PartialEq, Eq)]
-pub struct AttributeSpec {
-    pub attribute: Attribute,
-    pub form: Form,
-}
 
 /// A declaration that is kept.
 #[derive(Clone, Copy, Debug)]

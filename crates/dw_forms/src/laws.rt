@@ -5,9 +5,10 @@ ghost use Rattle.dw_forms.specs.declared.leb.NumberFault.{NumberFault as AnyNumb
 ghost use Rattle.dw_forms.specs.declared.value.ValueFault.{ValueFault as AnyValueFault};
 ghost use Rattle.dw_forms.specs.declared.form.Form.{Form as AnyForm};
 ghost use Rattle.dw_forms.specs.declared.fault.AbbrevFault.{AbbrevFault as AnyBrokenTable};
-ghost use Rattle.dw_forms.specs.declared.decl.AttributeSpec.{AttributeSpec as AnyAttributeSpec};
+ghost use Rattle.dw_forms.specs.declared.abbrev.AttributeSpec.{AttributeSpec as AnyAttributeSpec};
 ghost use Rattle.dw_forms.specs.Sizes.{fixed_sum, ValuesEnd};
 ghost use Rattle.dw_forms.specs.Abbrev.{Declaration, Decls, TableFails};
+ghost use Rattle.dw_forms.specs.FormCodes.{bare, code_of, form_of};
 ghost use Rattle.dw_forms.specs.TableGrammar.{IsReadByGrammar};
 ghost use Rattle.dw_forms.specs.Leb.{Uleb, UlebFails, Sleb, SlebFails};
 ghost use Rattle.dw_forms.specs.Value.{Datum, Val, ValFails};
@@ -41,9 +42,10 @@ pub fn tables_are_apart()
 {}
 
 /// Reading a table from left to right gives the table that the section spells from an offset on, or, where it spells
-/// none, the fault that the grammar names.
+/// none, the fault that the grammar names. Each form is the one of its code.
 pub fn tables_are_read_by_grammar()
-    ensures { (section : List ℕ) (offset : ℕ) → IsReadByGrammar section offset }
+    ensures tables { (section : List ℕ) (offset : ℕ) → IsReadByGrammar section offset }
+    ensures forms { (form : AnyForm) → form_of (code_of form) ≡ Some (bare form) }
 {}
 
 /// Where all values of a declaration have one size and there are enough bytes, they are read, and they take as many

@@ -11,7 +11,7 @@ use byteorder::{ByteOrder, LittleEndian};
 use memchr::memchr;
 
 /// The number in the first bytes, lowest first.
-#[tactic(auto, unfolding(crate::specs::ValueReading::fixed_at))]
+#[tactic(auto, unfolding(crate::specs::BaseFormats::taken_at))]
 pub(crate) fn fixed(bytes: &[u8], size: usize) -> Result<u64, ValueFault>
     requires some { 1 ≤ size }
     requires few { size ≤ 8 }
@@ -38,7 +38,7 @@ pub(crate) fn address(bytes: &[u8], size: u8) -> Result<u64, ValueFault>
 }
 
 /// The number in an offset of 4 bytes.
-#[tactic(auto, unfolding(crate::specs::ValueReading::fixed_at))]
+#[tactic(auto, unfolding(crate::specs::BaseFormats::taken_at))]
 pub(crate) fn offset(bytes: &[u8]) -> Result<u32, ValueFault>
     ensures within { IfOk result (λ _. 4 ≤ length bytes.now) }
     ensures exact { Gives (λ n. (n, drop 4 bytes.now)) result (fixed_at 4 bytes.now) }
@@ -50,7 +50,7 @@ pub(crate) fn offset(bytes: &[u8]) -> Result<u32, ValueFault>
 }
 
 /// As many bytes as a length says.
-#[tactic(auto, unfolding(crate::specs::ValueReading::block_at))]
+#[tactic(auto, unfolding(crate::specs::BaseFormats::taken_at))]
 pub(crate) fn block(bytes: &[u8], len: u64) -> Result<&[u8], ValueFault>
     ensures within { IfOk result (λ _. len ≤ length bytes.now) }
     ensures whole { IfOk result (λ content. length content.now ≡ len) }
@@ -63,7 +63,7 @@ pub(crate) fn block(bytes: &[u8], len: u64) -> Result<&[u8], ValueFault>
 }
 
 /// The bytes before the first zero byte.
-#[tactic(auto, unfolding(crate::specs::ValueReading::ended_at))]
+#[tactic(auto, unfolding(crate::specs::BaseFormats::text_at))]
 pub(crate) fn text(bytes: &[u8]) -> Result<&[u8], ValueFault>
     ensures within { IfOk result (λ text. length text.now + 1 ≤ length bytes.now) }
     ensures exact { Gives (λ text. (text.now, drop (length text.now + 1) bytes.now)) result (ended_at bytes.now) }
@@ -75,7 +75,7 @@ pub(crate) fn text(bytes: &[u8]) -> Result<&[u8], ValueFault>
 }
 
 /// As many bytes as a number of so many bytes says.
-#[tactic(auto, unfolding(crate::specs::ValueReading::counted_at))]
+#[tactic(auto, unfolding(crate::specs::Value::counted_bytes))]
 pub(crate) fn counted(bytes: &[u8], size: usize) -> Result<&[u8], ValueFault>
     requires some { 1 ≤ size }
     requires few { size ≤ 8 }
@@ -88,7 +88,7 @@ pub(crate) fn counted(bytes: &[u8], size: usize) -> Result<&[u8], ValueFault>
 }
 
 /// As many bytes as a LEB128 number says, and how many they are with that number.
-#[tactic(auto, unfolding(crate::specs::ValueReading::leb_counted_at, crate::specs::ValueReading::uleb_then))]
+#[tactic(auto, unfolding(crate::specs::Value::leb_counted_bytes, crate::specs::Value::leb_number))]
 pub(crate) fn leb_counted(bytes: &[u8]) -> Result<(&[u8], usize), ValueFault>
     ensures within { IfOk result (λ x. x.1 ≤ length bytes.now) }
     ensures exact { Gives (λ x. (x.0.now, drop x.1 bytes.now)) result (leb_counted_at bytes.now) }
@@ -99,7 +99,7 @@ pub(crate) fn leb_counted(bytes: &[u8]) -> Result<(&[u8], usize), ValueFault>
 }
 
 /// A length of so many bytes, as many bytes, and how many bytes the value has.
-#[tactic(auto, unfolding(crate::specs::ValueReading::layout_at))]
+#[tactic(auto, unfolding(crate::specs::Value::laid_out))]
 pub(crate) fn counted_block(bytes: &[u8], size: usize) -> Result<(Value<'_>, usize), ValueFault>
     requires some { 1 ≤ size }
     requires few { size ≤ 8 }
@@ -111,7 +111,7 @@ pub(crate) fn counted_block(bytes: &[u8], size: usize) -> Result<(Value<'_>, usi
 }
 
 /// A length as a LEB128 number, and as many bytes.
-#[tactic(auto, unfolding(crate::specs::ValueReading::layout_at))]
+#[tactic(auto, unfolding(crate::specs::Value::laid_out))]
 pub(crate) fn leb_block(bytes: &[u8]) -> Result<(Value<'_>, usize), ValueFault>
     ensures within { IfOk result (λ x. x.1 ≤ length bytes.now) }
     ensures exact { GivesIn (leb_layout block_datum) bytes.now result }
@@ -121,7 +121,7 @@ pub(crate) fn leb_block(bytes: &[u8]) -> Result<(Value<'_>, usize), ValueFault>
 }
 
 /// A signed LEB128 number.
-#[tactic(auto, unfolding(crate::specs::ValueReading::layout_at, crate::specs::ValueReading::sleb_then))]
+#[tactic(auto, unfolding(crate::specs::Value::laid_out, crate::specs::Value::signed_leb_number))]
 pub(crate) fn leb_signed(bytes: &[u8]) -> Result<(Value<'_>, usize), ValueFault>
     ensures within { IfOk result (λ x. x.1 ≤ length bytes.now) }
     ensures exact { GivesIn (signed_leb signed) bytes.now result }

@@ -8,6 +8,7 @@ mod attribute_bits;
 mod attribute_lists;
 mod attributes;
 mod chains;
+mod class;
 pub mod constants;
 mod decl;
 mod fault;
@@ -21,14 +22,15 @@ mod offsets;
 mod value;
 mod value_reader;
 
-pub use abbrev::{AbbrevTable, Decl};
-pub use abbrev_reader::read_table;
+pub use abbrev::{AbbrevTable, AttributeSpec, Decl};
+pub use abbrev_reader::{code_of, form_with_number, pair_of, read_table, tag_and_children};
 pub use abbrev_tables::AbbrevTables;
 pub use attribute_lists::{AttributeLists, Lead, Node, Step};
 pub use attributes::Attributes;
+pub use class::{Class, class_of_value, is_allowed_in, is_open};
 pub use constants::{Attribute, Language, Tag};
-pub use decl::{AttributeSpec, DeclAt, Decls, KeptDecl};
-pub use fault::{AbbrevFault, AbbrevRule, Stop};
+pub use decl::{DeclAt, Decls, KeptDecl};
+pub use fault::{AbbrevFault, AbbrevRule, DeclFault, Stop};
 pub use form::Form;
 pub use laws::{
     fixed_values_take_their_sum, signed_numbers_are_apart, tables_are_apart,

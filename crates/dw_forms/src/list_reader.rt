@@ -6,10 +6,10 @@ ghost use Rattle.dw_forms.specs.ListOffsets.{IsListAt, ArePlaced, AreListsOf, Mo
 ghost use Rattle.dw_forms.specs.Offsets.{AreKnownFrom, IsOffset};
 ghost use Rattle.dw_forms.specs.Stops.{IfFault, GivesOrMemory};
 
+use crate::abbrev::AttributeSpec;
 use crate::abbrev_reader::{fault, form_with_number, pair_of};
 use crate::attribute_lists::AttributeLists;
 use crate::constants::Attribute;
-use crate::decl::AttributeSpec;
 use crate::fault::{AbbrevRule, DeclFault, Stop};
 use crate::offsets::{Offsets, Placed};
 use std::alloc::Global;
@@ -27,7 +27,6 @@ pub struct KeptLists {
 }
 
 /// The attribute at an offset, and the offset after it; or none at the pair 0, 0. An attribute may be there twice.
-#[tactic(auto, using(crate::proofs::AbbrevSteps::pair_by))]
 fn next_pair(
     section: &[u8],
     offset: usize,

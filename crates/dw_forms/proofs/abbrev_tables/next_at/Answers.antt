@@ -27,7 +27,7 @@ pub returns-in-Err-read-clause-fault : goal.returns-in-Err-read-clause-fault
 returns-in-Err-read-clause-fault c =
     let code = sym (ap unsigned_at (bytes_from c.args.section.now c.args.offset)) ∙ c.in_ok-code.ensures.exact in
     list_breaks c.args.section.now c.args.offset c.in_ok-code.code c.in_ok-code.rest.now code c.if-code-eq0.false
-    c.in-Ok.found.0 c.in-Ok.found.1 c.in-Ok.found.2.now c.in-Ok.ensures.exact c.in-Err-read.error
+    (c.in-Ok.found.0, c.in-Ok.found.1) c.in-Ok.found.2.now c.in-Ok.ensures.exact c.in-Err-read.error
     c.in-Err-read.ensures.fault
 
 pub returns-clause-next : goal.returns-clause-next

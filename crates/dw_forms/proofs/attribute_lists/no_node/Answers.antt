@@ -8,7 +8,7 @@ unfolding number_where
 returns c =
     record {
       varying = refl;
-      stop = refl;
+      next_open = refl;
       known_with_4 = refl;
       known_with_8 = refl;
       small_4 = omega arith;

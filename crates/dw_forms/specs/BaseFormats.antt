@@ -1,0 +1,216 @@
+-- Chapter: the formats that others are made of: one byte, so many bytes, a number of so many bytes, text up to a zero
+-- byte, and LEB128 numbers.
+use Rattle.std.proofs.Common.{◌≡◌, ℕ, zero, suc, ◌<◌, false, cond, ltb, List, [], ◌∷◌, ◌++◌, length, take, drop}
+use Rattle.std.proofs.Common.{Result, Ok, Err, refl, sym, ap, ◌∙◌, All, append_assoc, arith}
+use Rattle.std.specs.Prelude.{MatchResult, ℤ}
+use Rattle.byteorder.specs.Endian.{little_number}
+use Rattle.std.proofs.lemmas.Bool.{ltb-true, ltb-false, lt-ltb, le-ltb}
+use Rattle.std.proofs.lemmas.List.{take_at, drop_at, take-append-drop, length-take, length-append}
+use Rattle.std.proofs.lemmas.List.Elements.{All-nil, All-cons, All-head, All-tail}
+use Rattle.dw_forms.specs.declared.leb.NumberFault.{NumberFault}
+use Rattle.dw_forms.specs.Formats.{Format, mapped}
+use Rattle.dw_forms.specs.Front.{BeginsWith, Takes}
+use Rattle.dw_forms.specs.Leb.{Uleb, Sleb, UlebFails, SlebFails}
+use Rattle.dw_forms.specs.LebReading.{uleb_at, sleb_at}
+use Rattle.dw_forms.specs.LebLaws.{uleb_says, uleb_again, uleb_refuses, sleb_says, sleb_again, sleb_refuses}
+use Rattle.dw_forms.specs.Says.{bind_says, cond_says}
+use Rattle.dw_forms.specs.Steps.{◌>>=◌}
+
+-- ---- one byte
+
+-- the first byte, and the bytes after it
+abbrev pub byte_at : {E : Type 0} → E → List ℕ → Result (ℕ × List ℕ) E
+byte_at cut [] = Err cut
+byte_at cut (b ∷ rest) = Ok (b, rest)
+
+pub byte_says : {E : Type 0} (cut : E) (bytes : List ℕ)
+    → MatchResult (byte_at cut bytes) (λ (x : ℕ × List ℕ). Takes (λ text b. text ≡ b ∷ []) bytes x.0 x.1)
+    (λ e. (bytes ≡ []) × (cut ≡ e))
+byte_says cut [] = (refl, refl)
+byte_says cut (b ∷ rest) = record { text = b ∷ []; parts = refl; spelled = refl }
+
+-- one byte, or this fault where there is none
+abbrev pub byte : {E : Type 0} → E → Format ℕ E
+byte {E} cut = record {
+  read = byte_at cut;
+  Spells = λ bytes b. bytes ≡ b ∷ [];
+  Fails = λ bytes e. (bytes ≡ []) × (cut ≡ e);
+  is_reader = record {
+    says = byte_says cut;
+    again = λ text rest b s. ap (λ (t : List ℕ). byte_at cut (t ++ rest)) s;
+  };
+  refuses = λ bytes e h. ap (byte_at cut) h.0 ∙ ap (λ (x : E). Err x) h.1;
+}
+
+-- ---- so many bytes
+
+-- so many bytes, and no others
+pub record Exactly (size : ℕ) (bytes content : List ℕ) : Type 0 where
+  pub same : bytes ≡ content
+  pub wide : length content ≡ size
+
+-- the first bytes, so many, and those after them
+unfoldable pub taken_at : {E : Type 0} → E → ℕ → List ℕ → Result (List ℕ × List ℕ) E
+taken_at cut size bytes = cond (ltb (length bytes) size) (Err cut) (Ok (take size bytes, drop size bytes))
+
+-- there are fewer bytes than so many
+abbrev pub IsTooShort : {E : Type 0} → E → ℕ → List ℕ → E → Type 0
+IsTooShort cut size bytes e = (length bytes < size) × (e ≡ cut)
+
+module _ {E : Type 0} (cut : E) (size : ℕ) where
+  pub taken_says : (bytes : List ℕ)
+      → MatchResult (taken_at cut size bytes) (λ (x : List ℕ × List ℕ). Takes (Exactly size) bytes x.0 x.1)
+      (IsTooShort cut size bytes)
+  unfolding taken_at
+  taken_says bytes =
+      cond_says (ltb (length bytes) size) _ _ (λ (x : List ℕ × List ℕ). Takes (Exactly size) bytes x.0 x.1)
+      (IsTooShort cut size bytes)
+      (λ short. (ltb-true _ _ short, refl))
+      (λ long. record {
+        text = take size bytes;
+        parts = sym (take-append-drop size bytes);
+        spelled = record { same = refl; wide = let fits = ltb-false _ _ long in omega (arith, length-take size bytes) };
+      })
+
+  pub taken_again : (text rest content : List ℕ) → Exactly size text content
+      → taken_at cut size (text ++ rest) ≡ Ok (content, rest)
+  unfolding taken_at
+  taken_again text rest content e =
+      let wide : length text ≡ size = ap length e.same ∙ e.wide in
+      let long : ltb (length (text ++ rest)) size ≡ false = le-ltb _ _ (omega (arith, length-append text rest)) in
+      rw (long, take_at text rest size wide, drop_at text rest size wide, e.same) refl
+
+  pub taken_refuses : (bytes : List ℕ) (e : E) → IsTooShort cut size bytes e → taken_at cut size bytes ≡ Err e
+  unfolding taken_at
+  taken_refuses bytes e h = rw (lt-ltb _ _ h.0, h.1) refl
+
+  -- so many bytes, or this fault where there are fewer
+  abbrev pub so_many : Format (List ℕ) E
+  so_many = record {
+    read = taken_at cut size;
+    Spells = Exactly size;
+    Fails = IsTooShort cut size;
+    is_reader = record { says = taken_says; again = taken_again };
+    refuses = taken_refuses;
+  }
+
+  -- a number of so many bytes, lowest first
+  abbrev pub fixed_number : Format ℕ E
+  fixed_number = mapped (little_number size) so_many
+
+-- ---- text
+
+-- the bytes before a zero byte, none of them zero
+pub record Ended (bytes content : List ℕ) : Type 0 where
+  pub parts : bytes ≡ content ++ 0 ∷ []
+  pub none_before : All (λ byte. 0 < byte) content
+
+-- the bytes before the first zero byte, and those after it
+unfoldable pub text_at : {E : Type 0} → E → List ℕ → Result (List ℕ × List ℕ) E
+text_at cut [] = Err cut
+text_at cut (zero ∷ bytes) = Ok ([], bytes)
+text_at cut (suc byte ∷ bytes) = text_at cut bytes >>= λ t. Ok (suc byte ∷ t.0, t.1)
+
+-- no zero byte ends the text
+abbrev pub TextFails : {E : Type 0} → E → List ℕ → E → Type 0
+TextFails cut bytes e = All (λ byte. 0 < byte) bytes × (e ≡ cut)
+
+module _ {E : Type 0} (cut : E) where
+  text_takes : (b : ℕ) (bytes content rest : List ℕ) → Takes Ended bytes content rest
+      → Takes Ended (suc b ∷ bytes) (suc b ∷ content) rest
+  text_takes b bytes content rest t = record {
+    text = suc b ∷ t.text;
+    parts = ap (λ (r : List ℕ). suc b ∷ r) t.parts;
+    spelled = record {
+      parts = ap (λ (r : List ℕ). suc b ∷ r) t.spelled.parts;
+      none_before = All-cons (λ c. 0 < c) (suc b) content (omega arith) t.spelled.none_before;
+    };
+  }
+
+  pub text_says : (bytes : List ℕ)
+      → MatchResult (text_at cut bytes) (λ (x : List ℕ × List ℕ). Takes Ended bytes x.0 x.1) (TextFails cut bytes)
+  unfolding text_at
+  text_says [] = (All-nil (λ b. 0 < b), refl)
+  text_says (zero ∷ bytes) =
+      record { text = 0 ∷ []; parts = refl; spelled = record { parts = refl; none_before = All-nil (λ b. 0 < b) } }
+  text_says (suc b ∷ bytes) =
+      bind_says (text_at cut bytes) (λ t. Ok (suc b ∷ t.0, t.1))
+      (λ (x : List ℕ × List ℕ). Takes Ended bytes x.0 x.1) (TextFails cut bytes)
+      (λ (x : List ℕ × List ℕ). Takes Ended (suc b ∷ bytes) x.0 x.1) (TextFails cut (suc b ∷ bytes))
+      (text_says bytes) (λ t h. text_takes b bytes t.0 t.1 h)
+      (λ f h. (All-cons (λ c. 0 < c) (suc b) bytes (omega arith) h.0, h.1))
+
+  ended_again : (content rest : List ℕ) → All (λ b. 0 < b) content
+      → text_at cut (content ++ (0 ∷ rest)) ≡ Ok (content, rest)
+  unfolding text_at
+  ended_again [] rest h = refl
+  ended_again (zero ∷ content) rest h = absurd (omega (arith, All-head (λ b. 0 < b) zero content h))
+  ended_again (suc b ∷ content) rest h =
+      rw (ended_again content rest (All-tail (λ b. 0 < b) (suc b) content h)) refl
+
+  pub text_again : (text rest content : List ℕ) → Ended text content → text_at cut (text ++ rest) ≡ Ok (content, rest)
+  text_again text rest content e =
+      ap (λ (t : List ℕ). text_at cut (t ++ rest)) e.parts
+      ∙ ap (text_at cut) (append_assoc content (0 ∷ []) rest) ∙ ended_again content rest e.none_before
+
+  endless : (bytes : List ℕ) → All (λ byte. 0 < byte) bytes → text_at cut bytes ≡ Err cut
+  unfolding text_at
+  endless [] h = refl
+  endless (zero ∷ bytes) h = absurd (omega (arith, All-head (λ b. 0 < b) zero bytes h))
+  endless (suc b ∷ bytes) h = rw (endless bytes (All-tail (λ b. 0 < b) (suc b) bytes h)) refl
+
+  pub text_refuses : (bytes : List ℕ) (e : E) → TextFails cut bytes e → text_at cut bytes ≡ Err e
+  text_refuses bytes e h = endless bytes h.0 ∙ ap (λ (x : E). Err x) (sym h.1)
+
+  -- bytes up to a zero byte, or this fault where none is zero
+  abbrev pub zero_ended : Format (List ℕ) E
+  zero_ended = record {
+    read = text_at cut;
+    Spells = Ended;
+    Fails = TextFails cut;
+    is_reader = record { says = text_says; again = text_again };
+    refuses = text_refuses;
+  }
+
+-- ---- numbers
+
+-- a number and the bytes after it
+abbrev pub number_after : {V : Type 0} → List ℕ → Result (V × ℕ) NumberFault → Result (V × List ℕ) NumberFault
+number_after bytes (Ok r) = Ok (r.0, drop r.1 bytes)
+number_after bytes (Err f) = Err f
+
+pub after_says : {V : Type 0} (Spells : List ℕ → V → Type 0) (Fails : List ℕ → NumberFault → Type 0) (bytes : List ℕ)
+    (r : Result (V × ℕ) NumberFault)
+    → MatchResult r (λ (x : V × ℕ). BeginsWith Spells bytes x.0 x.1) (Fails bytes)
+    → MatchResult (number_after bytes r) (λ (x : V × List ℕ). Takes Spells bytes x.0 x.1) (Fails bytes)
+after_says Spells Fails bytes (Ok r) h =
+    record { text = take r.1 bytes; parts = sym (take-append-drop r.1 bytes); spelled = h.spelled }
+after_says Spells Fails bytes (Err f) h = h
+
+-- an unsigned LEB128 number
+abbrev pub uleb : Format ℕ NumberFault
+uleb = record {
+  read = λ bytes. number_after bytes (uleb_at bytes);
+  Spells = Uleb;
+  Fails = UlebFails;
+  is_reader = record {
+    says = λ bytes. after_says Uleb UlebFails bytes (uleb_at bytes) (uleb_says bytes);
+    again = λ text rest n u. rw (uleb_again (text ++ rest) text rest n refl u, drop_at text rest (length text) refl)
+        refl;
+  };
+  refuses = λ bytes f h. ap (number_after bytes) (uleb_refuses bytes f h);
+}
+
+-- a signed LEB128 number
+abbrev pub sleb : Format ℤ NumberFault
+sleb = record {
+  read = λ bytes. number_after bytes (sleb_at bytes);
+  Spells = Sleb;
+  Fails = SlebFails;
+  is_reader = record {
+    says = λ bytes. after_says Sleb SlebFails bytes (sleb_at bytes) (sleb_says bytes);
+    again = λ text rest n u. rw (sleb_again (text ++ rest) text rest n refl u, drop_at text rest (length text) refl)
+        refl;
+  };
+  refuses = λ bytes f h. ap (number_after bytes) (sleb_refuses bytes f h);
+}

@@ -1,0 +1,270 @@
+-- Chapter: lists as formats: element after element up to an end, and no key of them twice.
+use Rattle.std.proofs.Common.{◌≡◌, ℕ, zero, suc, ◌+◌, ◌<◌, ◌≤◌, List, [], ◌∷◌, ◌++◌, length, Option, Some, None}
+use Rattle.std.proofs.Common.{Result, Ok, Err, refl, sym, ap, subst, ◌∙◌, append_assoc, arith}
+use Rattle.std.specs.Prelude.{MatchResult}
+use Rattle.std.proofs.lemmas.List.{append-nil, length-append}
+use Rattle.std.proofs.lemmas.Result.{MatchResult-weaker}
+use Rattle.dw_forms.specs.Elements.{Elements, SpellsElement, SpellsEnd, NextOf, NextFails, next_at, element_or_end}
+use Rattle.dw_forms.specs.Formats.{Format, renamed}
+use Rattle.dw_forms.specs.Front.{Takes}
+use Rattle.dw_forms.specs.Keys.{Apart, apart_push, apart_lacks}
+use Rattle.dw_forms.specs.Readers.{IsReader, joined}
+use Rattle.dw_forms.specs.Says.{bind_says}
+use Rattle.dw_forms.specs.Steps.{◌>>=◌, on_option}
+
+-- element after element up to the end, after the earlier ones. There are fewer than this bound
+unfoldable pub list_from : {X E : Type 0} → (List X → List ℕ → Result (Option X × List ℕ) E) → E → ℕ → List X → List ℕ
+    → Result (List X × List ℕ) E
+list_from next cut zero earlier bytes = Err cut
+list_from next cut (suc bound) earlier bytes =
+    next earlier bytes >>= λ p. on_option p.0 (Ok (earlier, p.1))
+    (λ x. list_from next cut bound (earlier ++ x ∷ []) p.1)
+
+-- a list up to its end
+abbrev pub list_of : {X E : Type 0} → (List X → List ℕ → Result (Option X × List ℕ) E) → E → List ℕ
+    → Result (List X × List ℕ) E
+list_of next cut bytes = list_from next cut (suc (length bytes)) [] bytes
+
+-- one spelling for each element, and then the end
+abbrev pub SpellsEach : {X : Type 0} → (List ℕ → X → Type 0) → (List ℕ → Type 0) → List X → List ℕ → Type 0
+SpellsEach Spells End [] bytes = End bytes
+SpellsEach Spells End (x ∷ xs) bytes =
+    (first : List ℕ) × (others : List ℕ) × (bytes ≡ first ++ others) × Spells first x
+    × SpellsEach Spells End xs others
+
+-- the bytes are a list of these elements, up to its end, and no two have the same key
+pub record SpellsList {X : Type 0} (key : X → ℕ) (Spells : List ℕ → X → Type 0) (End : List ℕ → Type 0)
+    (bytes : List ℕ) (xs : List X) : Type 0 where
+  pub spelled : SpellsEach Spells End xs bytes
+  pub distinct : Apart key xs
+
+-- after the earlier elements some more are spelled, and after them no next one and no end
+pub record FailsAfter {X E : Type 0} (key : X → ℕ) (Spells : List ℕ → X → Type 0)
+    (Fails : List X → List ℕ → E → Type 0) (earlier : List X) (bytes : List ℕ) (fault : E) : Type 0 where
+  pub items : List X
+  pub text : List ℕ
+  pub rest : List ℕ
+  pub parts : bytes ≡ text ++ rest
+  pub spelled : SpellsEach Spells (λ bytes. bytes ≡ []) items text
+  pub distinct : Apart key (earlier ++ items)
+  pub fails : Fails (earlier ++ items) rest fault
+
+-- what reads the next element or the end, whatever follows, and the fault where no bound is left
+pub record ReadsNext {X E : Type 0} (key : X → ℕ) (Spells : List ℕ → X → Type 0) (End : List ℕ → Type 0)
+    (Fails : List X → List ℕ → E → Type 0) (next : List X → List ℕ → Result (Option X × List ℕ) E) (cut : E) : Type 0
+  where
+    pub some : (text : List ℕ) (x : X) → Spells text x → 0 < length text
+    pub is_reader : (earlier : List X) → IsReader (next earlier) (NextOf key Spells End earlier) (Fails earlier)
+    pub refuses : (earlier : List X) (bytes : List ℕ) (e : E) → Fails earlier bytes e → next earlier bytes ≡ Err e
+
+module _ {X E : Type 0} {key : X → ℕ} {Spells : List ℕ → X → Type 0} {End : List ℕ → Type 0}
+    {Fails : List X → List ℕ → E → Type 0} {next : List X → List ℕ → Result (Option X × List ℕ) E} {cut : E}
+    (h : ReadsNext key Spells End Fails next cut) where
+  -- no more elements are spelled than there are bytes, since each has some, and so may the end
+  pub each_fits : (End' : List ℕ → Type 0) (least : ℕ) → ((text : List ℕ) → End' text → least ≤ length text)
+      → (xs : List X) (text : List ℕ) → SpellsEach Spells End' xs text → length xs + least ≤ length text
+  each_fits End' least fits [] text s = omega (arith, fits text s)
+  each_fits End' least fits (x ∷ xs) text p =
+      omega (arith, h.some p.0 x p.3, each_fits End' least fits xs p.1 p.4, ap length p.2, length-append p.0 p.1)
+
+  -- ---- what is read is spelled
+
+  record IsFound (earlier : List X) (bytes : List ℕ) (all : List X) (rest : List ℕ) : Type 0 where
+    pub items : List X
+    pub text : List ℕ
+    pub parts : bytes ≡ text ++ rest
+    pub spelled : SpellsEach Spells End items text
+    pub all_is : all ≡ earlier ++ items
+    pub distinct : Apart key all
+
+  abbrev Next : List X → List ℕ → Option X → Type 0
+  Next = NextOf key Spells End
+
+  abbrev Found : List X → List ℕ → List X × List ℕ → Type 0
+  Found earlier bytes x = IsFound earlier bytes x.0 x.1
+
+  abbrev Broken : List X → List ℕ → E → Type 0
+  Broken = FailsAfter key Spells Fails
+
+  found_more : (earlier : List X) (bytes after : List ℕ) (x : X) (r : List X × List ℕ)
+      → Takes (Next earlier) bytes (Some x) after → Found (earlier ++ x ∷ []) after r → Found earlier bytes r
+  found_more earlier bytes after x r t f = record {
+    items = x ∷ f.items;
+    text = t.text ++ f.text;
+    parts = joined t.text f.text r.1 bytes after t.parts f.parts;
+    spelled = (t.text, f.text, refl, t.spelled.0, f.spelled);
+    all_is = f.all_is ∙ append_assoc earlier (x ∷ []) f.items;
+    distinct = f.distinct;
+  }
+
+  fails_more : (earlier : List X) (bytes after : List ℕ) (x : X) (fault : E) → Takes (Next earlier) bytes (Some x) after
+      → Broken (earlier ++ x ∷ []) after fault → Broken earlier bytes fault
+  fails_more earlier bytes after x fault t f = record {
+    items = x ∷ f.items;
+    text = t.text ++ f.text;
+    rest = f.rest;
+    parts = joined t.text f.text f.rest bytes after t.parts f.parts;
+    spelled = (t.text, f.text, refl, t.spelled.0, f.spelled);
+    distinct = subst (Apart key) (append_assoc earlier (x ∷ []) f.items) f.distinct;
+    fails = subst (λ (e : List X). Fails e f.rest fault) (append_assoc earlier (x ∷ []) f.items) f.fails;
+  }
+
+  fails_here : (earlier : List X) (bytes : List ℕ) (fault : E) → Apart key earlier → Fails earlier bytes fault
+      → Broken earlier bytes fault
+  fails_here earlier bytes fault distinct f = record {
+    items = [];
+    text = [];
+    rest = bytes;
+    parts = refl;
+    spelled = refl;
+    distinct = subst (Apart key) (sym (append-nil earlier)) distinct;
+    fails = subst (λ (e : List X). Fails e bytes fault) (sym (append-nil earlier)) f;
+  }
+
+  after_says : (bound : ℕ) (earlier : List X) (bytes : List ℕ) (o : Option X) (after : List ℕ)
+      → Apart key earlier → Takes (Next earlier) bytes o after
+      → ((x : X) → Takes (Next earlier) bytes (Some x) after
+      → MatchResult (list_from next cut bound (earlier ++ x ∷ []) after) (Found (earlier ++ x ∷ []) after)
+      (Broken (earlier ++ x ∷ []) after))
+      → MatchResult (on_option o (Ok (earlier, after)) (λ x. list_from next cut bound (earlier ++ x ∷ []) after))
+      (Found earlier bytes) (Broken earlier bytes)
+  after_says bound earlier bytes None after distinct t others =
+      record {
+        items = [];
+        text = t.text;
+        parts = t.parts;
+        spelled = t.spelled;
+        all_is = sym (append-nil earlier);
+        distinct = distinct;
+      }
+  after_says bound earlier bytes (Some x) after distinct t others =
+      MatchResult-weaker (list_from next cut bound (earlier ++ x ∷ []) after) (others x t)
+      (λ r f. found_more earlier bytes after x r t f) (λ fault f. fails_more earlier bytes after x fault t f)
+
+  from_says : (bound : ℕ) (earlier : List X) (bytes : List ℕ) → length bytes < bound → Apart key earlier
+      → MatchResult (list_from next cut bound earlier bytes) (Found earlier bytes) (Broken earlier bytes)
+  unfolding list_from
+  from_says zero earlier bytes lt distinct = absurd (omega arith)
+  from_says (suc bound) earlier bytes lt distinct =
+      bind_says (next earlier bytes)
+      (λ p. on_option p.0 (Ok (earlier, p.1)) (λ x. list_from next cut bound (earlier ++ x ∷ []) p.1))
+      (λ (x : Option X × List ℕ). Takes (Next earlier) bytes x.0 x.1) (Fails earlier bytes) (Found earlier bytes)
+      (Broken earlier bytes)
+      ((h.is_reader earlier).says bytes)
+      (λ p t. after_says bound earlier bytes p.0 p.1 distinct t
+      (λ x u. from_says bound (earlier ++ x ∷ []) p.1
+      (omega (arith, h.some u.text x u.spelled.0, ap length u.parts, length-append u.text p.1))
+      (apart_push key earlier x distinct u.spelled.1)))
+      (λ fault f. fails_here earlier bytes fault distinct f)
+
+  abbrev Whole : List ℕ → List X → Type 0
+  Whole = SpellsList key Spells End
+
+  whole_found : (bytes : List ℕ) (x : List X × List ℕ) → Found [] bytes x → Takes Whole bytes x.0 x.1
+  whole_found bytes x f =
+      record {
+        text = f.text;
+        parts = f.parts;
+        spelled = record {
+          spelled = subst (λ (xs : List X). SpellsEach Spells End xs f.text) (sym f.all_is) f.spelled;
+          distinct = f.distinct;
+        };
+      }
+
+  none_apart : Apart key []
+  none_apart i j d lt long = absurd (omega arith)
+
+  pub list_says : (bytes : List ℕ)
+      → MatchResult (list_of next cut bytes) (λ (x : List X × List ℕ). Takes Whole bytes x.0 x.1) (Broken [] bytes)
+  list_says bytes =
+      MatchResult-weaker (list_of next cut bytes) (from_says (suc (length bytes)) [] bytes (omega arith) none_apart)
+      (λ x f. whole_found bytes x f) (λ fault f. f)
+
+  -- ---- what is spelled is read
+
+  -- reading goes through what is spelled, and ends as it does after it
+  from_ends : (End' : List ℕ → Type 0) (rest : List ℕ) (answer : Result (List X × List ℕ) E) (xs earlier : List X)
+      (bound : ℕ) (text : List ℕ) → SpellsEach Spells End' xs text → Apart key (earlier ++ xs)
+      → length xs < bound
+      → ((tail : List ℕ) (b : ℕ) → End' tail → list_from next cut (suc b) (earlier ++ xs) (tail ++ rest) ≡ answer)
+      → list_from next cut bound earlier (text ++ rest) ≡ answer
+  unfolding list_from
+  from_ends End' rest answer xs earlier zero text s a lt last = absurd (omega arith)
+  from_ends End' rest answer [] earlier (suc bound) text s a lt last =
+      subst (λ (e : List X). list_from next cut (suc bound) e (text ++ rest) ≡ answer) (append-nil earlier)
+      (last text bound s)
+  from_ends End' rest answer (x ∷ xs) earlier (suc bound) text p a lt last =
+      let parts : text ++ rest ≡ p.0 ++ (p.1 ++ rest) = ap (λ (t : List ℕ). t ++ rest) p.2
+      ∙ append_assoc p.0 p.1 rest in
+      let first : next earlier (text ++ rest) ≡ Ok (Some x, p.1 ++ rest) = ap (next earlier) parts
+      ∙ (h.is_reader earlier).again p.0 (p.1 ++ rest) (Some x) (p.3, apart_lacks key earlier x xs a) in
+      let regrouped : (earlier ++ x ∷ []) ++ xs ≡ earlier ++ x ∷ xs = append_assoc earlier (x ∷ []) xs in
+      rw first (from_ends End' rest answer xs (earlier ++ x ∷ []) bound p.1 p.4
+      (subst (Apart key) (sym regrouped) a) (omega arith)
+      (λ tail b e. ap (λ (all : List X). list_from next cut (suc b) all (tail ++ rest)) regrouped ∙ last tail b e))
+
+  of_ends : (End' : List ℕ → Type 0) (text rest : List ℕ) (answer : Result (List X × List ℕ) E) (xs : List X)
+      → SpellsEach Spells End' xs text → Apart key xs
+      → ((tail : List ℕ) (b : ℕ) → End' tail → list_from next cut (suc b) xs (tail ++ rest) ≡ answer)
+      → list_of next cut (text ++ rest) ≡ answer
+  of_ends End' text rest answer xs s a last =
+      from_ends End' rest answer xs [] (suc (length (text ++ rest))) text s a
+      (omega (arith, each_fits End' 0 (λ t e. omega arith) xs text s, length-append text rest)) last
+
+  pub list_again : (text rest : List ℕ) (xs : List X) → Whole text xs → list_of next cut (text ++ rest) ≡ Ok (xs, rest)
+  unfolding list_from
+  list_again text rest xs s =
+      of_ends End text rest (Ok (xs, rest)) xs s.spelled s.distinct
+      (λ tail b e. rw ((h.is_reader xs).again tail rest None e) refl)
+
+  -- the fault of the next element is that of the list
+  pub list_refuses : (bytes : List ℕ) (fault : E) → Broken [] bytes fault → list_of next cut bytes ≡ Err fault
+  unfolding list_from
+  list_refuses bytes fault f =
+      ap (list_of next cut) f.parts ∙ of_ends (λ text. text ≡ []) f.text f.rest (Err fault) f.items f.spelled f.distinct
+      (λ tail b e. rw (e, h.refuses f.items f.rest fault f.fails) refl)
+
+  -- the list as a format
+  abbrev pub list_format : Format (List X) E
+  list_format = record {
+    read = list_of next cut;
+    Spells = SpellsList key Spells End;
+    Fails = FailsAfter key Spells Fails [];
+    is_reader = record { says = list_says; again = list_again };
+    refuses = list_refuses;
+  }
+
+-- ---- a list of elements
+
+module _ {H X E : Type 0} (of : Elements H X E) where
+  element_some : (text : List ℕ) (x : X) → SpellsElement of text x → 0 < length text
+  element_some text x s = omega (
+    arith,
+    of.some s.first s.begins s.is_first,
+    ap length s.parts,
+    length-append s.first s.others,
+  )
+
+  pub reads_next : (cut : E) → ReadsNext of.key (SpellsElement of) (SpellsEnd of) (NextFails of) (next_at of) cut
+  reads_next cut = record {
+    some = element_some;
+    is_reader = λ earlier. (element_or_end of earlier).is_reader;
+    refuses = λ earlier. (element_or_end of earlier).refuses;
+  }
+
+  -- the elements up to the end, and this fault where reading would never end
+  abbrev pub up_to_end : E → Format (List X) E
+  up_to_end cut = list_format (reads_next cut)
+
+  -- the same where the bytes may say what a fault becomes
+  module _ {F : Type 0} (rename : List ℕ → E → F) where
+    abbrev pub renamed_next : List X → Format (Option X) F
+    renamed_next earlier = renamed rename (element_or_end of earlier)
+
+    pub reads_renamed : (cut : F) → ReadsNext of.key (SpellsElement of) (SpellsEnd of)
+        (λ earlier. (renamed_next earlier).Fails) (λ earlier. (renamed_next earlier).read) cut
+    reads_renamed cut = record {
+      some = element_some;
+      is_reader = λ earlier. (renamed_next earlier).is_reader;
+      refuses = λ earlier. (renamed_next earlier).refuses;
+    }
