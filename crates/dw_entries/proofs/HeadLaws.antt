@@ -3,13 +3,13 @@ use Rattle.std.proofs.Common.{rules, ◌≡◌, ℕ, zero, suc, ◌+◌, ◌<◌
 use Rattle.std.specs.Prelude.{slice_get}
 use Rattle.std.specs.List.{flat_map, AllByRecursion}
 use Rattle.dw_entries.specs.Grammar.{Context, head_bytes, attribute_bytes, IsHead}
-use Rattle.dw_entries.specs.Header.{header_size, header_bytes}
-use Rattle.dw_entries.specs.HeaderLaws.{length-header}
+use Rattle.dw_entries.specs.Header.{header_size}
+use Rattle.dw_entries.specs.UnitLaws.{header_long}
 use Rattle.dw_entries.specs.Items.{entry}
 use Rattle.dw_entries.specs.Reading.{seen, code_at}
 use Rattle.dw_entries.specs.ReadingLaws.{code_again, item_some}
 use Rattle.dw_entries.specs.Tree.{Node, Nodes, leaf, parent, none, ◌then◌, IsNode, AreNodes, node_bytes, nodes_bytes}
-use Rattle.dw_entries.specs.Units.{DebugUnit, context_of, body_bytes, nulls_bytes, unit_bytes, AreUnits, units_bytes, Spells}
+use Rattle.dw_entries.specs.Units.{DebugUnit, context_of, body_bytes, nulls_bytes, unit_bytes, IsUnit, AreUnits, units_bytes, Spells}
 use Rattle.dw_entries.specs.Entries.{Entry, node_count, first_id, node_entries, nodes_entries, entries_from, entries_of}
 
 -- the head of this entry is at its offset, and the entry is of this unit, whose context is x
@@ -95,12 +95,11 @@ stands_among all info unit u is e s =
     record { unit = u; is_unit = ap (slice_get all) s.in_unit ∙ is; is = s.is; after = s.after; parts = s.parts }
 
 -- the bytes of a unit after its header
-pub behind_header : (info : List ℕ) (at : ℕ) (u : DebugUnit) (after : List ℕ) → drop at info ≡ unit_bytes u ++ after
-    → drop (at + header_size u.header.kind) info ≡ body_bytes u ++ after
-behind_header info at u after e =
-    ap (λ (n : ℕ). drop (at + n) info) (sym (length-header u.header))
-    ∙ behind info (header_bytes u.header) (body_bytes u ++ after) at
-    (e ∙ append_assoc (header_bytes u.header) (body_bytes u) after)
+pub behind_header : (a info : List ℕ) (at : ℕ) (u : DebugUnit) (after : List ℕ) → IsUnit a u
+    → drop at info ≡ unit_bytes u ++ after → drop (at + header_size u.header.kind) info ≡ body_bytes u ++ after
+behind_header a info at u after p e =
+    ap (λ (n : ℕ). drop (at + n) info) (sym (header_long a u p))
+    ∙ behind info u.header_bytes (body_bytes u ++ after) at (e ∙ append_assoc u.header_bytes (body_bytes u) after)
 
 units_stand : (all : List DebugUnit) (a info : List ℕ) (unit id at : ℕ) (us : List DebugUnit) (after : List ℕ)
     → AreUnits a us → From all unit us → drop at info ≡ units_bytes us ++ after
@@ -111,7 +110,7 @@ units_stand all a info unit id at (u ∷ us) after p f e =
     ∙ append_assoc (unit_bytes u) (units_bytes us) after in
     let root : drop (at + header_size u.header.kind) info
     ≡ node_bytes u.root ++ (nulls_bytes u.nulls ++ (units_bytes us ++ after)) =
-    behind_header info at u (units_bytes us ++ after) parts
+    behind_header a info at u (units_bytes us ++ after) p.0 parts
     ∙ append_assoc (node_bytes u.root) (nulls_bytes u.nulls) (units_bytes us ++ after) in
     all-append (Stands all info) (node_entries unit None 0 None id (at + header_size u.header.kind) u.root)
     (entries_from (suc unit) (id + node_count u.root) (at + length (unit_bytes u)) us)

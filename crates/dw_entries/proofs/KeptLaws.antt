@@ -17,9 +17,9 @@ use Rattle.dw_forms.proofs.SpecLaws.{decl_specs}
 use Rattle.dw_entries.specs.declared.fault.Failing.{Failing}
 use Rattle.dw_entries.specs.declared.header.UnitHeader.{UnitHeader}
 use Rattle.dw_entries.specs.declared.header.UnitType.{UnitType}
-use Rattle.dw_entries.specs.declared.lookup.UnitHead.{UnitHead}
-use Rattle.dw_entries.specs.declared.walk.Record.{Record}
-use Rattle.dw_entries.specs.declared.walk.UnitRecord.{UnitRecord}
+use Rattle.dw_entries.specs.declared.units.UnitHead.{UnitHead}
+use Rattle.dw_entries.specs.declared.records.Record.{Record}
+use Rattle.dw_entries.specs.declared.records.UnitRecord.{UnitRecord}
 use Rattle.dw_entries.specs.Grammar.{declared_in, attribute_bytes, Head, head_bytes}
 use Rattle.dw_entries.specs.Header.{type_of}
 use Rattle.dw_entries.specs.Reading.{seen, code_at}

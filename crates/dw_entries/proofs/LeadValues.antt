@@ -6,7 +6,7 @@ use Rattle.dw_forms.specs.declared.attributes.Attributes.{Attributes}
 use Rattle.dw_forms.specs.declared.attribute_lists.Lead.{Lead}
 use Rattle.dw_forms.specs.declared.attribute_lists.Lead.TheVariants as lead
 use Rattle.dw_forms.specs.declared.attribute_lists.Step.{Step}
-use Rattle.dw_forms.specs.declared.decl.AttributeSpec.{AttributeSpec}
+use Rattle.dw_forms.specs.declared.abbrev.AttributeSpec.{AttributeSpec}
 use Rattle.dw_forms.specs.declared.form.Form.{Form}
 use Rattle.dw_forms.specs.declared.form.Form.TheVariants.{Ref4, Strp, Strx1, Strx2, Addrx}
 use Rattle.dw_forms.specs.declared.value.ValueFault.{ValueFault}
@@ -16,7 +16,8 @@ use Rattle.dw_forms.specs.declared.value.Value.TheVariants as value
 use Rattle.dw_forms.specs.Chains.{Numbered, items_of}
 use Rattle.dw_forms.specs.Steps.{◌>>=◌}
 use Rattle.dw_forms.specs.Suffixes.{nodes_of, numbered, specs_in}
-use Rattle.dw_forms.specs.Value.{Datum, view, str, str_index, ref_unit, addr_index, fixed, leb}
+use Rattle.dw_forms.specs.BaseFormats.{taken_at}
+use Rattle.dw_forms.specs.Value.{Datum, laid_out, view, str, str_index, ref_unit, addr_index, fixed, leb}
 use Rattle.dw_forms.specs.ValueReading.{layout_at, fixed_at, uleb_then}
 use Rattle.dw_forms.specs.Walks.{lead_of, does_lead, IsStep}
 use Rattle.dw_forms.proofs.LeadLaws.{lead_says}
@@ -88,7 +89,7 @@ module _ (a : Attributes) (step : Step) (is : IsStep (numbered a) step) where
 -- bytes that end inside a value of one size
 fixed_cut : (n : ℕ) (of : ℕ → Datum) (bytes : List ℕ) → nat_lt (length bytes) n ≡ true
     → layout_at (fixed n of) bytes ≡ Err Cut
-unfolding layout_at fixed_at
+unfolding laid_out taken_at
 fixed_cut n of bytes short = rw short refl
 
 pub text_cut : (bytes : List ℕ) (b : Bool) → b ≡ nat_lt (length bytes) 4 → OnTrue b (IsCut Strp bytes)
@@ -101,7 +102,7 @@ reference_cut bytes false short = tt
 
 fixed_made : (n : ℕ) (of : ℕ → Datum) (bytes behind : List ℕ) (d : Datum)
     → layout_at (fixed n of) bytes ≡ Ok (d, behind) → (m : ℕ) × (d ≡ of m)
-unfolding layout_at
+unfolding laid_out
 fixed_made n of bytes behind d e = by_read (fixed_at n bytes) e
   where
     by_read : (r : Result (ℕ × List ℕ) ValueFault)
@@ -111,7 +112,7 @@ fixed_made n of bytes behind d e = by_read (fixed_at n bytes) e
 
 leb_made : (of : ℕ → Datum) (bytes behind : List ℕ) (d : Datum) → layout_at (leb of) bytes ≡ Ok (d, behind)
     → (m : ℕ) × (d ≡ of m)
-unfolding layout_at
+unfolding laid_out
 leb_made of bytes behind d e = by_read (uleb_then bytes) e
   where
     by_read : (r : Result (ℕ × List ℕ) ValueFault)

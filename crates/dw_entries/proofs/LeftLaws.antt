@@ -1,18 +1,19 @@
 -- The attributes of an entry that stand in .debug_info, and the value of one of them.
-use Rattle.std.proofs.Common.{rules, ◌≡◌, ℕ, List, ◌++◌, map, None, false, sym, ap, ◌∙◌}
+use Rattle.std.proofs.Common.{rules, ◌≡◌, ℕ, List, ◌++◌, map, None, false, sym, ap, subst, ◌∙◌}
 use Rattle.std.specs.Prelude.{◌==◌, ◌≢◌, All, slice_get, slice_index_or, IfSome}
 use Rattle.std.specs.List.{flat_map}
 use Rattle.std.proofs.lemmas.Bool.{ne_eqb}
 use Rattle.std.proofs.lemmas.List.Folds.{list_any_none}
-use Rattle.dw_forms.specs.declared.decl.AttributeSpec.{AttributeSpec}
+use Rattle.dw_forms.specs.declared.abbrev.AttributeSpec.{AttributeSpec}
 use Rattle.dw_forms.specs.Abbrev.{Declaration}
 use Rattle.dw_forms.specs.KeptDecls.{Tables}
 use Rattle.dw_entries.specs.declared.header.UnitHeader.{UnitHeader}
-use Rattle.dw_entries.specs.declared.walk.Record.{Record}
-use Rattle.dw_entries.specs.declared.walk.UnitRecord.{UnitRecord}
+use Rattle.dw_entries.specs.declared.records.Record.{Record}
+use Rattle.dw_entries.specs.declared.records.UnitRecord.{UnitRecord}
 use Rattle.dw_entries.specs.Grammar.{AreAttributes, attribute_bytes}
 use Rattle.dw_entries.specs.Header.{version_of, IsSize}
-use Rattle.dw_entries.specs.Units.{context_of}
+use Rattle.dw_entries.specs.Units.{context_of, IsUnit}
+use Rattle.dw_entries.specs.UnitLaws.{unit_sized}
 use Rattle.dw_entries.specs.Entries.{entries_of}
 use Rattle.dw_entries.specs.Scanned.{found_units, Scanned}
 use Rattle.dw_entries.specs.Asked.{value_of, values_of}
@@ -38,7 +39,9 @@ module _ {base : ℕ} {a info : List ℕ} {tables : Tables} {rs : List UnitRecor
       of_unit)
 
   pub sized_here : IsSize header.address_size
-  sized_here = search (rules, all_get, header_same)
+  sized_here = subst (λ (h : UnitHeader). IsSize h.address_size) (sym header_same)
+      (unit_sized a k.stands.unit
+      (all_get (IsUnit a) (found_units s) k.entry.unit k.stands.unit s.1.spells.are k.stands.is_unit)).size
 
   context_is : value_context version header.address_size
       ≡ value_context (version_of k.stands.unit.header.kind) k.stands.unit.header.address_size

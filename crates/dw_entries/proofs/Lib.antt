@@ -8,7 +8,6 @@ pub mod WalkLaws
 pub mod AlongLaws
 pub mod NullLaws
 pub mod OrderLaws
-pub mod HeaderReads
 pub mod UnitRanges
 pub mod DepthLaws
 pub mod UnitSteps

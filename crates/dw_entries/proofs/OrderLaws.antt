@@ -1,12 +1,12 @@
 -- The entries stand in rising offset.
 use Rattle.std.proofs.Common.{ℕ, suc, ◌+◌, ◌≤◌, List, [], ◌∷◌, ◌++◌, length, Option, Some, None, ap, ◌∙◌, arith, length-append}
 use Rattle.dw_entries.specs.Scanned.{numbers_of, Scanned}
-use Rattle.dw_entries.specs.declared.walk.Record.{Record}
-use Rattle.dw_entries.specs.declared.walk.UnitRecord.{UnitRecord}
+use Rattle.dw_entries.specs.declared.records.Record.{Record}
+use Rattle.dw_entries.specs.declared.records.UnitRecord.{UnitRecord}
 use Rattle.dw_forms.specs.KeptDecls.{Tables}
 use Rattle.dw_entries.specs.Grammar.{Context, head_bytes}
-use Rattle.dw_entries.specs.Header.{header_size, header_bytes}
-use Rattle.dw_entries.specs.HeaderLaws.{length-header}
+use Rattle.dw_entries.specs.Header.{header_size}
+use Rattle.dw_entries.specs.UnitLaws.{unit_sized}
 use Rattle.dw_entries.specs.Tree.{Node, Nodes, leaf, parent, none, ◌then◌, IsNode, AreNodes, node_bytes, nodes_bytes}
 use Rattle.dw_entries.specs.Units.{nulls_bytes, DebugUnit, context_of, body_bytes, unit_bytes, AreUnits, units_bytes}
 use Rattle.dw_entries.specs.Entries.{node_count, first_id}
@@ -66,14 +66,9 @@ units_rise a numbers unit id at (u ∷ us) p =
     let start : ℕ = at + header_size u.header.kind in
     let first = Rises-from start at _ _ (omega arith)
     (node_rises (context_of u) (numbers unit) unit None 0 None id start u.root p.0.root) in
-    let e : start + length (node_bytes u.root) ≤ at
-    + length (unit_bytes u) = omega (
-      arith,
-      length-header u.header,
-      length-append (header_bytes u.header) (body_bytes u),
-      length-append
-          (node_bytes u.root) (nulls_bytes u.nulls),
-    ) in
+    let long = (unit_sized a u p.0).header in
+    let e : start + length (node_bytes u.root) ≤ at + length (unit_bytes u) =
+    omega (arith, long, length-append (node_bytes u.root) (nulls_bytes u.nulls)) in
     let whole : (at + length (unit_bytes u)) + length (units_bytes us) ≤ at
     + length (units_bytes (u ∷ us)) = omega (arith, length-append (unit_bytes u) (units_bytes us)) in
     Rises-to at _ _ _ whole (Rises-append at (at + length (unit_bytes u)) _ _ _ (Rises-to at _ _ _ e first)

@@ -6,10 +6,12 @@ use Rattle.std.specs.Borrow.{Bor}
 use Rattle.std.specs.Prelude.{MatchOption, slice_get}
 use Rattle.std.specs.List.{flat_map}
 use Rattle.dw_forms.specs.declared.value.Value.{Value}
-use Rattle.dw_forms.specs.Value.{Datum, SpellsPlain, Val, layout_of, view}
+use Rattle.dw_forms.specs.FormCodes.{form_of}
+use Rattle.dw_forms.specs.Value.{Datum, Val, layout_of, laid_out, counted_bytes, leb_counted_bytes, view}
+use Rattle.dw_forms.specs.ValueLaws.{named_plain}
 use Rattle.dw_forms.specs.KeptDecls.{Tables}
-use Rattle.dw_entries.specs.declared.walk.Record.{Record}
-use Rattle.dw_entries.specs.declared.walk.UnitRecord.{UnitRecord}
+use Rattle.dw_entries.specs.declared.records.Record.{Record}
+use Rattle.dw_entries.specs.declared.records.UnitRecord.{UnitRecord}
 use Rattle.dw_entries.specs.Grammar.{attribute_bytes, head_bytes}
 use Rattle.dw_entries.specs.Reading.{code_at, seen}
 use Rattle.dw_entries.specs.Scanned.{Scanned}
@@ -37,18 +39,19 @@ after_count count content bytes v parts is = record {
   parts = parts ∙ ap (λ (b : List ℕ). count ++ b) (sym is);
 }
 
-plain_bytes : (size : ℕ) (f : Form) (bytes : List ℕ) (v : Datum) → SpellsPlain (layout_of size f) bytes v
+plain_bytes : (size : ℕ) (f : Form) (bytes : List ℕ) (v : Datum) → (laid_out (layout_of size f)).Spells bytes v
     → EndWithBytes bytes v
+unfolding laid_out counted_bytes leb_counted_bytes
 plain_bytes size form.Block1 bytes v (content, counted, is) =
-    after_count counted.count content bytes v counted.parts (ap bytes_of is)
+    after_count counted.first counted.second bytes v counted.parts (ap bytes_of is ∙ sym counted.is_second.same)
 plain_bytes size form.Block2 bytes v (content, counted, is) =
-    after_count counted.count content bytes v counted.parts (ap bytes_of is)
+    after_count counted.first counted.second bytes v counted.parts (ap bytes_of is ∙ sym counted.is_second.same)
 plain_bytes size form.Block4 bytes v (content, counted, is) =
-    after_count counted.count content bytes v counted.parts (ap bytes_of is)
+    after_count counted.first counted.second bytes v counted.parts (ap bytes_of is ∙ sym counted.is_second.same)
 plain_bytes size form.Block bytes v (content, counted, is) =
-    after_count counted.count content bytes v counted.parts (ap bytes_of is)
+    after_count counted.first counted.second bytes v counted.parts (ap bytes_of is ∙ sym counted.is_second.same)
 plain_bytes size form.Exprloc bytes v (content, counted, is) =
-    after_count counted.count content bytes v counted.parts (ap bytes_of is)
+    after_count counted.first counted.second bytes v counted.parts (ap bytes_of is ∙ sym counted.is_second.same)
 plain_bytes size form.Text bytes v (content, ended, is) =
     after_count [] bytes bytes v refl (ap bytes_of is ∙ sym ended.parts)
 plain_bytes size form.Data16 bytes v (content, exactly, is) =
@@ -68,8 +71,10 @@ after_code code content bytes v parts end = record {
 -- the spelling of a value ends with its bytes
 spelled_bytes : (version size : ℕ) (f : Form) (bytes : List ℕ) (v : Datum) → Val version f size bytes v
     → EndWithBytes bytes v
+unfolding laid_out
 spelled_bytes version size form.Indirect bytes v p =
-    after_code p.code p.content bytes v p.parts (plain_bytes size p.form p.content v p.is_value)
+    let (f, plain) = named_plain version size (form_of p.value) p.second v p.is_second in
+    after_code p.first p.second bytes v p.parts (plain_bytes size f p.second v plain)
 spelled_bytes version size form.Block1 bytes v p = plain_bytes size form.Block1 bytes v p
 spelled_bytes version size form.Block2 bytes v p = plain_bytes size form.Block2 bytes v p
 spelled_bytes version size form.Block4 bytes v p = plain_bytes size form.Block4 bytes v p

@@ -2,9 +2,9 @@
 use Rattle.std.proofs.Common.{rules, ◌≡◌, ℕ, zero, suc, ◌+◌, ◌-◌, ◌<◌, ◌≤◌, List, [], ◌∷◌, ◌++◌, length, take, drop, None, refl, sym, ap, subst, ◌∙◌, append_assoc, append-nil, arith, map, length-append, length-drop, drop_at, drop-drop, drop_of_length-le, take_all, add-zero}
 use Rattle.std.proofs.lemmas.List.Concat.{flat_map-append}
 use Rattle.std.specs.List.{AllZip}
-use Rattle.dw_entries.specs.declared.walk.Record.{Record}
-use Rattle.dw_entries.specs.declared.walk.UnitRecord.{UnitRecord}
-use Rattle.dw_entries.specs.declared.walk.Kept.{Kept}
+use Rattle.dw_entries.specs.declared.records.Record.{Record}
+use Rattle.dw_entries.specs.declared.records.UnitRecord.{UnitRecord}
+use Rattle.dw_entries.specs.declared.records.Kept.{Kept}
 use Rattle.dw_forms.specs.AbbrevTables.{tables_in, AreTablesOf}
 use Rattle.dw_forms.specs.Chains.{chain_in}
 use Rattle.dw_forms.specs.KeptDecls.{Tables, decl_number_in}
@@ -14,10 +14,8 @@ use Rattle.dw_entries.specs.declared.fault.Broken.{Broken}
 use Rattle.dw_forms.specs.declared.fault.Stop.{Stop}
 use Rattle.dw_forms.specs.declared.fault.Stop.TheVariants.{Memory, Fault as Breaks}
 use Rattle.dw_forms.specs.Stops.{IfFault}
-use Rattle.dw_entries.specs.declared.header.HeaderKind.{HeaderKind}
-use Rattle.dw_entries.specs.declared.header.HeaderKind.TheVariants.{Version4, CompileUnit, PartialUnit, TypeUnit}
-use Rattle.dw_entries.specs.Header.{header_size, header_bytes}
-use Rattle.dw_entries.specs.HeaderLaws.{length-header}
+use Rattle.dw_entries.specs.Header.{header_size}
+use Rattle.dw_entries.specs.UnitLaws.{unit_some}
 use Rattle.dw_entries.specs.Units.{DebugUnit, body_bytes, unit_bytes, IsUnit, AreUnits, units_bytes}
 use Rattle.dw_entries.specs.Entries.{node_count, PlacedUnit, placed_from, placed}
 use Rattle.dw_entries.specs.Records.{node_records, records_from, records_kept}
@@ -194,19 +192,10 @@ upto_next a info header old new len u t =
           ∙ sym (records_from-push numbers 0 0 0 u.units v));
     }
 
-some_size : (kind : HeaderKind) → 0 < header_size kind
-some_size Version4 = omega arith
-some_size CompileUnit = omega arith
-some_size PartialUnit = omega arith
-some_size (TypeUnit signature type_offset) = omega arith
-
-some_bytes : (u : DebugUnit) → 0 < length (unit_bytes u)
-some_bytes u =
-    omega (arith, length-append (header_bytes u.header) (body_bytes u), length-header u.header, some_size u.header.kind)
-
-pub few_units : (us : List DebugUnit) → length us ≤ length (units_bytes us)
-few_units [] = omega arith
-few_units (u ∷ us) = omega (arith, length-append (unit_bytes u) (units_bytes us), some_bytes u, few_units us)
+pub few_units : (a : List ℕ) (us : List DebugUnit) → AreUnits a us → length us ≤ length (units_bytes us)
+few_units a [] are = omega arith
+few_units a (u ∷ us) are =
+    omega (arith, length-append (unit_bytes u) (units_bytes us), unit_some a u are.0, few_units a us are.1)
 
 pub upto_few_entries : (a info : List ℕ) (header : ℕ) (kept : Kept) → Upto a info header kept
     → length kept.records.items ≤ header

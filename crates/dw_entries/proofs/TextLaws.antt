@@ -7,7 +7,7 @@ use Rattle.std.proofs.lemmas.Bool.{ne_eqb, eq-eqb, eqb-true, eqb-false, or_parts
 use Rattle.std.proofs.lemmas.List.{drop-append-le}
 use mathlib.Core.Logic.{∥∥₁_elim}
 use Rattle.dw_forms.specs.declared.attributes.Attributes.{Attributes}
-use Rattle.dw_forms.specs.declared.decl.AttributeSpec.{AttributeSpec}
+use Rattle.dw_forms.specs.declared.abbrev.AttributeSpec.{AttributeSpec}
 use Rattle.dw_forms.specs.declared.form.Form.{Form}
 use Rattle.dw_forms.specs.declared.form.Form.TheVariants as form
 use Rattle.dw_forms.specs.declared.value.ValueFault.{ValueFault}
@@ -17,7 +17,9 @@ use Rattle.dw_forms.specs.Chains.{Numbered, items_of}
 use Rattle.dw_forms.specs.Plans.{values_end}
 use Rattle.dw_forms.specs.Sizes.{rest_at}
 use Rattle.dw_forms.specs.Suffixes.{specs_in, Ends, IsFrom}
-use Rattle.dw_forms.specs.Value.{Datum, SpellsPlain, Val, layout_of, text}
+use Rattle.dw_forms.specs.FormCodes.{form_of}
+use Rattle.dw_forms.specs.Value.{Datum, Val, layout_of, laid_out, text}
+use Rattle.dw_forms.specs.ValueLaws.{named_plain}
 use Rattle.dw_entries.specs.Asked.{value_of}
 use Rattle.dw_entries.specs.Grammar.{Context, Attribute, IsAttribute, AreAttributes, attribute_bytes, Head, head_bytes}
 use Rattle.dw_entries.specs.Header.{version_of}
@@ -25,8 +27,8 @@ use Rattle.dw_entries.specs.Lookups.{IsTextAt, value_at_entry, value_in}
 use Rattle.dw_entries.specs.Reading.{seen, code_at}
 use Rattle.dw_entries.specs.declared.header.UnitHeader.{UnitHeader}
 use Rattle.dw_entries.specs.Values.{value_context}
-use Rattle.dw_entries.specs.declared.walk.Record.{Record}
-use Rattle.dw_entries.specs.declared.walk.UnitRecord.{UnitRecord}
+use Rattle.dw_entries.specs.declared.records.Record.{Record}
+use Rattle.dw_entries.specs.declared.records.UnitRecord.{UnitRecord}
 use Rattle.dw_entries.specs.Entries.{entries_of}
 use Rattle.dw_entries.specs.Scanned.{found_units, Scanned}
 use Rattle.dw_forms.specs.KeptDecls.{Tables}
@@ -62,8 +64,10 @@ end_after code content bytes t parts is none_before =
 same_text : (a b : List ℕ) → text a ≡ text b → a ≡ b
 same_text a b is = cc
 
-plain_text : (size : ℕ) (f : Form) (code content bytes t : List ℕ) → SpellsPlain (layout_of size f) content (text t)
+plain_text : (size : ℕ) (f : Form) (code content bytes t : List ℕ)
+    → (laid_out (layout_of size f)).Spells content (text t)
     → bytes ≡ code ++ content → EndWith bytes t
+unfolding laid_out
 plain_text size form.Text code content bytes t (v, ended, is) parts = search (rules, same_text, end_after)
 plain_text size form.Indirect code content bytes t p parts = absurd p
 plain_text size form.FlagPresent code content bytes t p parts = absurd (let other = p.1 in cc)
@@ -72,7 +76,10 @@ plain_text size _ code content bytes t p parts = absurd (let other = p.2 in cc)
 
 -- a value that is a text
 spelled_text : (version size : ℕ) (f : Form) (bytes t : List ℕ) → Val version f size bytes (text t) → EndWith bytes t
-spelled_text version size form.Indirect bytes t p = plain_text size p.form p.code p.content bytes t p.is_value p.parts
+unfolding laid_out
+spelled_text version size form.Indirect bytes t p =
+    let (f, plain) = named_plain version size (form_of p.value) p.second (text t) p.is_second in
+    plain_text size f p.first p.second bytes t plain p.parts
 spelled_text version size form.Text bytes t p = plain_text size form.Text [] bytes bytes t p refl
 spelled_text version size form.FlagPresent bytes t p = absurd (let other = p.1 in cc)
 spelled_text version size (form.ImplicitConst number) bytes t p = absurd (let other = p.1 in cc)

@@ -5,8 +5,8 @@ use Rattle.std.specs.List.{AllByRecursion}
 use Rattle.std.specs.List.Sorted.{IsPartitionPoint, IsNonDecreasingBy}
 use Rattle.std.proofs.lemmas.Option.{slice_get_within, slice_get-get_or, slice_get_cases}
 use Rattle.dw_forms.specs.KeptDecls.{Tables}
-use Rattle.dw_entries.specs.declared.walk.Record.{Record}
-use Rattle.dw_entries.specs.declared.walk.UnitRecord.{UnitRecord}
+use Rattle.dw_entries.specs.declared.records.Record.{Record}
+use Rattle.dw_entries.specs.declared.records.UnitRecord.{UnitRecord}
 use Rattle.dw_entries.specs.Grammar.{head_bytes}
 use Rattle.dw_entries.specs.Header.{header_size}
 use Rattle.dw_entries.specs.Tree.{Node, Nodes, leaf, parent, none, ◌then◌, node_bytes}
@@ -184,7 +184,13 @@ module _ {base : ℕ} (a info : List ℕ) (tables : Tables) (rs : List UnitRecor
 
   pub few_records : length rs ≤ length info
   few_records =
-      omega (arith, units_counted a info tables rs records s, few_units (found_units s), ap length s.1.spells.parts)
+      omega (
+        arith,
+        units_counted a info tables rs records s,
+        few_units a (found_units s) s.1.spells.are,
+        ap length
+            s.1.spells.parts,
+      )
 
   module _ (id : ℕ) (within : id < length (entries_of (found_units s))) (n : ℕ)
       (point : IsPartitionPoint (λ (u : UnitRecord). u.first ≤ id) (λ (u : UnitRecord). id < u.first) rs n) where

@@ -1,44 +1,43 @@
 -- What taking a unit rests on.
-use Rattle.std.proofs.Common.{rules, ◌≡◌, ℕ, ◌+◌, ◌≤◌, List, [], ◌∷◌, ◌++◌, length, None, Ok, sym, ap, ◌∙◌, append_assoc, append-nil, arith, length-append}
+use Rattle.std.proofs.Common.{rules, ◌≡◌, ℕ, ◌+◌, ◌≤◌, List, [], ◌∷◌, ◌++◌, length, take, None, Ok, sym, ap, subst, ◌∙◌, append-nil, arith, length-append}
 use Rattle.dw_forms.specs.Abbrev.{Declaration}
-use Rattle.dw_entries.specs.declared.walk.UnitRecord.{UnitRecord}
-use Rattle.dw_entries.specs.declared.walk.Kept.{Kept}
+use Rattle.dw_entries.specs.declared.records.UnitRecord.{UnitRecord}
+use Rattle.dw_entries.specs.declared.records.Kept.{Kept}
 use Rattle.dw_forms.specs.AbbrevTables.{tables_in, AreTablesOf}
 use Rattle.dw_forms.specs.Chains.{chain_in}
 use Rattle.dw_forms.specs.KeptDecls.{table_in, decl_number_in}
 use Rattle.dw_forms.specs.TableStarts.{IsTableIn, Stay}
 use Rattle.dw_entries.specs.declared.header.UnitHeader.{UnitHeader}
-use Rattle.dw_entries.specs.Header.{IsSize, header_size, header_bytes, header_fields, header_at}
+use Rattle.dw_entries.specs.Header.{IsSize, header_size, header_and_body, header_at}
 use Rattle.dw_entries.specs.Records.{node_records}
-use Rattle.byteorder.specs.Endian.{little_bytes}
-use Rattle.byteorder.specs.Numbers.{length-bytes_low_first}
-use Rattle.dw_entries.specs.HeaderLaws.{length-header}
-use Rattle.dw_entries.specs.Units.{DebugUnit, context_by, body_bytes}
+use Rattle.dw_forms.specs.Front.{Takes}
+use Rattle.dw_entries.specs.HeaderLaws.{IsSized, is_sized, header_takes}
+use Rattle.dw_entries.specs.Tree.{node_bytes}
+use Rattle.dw_entries.specs.Units.{context_by, nulls_bytes}
 use Rattle.dw_entries.specs.Stopped.{TreeOf, UnitTaken}
-use Rattle.dw_entries.proofs.HeaderReads.{AreBytes, header_takes}
 
 abbrev unit_record : ℕ → UnitHeader → ℕ → ℕ → UnitRecord
 unit_record at h table first = record { at = at; header = h; table = table; first = first }
 
-module _ (a rest : List ℕ) (h : UnitHeader) (body : List ℕ) (bytes : AreBytes rest)
-    (read : header_at (length a) rest ≡ Ok (h, body)) where
+module _ (a rest : List ℕ) (h : UnitHeader) (body : List ℕ) (read : header_at (length a) rest ≡ Ok (h, body)) where
+  abbrev after : List ℕ
+  after = (header_takes (length a) rest (h, body) read).0
+
+  abbrev found : Takes (header_and_body (length a)).Spells rest (h, body) after
+  found = (header_takes (length a) rest (h, body) read).1
+
+  is : IsSized (length a) found.text h body
+  is = is_sized (length a) found.text h body found.spelled
+
   pub read_size : IsSize h.address_size
-  read_size = (header_takes (length a) rest h body bytes read).is.address_size
+  read_size = is.size
 
   pub read_offset : h.abbrev_offset ≤ length a
-  read_offset = let t = (header_takes (length a) rest h body bytes read).is.table in omega (arith, t)
+  read_offset = let t = is.table in omega (arith, t)
 
   pub read_start : header_size h.kind + length body ≤ length rest
-  read_start =
-      let r = header_takes (length a) rest h body bytes read in
-      omega (
-        arith,
-        length-header h,
-        ap length r.parts,
-        length-append (header_bytes h) (body ++ r.after),
-        length-append
-            body r.after,
-      )
+  read_start = let header = is.header in
+      omega (arith, header, ap length found.parts, length-append found.text after)
 
   pub unit_taken : (at start number first : ℕ) (old new : Kept)
       → start ≡ at + header_size h.kind → first ≡ length old.records.items
@@ -49,39 +48,37 @@ module _ (a rest : List ℕ) (h : UnitHeader) (body : List ℕ) (bytes : AreByte
       (decl_number_in (chain_in (tables_in new.tables) number)) h.kind body [] start old.records.items new.records.items
       → UnitTaken a rest at old new (4 + h.unit_length)
   unit_taken at start number first old new s few there tables stay units tree =
-      let r = header_takes (length a) rest h body bytes read in
       let table : List Declaration = table_in (tables_in new.tables) number in
       let numbers : ℕ → ℕ = decl_number_in (chain_in (tables_in new.tables) number) in
-      let u : DebugUnit = record { base = 0; header = h; table = table; root = tree.root; nulls = tree.nulls } in
-      let whole : body ≡ body_bytes u = tree.parts ∙ append-nil (body_bytes u) in
+      let whole : body ≡ node_bytes tree.root ++ nulls_bytes tree.nulls =
+      tree.parts ∙ append-nil (node_bytes tree.root ++ nulls_bytes tree.nulls) in
+      let front : List ℕ = take (header_size h.kind) found.text in
+      let text : found.text ≡ front ++ (node_bytes tree.root ++ nulls_bytes tree.nulls) =
+      sym is.ends ∙ ap (λ (b : List ℕ). front ++ b) whole in
+      let counted = is.whole in
       record {
-        taken = u;
+        taken = record {
+          base = 0;
+          header = h;
+          header_bytes = front;
+          table = table;
+          root = tree.root;
+          nulls = tree.nulls;
+        };
         is =
             record {
-              header = r.is;
+              header = ∣ subst (λ (b : List ℕ). (header_and_body (length a)).Spells b
+                  (h, node_bytes tree.root ++ nulls_bytes tree.nulls)) text
+                  (subst (λ (b : List ℕ). (header_and_body (length a)).Spells found.text (h, b)) whole found.spelled)
+                  ∣₁;
               table = there.table;
               root = tree.is;
               tag = tree.tag;
               nulls = tree.are_nulls;
-              unit_length = r.unit_length ∙ ap (λ (b : List ℕ). length (header_fields h ++ b)) whole;
             };
-        after = r.after;
-        parts =
-            r.parts ∙ ap (λ (b : List ℕ). header_bytes h ++ (b ++ r.after)) whole
-            ∙ sym (append_assoc (header_bytes h) (body_bytes u) r.after);
-        len_is =
-            omega (
-              arith,
-              r.unit_length,
-              ap length whole,
-              length-append (header_fields h) body,
-              length-append
-                  (header_bytes h) (body_bytes u),
-              length-header h,
-              length-append (little_bytes 4 h.unit_length)
-                  (header_fields h),
-              length-bytes_low_first 0 4 h.unit_length,
-            );
+        after = after;
+        parts = found.parts ∙ ap (λ (b : List ℕ). b ++ after) text;
+        len_is = sym counted ∙ ap length text;
         record_is = unit_record at h number first;
         kept = search (rules);
         units = units;

@@ -3,7 +3,7 @@ use Rattle.std.proofs.Common.{rules, ◌≡◌, ℕ, ◌+◌, ◌<◌, ◌≤◌
 use Rattle.std.specs.Prelude.{slice_get, IfSome}
 use Rattle.std.proofs.lemmas.List.{nil_from_length}
 use Rattle.std.proofs.lemmas.Option.{slice_get_cases}
-use Rattle.dw_entries.specs.declared.lookup.UnitHead.{UnitHead}
+use Rattle.dw_entries.specs.declared.units.UnitHead.{UnitHead}
 use Rattle.dw_entries.specs.Units.{DebugUnit}
 use Rattle.dw_entries.specs.Entries.{placed}
 use Rattle.dw_entries.specs.Lookups.{unit_head}

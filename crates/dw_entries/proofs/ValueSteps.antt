@@ -1,7 +1,7 @@
 -- One attribute of those that are left.
 use Rattle.std.proofs.Common.{rules, ◌≡◌, ℕ, ◌≤◌, subst, List, [], ◌∷◌, ◌++◌, ◌-◌, length, take, drop, map, None, Result, Ok, Err, refl, sym, ap, ◌∙◌, append_assoc, false}
 use Rattle.std.specs.List.{flat_map}
-use Rattle.dw_forms.specs.declared.decl.AttributeSpec.{AttributeSpec}
+use Rattle.dw_forms.specs.declared.abbrev.AttributeSpec.{AttributeSpec}
 use Rattle.dw_forms.specs.declared.value.ValueFault.{ValueFault}
 use Rattle.dw_forms.specs.Value.{Datum}
 use Rattle.dw_forms.specs.ValueReading.{value_at}

@@ -1,7 +1,7 @@
 -- The pass over a tree's items makes the tree's entries.
 use Rattle.std.proofs.Common.{rules, ◌≡◌, ℕ, zero, suc, ◌+◌, true, false, List, [], ◌∷◌, ◌++◌, length, Option, Some, None, refl, sym, ap, ◌∙◌, append_assoc, append-nil, arith, length-append}
-use Rattle.dw_entries.specs.declared.walk.Record.{Record}
-use Rattle.dw_entries.specs.declared.walk.Level.{Level}
+use Rattle.dw_entries.specs.declared.records.Record.{Record}
+use Rattle.dw_entries.specs.declared.tree.Level.{Level}
 use Rattle.dw_entries.specs.Grammar.{Context, Head, head_bytes}
 use Rattle.dw_entries.specs.Tree.{Node, Nodes, leaf, parent, none, ◌then◌, IsNode, AreNodes, node_bytes, nodes_bytes}
 use Rattle.dw_entries.specs.Items.{Item, null, node_items, nodes_items}

@@ -1,15 +1,15 @@
--- State: the attributes of an entry at which a search stops, by how they are declared.
+-- State: the attributes of an entry that a search passes, by how they are declared.
 use Rattle.std.specs.Prelude.{◌≡◌, ℕ, List, ◌∷◌, ◌++◌, Some, Bool, true, false, slice_get}
 use Rattle.std.specs.List.{list_any}
-use Rattle.dw_forms.specs.declared.decl.AttributeSpec.{AttributeSpec}
-use Rattle.dw_forms.specs.Plans.{is_stop}
+use Rattle.dw_forms.specs.declared.abbrev.AttributeSpec.{AttributeSpec}
+use Rattle.dw_forms.specs.Classes.{is_open}
 use Rattle.dw_forms.specs.Value.{Datum}
 use Rattle.dw_entries.specs.Grammar.{Context, Attribute, IsAttribute}
 use Rattle.dw_entries.specs.Asked.{value_of}
 
--- a search does not stop at attributes that are declared so
-abbrev pub DoesNotStop : AttributeSpec → Type 0
-DoesNotStop spec = is_stop spec ≡ false
+-- the attribute is not open: each value that is declared so has one of its classes
+abbrev pub IsNotOpen : AttributeSpec → Type 0
+IsNotOpen spec = is_open spec ≡ false
 
 -- an attribute and its value, with a specification that a search passes
 pub record IsPassed (Passes : AttributeSpec → Type 0) (item : ℕ × Datum) : Type 0 where

@@ -1,6 +1,6 @@
 -- Chapter: failures of rules over entries, their order, and the first of them.
 use Rattle.std.specs.Prelude.{◌≡◌, ℕ, ◌<◌, ◌⊎◌, [], Option, None, Some}
-use Rattle.dw_entries.specs.declared.fault.Rule.{Rule}
+use Rattle.dw_entries.specs.declared.rule.Rule.{Rule}
 use Rattle.dw_entries.specs.declared.fault.Section.TheVariants.{Info}
 use Rattle.dw_entries.specs.declared.fault.Broken.{Broken}
 use Rattle.dw_entries.specs.declared.fault.Fault.{Fault}

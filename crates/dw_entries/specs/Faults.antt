@@ -6,10 +6,10 @@ use Rattle.dw_forms.specs.declared.fault.AbbrevRule.TheVariants as table
 use Rattle.dw_forms.specs.declared.fault.AbbrevFault.{AbbrevFault}
 use Rattle.dw_forms.specs.Abbrev.{Declaration}
 use Rattle.dw_forms.specs.AbbrevReading.{table_at}
-use Rattle.dw_entries.specs.declared.fault.Rule.{Rule}
-use Rattle.dw_entries.specs.declared.fault.Rule.TheVariants.{AbbrevCut, AbbrevNumber, CodeTwice, BadTag, BadChildren}
-use Rattle.dw_entries.specs.declared.fault.Rule.TheVariants.{BadPair, UnknownForm, AttributeTwice, NoUnitEntry}
-use Rattle.dw_entries.specs.declared.fault.Rule.TheVariants.{LeftOver}
+use Rattle.dw_entries.specs.declared.rule.Rule.{Rule}
+use Rattle.dw_entries.specs.declared.rule.Rule.TheVariants.{AbbrevCut, AbbrevNumber, CodeTwice, BadTag, BadChildren}
+use Rattle.dw_entries.specs.declared.rule.Rule.TheVariants.{BadPair, UnknownForm, AttributeTwice, NoUnitEntry}
+use Rattle.dw_entries.specs.declared.rule.Rule.TheVariants.{LeftOver}
 use Rattle.dw_entries.specs.declared.fault.Section.TheVariants.{Abbrev, Info}
 use Rattle.dw_entries.specs.declared.fault.Failing.{Failing}
 use Rattle.dw_entries.specs.declared.fault.Broken.{Broken}

@@ -1,7 +1,7 @@
 -- Chapter: an entry and its attributes, as they are spelled (DWARF 5, 2.2 and 7.5.2).
 use Rattle.std.specs.Prelude.{◌≡◌, ℕ, true, false, List, [], ◌∷◌, ◌++◌, Option, Some, ◌==◌, find}
 use Rattle.std.specs.List.{flat_map}
-use Rattle.dw_forms.specs.declared.decl.AttributeSpec.{AttributeSpec}
+use Rattle.dw_forms.specs.declared.abbrev.AttributeSpec.{AttributeSpec}
 use Rattle.dw_forms.specs.Abbrev.{Declaration}
 use Rattle.dw_forms.specs.FormCodes.{is_allowed}
 use Rattle.dw_forms.specs.Leb.{Uleb}

@@ -1,208 +1,281 @@
--- Laws: a header that is spelled is read, whatever follows its unit.
-use Rattle.std.proofs.Common.{◌≡◌, ℕ, ◌+◌, ◌<◌, ◌^◌, inl, inr, true, false, List, [], ◌++◌, length, Ok, eqb, ltb, refl}
-use Rattle.std.proofs.Common.{sym, ap, ◌∙◌, append_assoc, append-nil, arith, length-append, take_at, drop_at, le-ltb}
-use Rattle.std.proofs.Common.{lt-ltb}
+-- Laws: the sizes of a unit that is spelled, and what is known of the fields of its header.
+use Rattle.std.proofs.Common.{◌≡◌, ℕ, ◌+◌, ◌<◌, inl, inr, Bool, true, false, eqb, ltb, List, [], ◌++◌, length, take}
+use Rattle.std.proofs.Common.{Result, Ok, Err, refl, sym, ap, subst, ◌∙◌, append_assoc, append-nil, arith}
+use Rattle.std.proofs.Common.{length-append, take_at, ltb-true, eqb-true}
 use Rattle.std.specs.Prelude.{◌||◌}
-use Rattle.byteorder.specs.Endian.{little_number, little_bytes}
-use Rattle.byteorder.specs.Numbers.{little_number-reads_back, length-bytes_low_first}
+use Rattle.std.proofs.Props.{props}
+use mathlib.Core.Logic.{∥∥₁_elim}
+use Rattle.byteorder.specs.Endian.{little_number}
+use Rattle.dw_forms.specs.Formats.{choose, nothing, failing, and_then, mapped, tested_is, apart}
+use Rattle.dw_forms.specs.Front.{Takes}
+use Rattle.dw_forms.specs.Readers.{read_is, not_both, takes}
+use Rattle.dw_forms.specs.Steps.{◌>>=◌}
+use Rattle.dw_entries.specs.declared.rule.Rule.{Rule}
+use Rattle.dw_entries.specs.declared.rule.Rule.TheVariants.{Not32Bit, BadVersion, BadUnitType, BadAddressSize}
+use Rattle.dw_entries.specs.declared.rule.Rule.TheVariants.{BadAbbrevOffset}
 use Rattle.dw_entries.specs.declared.header.HeaderKind.{HeaderKind}
 use Rattle.dw_entries.specs.declared.header.HeaderKind.TheVariants.{Version4, CompileUnit, PartialUnit, TypeUnit}
 use Rattle.dw_entries.specs.declared.header.UnitHeader.{UnitHeader}
-use Rattle.dw_entries.specs.Header.{version_of, type_code, type_fields, fields_after_version, header_fields}
-use Rattle.dw_entries.specs.Header.{header_bytes, header_size, FitKind, IsSize, IsHeader, field_at, address_size_at}
-use Rattle.dw_entries.specs.Header.{abbrev_offset_at, version4_at, kind_at, version5_at, fields_at, unit_at, header_at}
+use Rattle.dw_entries.specs.Choices.{size_unique}
+use Rattle.dw_entries.specs.Header.{header_size, IsSize, field, address_size, abbrev_offset, version4, kind_of}
+use Rattle.dw_entries.specs.Header.{version5, header_fields, unit_content, header_and_body, unit_at, header_at}
 
-length-little_bytes : (size n : ℕ) → length (little_bytes size n) ≡ size
-length-little_bytes size n = length-bytes_low_first 0 size n
+field_size : (size : ℕ) (text : List ℕ) (n : ℕ) → (field size).Spells text n → length text ≡ size
+field_size size text n s = ap length s.1.same ∙ s.1.wide
 
-field_again : (size n : ℕ) (rest bytes : List ℕ) → bytes ≡ little_bytes size n ++ rest → n < 256 ^ size
-    → field_at size bytes ≡ Ok (n, rest)
-unfolding field_at
-field_again size n rest bytes e small =
-    let len = length-little_bytes size n in
-    let long : ltb (length (little_bytes size n ++ rest)) size ≡ false =
-    le-ltb _ _ (omega (arith, len, length-append (little_bytes size n) rest)) in
-    let back : little_number size (little_bytes size n) ≡ n =
-    ap (little_number size) (sym (append-nil (little_bytes size n))) ∙ little_number-reads_back size n [] small in
-    ap (field_at size) e ∙ rw (
-      long,
-      take_at (little_bytes size n) rest size len,
-      drop_at (little_bytes size n) rest size len,
-      back,
-    ) refl
-
-address_size_again : (s : ℕ) (rest bytes : List ℕ) → bytes ≡ little_bytes 1 s ++ rest → IsSize s
-    → address_size_at bytes ≡ Ok (s, rest)
-unfolding address_size_at
-address_size_again s rest bytes e is = rw (field_again 1 s rest bytes e small, right) refl
+-- an address size that is spelled
+size_is : (text : List ℕ) (n : ℕ) → address_size.Spells text n → (length text ≡ 1) × IsSize n
+unfolding address_size
+size_is text n s =
+    let (spelled, good) = tested_is (λ size. eqb size 4 || eqb size 8) BadAddressSize (field 1) text n s in
+    (field_size 1 text n spelled, from (eqb n 4) refl good)
   where
-    small : s < 256 ^ 1
-    small = elim is [ inl four ↦ rw four (omega arith) | inr eight ↦ rw eight (omega arith) ]
+    from : (b : Bool) → eqb n 4 ≡ b → (b || eqb n 8) ≡ true → IsSize n
+    from true four good = inl (eqb-true _ _ four)
+    from false four good = inr (eqb-true _ _ good)
 
-    right : (eqb s 4 || eqb s 8) ≡ true
-    right = elim is [ inl four ↦ rw four refl | inr eight ↦ rw eight refl ]
+-- an offset that is spelled
+offset_is : (abbrev_size : ℕ) (text : List ℕ) (n : ℕ) → (abbrev_offset abbrev_size).Spells text n
+    → (length text ≡ 4) × (n < abbrev_size)
+unfolding abbrev_offset
+offset_is abbrev_size text n s =
+    let (spelled, low) = tested_is (λ offset. ltb offset abbrev_size) BadAbbrevOffset (field 4) text n s in
+    (field_size 4 text n spelled, ltb-true _ _ low)
 
-abbrev_offset_again : (n o : ℕ) (rest bytes : List ℕ) → bytes ≡ little_bytes 4 o ++ rest → o < n → o < 256 ^ 4
-    → abbrev_offset_at n bytes ≡ Ok (o, rest)
-unfolding abbrev_offset_at
-abbrev_offset_again n o rest bytes e within small = rw (field_again 4 o rest bytes e small, lt-ltb _ _ within) refl
+-- the fields that come after so many bytes of the header
+record AreFields (abbrev_size unit_length : ℕ) (text : List ℕ) (before : ℕ) (h : UnitHeader) : Type 0 where
+  pub length_is : h.unit_length ≡ unit_length
+  pub long : before + length text ≡ header_size h.kind
+  pub size : IsSize h.address_size
+  pub table : h.abbrev_offset < abbrev_size
 
--- the header with these fields
-abbrev made : ℕ → HeaderKind → ℕ → ℕ → UnitHeader
-made len kind size offset = record { unit_length = len; kind = kind; address_size = size; abbrev_offset = offset }
+version4_is : (abbrev_size unit_length : ℕ) (text : List ℕ) (h : UnitHeader)
+    → (version4 abbrev_size unit_length).Spells text h → AreFields abbrev_size unit_length text 6 h
+unfolding version4
+version4_is abbrev_size unit_length text h s =
+    let (offset_size, low) = offset_is abbrev_size s.first s.value s.is_first in
+    let (size_size, good) = size_is s.second s.is_second.0 s.is_second.1 in
+    subst (AreFields abbrev_size unit_length text 6) (sym s.is_second.2) (record {
+      length_is = refl;
+      long = omega (arith, ap length s.parts, length-append s.first s.second, offset_size, size_size);
+      size = good;
+      table = low;
+    })
 
-version4_again : (n len size offset : ℕ) (body : List ℕ) → IsSize size → offset < n → offset < 256 ^ 4
-    → version4_at n len ((little_bytes 4 offset ++ little_bytes 1 size) ++ body)
-    ≡ Ok (made len Version4 size offset, body)
-unfolding version4_at
-version4_again n len size offset body is within small =
-    rw (
-      abbrev_offset_again n offset (little_bytes 1 size ++ body) _
-          (append_assoc (little_bytes 4 offset) (little_bytes 1 size) body) within small,
-      address_size_again size body _ refl is,
-    ) refl
-
-kind_again : (kind : HeaderKind) (body : List ℕ) → (0 < type_code kind) → FitKind kind
-    → kind_at (type_code kind) (type_fields kind ++ body) ≡ Ok (kind, body)
-unfolding kind_at
-kind_again Version4 body some fits = absurd (omega (arith, some))
-kind_again CompileUnit body some fits = refl
-kind_again PartialUnit body some fits = refl
-kind_again (TypeUnit signature type_offset) body some fits =
-    rw (
-      field_again 8 signature (little_bytes 4 type_offset ++ body) _
-          (append_assoc (little_bytes 8 signature) (little_bytes 4 type_offset) body) fits.0,
-      field_again 4 type_offset body _ refl fits.1,
-    ) refl
-
-known_type : (kind : HeaderKind) → 0 < type_code kind
-    → (eqb (type_code kind) 1 || eqb (type_code kind) 2 || eqb (type_code kind) 3) ≡ true
-known_type Version4 some = absurd (omega (arith, some))
-known_type CompileUnit some = refl
-known_type PartialUnit some = refl
-known_type (TypeUnit signature type_offset) some = refl
-
-small_type : (kind : HeaderKind) → type_code kind < 256 ^ 1
-small_type Version4 = omega arith
-small_type CompileUnit = omega arith
-small_type PartialUnit = omega arith
-small_type (TypeUnit signature type_offset) = omega arith
-
-version5_again : (n len size offset : ℕ) (kind : HeaderKind) (body : List ℕ) → 0 < type_code kind → FitKind kind
-    → IsSize size → offset < n → offset < 256 ^ 4
-    → version5_at n len ((little_bytes 1 (type_code kind)
-    ++ (little_bytes 1 size ++ (little_bytes 4 offset ++ type_fields kind))) ++ body)
-    ≡ Ok (made len kind size offset, body)
-unfolding version5_at
-version5_again n len size offset kind body some fits is within small =
-    let behind_offset : List ℕ = type_fields kind ++ body in
-    let behind_size : List ℕ = little_bytes 4 offset ++ behind_offset in
-    let behind_code : List ℕ = little_bytes 1 size ++ behind_size in
-    let parts : (little_bytes 1 (type_code kind)
-    ++ (little_bytes 1 size ++ (little_bytes 4 offset ++ type_fields kind))) ++ body ≡ little_bytes 1 (type_code kind)
-    ++ behind_code =
-    append_assoc (little_bytes 1 (type_code kind)) (little_bytes 1 size ++ (little_bytes 4 offset ++ type_fields kind))
-    body
-    ∙ ap (λ (b : List ℕ). little_bytes 1 (type_code kind) ++ b)
-    (append_assoc (little_bytes 1 size) (little_bytes 4 offset ++ type_fields kind) body
-    ∙ ap (λ (b : List ℕ). little_bytes 1 size ++ b) (append_assoc (little_bytes 4 offset) (type_fields kind) body)) in
-    rw (
-      field_again 1 (type_code kind) behind_code _ parts (small_type kind),
-      known_type kind some,
-      address_size_again size behind_size _ refl is,
-      abbrev_offset_again n offset behind_offset _ refl within small,
-      kind_again kind body some fits,
-    ) refl
-
-fields_again : (n len size offset : ℕ) (kind : HeaderKind) (body : List ℕ) → FitKind kind → IsSize size → offset < n
-    → offset < 256 ^ 4
-    → fields_at n len (header_fields (made len kind size offset) ++ body) ≡ Ok (made len kind size offset, body)
-unfolding fields_at
-fields_again n len size offset Version4 body fits is within small =
-    rw (field_again 2 4 ((little_bytes 4 offset ++ little_bytes 1 size) ++ body) _
-    (append_assoc (little_bytes 2 4) (little_bytes 4 offset ++ little_bytes 1 size) body) (omega arith))
-    (version4_again n len size offset body is within small)
-fields_again n len size offset CompileUnit body fits is within small =
-    rw (field_again 2 5 (fields_after_version (made len CompileUnit size offset) CompileUnit ++ body) _
-    (append_assoc (little_bytes 2 5) (fields_after_version (made len CompileUnit size offset) CompileUnit) body)
-    (omega arith)) (version5_again n len size offset CompileUnit body (omega arith) fits is within small)
-fields_again n len size offset PartialUnit body fits is within small =
-    rw (field_again 2 5 (fields_after_version (made len PartialUnit size offset) PartialUnit ++ body) _
-    (append_assoc (little_bytes 2 5) (fields_after_version (made len PartialUnit size offset) PartialUnit) body)
-    (omega arith)) (version5_again n len size offset PartialUnit body (omega arith) fits is within small)
-fields_again n len size offset (TypeUnit signature type_offset) body fits is within small =
-    rw (field_again 2 5 (fields_after_version (made len (TypeUnit signature type_offset) size offset)
-    (TypeUnit signature type_offset) ++ body) _
-    (append_assoc (little_bytes 2 5)
-    (fields_after_version (made len (TypeUnit signature type_offset) size offset) (TypeUnit signature type_offset))
-    body) (omega arith))
-    (version5_again n len size offset (TypeUnit signature type_offset) body (omega arith) fits is within small)
-
--- the bytes of a unit are found by their length
-pub unit_again : (len : ℕ) (whole after bytes : List ℕ) → bytes ≡ little_bytes 4 len ++ (whole ++ after)
-    → len ≡ length whole → len < 0xfffffff0 → unit_at bytes ≡ Ok (len, whole)
-unfolding unit_at
-unit_again len whole after bytes e is small =
-    let long : ltb (length (whole ++ after)) len ≡ false = le-ltb _ _ (omega (arith, is, length-append whole after)) in
-    rw (
-      field_again 4 len (whole ++ after) bytes e (omega (arith, small)),
-      lt-ltb _ _ small,
-      long,
-      take_at whole after len (sym is),
-    ) refl
-
--- a header that is spelled is read, and so are the bytes of the unit after it
-pub header_again : (n : ℕ) (h : UnitHeader) (body after bytes : List ℕ) → bytes ≡ header_bytes h ++ (body ++ after)
-    → IsHeader n h → h.unit_length ≡ length (header_fields h ++ body) → header_at n bytes ≡ Ok (h, body)
-unfolding header_at
-header_again n h body after bytes e p len =
-    let parts : bytes ≡ little_bytes 4 h.unit_length ++ ((header_fields h ++ body) ++ after) =
-    e ∙ append_assoc (little_bytes 4 h.unit_length) (header_fields h) (body ++ after) ∙ ap
-    (λ (b : List ℕ). little_bytes 4 h.unit_length ++ b) (sym (append_assoc (header_fields h) body after)) in
-    rw (unit_again h.unit_length (header_fields h ++ body) after bytes parts len p.format)
-    (fields_again n h.unit_length h.address_size h.abbrev_offset h.kind body p.kind p.address_size p.table p.offset)
-
--- how many bytes a header has
-pub length-header : (h : UnitHeader) → length (header_bytes h) ≡ header_size h.kind
-length-header h = omega (
-  arith,
-  length-append (little_bytes 4 h.unit_length) (header_fields h),
-  length-little_bytes 4 h.unit_length,
-  length-append (little_bytes 2 (version_of h.kind)) (fields_after_version h h.kind),
-  length-little_bytes 2 (version_of h.kind),
-  after_version h.kind,
-)
+-- the fields of a type unit alone
+kind_is : (code : ℕ) (text : List ℕ) (kind : HeaderKind) → (kind_of code).Spells text kind
+    → 12 + length text ≡ header_size kind
+unfolding kind_of
+kind_is code text kind s = go (eqb code 1) (eqb code 3) s
   where
-    after_version : (kind : HeaderKind) → 6 + length (fields_after_version h kind) ≡ header_size kind
-    after_version Version4 =
+    go : (b c : Bool) → (choose b (nothing {E = Rule} CompileUnit) (choose c (nothing PartialUnit)
+        (and_then (field 8) (λ signature. mapped (TypeUnit signature) (field 4))))).Spells text kind
+        → 12 + length text ≡ header_size kind
+    go true c s = ap (λ (t : List ℕ). 12 + length t) s.0 ∙ ap header_size (sym s.1)
+    go false true s = ap (λ (t : List ℕ). 12 + length t) s.0 ∙ ap header_size (sym s.1)
+    go false false s =
+        let type_unit : header_size kind ≡ 24 = ap header_size s.is_second.2 in
         omega (
           arith,
-          length-append (little_bytes 4 h.abbrev_offset) (little_bytes 1 h.address_size),
-          length-little_bytes 4 h.abbrev_offset,
-          length-little_bytes 1 h.address_size,
+          type_unit,
+          ap length s.parts,
+          length-append s.first s.second,
+          field_size 8 s.first s.value s.is_first,
+          field_size 4 s.second s.is_second.0 s.is_second.1,
         )
-    after_version CompileUnit =
-        omega (
-          arith,
-          length-append (little_bytes 4 h.abbrev_offset) [],
-          length-little_bytes 4 h.abbrev_offset,
-          length-little_bytes 1 h.address_size,
+
+version5_is : (abbrev_size unit_length : ℕ) (text : List ℕ) (h : UnitHeader)
+    → (version5 abbrev_size unit_length).Spells text h → AreFields abbrev_size unit_length text 6 h
+unfolding version5
+version5_is abbrev_size unit_length text h s =
+    let (typed, known) = tested_is (λ code. eqb code 1 || eqb code 2 || eqb code 3) BadUnitType (field 1)
+    s.first s.value s.is_first in
+    let sized = s.is_second in
+    let (size_size, good) = size_is sized.first sized.value sized.is_first in
+    let placed = sized.is_second in
+    let (offset_size, low) = offset_is abbrev_size placed.first placed.value placed.is_first in
+    let kind = placed.is_second in
+    subst (AreFields abbrev_size unit_length text 6) (sym kind.2) (record {
+      length_is = refl;
+      long =
+          omega (
+            arith,
+            ap length s.parts,
+            length-append s.first s.second,
+            field_size 1 s.first s.value typed,
+            ap length sized.parts,
+            length-append sized.first sized.second,
+            size_size,
+            ap length placed.parts,
+            length-append placed.first placed.second,
+            offset_size,
+            kind_is s.value placed.second kind.0 kind.1,
+          );
+      size = good;
+      table = low;
+    })
+
+fields_are : (abbrev_size unit_length : ℕ) (text : List ℕ) (h : UnitHeader)
+    → (header_fields abbrev_size unit_length).Spells text h → AreFields abbrev_size unit_length text 4 h
+unfolding header_fields
+fields_are abbrev_size unit_length text h s = go (eqb s.value 4) (eqb s.value 5) s.is_second
+  where
+    more : AreFields abbrev_size unit_length s.second 6 h → AreFields abbrev_size unit_length text 4 h
+    more f = record {
+      length_is = f.length_is;
+      long =
+          omega (
+            arith,
+            f.long,
+            ap length s.parts,
+            length-append s.first s.second,
+            field_size 2 s.first s.value s.is_first,
+          );
+      size = f.size;
+      table = f.table;
+    }
+
+    go : (b c : Bool) → (choose b (version4 abbrev_size unit_length) (choose c (version5 abbrev_size unit_length)
+        (failing BadVersion))).Spells s.second h → AreFields abbrev_size unit_length text 4 h
+    go true c t = more (version4_is abbrev_size unit_length s.second h t)
+    go false true t = more (version5_is abbrev_size unit_length s.second h t)
+    go false false t = absurd t
+
+-- a unit whose header and body are spelled: its sizes, and its header's fields
+pub record IsSized (abbrev_size : ℕ) (text : List ℕ) (h : UnitHeader) (body : List ℕ) : Type 0 where
+  pub unit_length : little_number 4 (take 4 text) ≡ h.unit_length
+  pub format : h.unit_length < 0xfffffff0
+  pub whole : length text ≡ 4 + h.unit_length
+  pub header : length text ≡ header_size h.kind + length body
+  pub ends : take (header_size h.kind) text ++ body ≡ text
+  pub size : IsSize h.address_size
+  pub table : h.abbrev_offset < abbrev_size
+
+pub is_sized : (abbrev_size : ℕ) (text : List ℕ) (h : UnitHeader) (body : List ℕ)
+    → (header_and_body abbrev_size).Spells text (h, body) → IsSized abbrev_size text h body
+unfolding header_and_body
+is_sized abbrev_size text h body s =
+    let counted = s.is_first in
+    let content = counted.is_second in
+    let (nothing_more, inside) = s.is_second in
+    let (number, low) = tested_is (λ len. ltb len 0xfffffff0) Not32Bit (field 4) counted.first counted.value
+    counted.is_first in
+    let f = fields_are abbrev_size s.value.0 inside.text h inside.spelled in
+    let len_is : counted.value ≡ s.value.0 = ap (λ (v : ℕ × List ℕ). v.0) (sym content.2) in
+    let content_is : counted.second ≡ s.value.1 =
+    content.1.same ∙ ap (λ (v : ℕ × List ℕ). v.1) (sym content.2) in
+    let four : length counted.first ≡ 4 = field_size 4 counted.first counted.value number in
+    let parts : text ≡ counted.first ++ counted.second =
+    s.parts ∙ ap (λ (t : List ℕ). s.first ++ t) nothing_more ∙ append-nil s.first ∙ counted.parts in
+    let split : text ≡ (counted.first ++ inside.text) ++ body =
+    parts ∙ ap (λ (t : List ℕ). counted.first ++ t) (content_is ∙ inside.parts)
+    ∙ sym (append_assoc counted.first inside.text body) in
+    let front : take 4 text ≡ counted.first =
+    ap (take 4) parts ∙ take_at counted.first counted.second 4 four in
+    let size : length (counted.first ++ inside.text) ≡ header_size h.kind =
+    omega (arith, length-append counted.first inside.text, four, f.long) in
+    let header : take (header_size h.kind) text ≡ counted.first ++ inside.text =
+    ap (take (header_size h.kind)) split ∙ take_at (counted.first ++ inside.text) body (header_size h.kind) size in
+    record {
+      unit_length =
+          ap (little_number 4) (front ∙ number.1.same) ∙ sym number.2 ∙ len_is ∙ sym f.length_is;
+      format = subst (λ (n : ℕ). n < 0xfffffff0) (len_is ∙ sym f.length_is) (ltb-true _ _ low);
+      whole =
+          omega (
+            arith,
+            ap length parts,
+            length-append counted.first counted.second,
+            four,
+            ap length content.1.same,
+            content.1.wide,
+            len_is,
+            f.length_is,
+          );
+      header = ap length split ∙ length-append (counted.first ++ inside.text) body
+          ∙ ap (λ (n : ℕ). n + length body) size;
+      ends = ap (λ (t : List ℕ). t ++ body) header ∙ sym split;
+      size = f.size;
+      table = f.table;
+    }
+
+-- ---- reading
+
+-- a unit's header and body, and the bytes after them, or a fault
+abbrev Read : Type 0
+Read = Result ((UnitHeader × List ℕ) × List ℕ) Rule
+
+-- unit_length and the bytes that it counts, without those after them
+abbrev content_read : (ℕ × List ℕ) × List ℕ → Result (ℕ × List ℕ) Rule
+content_read u = Ok u.0
+
+-- what is read inside of these bytes, and the bytes after them
+abbrev read_inside : List ℕ → UnitHeader × List ℕ → Read
+read_inside rest x = Ok (x, rest)
+
+-- a header and a body without the bytes after them
+abbrev unit_read : (UnitHeader × List ℕ) × List ℕ → Result (UnitHeader × List ℕ) Rule
+unit_read y = Ok y.0
+
+-- what is read is the header and the body of the unit
+header_is : (abbrev_size : ℕ) (bytes : List ℕ)
+    → header_at abbrev_size bytes ≡ ((header_and_body abbrev_size).read bytes >>= unit_read)
+unfolding header_at unit_at header_and_body
+header_is abbrev_size bytes = by_unit (unit_content.read bytes)
+  where
+    by_header : (r : Result (UnitHeader × List ℕ) Rule) (rest : List ℕ) → r ≡ ((r >>= read_inside rest) >>= unit_read)
+    by_header (Ok x) rest = refl
+    by_header (Err e) rest = refl
+
+    by_unit : (r : Result ((ℕ × List ℕ) × List ℕ) Rule)
+        → ((r >>= content_read) >>= λ u. (header_fields abbrev_size u.0).read u.1)
+        ≡ ((r >>= λ u. (header_fields abbrev_size u.0.0).read u.0.1 >>= read_inside u.1) >>= unit_read)
+    by_unit (Ok u) = by_header ((header_fields abbrev_size u.0.0).read u.0.1) u.1
+    by_unit (Err e) = refl
+
+-- a header that is read is spelled, and so is the body
+pub header_takes : (abbrev_size : ℕ) (bytes : List ℕ) (x : UnitHeader × List ℕ) → header_at abbrev_size bytes ≡ Ok x
+    → (after : List ℕ) × Takes (header_and_body abbrev_size).Spells bytes x after
+header_takes abbrev_size bytes x e = by_read ((header_and_body abbrev_size).read bytes) refl
+    (sym (header_is abbrev_size bytes) ∙ e)
+  where
+    by_read : (r : Read) → (header_and_body abbrev_size).read bytes ≡ r → (r >>= unit_read) ≡ Ok x
+        → (after : List ℕ) × Takes (header_and_body abbrev_size).Spells bytes x after
+    by_read (Ok y) was is =
+        let same : y.0 ≡ x = read_is is in (
+          y.1,
+          subst (λ (z : UnitHeader × List ℕ). Takes (header_and_body abbrev_size).Spells bytes z y.1) same
+              (takes (header_and_body abbrev_size).read (header_and_body abbrev_size).Spells
+              (header_and_body abbrev_size).Fails (header_and_body abbrev_size).is_reader bytes y.0 y.1 was),
         )
-    after_version PartialUnit =
-        omega (
-          arith,
-          length-append (little_bytes 4 h.abbrev_offset) [],
-          length-little_bytes 4 h.abbrev_offset,
-          length-little_bytes 1 h.address_size,
-        )
-    after_version (TypeUnit signature type_offset) =
-        omega (
-          arith,
-          length-append (little_bytes 4 h.abbrev_offset) (little_bytes 8 signature
-              ++ little_bytes 4 type_offset),
-          length-append (little_bytes 8 signature) (little_bytes 4 type_offset),
-          length-little_bytes 4 h.abbrev_offset,
-          length-little_bytes 8 signature,
-          length-little_bytes 4 type_offset,
-          length-little_bytes 1 h.address_size,
-        )
+    by_read (Err e) was is = absurd (not_both is)
+
+-- ---- what is known of it, since there is one at most
+
+module _ (abbrev_size : ℕ) where
+  -- the bytes spell this header and this body
+  abbrev AreSpelled : List ℕ → UnitHeader × List ℕ → Type 0
+  AreSpelled text x = ∥ (header_and_body abbrev_size).Spells text x ∥₁
+
+  pub sized : (text : List ℕ) (h : UnitHeader) (body : List ℕ) → AreSpelled text (h, body)
+      → IsSized abbrev_size text h body
+  sized text h body s = ∥∥₁_elim s (hlevel (props, size_unique)) (is_sized abbrev_size text h body)
+
+  read_set : IsSet (Result (UnitHeader × List ℕ) Rule)
+  read_set = hlevel props
+
+  -- a header that is spelled is read, whatever follows its unit
+  pub header_again : (text rest : List ℕ) (x : UnitHeader × List ℕ) → AreSpelled text x
+      → header_at abbrev_size (text ++ rest) ≡ Ok x
+  header_again text rest x s =
+      ∥∥₁_elim s (read_set _ _) (λ t. header_is abbrev_size (text ++ rest)
+      ∙ ap (λ (r : Read). r >>= unit_read) ((header_and_body abbrev_size).is_reader.again text rest x t))
+
+  same_prop : (a b : List ℕ) (x y : UnitHeader × List ℕ) → IsProp ((a ≡ b) × (x ≡ y))
+  same_prop a b x y = hlevel props
+
+  -- no unit's bytes begin another's
+  pub headers_apart : (a b x y : List ℕ) (v w : UnitHeader × List ℕ) → AreSpelled a v → AreSpelled b w
+      → a ++ x ≡ b ++ y → (a ≡ b) × (v ≡ w)
+  headers_apart a b x y v w s t e =
+      ∥∥₁_elim s (same_prop a b v w) (λ p. ∥∥₁_elim t (same_prop a b v w)
+      (λ q. apart (header_and_body abbrev_size) a b x y v w p q e))

@@ -1,7 +1,7 @@
 -- State: the attributes of an entry that are left of a walk over those whose values may lead elsewhere.
 use Rattle.std.specs.Prelude.{◌≡◌, ◌||◌, ℕ, Bool, true, false, List, ◌∷◌, ◌++◌, Option, Ok}
 use Rattle.std.specs.List.{list_any}
-use Rattle.dw_forms.specs.declared.decl.AttributeSpec.{AttributeSpec}
+use Rattle.dw_forms.specs.declared.abbrev.AttributeSpec.{AttributeSpec}
 use Rattle.dw_forms.specs.declared.form.Form.{Form}
 use Rattle.dw_forms.specs.declared.attribute_lists.Lead.{Lead}
 use Rattle.dw_forms.specs.declared.attribute_lists.Lead.TheVariants as lead
@@ -10,7 +10,7 @@ use Rattle.dw_forms.specs.Suffixes.{specs_in}
 use Rattle.dw_forms.specs.Value.{Datum}
 use Rattle.dw_forms.specs.ValueReading.{value_at}
 use Rattle.dw_forms.specs.Walks.{does_lead, lead_of}
-use Rattle.dw_entries.specs.declared.values.Leading.{Leading}
+use Rattle.dw_entries.specs.declared.leads.Leading.{Leading}
 use Rattle.dw_entries.specs.Chosen.{IsPassed, IsNextOf}
 use Rattle.dw_entries.specs.Values.{form_there}
 use Rattle.dw_entries.specs.ValuesLeft.{values_left}

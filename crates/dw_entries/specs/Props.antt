@@ -3,19 +3,14 @@ use Rattle.std.proofs.Common.{ℕ, List, [], ◌∷◌}
 use Rattle.std.specs.Coded.{×_prop}
 use mathlib.Core.HLevel.{Σ_prop_path}
 use Rattle.std.proofs.Props.{props}
-use Rattle.dw_forms.specs.declared.decl.AttributeSpec.{AttributeSpec}
+use Rattle.dw_forms.specs.declared.abbrev.AttributeSpec.{AttributeSpec}
 use Rattle.dw_forms.specs.Leb.{IsEnded, Uleb}
-use Rattle.dw_entries.specs.declared.header.HeaderKind.{HeaderKind}
-use Rattle.dw_entries.specs.declared.header.HeaderKind.TheVariants.{Version4, CompileUnit, PartialUnit, TypeUnit}
-use Rattle.dw_entries.specs.declared.header.UnitHeader.{UnitHeader}
-use Rattle.dw_entries.specs.declared.walk.Record.{Record}
-use Rattle.dw_entries.specs.declared.walk.UnitRecord.{UnitRecord}
+use Rattle.dw_entries.specs.declared.records.Record.{Record}
+use Rattle.dw_entries.specs.declared.records.UnitRecord.{UnitRecord}
 use Rattle.std.specs.List.{AllZip}
 use Rattle.dw_forms.specs.KeptDecls.{Tables}
 use Rattle.dw_entries.specs.Entries.{PlacedUnit}
-use Rattle.dw_entries.specs.Choices.{size_unique}
 use Rattle.dw_entries.specs.Grammar.{Context, Attribute, IsAttribute, AreAttributes, Head, IsHead}
-use Rattle.dw_entries.specs.Header.{FitKind, IsHeader}
 use Rattle.dw_entries.specs.Tree.{Node, Nodes, leaf, parent, none, ◌then◌, IsNode, AreNodes}
 use Rattle.dw_entries.specs.Units.{DebugUnit, AreNulls, IsUnit, AreUnits, Spells, HaveBase}
 use Rattle.dw_entries.specs.Scanned.{IsKept, Holds, Scanned}
@@ -55,17 +50,8 @@ AreNulls-prop : (zs : List (List ℕ)) → IsProp (AreNulls zs)
 AreNulls-prop [] = hlevel props
 AreNulls-prop (z ∷ zs) = ×_prop (Uleb-prop z 0) (AreNulls-prop zs)
 
-FitKind-prop : (kind : HeaderKind) → IsProp (FitKind kind)
-FitKind-prop Version4 = hlevel props
-FitKind-prop CompileUnit = hlevel props
-FitKind-prop PartialUnit = hlevel props
-FitKind-prop (TypeUnit signature type_offset) = hlevel props
-
-IsHeader-prop : (n : ℕ) (h : UnitHeader) → IsProp (IsHeader n h)
-IsHeader-prop n h = hlevel (props, FitKind-prop, size_unique)
-
 IsUnit-prop : (a : List ℕ) (u : DebugUnit) → IsProp (IsUnit a u)
-IsUnit-prop a u = hlevel (props, IsHeader-prop, IsNode-prop, AreNulls-prop)
+IsUnit-prop a u = hlevel (props, IsNode-prop, AreNulls-prop)
 
 AreUnits-prop : (a : List ℕ) (us : List DebugUnit) → IsProp (AreUnits a us)
 AreUnits-prop a [] = hlevel props

@@ -1,7 +1,7 @@
 -- Chapter: one item of a unit, read from left to right: the first part that is missing is the fault.
 use Rattle.std.specs.Prelude.{ℕ, ◌-◌, List, [], ◌∷◌, length, take, drop, Option, Some, None, Result, Ok, Err, Bool}
 use Rattle.std.specs.Prelude.{false, ◌==◌, if◌then◌else◌}
-use Rattle.dw_forms.specs.declared.decl.AttributeSpec.{AttributeSpec}
+use Rattle.dw_forms.specs.declared.abbrev.AttributeSpec.{AttributeSpec}
 use Rattle.dw_forms.specs.declared.leb.NumberFault.{NumberFault}
 use Rattle.dw_forms.specs.declared.leb.NumberFault.TheVariants as number
 use Rattle.dw_forms.specs.declared.value.ValueFault.{ValueFault}
@@ -12,9 +12,9 @@ use Rattle.dw_forms.specs.FormCodes.{is_allowed}
 use Rattle.dw_forms.specs.LebReading.{uleb_at}
 use Rattle.dw_forms.specs.Value.{Datum}
 use Rattle.dw_forms.specs.ValueReading.{value_at}
-use Rattle.dw_entries.specs.declared.fault.Rule.{Rule}
-use Rattle.dw_entries.specs.declared.fault.Rule.TheVariants.{NoUnitEntry, WrongUnitTag, UndeclaredCode, Cut, BadNumber}
-use Rattle.dw_entries.specs.declared.fault.Rule.TheVariants.{BadIndirect, FormVersion}
+use Rattle.dw_entries.specs.declared.rule.Rule.{Rule}
+use Rattle.dw_entries.specs.declared.rule.Rule.TheVariants.{NoUnitEntry, WrongUnitTag, UndeclaredCode, Cut, BadNumber}
+use Rattle.dw_entries.specs.declared.rule.Rule.TheVariants.{BadIndirect, FormVersion}
 use Rattle.dw_entries.specs.declared.fault.Failing.{Failing}
 use Rattle.dw_entries.specs.declared.header.HeaderKind.{HeaderKind}
 use Rattle.dw_entries.specs.Grammar.{Context, declared, Attribute}

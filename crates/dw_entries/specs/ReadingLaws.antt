@@ -6,7 +6,7 @@ use Rattle.std.specs.Prelude.{MatchResult}
 use Rattle.std.specs.List.{flat_map}
 use Rattle.std.proofs.Props.{props}
 use mathlib.Core.Logic.{∥∥₁_elim}
-use Rattle.dw_forms.specs.declared.decl.AttributeSpec.{AttributeSpec}
+use Rattle.dw_forms.specs.declared.abbrev.AttributeSpec.{AttributeSpec}
 use Rattle.dw_forms.specs.declared.leb.NumberFault.{NumberFault}
 use Rattle.dw_forms.specs.declared.value.ValueFault.{ValueFault}
 use Rattle.dw_forms.specs.Steps.{◌>>=◌}
@@ -16,12 +16,11 @@ use Rattle.dw_forms.specs.FormCodes.{is_allowed}
 use Rattle.dw_forms.specs.Leb.{Uleb, UlebFails}
 use Rattle.dw_forms.specs.LebReading.{uleb_at}
 use Rattle.dw_forms.specs.LebLaws.{uleb_again, uleb_says}
-use Rattle.dw_forms.specs.Value.{Datum, Val, ValFails}
+use Rattle.dw_forms.specs.Value.{Datum, Val, ValFails, attribute_value}
 use Rattle.dw_forms.specs.ValueReading.{value_at}
-use Rattle.dw_forms.specs.ValueLaws.{value_reader}
 use Rattle.dw_forms.specs.Readers.{takes}
 use Rattle.dw_forms.specs.Datums.{Datum-set}
-use Rattle.dw_entries.specs.declared.fault.Rule.TheVariants.{UndeclaredCode, NoUnitEntry, WrongUnitTag, FormVersion}
+use Rattle.dw_entries.specs.declared.rule.Rule.TheVariants.{UndeclaredCode, NoUnitEntry, WrongUnitTag, FormVersion}
 use Rattle.dw_entries.specs.declared.fault.Failing.{Failing}
 use Rattle.dw_entries.specs.declared.header.HeaderKind.{HeaderKind}
 use Rattle.dw_entries.specs.Grammar.{Context, declared_in, declared, Attribute, IsAttribute, AreAttributes}
@@ -113,8 +112,8 @@ attribute_takes t spec bytes a rest e =
         → (bytes ≡ a.bytes ++ rest) × IsAttribute t spec a
     go (Ok v) was good e =
         let s = takes (value_at t.version spec.form t.address_size) (Val t.version spec.form t.address_size)
-        (ValFails t.version spec.form t.address_size) (value_reader t.version spec.form t.address_size) bytes v.0 v.1
-        was in
+        (ValFails t.version spec.form t.address_size)
+        (attribute_value t.version spec.form t.address_size).is_reader bytes v.0 v.1 was in
         let text : take (length bytes - length v.1) bytes ≡ s.text =
         ap (take (length bytes - length v.1)) s.parts
         ∙ take_at s.text v.1 (length bytes - length v.1) (omega (arith, ap length s.parts, length-append s.text v.1))
@@ -135,7 +134,8 @@ attribute_takes t spec bytes a rest e =
 pub value_again : (t : Context) (spec : AttributeSpec) (a : Attribute) (rest : List ℕ) → IsAttribute t spec a
     → value_at t.version spec.form t.address_size (a.bytes ++ rest) ≡ Ok (a.value, rest)
 value_again t spec a rest p =
-    ∥∥₁_elim p.value (set _ _) (λ v. (value_reader t.version spec.form t.address_size).again a.bytes rest a.value v)
+    ∥∥₁_elim p.value (set _ _)
+    (λ v. (attribute_value t.version spec.form t.address_size).is_reader.again a.bytes rest a.value v)
   where
     set : IsSet (Result (Datum × List ℕ) ValueFault)
     set = hlevel (props, Datum-set)

@@ -1,16 +1,16 @@
 -- Chapter: the codes and the names of the rules, and the names of the sections.
 use Rattle.std.specs.Prelude.{ℕ, List, codes}
-use Rattle.dw_entries.specs.declared.fault.Rule.{Rule}
-use Rattle.dw_entries.specs.declared.fault.Rule.TheVariants.{AbbrevCut, AbbrevNumber, CodeTwice, BadTag, BadChildren}
-use Rattle.dw_entries.specs.declared.fault.Rule.TheVariants.{BadPair, UnknownForm, AttributeTwice, UnitCut, Not32Bit}
-use Rattle.dw_entries.specs.declared.fault.Rule.TheVariants.{BadVersion, BadUnitType, BadAddressSize, BadAbbrevOffset}
-use Rattle.dw_entries.specs.declared.fault.Rule.TheVariants.{NoUnitEntry, WrongUnitTag, LeftOver, UndeclaredCode, Cut}
-use Rattle.dw_entries.specs.declared.fault.Rule.TheVariants.{BadNumber, BadIndirect, FormVersion, WrongClass}
-use Rattle.dw_entries.specs.declared.fault.Rule.TheVariants.{BadStrBase}
-use Rattle.dw_entries.specs.declared.fault.Rule.TheVariants.{StrIndex, StringEnd, BadAddrBase, AddrIndex, NoEntry}
-use Rattle.dw_entries.specs.declared.fault.Rule.TheVariants.{WrongKind, NotNextSibling, NoSignature, SignatureTwice}
-use Rattle.dw_entries.specs.declared.fault.Rule.TheVariants.{BadTypeOffset, MissingType, BadCount, ContainsItself}
-use Rattle.dw_entries.specs.declared.fault.Rule.TheVariants.{NoSize, SizeTooGreat, MemberOutside, EnumSize}
+use Rattle.dw_entries.specs.declared.rule.Rule.{Rule}
+use Rattle.dw_entries.specs.declared.rule.Rule.TheVariants.{AbbrevCut, AbbrevNumber, CodeTwice, BadTag, BadChildren}
+use Rattle.dw_entries.specs.declared.rule.Rule.TheVariants.{BadPair, UnknownForm, AttributeTwice, UnitCut, Not32Bit}
+use Rattle.dw_entries.specs.declared.rule.Rule.TheVariants.{BadVersion, BadUnitType, BadAddressSize, BadAbbrevOffset}
+use Rattle.dw_entries.specs.declared.rule.Rule.TheVariants.{NoUnitEntry, WrongUnitTag, LeftOver, UndeclaredCode, Cut}
+use Rattle.dw_entries.specs.declared.rule.Rule.TheVariants.{BadNumber, BadIndirect, FormVersion, WrongClass}
+use Rattle.dw_entries.specs.declared.rule.Rule.TheVariants.{BadStrBase}
+use Rattle.dw_entries.specs.declared.rule.Rule.TheVariants.{StrIndex, StringEnd, BadAddrBase, AddrIndex, NoEntry}
+use Rattle.dw_entries.specs.declared.rule.Rule.TheVariants.{WrongKind, NotNextSibling, NoSignature, SignatureTwice}
+use Rattle.dw_entries.specs.declared.rule.Rule.TheVariants.{BadTypeOffset, MissingType, BadCount, ContainsItself}
+use Rattle.dw_entries.specs.declared.rule.Rule.TheVariants.{NoSize, SizeTooGreat, MemberOutside, EnumSize}
 use Rattle.dw_entries.specs.declared.fault.Section.{Section}
 use Rattle.dw_entries.specs.declared.fault.Section.TheVariants.{Abbrev, Info}
 

@@ -1,16 +1,16 @@
 -- Chapter: the groups of rules in the order in which they are checked, and the number of each rule.
 use Rattle.std.specs.Prelude.{ℕ}
-use Rattle.dw_entries.specs.declared.fault.Rule.{Rule}
-use Rattle.dw_entries.specs.declared.fault.Rule.TheVariants.{AbbrevCut, AbbrevNumber, CodeTwice, BadTag, BadChildren}
-use Rattle.dw_entries.specs.declared.fault.Rule.TheVariants.{BadPair, UnknownForm, AttributeTwice, UnitCut, Not32Bit}
-use Rattle.dw_entries.specs.declared.fault.Rule.TheVariants.{BadVersion, BadUnitType, BadAddressSize, BadAbbrevOffset}
-use Rattle.dw_entries.specs.declared.fault.Rule.TheVariants.{NoUnitEntry, WrongUnitTag, LeftOver, UndeclaredCode, Cut}
-use Rattle.dw_entries.specs.declared.fault.Rule.TheVariants.{BadNumber, BadIndirect, FormVersion, WrongClass}
-use Rattle.dw_entries.specs.declared.fault.Rule.TheVariants.{BadStrBase}
-use Rattle.dw_entries.specs.declared.fault.Rule.TheVariants.{StrIndex, StringEnd, BadAddrBase, AddrIndex, NoEntry}
-use Rattle.dw_entries.specs.declared.fault.Rule.TheVariants.{WrongKind, NotNextSibling, NoSignature, SignatureTwice}
-use Rattle.dw_entries.specs.declared.fault.Rule.TheVariants.{BadTypeOffset, MissingType, BadCount, ContainsItself}
-use Rattle.dw_entries.specs.declared.fault.Rule.TheVariants.{NoSize, SizeTooGreat, MemberOutside, EnumSize}
+use Rattle.dw_entries.specs.declared.rule.Rule.{Rule}
+use Rattle.dw_entries.specs.declared.rule.Rule.TheVariants.{AbbrevCut, AbbrevNumber, CodeTwice, BadTag, BadChildren}
+use Rattle.dw_entries.specs.declared.rule.Rule.TheVariants.{BadPair, UnknownForm, AttributeTwice, UnitCut, Not32Bit}
+use Rattle.dw_entries.specs.declared.rule.Rule.TheVariants.{BadVersion, BadUnitType, BadAddressSize, BadAbbrevOffset}
+use Rattle.dw_entries.specs.declared.rule.Rule.TheVariants.{NoUnitEntry, WrongUnitTag, LeftOver, UndeclaredCode, Cut}
+use Rattle.dw_entries.specs.declared.rule.Rule.TheVariants.{BadNumber, BadIndirect, FormVersion, WrongClass}
+use Rattle.dw_entries.specs.declared.rule.Rule.TheVariants.{BadStrBase}
+use Rattle.dw_entries.specs.declared.rule.Rule.TheVariants.{StrIndex, StringEnd, BadAddrBase, AddrIndex, NoEntry}
+use Rattle.dw_entries.specs.declared.rule.Rule.TheVariants.{WrongKind, NotNextSibling, NoSignature, SignatureTwice}
+use Rattle.dw_entries.specs.declared.rule.Rule.TheVariants.{BadTypeOffset, MissingType, BadCount, ContainsItself}
+use Rattle.dw_entries.specs.declared.rule.Rule.TheVariants.{NoSize, SizeTooGreat, MemberOutside, EnumSize}
 
 -- the group of a rule: units with their tables and items, classes, strings and addresses, references, types and
 -- counts, containment, sizes; a group is asked only where no rule of an earlier one fails

@@ -1,8 +1,8 @@
 -- State: what is known of the result of a scan: its units, and what is kept of them and of their entries.
 use Rattle.std.specs.Prelude.{◌≡◌, ◌<◌, ℕ, zero, suc, List, [], ◌∷◌, length, map}
 use Rattle.std.specs.List.{AllZip}
-use Rattle.dw_entries.specs.declared.walk.Record.{Record}
-use Rattle.dw_entries.specs.declared.walk.UnitRecord.{UnitRecord}
+use Rattle.dw_entries.specs.declared.records.Record.{Record}
+use Rattle.dw_entries.specs.declared.records.UnitRecord.{UnitRecord}
 use Rattle.dw_forms.specs.Chains.{chain_in}
 use Rattle.dw_forms.specs.declared.decl.Decls.{Decls}
 use Rattle.dw_forms.specs.KeptDecls.{Tables, table_in, tables_of, decl_number_in}

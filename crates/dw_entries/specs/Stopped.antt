@@ -3,9 +3,9 @@ use Rattle.dw_forms.specs.declared.fault.AbbrevFault.{AbbrevFault}
 use Rattle.dw_forms.specs.Abbrev.{Declaration}
 use Rattle.dw_entries.specs.Faults.{in_table}
 use Rattle.std.specs.Prelude.{◌≡◌, ◌≢◌, ℕ, true, false, List, ◌+◌, ◌++◌, ◌∷◌, length, None, [], Result, Ok, Err}
-use Rattle.dw_entries.specs.declared.walk.Record.{Record}
-use Rattle.dw_entries.specs.declared.walk.UnitRecord.{UnitRecord}
-use Rattle.dw_entries.specs.declared.walk.Kept.{Kept}
+use Rattle.dw_entries.specs.declared.records.Record.{Record}
+use Rattle.dw_entries.specs.declared.records.UnitRecord.{UnitRecord}
+use Rattle.dw_entries.specs.declared.records.Kept.{Kept}
 use Rattle.dw_forms.specs.declared.abbrev_tables.AbbrevTables.{AbbrevTables}
 use Rattle.dw_forms.specs.AbbrevTables.{tables_in, AreTablesOf}
 use Rattle.dw_forms.specs.Chains.{chain_in}

@@ -1,32 +1,39 @@
 -- Laws: one list of units at most spells .debug_info, and the base of units changes nothing else of them.
-use Rattle.std.proofs.Common.{◌≡◌, ℕ, List, [], ◌∷◌, ◌++◌, length, drop, ◌⊎◌, inl, inr, Result, Ok, refl, sym, ap}
+use Rattle.std.proofs.Common.{◌≡◌, ◌<◌, ℕ, List, [], ◌∷◌, ◌++◌, length, drop, ◌⊎◌, inl, inr, Result, Ok, refl, sym, ap}
 use Rattle.std.proofs.Common.{subst, ◌∙◌, append_assoc, append-nil, arith, length-append, drop_at, map}
 use Rattle.std.specs.List.{flat_map, AllByRecursion}
+use Rattle.std.proofs.lemmas.List.{append_cancel_right}
 use Rattle.std.proofs.lemmas.List.Concat.{flat_map-append}
 use Rattle.dw_forms.specs.declared.fault.AbbrevFault.{AbbrevFault}
 use Rattle.dw_forms.specs.Abbrev.{Declaration}
 use Rattle.dw_forms.specs.AbbrevReading.{table_at}
-use Rattle.dw_entries.specs.declared.fault.Rule.{Rule}
+use Rattle.dw_entries.specs.declared.rule.Rule.{Rule}
 use Rattle.dw_entries.specs.declared.header.UnitHeader.{UnitHeader}
 use Rattle.dw_entries.specs.Grammar.{Context, IsNull}
-use Rattle.dw_entries.specs.Header.{header_bytes, header_at}
+use Rattle.dw_entries.specs.Header.{header_size, header_at}
 use Rattle.dw_entries.specs.Tree.{Node, IsNode}
 use Rattle.dw_entries.specs.Items.{null}
 use Rattle.dw_entries.specs.Units.{DebugUnit, context_by, context_of, nulls_bytes, AreNulls, body_bytes, unit_bytes}
 use Rattle.dw_entries.specs.Units.{IsUnit, AreUnits, units_bytes, Spells, HaveBase}
 use Rattle.dw_entries.specs.Joined.{GoesOn, IsUnique, begins}
-use Rattle.dw_entries.specs.HeaderLaws.{header_again}
-use Rattle.dw_entries.specs.ReadingLaws.{code_some, item_unique, ok_pair}
+use Rattle.dw_entries.specs.HeaderLaws.{IsSized, sized, header_again, headers_apart}
+use Rattle.dw_entries.specs.ReadingLaws.{code_some, item_unique}
 use Rattle.dw_entries.specs.TreeLaws.{node_unique}
 
 -- the unit with these parts
-abbrev made : ℕ → UnitHeader → List Declaration → Node → List (List ℕ) → DebugUnit
-made base header table root nulls =
-    record { base = base; header = header; table = table; root = root; nulls = nulls }
+abbrev made : ℕ → UnitHeader → List ℕ → List Declaration → Node → List (List ℕ) → DebugUnit
+made base header header_bytes table root nulls = record {
+  base = base;
+  header = header;
+  header_bytes = header_bytes;
+  table = table;
+  root = root;
+  nulls = nulls;
+}
 
 -- the unit with this base
 abbrev pub with_base : ℕ → DebugUnit → DebugUnit
-with_base base u = made base u.header u.table u.root u.nulls
+with_base base u = made base u.header u.header_bytes u.table u.root u.nulls
 
 -- a unit of a section, with this base
 abbrev pub IsBased : ℕ → List ℕ → DebugUnit → Type 0
@@ -71,25 +78,42 @@ table_is r x y p q = let same : ◌≡◌ {A = Result (List Declaration) AbbrevF
 -- the header of a unit is read, and the bytes after it
 pub unit_header : (a : List ℕ) (u : DebugUnit) (x : List ℕ) → IsUnit a u
     → header_at (length a) (unit_bytes u ++ x) ≡ Ok (u.header, body_bytes u)
-unit_header a u x p = header_again (length a) u.header (body_bytes u) x _
-    (append_assoc (header_bytes u.header) (body_bytes u) x) p.header p.unit_length
+unit_header a u x p = header_again (length a) (unit_bytes u) x (u.header, body_bytes u) p.header
+
+-- the sizes of a unit, and what is known of its header
+pub unit_sized : (a : List ℕ) (u : DebugUnit) → IsUnit a u
+    → IsSized (length a) (unit_bytes u) u.header (body_bytes u)
+unit_sized a u p = sized (length a) (unit_bytes u) u.header (body_bytes u) p.header
+
+pub header_long : (a : List ℕ) (u : DebugUnit) → IsUnit a u → length u.header_bytes ≡ header_size u.header.kind
+header_long a u p =
+    let long = (unit_sized a u p).header in omega (arith, long, length-append u.header_bytes (body_bytes u))
+
+-- a unit has some bytes
+pub unit_some : (a : List ℕ) (u : DebugUnit) → IsUnit a u → 0 < length (unit_bytes u)
+unit_some a u p = let whole = (unit_sized a u p).whole in omega (arith, whole)
 
 -- no spelling of a unit begins another
 unit_unique : (base : ℕ) (a : List ℕ) → IsUnique unit_bytes (IsBased base a)
 unit_unique base a u v x y (p, from) (q, same_from) e =
-    let both = ok_pair {E = Rule} u.header v.header (body_bytes u) (body_bytes v)
-    (sym (unit_header a u x p) ∙ ap (header_at (length a)) e ∙ unit_header a v y q) in
-    let header : u.header ≡ v.header = both.0 in
+    let both = headers_apart (length a) (unit_bytes u) (unit_bytes v) x y (u.header, body_bytes u)
+    (v.header, body_bytes v) p.header q.header e in
+    let header : u.header ≡ v.header = ap (λ (p : UnitHeader × List ℕ). p.0) both.1 in
+    let bodies : body_bytes u ≡ body_bytes v = ap (λ (p : UnitHeader × List ℕ). p.1) both.1 in
+    let header_bytes : u.header_bytes ≡ v.header_bytes =
+    append_cancel_right u.header_bytes v.header_bytes (body_bytes v)
+    (ap (λ (b : List ℕ). u.header_bytes ++ b) (sym bodies) ∙ both.0) in
     let table : u.table ≡ v.table =
     table_is (table_at a v.header.abbrev_offset) u.table v.table
     (ap (λ (h : UnitHeader). table_at a h.abbrev_offset) (sym header) ∙ p.table) q.table in
     let context : context_of v ≡ context_of u =
     ap (λ (h : UnitHeader). context_by h v.table) (sym header) ∙ ap (context_by u.header) (sym table) in
     let roots = node_unique (context_of u) u.root v.root (nulls_bytes u.nulls) (nulls_bytes v.nulls) p.root
-    (subst (λ (t : Context). IsNode t v.root) context q.root) both.1 in
+    (subst (λ (t : Context). IsNode t v.root) context q.root) bodies in
     let root : u.root ≡ v.root = roots.0 in
     let nulls : u.nulls ≡ v.nulls = nulls_unique (context_of u) u.nulls v.nulls p.nulls q.nulls roots.1 in
-    let whole : made u.base u.header u.table u.root u.nulls ≡ made v.base v.header v.table v.root v.nulls = cc in
+    let whole : made u.base u.header u.header_bytes u.table u.root u.nulls
+    ≡ made v.base v.header v.header_bytes v.table v.root v.nulls = cc in
     let same : unit_bytes v ≡ unit_bytes u = ap unit_bytes (sym whole) in (
       whole,
       sym (drop_at (unit_bytes u) x (length (unit_bytes u)) refl) ∙ ap (drop (length (unit_bytes u))) e
@@ -111,7 +135,6 @@ are_based base a (u ∷ us) (is, are) = (
     root = is.root;
     tag = is.tag;
     nulls = is.nulls;
-    unit_length = is.unit_length;
   },
   are_based base a us are,
 )
@@ -137,15 +160,23 @@ units_begin base a us vs x y p q e =
     (ap (λ (b : List ℕ). b ++ x) (bytes_based base us) ∙ e ∙ ap (λ (b : List ℕ). b ++ y) (sym (bytes_based base vs)))
 
 no_more : (base : ℕ) (a : List ℕ) (us vs : List DebugUnit) → GoesOn unit_bytes (IsBased base a) us vs [] [] → us ≡ vs
-no_more base a us vs g = go g.more g.items g.rest
+no_more base a us vs g = go g.more g.are g.items g.rest
   where
-    go : (more : List DebugUnit) → vs ≡ us ++ more → [] ≡ flat_map unit_bytes more ++ [] → us ≡ vs
-    go [] e r = sym (e ∙ append-nil us)
-    go (u ∷ more) e r = absurd cc
+    go : (more : List DebugUnit) → AllByRecursion (IsBased base a) more → vs ≡ us ++ more
+        → [] ≡ flat_map unit_bytes more ++ [] → us ≡ vs
+    go [] are e r = sym (e ∙ append-nil us)
+    go (u ∷ more) are e r = absurd (omega (
+      arith,
+      unit_some a u are.0.0,
+      ap length r,
+      length-append (flat_map unit_bytes (u ∷ more)) [],
+      length-append (unit_bytes u) (flat_map unit_bytes more),
+    ))
 
 same_based : (base : ℕ) (us : List DebugUnit) → HaveBase base us → map (with_base base) us ≡ us
 same_based base [] based = refl
-same_based base (u ∷ us) (is, based) = λ i. made (sym is i) u.header u.table u.root u.nulls ∷ same_based base us based i
+same_based base (u ∷ us) (is, based) =
+    λ i. made (sym is i) u.header u.header_bytes u.table u.root u.nulls ∷ same_based base us based i
 
 -- two lists of units that spell the same bytes and have one base are one
 pub one_list : (base : ℕ) (a : List ℕ) (bytes : List ℕ) (us vs : List DebugUnit) → Spells a us bytes

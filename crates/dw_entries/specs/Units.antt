@@ -8,16 +8,17 @@ use Rattle.dw_forms.specs.AbbrevTables.{tables_in}
 use Rattle.dw_forms.specs.Chains.{chain_in}
 use Rattle.dw_forms.specs.KeptDecls.{table_in, decl_number_in}
 use Rattle.dw_entries.specs.declared.header.UnitHeader.{UnitHeader}
-use Rattle.dw_entries.specs.declared.context.UnitContext.{UnitContext}
+use Rattle.dw_entries.specs.declared.records.UnitContext.{UnitContext}
 use Rattle.dw_entries.specs.Grammar.{Context, Head, IsNull}
-use Rattle.dw_entries.specs.Header.{version_of, fits_tag, header_bytes, header_fields, IsHeader}
+use Rattle.dw_entries.specs.Header.{version_of, fits_tag, header_and_body}
 use Rattle.dw_entries.specs.Tree.{Node, leaf, parent, IsNode, node_bytes}
 
--- a header, the table that it names, a tree, the nulls after the tree, and the base: where the first of all units that
--- are read begins in .debug_info, from whose start offsets in form ref_addr count (7.5.5)
+-- a header and the bytes that spell it, the table that it names, a tree, the nulls after the tree, and the base: where
+-- the first of all units that are read begins in .debug_info, from whose start offsets in form ref_addr count (7.5.5)
 pub record DebugUnit : Type 0 where
   pub base : ℕ
   pub header : UnitHeader
+  pub header_bytes : List ℕ
   pub table : List Declaration
   pub root : Node
   pub nulls : List (List ℕ)
@@ -62,17 +63,16 @@ body_bytes u = node_bytes u.root ++ nulls_bytes u.nulls
 
 -- the header, the tree and the nulls
 abbrev pub unit_bytes : DebugUnit → List ℕ
-unit_bytes u = header_bytes u.header ++ body_bytes u
+unit_bytes u = u.header_bytes ++ body_bytes u
 
--- a unit whose table is in these bytes of .debug_abbrev; unit_length counts all after itself. That a table is read
--- exactly where the section spells it is the law `tables_are_read_by_grammar` of dw_forms
+-- a unit whose bytes spell its header and its body, and whose table is in these bytes of .debug_abbrev. That a table is
+-- read exactly where the section spells it is the law `tables_are_read_by_grammar` of dw_forms
 pub record IsUnit («abbrev» : List ℕ) (u : DebugUnit) : Type 0 where
-  pub header : IsHeader (length «abbrev») u.header
+  pub header : ∥ (header_and_body (length «abbrev»)).Spells (unit_bytes u) (u.header, body_bytes u) ∥₁
   pub table : table_at «abbrev» u.header.abbrev_offset ≡ Ok u.table
   pub root : IsNode (context_of u) u.root
   pub tag : fits_tag u.header.kind (head_of u.root).decl.tag ≡ true
   pub nulls : AreNulls u.nulls
-  pub unit_length : u.header.unit_length ≡ length (header_fields u.header ++ body_bytes u)
 
 -- each of them is a unit of a section with this .debug_abbrev
 abbrev pub AreUnits : List ℕ → List DebugUnit → Type 0

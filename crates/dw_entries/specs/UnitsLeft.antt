@@ -1,7 +1,7 @@
 -- State: what an iterator over the units has left.
 use Rattle.std.specs.Prelude.{List, map, drop}
-use Rattle.dw_entries.specs.declared.lookup.UnitHead.{UnitHead}
-use Rattle.dw_entries.specs.declared.lookup.Units.{Units}
+use Rattle.dw_entries.specs.declared.units.UnitHead.{UnitHead}
+use Rattle.dw_entries.specs.declared.units.Units.{Units}
 use Rattle.dw_entries.specs.Views.{all_units}
 use Rattle.dw_entries.specs.Lookups.{unit_head}
 

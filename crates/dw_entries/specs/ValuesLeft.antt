@@ -1,7 +1,7 @@
 -- State: what an iterator over the attributes of an entry has left.
 use Rattle.std.specs.Prelude.{ℕ, List, map}
 use Rattle.dw_forms.specs.declared.value.Value.{Value}
-use Rattle.dw_forms.specs.declared.decl.AttributeSpec.{AttributeSpec}
+use Rattle.dw_forms.specs.declared.abbrev.AttributeSpec.{AttributeSpec}
 use Rattle.dw_forms.specs.Suffixes.{specs_in}
 use Rattle.dw_forms.specs.Value.{Datum, view}
 use Rattle.dw_entries.specs.declared.values.Values.{Values}

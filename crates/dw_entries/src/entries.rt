@@ -1,127 +1,14 @@
-//! The entries of .debug_info.
+//! The entries of .debug_info, by their numbers and by their offsets.
 
-ghost use Rattle.std.specs.Prelude.{◌^◌, ◌<◌, length, ◌≡◌, ℕ, slice_get, IfSome, IfNone, ◌+◌, ◌≤◌, List, IfOk, IfErr};
-ghost use Rattle.std.specs.Prelude.{OnOk};
+ghost use Rattle.std.specs.Prelude.{◌<◌, ◌≤◌, length};
 ghost use Rattle.std.specs.List.Sorted.{IsNonDecreasingBy, IsPartitionPoint};
 ghost use Rattle.dw_entries.specs.Scanned.{tables_among, Scanned};
-ghost use Rattle.dw_entries.specs.Runs.{ReachesInUnit};
-ghost use Rattle.dw_entries.specs.Units.{DebugUnit, Spells};
-ghost use Rattle.dw_entries.specs.Faults.{Fails};
 ghost use Rattle.dw_entries.specs.Props.{scanned_unique};
 
-use crate::cursor::unit_number;
-use crate::id::EntryId;
-use crate::walk::{Record, UnitRecord};
+use crate::id::{EntryId, id_of};
+use crate::records::{Record, UnitRecord};
 use dw_elf::Sections;
-use dw_forms::Decls;
-use std::alloc::{AllocError, Global};
-
-/// How many bytes of .debug_info a block has.
-const BLOCK: usize = 32;
-
-/// Which entries start in each block of .debug_info. Nothing is proved of them: whoever goes by a guess looks at where
-/// that entry starts.
-#[derive(Drop)]
-pub struct Hints {
-    /// Of each block: the low half has a bit for each byte, whether an entry starts there, and the high half is the
-    /// number of the first of these entries.
-    blocks: Vec<u64>,
-}
-
-impl Hints {
-    /// The number of the entry that starts at an offset of .debug_info, if one does; some number or none otherwise.
-    #[inline(always)]
-    pub fn guess(&self, offset: u64) -> Option<usize> {
-        let block = (offset / BLOCK as u64) as usize;
-        if block >= self.blocks.len() {
-            return None;
-        }
-        let hint = self.blocks[block];
-        let before = hint & ((1 << (offset % BLOCK as u64)) - 1);
-        Some((hint >> BLOCK) as usize + before.count_ones() as usize)
-    }
-}
-
-/// Keeps the hint of a block, if there is that block.
-fn put(blocks: &mut [u64], block: usize, hint: u64) {
-    if block < blocks.len() {
-        blocks[block] = hint;
-    }
-}
-
-impl Entries<'_> {
-    ghost use Rattle.dw_entries.specs.Views.{all_entries, all_units, units_of};
-
-    /// Hints at where entries start.
-    pub fn hints(&self, alloc: Global) -> Result<Hints, AllocError> {
-        let count = self.sections.info.len() / BLOCK + 1;
-        let mut blocks = vec![in alloc; 0u64; count]?;
-        let mut block = 0;
-        let mut hint = 0u64;
-        for number in 0..self.records.len() {
-            let at = self.records[number].at as usize;
-            if at / BLOCK != block {
-                put(&mut blocks, block, hint);
-                block = at / BLOCK;
-                hint = (number as u64) << BLOCK;
-            }
-            hint |= 1 << (at % BLOCK);
-        }
-        put(&mut blocks, block, hint);
-        Ok(Hints { blocks })
-    }
-
-    /// The entry with this number.
-    pub fn id(&self, number: usize) -> EntryId
-        requires { number < length (all_entries self.now) }
-        ensures { result ≡ number }
-    {
-        EntryId::new(number as u32)
-    }
-
-    /// The number of an entry's unit.
-    pub fn unit_of(&self, id: EntryId) -> usize
-        requires { id < length (all_entries self.now) }
-        ensures { IfSome (slice_get (all_entries self.now) id) (λ e. result ≡ e.unit) }
-    {
-        unit_number(self, id)
-    }
-
-    /// How many entries are above an entry. Each of them is looked at, and no unit is.
-    pub fn depth(&self, id: EntryId) -> usize
-        requires { id < length (all_entries self.now) }
-        ensures { IfSome (slice_get (all_entries self.now) id) (λ e. result ≡ e.depth) }
-    {
-        let mut depth = 0;
-        let mut above = self.record(id).parent.get();
-        while let Some(parent) = above {
-            depth += 1;
-            above = self.records[parent as usize].parent.get();
-        }
-        depth
-    }
-
-    /// The entry of a unit that begins so far after the first byte of the unit's header.
-    #[inline(always)]
-    pub fn find_in_unit(&self, unit: usize, offset: u64) -> Option<EntryId>
-        requires { unit < length (units_of self.now) }
-        ensures found { IfSome result (ReachesInUnit (all_entries self.now) (all_units self.now) unit offset) }
-        ensures none { IfNone result ((id : ℕ)
-            → ReachesInUnit (all_entries self.now) (all_units self.now) unit offset id → ⊥) }
-    {
-        let Some(at) = offset.checked_add(self.units[unit].at as u64) else {
-            return None;
-        };
-        let Some(id) = self.find_at(at) else {
-            return None;
-        };
-        if self.unit_of(id) == unit {
-            Some(id)
-        } else {
-            None
-        }
-    }
-}
+use dw_forms::{DeclAt, Decls, Tag};
 
 /// The entries of sections whose .debug_info is a row of units, numbered in rising offset.
 #[derive(Drop)]
@@ -145,7 +32,10 @@ fn first_from(records: &[Record], offset: u64) -> usize
 }
 
 impl<'a> Entries<'a> {
-    ghost use Rattle.std.specs.Prelude.{◌≢◌, ℕ, All, slice_get, IfSome, IfNone, Some};
+    ghost use Rattle.std.specs.Prelude.{◌≡◌, ◌≢◌, ℕ, All, slice_get, IfSome, IfNone, Some};
+    ghost use Rattle.dw_forms.specs.KeptDecls.{decl_view};
+    ghost use Rattle.dw_entries.specs.Entries.{Entry};
+    ghost use Rattle.dw_entries.specs.Lookups.{IsKeptIn, HasSpecsIn, nth_of};
     ghost use Rattle.dw_entries.specs.Runs.{IsEntryAt};
     ghost use Rattle.dw_entries.specs.Views.{all_entries, sections_of};
 
@@ -161,6 +51,35 @@ impl<'a> Entries<'a> {
         ensures { result ≡ length (all_entries self.now) }
     {
         self.records.len()
+    }
+
+    /// The entry with this number.
+    pub fn id(&self, number: usize) -> EntryId
+        requires { number < length (all_entries self.now) }
+        ensures { result ≡ number }
+    {
+        EntryId::new(number as u32)
+    }
+
+    /// The entry with this number. Entries are numbered from 0 in rising offset.
+    pub fn nth(&self, k: usize) -> Option<EntryId>
+        ensures { result ≡ nth_of (all_entries self.now) k }
+    {
+        if k < self.count() {
+            Some(EntryId::new(k as u32))
+        } else {
+            None
+        }
+    }
+
+    /// The declarations of the units' abbreviation tables, each once.
+    pub fn decls(&self) -> &Decls
+        ensures kept { (id : ℕ) (e : Entry) → slice_get (all_entries self.now) id ≡ Some e
+            → IsKeptIn result.now e.head.decl }
+        ensures specs { (id : ℕ) (e : Entry) → slice_get (all_entries self.now) id ≡ Some e
+            → HasSpecsIn result.now e.head.decl }
+    {
+        &self.decls
     }
 
     /// What is kept of an entry.
@@ -194,5 +113,61 @@ impl<'a> Entries<'a> {
         ensures none { IfNone result (All (λ e. e.at ≢ offset) (all_entries self.now)) }
     {
         self.find_at(offset as u64)
+    }
+
+    /// The declaration of an entry. Its unit is not looked up.
+    pub fn decl(&self, id: EntryId) -> DeclAt<'_>
+        requires { id < length (all_entries self.now) }
+        ensures { IfSome (slice_get (all_entries self.now) id) (λ e. decl_view result ≡ e.head.decl) }
+    {
+        let kept = self.record(id);
+        self.decls.decl(kept.decl)
+    }
+
+    /// The tag of an entry, as its declaration says it. Its unit is not looked up.
+    pub fn tag(&self, id: EntryId) -> Tag
+        requires { id < length (all_entries self.now) }
+        ensures { IfSome (slice_get (all_entries self.now) id) (λ e. result ≡ e.head.decl.tag) }
+    {
+        self.decl(id).tag()
+    }
+
+    /// The offset of an entry in .debug_info, in bytes. Its unit is not looked up.
+    pub fn offset(&self, id: EntryId) -> u32
+        requires { id < length (all_entries self.now) }
+        ensures { IfSome (slice_get (all_entries self.now) id) (λ e. result ≡ e.at) }
+    {
+        self.record(id).at
+    }
+
+    /// The parent of an entry. None at the first entry of a unit. Its unit is not looked up.
+    pub fn parent(&self, id: EntryId) -> Option<EntryId>
+        requires { id < length (all_entries self.now) }
+        ensures { IfSome (slice_get (all_entries self.now) id) (λ e. result ≡ e.parent) }
+    {
+        id_of(self.record(id).parent)
+    }
+
+    /// The next sibling of an entry. Its unit is not looked up.
+    #[inline(always)]
+    pub fn next_sibling(&self, id: EntryId) -> Option<EntryId>
+        requires { id < length (all_entries self.now) }
+        ensures { IfSome (slice_get (all_entries self.now) id) (λ e. result ≡ e.next) }
+    {
+        id_of(self.record(id).next)
+    }
+
+    /// How many entries are above an entry. Each of them is looked at, and no unit is.
+    pub fn depth(&self, id: EntryId) -> usize
+        requires { id < length (all_entries self.now) }
+        ensures { IfSome (slice_get (all_entries self.now) id) (λ e. result ≡ e.depth) }
+    {
+        let mut depth = 0;
+        let mut above = self.record(id).parent.get();
+        while let Some(parent) = above {
+            depth += 1;
+            above = self.records[parent as usize].parent.get();
+        }
+        depth
     }
 }

@@ -2,11 +2,12 @@
 
 ghost use Rattle.std.specs.Prelude.{◌≡◌, ◌≤◌, length, ◌⊎◌, ◌<◌, IfOk};
 ghost use Rattle.dw_forms.specs.ValueReading.{Gives};
-ghost use Rattle.dw_entries.specs.Header.{version_of, type_of, code_of_type, fits_tag, header_size, IsSize, field_at};
-ghost use Rattle.dw_entries.specs.Header.{address_size_at, abbrev_offset_at, version4_at, kind_at, version5_at};
-ghost use Rattle.dw_entries.specs.Header.{fields_at, unit_at, header_at};
+ghost use Rattle.dw_entries.specs.Header.{version_of, type_of, code_of_type, fits_tag, header_size, IsSize};
+ghost use Rattle.dw_entries.specs.Header.{field as field_format, address_size as size_format, kind_of};
+ghost use Rattle.dw_entries.specs.Header.{abbrev_offset as offset_format, version4 as format4, version5 as format5};
+ghost use Rattle.dw_entries.specs.Header.{header_fields, unit_at, header_at};
 
-use crate::fault::Rule;
+use crate::rule::Rule;
 use byteorder::{ByteOrder, LittleEndian};
 use dw_forms::Tag;
 use dw_forms::constants::{DW_TAG_compile_unit, DW_TAG_partial_unit, DW_TAG_type_unit};
@@ -107,11 +108,11 @@ impl HeaderKind {
 }
 
 /// A field of so many bytes.
-#[tactic(auto, unfolding(crate::specs::Header::field_at))]
+#[tactic(auto, unfolding(dw_forms::specs::BaseFormats::taken_at))]
 fn field(bytes: &[u8], size: usize) -> Result<(u64, &[u8]), Rule>
     requires some { 1 ≤ size }
     requires few { size ≤ 8 }
-    ensures { Gives (λ x. (x.0, x.1.now)) result (field_at size bytes.now) }
+    ensures { Gives (λ x. (x.0, x.1.now)) result ((field_format size).read bytes.now) }
 {
     if bytes.len() < size {
         return Err(Rule::UnitCut);
@@ -121,9 +122,9 @@ fn field(bytes: &[u8], size: usize) -> Result<(u64, &[u8]), Rule>
 }
 
 /// A field of 4 bytes.
-#[tactic(auto, unfolding(crate::specs::Header::field_at))]
+#[tactic(auto, unfolding(dw_forms::specs::BaseFormats::taken_at))]
 fn word(bytes: &[u8]) -> Result<(u32, &[u8]), Rule>
-    ensures { Gives (λ x. (x.0, x.1.now)) result (field_at 4 bytes.now) }
+    ensures { Gives (λ x. (x.0, x.1.now)) result ((field_format 4).read bytes.now) }
 {
     if bytes.len() < 4 {
         return Err(Rule::UnitCut);
@@ -133,9 +134,9 @@ fn word(bytes: &[u8]) -> Result<(u32, &[u8]), Rule>
 }
 
 /// The size of an address.
-#[tactic(auto, unfolding(crate::specs::Header::address_size_at))]
+#[tactic(auto, unfolding(crate::specs::Header::address_size))]
 fn address_size(bytes: &[u8]) -> Result<(u8, &[u8]), Rule>
-    ensures { Gives (λ x. (x.0, x.1.now)) result (address_size_at bytes.now) }
+    ensures { Gives (λ x. (x.0, x.1.now)) result (size_format.read bytes.now) }
 {
     let (size, rest) = field(bytes, 1)?;
     if size == 4 || size == 8 {
@@ -146,9 +147,9 @@ fn address_size(bytes: &[u8]) -> Result<(u8, &[u8]), Rule>
 }
 
 /// The offset of the unit's table, where .debug_abbrev has so many bytes.
-#[tactic(auto, unfolding(crate::specs::Header::abbrev_offset_at))]
+#[tactic(auto, unfolding(crate::specs::Header::abbrev_offset))]
 fn abbrev_offset(abbrev_size: usize, bytes: &[u8]) -> Result<(u32, &[u8]), Rule>
-    ensures { Gives (λ x. (x.0, x.1.now)) result (abbrev_offset_at abbrev_size bytes.now) }
+    ensures { Gives (λ x. (x.0, x.1.now)) result ((offset_format abbrev_size).read bytes.now) }
 {
     let (offset, rest) = word(bytes)?;
     if (offset as usize) < abbrev_size {
@@ -159,9 +160,9 @@ fn abbrev_offset(abbrev_size: usize, bytes: &[u8]) -> Result<(u32, &[u8]), Rule>
 }
 
 /// The fields after a version of 4 (DWARF 4, 7.5.1.1).
-#[tactic(auto, unfolding(crate::specs::Header::version4_at))]
+#[tactic(auto, unfolding(crate::specs::Header::version4))]
 fn version4(abbrev_size: usize, unit_length: u32, bytes: &[u8]) -> Result<(UnitHeader, &[u8]), Rule>
-    ensures { Gives (λ x. (x.0, x.1.now)) result (version4_at abbrev_size unit_length bytes.now) }
+    ensures { Gives (λ x. (x.0, x.1.now)) result ((format4 abbrev_size unit_length).read bytes.now) }
 {
     let (abbrev_offset, rest) = abbrev_offset(abbrev_size, bytes)?;
     let (address_size, rest) = address_size(rest)?;
@@ -175,9 +176,9 @@ fn version4(abbrev_size: usize, unit_length: u32, bytes: &[u8]) -> Result<(UnitH
 }
 
 /// The fields that a type unit has after those of all units.
-#[tactic(auto, unfolding(crate::specs::Header::kind_at))]
+#[tactic(auto, unfolding(crate::specs::Header::kind_of))]
 fn kind(code: u64, bytes: &[u8]) -> Result<(HeaderKind, &[u8]), Rule>
-    ensures { Gives (λ x. (x.0, x.1.now)) result (kind_at code bytes.now) }
+    ensures { Gives (λ x. (x.0, x.1.now)) result ((kind_of code).read bytes.now) }
 {
     if code == 1 {
         return Ok((HeaderKind::CompileUnit, bytes));
@@ -195,9 +196,9 @@ fn kind(code: u64, bytes: &[u8]) -> Result<(HeaderKind, &[u8]), Rule>
 }
 
 /// The fields after a version of 5 (DWARF 5, 7.5.1).
-#[tactic(auto, unfolding(crate::specs::Header::version5_at))]
+#[tactic(auto, unfolding(crate::specs::Header::version5))]
 fn version5(abbrev_size: usize, unit_length: u32, bytes: &[u8]) -> Result<(UnitHeader, &[u8]), Rule>
-    ensures { Gives (λ x. (x.0, x.1.now)) result (version5_at abbrev_size unit_length bytes.now) }
+    ensures { Gives (λ x. (x.0, x.1.now)) result ((format5 abbrev_size unit_length).read bytes.now) }
 {
     let (code, rest) = field(bytes, 1)?;
     if code == 1 || code == 2 || code == 3 {
@@ -217,9 +218,9 @@ fn version5(abbrev_size: usize, unit_length: u32, bytes: &[u8]) -> Result<(UnitH
 }
 
 /// The fields after unit_length.
-#[tactic(auto, unfolding(crate::specs::Header::fields_at))]
+#[tactic(auto, unfolding(crate::specs::Header::header_fields))]
 fn fields(abbrev_size: usize, unit_length: u32, bytes: &[u8]) -> Result<(UnitHeader, &[u8]), Rule>
-    ensures { Gives (λ x. (x.0, x.1.now)) result (fields_at abbrev_size unit_length bytes.now) }
+    ensures { Gives (λ x. (x.0, x.1.now)) result ((header_fields abbrev_size unit_length).read bytes.now) }
 {
     let (version, rest) = field(bytes, 2)?;
     if version == 4 {
@@ -232,7 +233,7 @@ fn fields(abbrev_size: usize, unit_length: u32, bytes: &[u8]) -> Result<(UnitHea
 }
 
 /// The bytes after unit_length, up to the unit's end.
-#[tactic(auto, unfolding(crate::specs::Header::unit_at))]
+#[tactic(auto, unfolding(crate::specs::Header::unit_at, dw_forms::specs::BaseFormats::taken_at))]
 fn unit_bytes(bytes: &[u8]) -> Result<(u32, &[u8]), Rule>
     ensures { Gives (λ x. (x.0, x.1.now)) result (unit_at bytes.now) }
 {

@@ -84,3 +84,13 @@ impl OptionalId {
         }
     }
 }
+
+/// The entry with this number, if there is one.
+pub fn id_of(optional: OptionalId) -> Option<EntryId>
+    ensures { result ≡ optional }
+{
+    match optional.get() {
+        Some(number) => Some(EntryId::new(number)),
+        None => None,
+    }
+}

@@ -1,31 +1,37 @@
 //! The entries of .debug_info: units, each a header, a tree of entries and nulls.
 #![tactic(auto)]
 
-mod context;
 mod cursor;
 mod entries;
-mod entry_at;
+mod entry;
 mod fault;
 mod header;
+mod hints;
 mod id;
+mod item;
 mod laws;
-mod lookup;
+mod leads;
 mod placed;
+mod records;
+mod rule;
 mod scanning;
-mod unit;
+mod tree;
+mod units;
 mod values;
-mod walk;
 
 pub use cursor::Cursor;
 pub use dw_elf::Sections;
 pub use dw_forms::{Attribute, Stop, Tag, Value, constants};
-pub use entries::{Entries, Hints};
-pub use entry_at::EntryAt;
-pub use fault::{Broken, Fault, Rule, Section};
-pub use header::{HeaderKind, UnitHeader, UnitType};
+pub use entries::Entries;
+pub use entry::{EntryAt, EntryHead, Head};
+pub use fault::{Broken, Fault, Section};
+pub use header::{HeaderKind, UnitHeader, UnitType, read_header};
+pub use hints::Hints;
 pub use id::{EntryId, OptionalId};
 pub use laws::{no_list, offsets_rise, one_fault, one_list};
-pub use lookup::{EntryHead, Head, UnitHead, Units};
+pub use leads::Leading;
 pub use placed::Placed;
+pub use rule::Rule;
 pub use scanning::scan;
-pub use values::{Leading, Values};
+pub use units::{UnitHead, Units};
+pub use values::Values;

@@ -8,7 +8,7 @@ ghost use Rattle.dw_entries.specs.Views.{all_entries, sections_of};
 
 use crate::entries::Entries;
 use crate::id::EntryId;
-use crate::scanning::read_code;
+use crate::item::read_code;
 use crate::values::Values;
 use dw_forms::{Attribute, Value};
 

@@ -1,17 +1,17 @@
 //! The attributes of an entry, each value decoded on demand.
 
-ghost use Rattle.std.specs.Prelude.{◌≡◌, ◌∷◌, [], true, Some, IfNone, List, drop, length, IfSome, OnSome, MatchOption};
 ghost use Rattle.std.specs.Bool.{OnTrue};
-ghost use Rattle.dw_forms.specs.Suffixes.{numbered, specs_in, Ends};
-ghost use Rattle.dw_forms.specs.Walks.{IsStep};
-ghost use Rattle.dw_forms.specs.declared.decl.AttributeSpec.{AttributeSpec as SpecData};
+ghost use Rattle.std.specs.Prelude.{IfNone, IfSome, List, MatchOption, OnSome, Some, [], drop, length, ◌∷◌, ◌≡◌};
 ghost use Rattle.dw_forms.specs.Chains.{Numbered};
-ghost use Rattle.dw_entries.specs.Header.{IsSize};
-ghost use Rattle.dw_entries.specs.Values.{value_context, Left, form_there, IsCut};
+ghost use Rattle.dw_forms.specs.Suffixes.{Ends, numbered, specs_in};
+ghost use Rattle.dw_forms.specs.Walks.{IsStep};
+ghost use Rattle.dw_forms.specs.declared.abbrev.AttributeSpec.{AttributeSpec as SpecData};
 ghost use Rattle.dw_entries.specs.Choices.{size_unique};
+ghost use Rattle.dw_entries.specs.Header.{IsSize};
 ghost use Rattle.dw_entries.specs.ValueLaws.{left_unique};
+ghost use Rattle.dw_entries.specs.Values.{IsCut, Left, form_there, value_context};
 
-use dw_forms::{Attribute, Attributes, Form, Lead, Step, Value, read_value, skip_value};
+use dw_forms::{Attribute, Attributes, Form, Step, Value, read_value, skip_value};
 
 /// Whether the bytes end inside a value of this form, which takes four bytes.
 fn is_cut(form: Form, bytes: &[u8]) -> bool
@@ -21,144 +21,6 @@ fn is_cut(form: Form, bytes: &[u8]) -> bool
         Form::Strp => bytes.len() < 4,
         Form::Ref4 => bytes.len() < 4,
         _ => false,
-    }
-}
-
-/// A walk over the values of an entry, up to the last that may lead elsewhere. It reads these, and before the last one
-/// those whose forms have no one size.
-#[derive(Drop)]
-pub struct Leading<'e, 'a> {
-    pub(crate) values: Values<'e, 'a>,
-    /// The step to the next attribute.
-    pub(crate) step: &'e Step,
-    pub ghost steps: { IsStep (numbered values.attributes) step.now },
-}
-
-impl<'a> Leading<'_, 'a> {
-    ghost use Rattle.dw_entries.specs.Chosen.{ArePassed, IsNextOf};
-    ghost use Rattle.dw_forms.specs.Value.{view, str, str_index, ref_unit, addr_index};
-    ghost use Rattle.dw_entries.specs.Leading.{next_form, next_lead, leading_left, leading_specs, DoesNotLead, LeadsIn};
-    ghost use Rattle.dw_entries.specs.Leading.{IsTaken, IsPassedBy, IsMade, EndsAtNothing, is_reference_lead};
-    ghost use Rattle.dw_entries.specs.Leading.{LeadsToText, LeadsByIndex1, LeadsByIndex2, LeadsToAddress, LeadsNowhere};
-    ghost use Rattle.dw_entries.specs.ValuesLeft.{viewed};
-
-    /// The form of the next attribute, if one is left.
-    #[inline(always)]
-    pub fn form(&self) -> Option<Form>
-        ensures form { result ≡ next_form self.now }
-        ensures none { IfNone result (ArePassed DoesNotLead (leading_left self.now)) }
-    {
-        match self.values.attributes.stepped(self.step).split_first() {
-            Some((spec, _)) => Some(spec.form),
-            None => None,
-        }
-    }
-
-    /// The next attribute, whose form is this one. Values before it are skipped.
-    #[inline(always)]
-    pub fn next_in(&mut self, form: Form) -> (Attribute, Value<'a>)
-        requires { next_form self.old ≡ Some form }
-        ensures found { IsNextOf DoesNotLead (leading_left self.old) (viewed result) (leading_left self.new) }
-        ensures leads { LeadsIn result.0 form (leading_specs self.old) (leading_specs self.new) }
-    {
-        let (item, next) = self.values.step_to(self.step, form);
-        self.step = next;
-        item
-    }
-
-    /// The lead of the next value: what its attribute and its form say about it. `Nothing` if no value is left that
-    /// may lead elsewhere.
-    pub fn lead(&self) -> Lead
-        ensures lead { result ≡ next_lead self.now }
-        ensures nothing { EndsAtNothing result (ArePassed DoesNotLead (leading_left self.now)) }
-    {
-        self.step.lead
-    }
-
-    /// The next value, whose form is this one.
-    #[inline(always)]
-    fn take_in(&mut self, form: Form) -> (Attribute, Value<'a>)
-        requires { next_form self.old ≡ Some form }
-        ensures taken { IsTaken (next_lead self.old) (leading_left self.old) (viewed result) (leading_left self.new) }
-        ensures made { IsMade self.old.values.version form self.old.values.address_size (view result.1) }
-    {
-        let (item, after) = self.values.step_to(self.step, form);
-        self.step = after;
-        item
-    }
-
-    /// The next value, which is the offset of a string in .debug_str, and its attribute.
-    pub fn take_text(&mut self) -> (Attribute, u32)
-        requires { LeadsToText self.old }
-        ensures { IsTaken (next_lead self.old) (leading_left self.old) (result.0, str result.1)
-            (leading_left self.new) }
-    {
-        let item = self.take_in(Form::Strp);
-        match item.1 {
-            Value::Str(offset) => (item.0, offset),
-            _ => unreachable!(),
-        }
-    }
-
-    /// The next value, which is a reference of four bytes, and its attribute.
-    #[inline(always)]
-    pub fn take_reference(&mut self) -> (Attribute, u64)
-        requires { is_reference_lead (next_lead self.old) ≡ true }
-        ensures { IsTaken (next_lead self.old) (leading_left self.old) (result.0, ref_unit result.1)
-            (leading_left self.new) }
-    {
-        let item = self.take_in(Form::Ref4);
-        match item.1 {
-            Value::RefUnit(offset) => (item.0, offset),
-            _ => unreachable!(),
-        }
-    }
-
-    /// The next value, which is the index of a string in one byte, and its attribute.
-    pub fn take_index1(&mut self) -> (Attribute, u64)
-        requires { LeadsByIndex1 self.old }
-        ensures { IsTaken (next_lead self.old) (leading_left self.old) (result.0, str_index result.1)
-            (leading_left self.new) }
-    {
-        let item = self.take_in(Form::Strx1);
-        match item.1 {
-            Value::StrIndex(index) => (item.0, index),
-            _ => unreachable!(),
-        }
-    }
-
-    /// The next value, which is the index of a string in two bytes, and its attribute.
-    pub fn take_index2(&mut self) -> (Attribute, u64)
-        requires { LeadsByIndex2 self.old }
-        ensures { IsTaken (next_lead self.old) (leading_left self.old) (result.0, str_index result.1)
-            (leading_left self.new) }
-    {
-        let item = self.take_in(Form::Strx2);
-        match item.1 {
-            Value::StrIndex(index) => (item.0, index),
-            _ => unreachable!(),
-        }
-    }
-
-    /// The next value, which is the index of an address, and its attribute.
-    pub fn take_address(&mut self) -> (Attribute, u64)
-        requires { LeadsToAddress self.old }
-        ensures { IsTaken (next_lead self.old) (leading_left self.old) (result.0, addr_index result.1)
-            (leading_left self.new) }
-    {
-        let item = self.take_in(Form::Addrx);
-        match item.1 {
-            Value::AddrIndex(index) => (item.0, index),
-            _ => unreachable!(),
-        }
-    }
-
-    /// Passes the next value, which leads nowhere. It is not decoded.
-    pub fn pass(&mut self)
-        requires { LeadsNowhere self.old }
-        ensures { IsPassedBy (next_lead self.old) (leading_left self.old) (leading_left self.new) }
-    {
-        self.step = self.values.step_past(self.step);
     }
 }
 
@@ -176,12 +38,12 @@ pub struct Values<'e, 'a> {
 
 impl<'e, 'a> Values<'e, 'a> {
     ghost use Rattle.dw_forms.specs.Value.{view};
-    ghost use Rattle.dw_forms.specs.Plans.{is_stop};
+    ghost use Rattle.dw_forms.specs.Classes.{is_open};
     ghost use Rattle.dw_entries.specs.ValuesLeft.{viewed, values_left, specs_left};
     ghost use Rattle.dw_entries.specs.Leading.{DoesNotLead, LeadsIn, IsMade, IsPassedBy, lead_with};
     ghost use Rattle.dw_entries.specs.Values.{IsThere};
     ghost use Rattle.dw_entries.specs.Leaving.{Leaves};
-    ghost use Rattle.dw_entries.specs.Chosen.{DoesNotStop, ArePassed, IsNextOf, TakesFirst};
+    ghost use Rattle.dw_entries.specs.Chosen.{IsNotOpen, ArePassed, IsNextOf, TakesFirst};
 
     /// Passes the attributes up to these.
     fn pass(&mut self, to: Attributes<'e>)
@@ -287,14 +149,14 @@ impl<'e, 'a> Values<'e, 'a> {
         }
     }
 
-    /// The next attribute at which a search stops. Values before it, which take no bytes, are skipped.
-    pub fn next_stop(&mut self) -> Option<(Attribute, Value<'a>)>
+    /// The next open attribute. Values before it are skipped.
+    pub fn next_open(&mut self) -> Option<(Attribute, Value<'a>)>
         ensures some { IfSome result
-            (λ found. IsNextOf DoesNotStop (values_left self.old) (viewed found) (values_left self.new)) }
-        ensures none { IfNone result (ArePassed DoesNotStop (values_left self.old)) }
-        ensures stop { OnSome result (TakesFirst is_stop (specs_left self.old) (specs_left self.new)) }
+            (λ found. IsNextOf IsNotOpen (values_left self.old) (viewed found) (values_left self.new)) }
+        ensures none { IfNone result (ArePassed IsNotOpen (values_left self.old)) }
+        ensures stop { OnSome result (TakesFirst is_open (specs_left self.old) (specs_left self.new)) }
     {
-        let from = self.attributes.next_stop();
+        let from = self.attributes.next_open();
         self.pass(from);
         self.take_first()
     }

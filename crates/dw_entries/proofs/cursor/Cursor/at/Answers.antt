@@ -1,6 +1,6 @@
 use Rattle.std.proofs.Common.{◌<◌, length, Some, sym, ap, ◌∙◌, arith}
 use Rattle.std.proofs.lemmas.Option.{slice_get-get_or}
-use Rattle.dw_entries.specs.declared.walk.UnitRecord.{UnitRecord}
+use Rattle.dw_entries.specs.declared.records.UnitRecord.{UnitRecord}
 use Rattle.dw_entries.proofs.KeptLaws.{units_counted}
 use Rattle.dw_entries.proofs.UnitRanges.{its_entries}
 use Rattle.dw_entries.proofs.cursor.Cursor.at.Goals as goal

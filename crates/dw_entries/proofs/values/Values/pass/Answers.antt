@@ -1,6 +1,6 @@
 use Rattle.std.proofs.Common.{◌≡◌, length, sym}
 use Rattle.std.proofs.lemmas.List.{length-map}
-use Rattle.dw_forms.specs.declared.decl.AttributeSpec.{AttributeSpec}
+use Rattle.dw_forms.specs.declared.abbrev.AttributeSpec.{AttributeSpec}
 use Rattle.dw_forms.specs.Chains.{Numbered, items_of}
 use Rattle.dw_forms.specs.Suffixes.{specs_in}
 use Rattle.dw_forms.proofs.SuffixLaws.{specs_ends}

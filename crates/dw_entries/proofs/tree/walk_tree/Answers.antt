@@ -1,0 +1,48 @@
+use Rattle.std.proofs.Common.{rules, ap, [], arith}
+use Rattle.dw_entries.specs.Units.{context_in, numbers_in}
+use Rattle.dw_entries.specs.Walk.{walk_of, levels_of}
+use Rattle.dw_entries.specs.ReadingLaws.{seen_err}
+use Rattle.dw_entries.proofs.AlongLaws.{along_few, along_end, first_fault, first_turn, next_turn, turn_shorter}
+use Rattle.dw_entries.proofs.tree.walk_tree.Goals as goal
+
+pub returns-in-Err-clause-fault : goal.returns-in-Err-clause-fault
+returns-in-Err-clause-fault c = search (rules, first_fault, seen_err)
+
+pub loop-inner-init : goal.loop-inner-init
+loop-inner-init c =
+    rw c.new-outer.ensures.items (first_turn (context_in c.args.context) (numbers_in c.args.context)
+    c.args.unit.header.kind c.args.start c.args.body.now c.args.records.now.items c.enter_first.new.records.items []
+    c.in_ok-inner.inner _ c.in-Ok.found.1.now c.in-Ok.ensures c.in_ok-inner.ensures)
+
+pub loop-inner-smaller : goal.loop-inner-smaller
+loop-inner-smaller c = search (rules, turn_shorter)
+
+pub loop-inner-preserved : goal.loop-inner-preserved
+loop-inner-preserved c = search (rules, next_turn)
+
+pub returns-clause-tree : goal.returns-clause-tree
+returns-clause-tree c =
+    along_end (context_in c.args.context) (numbers_in c.args.context) c.args.unit.header.kind c.args.start
+    c.args.body.now c.args.records.now.items c.loop-inner.rest.now
+    (walk_of c.loop-inner.records.items c.loop-inner.outer.items c.loop-inner.inner) c.loop-inner.invariant
+    (ap (levels_of c.loop-inner.outer.items) c.in_default.is)
+
+pub turn-requires-clause-few_entries : goal.turn-requires-clause-few_entries
+turn-requires-clause-few_entries c =
+    let few = along_few (context_in c.args.context) (numbers_in c.args.context) c.args.unit.header.kind c.args.start
+    c.args.body.now c.args.records.now.items c.loop-inner.rest.now c.loop-inner.records.items
+    c.loop-inner.outer.items c.in-Some.level (rw c.in-Some.is at c.loop-inner.invariant) in
+    let records = few.0 in
+    let start = c.requires.start in
+    let fits = c.requires.fits in
+    let old = c.requires.few_entries in
+    omega (arith, records, start, fits, old)
+
+pub turn-requires-clause-few_levels : goal.turn-requires-clause-few_levels
+turn-requires-clause-few_levels c =
+    let few = along_few (context_in c.args.context) (numbers_in c.args.context) c.args.unit.header.kind c.args.start
+    c.args.body.now c.args.records.now.items c.loop-inner.rest.now c.loop-inner.records.items
+    c.loop-inner.outer.items c.in-Some.level (rw c.in-Some.is at c.loop-inner.invariant) in
+    let outer = few.1 in
+    let fits = c.requires.fits in
+    omega (arith, outer, fits)

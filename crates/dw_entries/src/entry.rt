@@ -1,0 +1,314 @@
+//! One entry, whose declaration and unit are looked up once.
+
+ghost use Rattle.std.specs.List.{flat_map};
+ghost use Rattle.std.specs.Prelude.{IfSome, List, Option, Some, length, option_map, slice_get, ℕ, ◌++◌, ◌<◌, ◌≡◌};
+ghost use Rattle.dw_forms.specs.Codes.{is_type_tag};
+ghost use Rattle.dw_forms.specs.KeptDecls.{decl_view};
+ghost use Rattle.dw_forms.specs.Suffixes.{numbered, specs_in};
+ghost use Rattle.dw_forms.specs.Value.{text, view};
+ghost use Rattle.dw_entries.specs.Asked.{values_of};
+ghost use Rattle.dw_entries.specs.Entries.{Entry};
+ghost use Rattle.dw_entries.specs.Grammar.{attribute_bytes, head_bytes};
+ghost use Rattle.dw_entries.specs.Leading.{leading_left};
+ghost use Rattle.dw_entries.specs.Lookups.{IsTextAt, entry_head, full_head, value_at_entry};
+ghost use Rattle.dw_entries.specs.ValuesLeft.{values_left};
+ghost use Rattle.dw_entries.specs.Views.{all_entries, sections_of, units_of};
+
+use crate::entries::Entries;
+use crate::header::UnitHeader;
+use crate::id::{EntryId, id_of};
+use crate::item::read_code;
+use crate::leads::Leading;
+use crate::records::Record;
+use crate::units::unit_number;
+use crate::values::Values;
+use dw_forms::{Attribute, Attributes, DeclAt, Tag, Value};
+use std::marker::Model;
+
+/// An entry without its attributes and its depth, as it is read from its record, its declaration and its unit.
+#[derive(Clone, Copy, Debug, PartialEq, Eq)]
+pub struct EntryHead {
+    /// Where the entry begins in .debug_info.
+    pub offset: u32,
+    pub tag: Tag,
+    /// The number of its unit.
+    pub unit: usize,
+    pub parent: Option<EntryId>,
+    pub next_sibling: Option<EntryId>,
+}
+
+/// An entry without its attributes.
+#[derive(Clone, Copy, Debug, PartialEq, Eq)]
+pub struct Head {
+    /// Where the entry begins in .debug_info.
+    pub offset: u32,
+    pub tag: Tag,
+    /// The number of its unit.
+    pub unit: usize,
+    /// How many entries are above it.
+    pub depth: usize,
+    pub parent: Option<EntryId>,
+    pub next_sibling: Option<EntryId>,
+}
+
+/// One entry, with its declaration and its unit's header at hand.
+#[derive(Drop)]
+pub struct EntryAt<'e, 'a> {
+    entries: &'e Entries<'a>,
+    id: EntryId,
+    kept: Record,
+    decl: DeclAt<'e>,
+    /// The number of its unit.
+    unit: usize,
+    header: UnitHeader,
+}
+
+impl<'e, 'a> Model for EntryAt<'e, 'a> {
+    ghost Value = { Option Entry };
+
+    ghost view = { λ it. slice_get (all_entries it.entries.now) it.id };
+
+    ghost invariant = { λ it. (it.id < length (all_entries it.entries.now))
+        × (slice_get it.entries.now.records.items it.id ≡ Some it.kept)
+        × IfSome (slice_get (all_entries it.entries.now) it.id)
+        (λ e. decl_view it.decl ≡ e.head.decl)
+        × IfSome (slice_get (all_entries it.entries.now) it.id)
+        (λ e. IfSome (slice_get (units_of it.entries.now) e.unit) (λ u. it.header ≡ u.header))
+        × IfSome (slice_get (all_entries it.entries.now) it.id) (λ e. it.unit ≡ e.unit) };
+}
+
+impl<'a> Entries<'a> {
+    /// The entry with this number. Its declaration and its unit are looked up once.
+    #[inline(always)]
+    pub fn at(&self, id: EntryId) -> EntryAt<'_, 'a>
+        requires { id < length (all_entries self.now) }
+        ensures { result ≡ slice_get (all_entries self.now) id }
+    {
+        EntryAt::new(self, id, unit_number(self, id))
+    }
+
+    /// The entry with this number, which is one of this unit, whose header this is. The unit is not looked up.
+    #[inline(always)]
+    pub fn at_with(&self, id: EntryId, unit: usize, header: UnitHeader) -> EntryAt<'_, 'a>
+        requires id { id < length (all_entries self.now) }
+        requires unit { IfSome (slice_get (all_entries self.now) id) (λ e. unit ≡ e.unit) }
+        requires header { IfSome (slice_get (all_entries self.now) id)
+            (λ e. IfSome (slice_get (units_of self.now) e.unit) (λ u. header ≡ u.header)) }
+        ensures { result ≡ slice_get (all_entries self.now) id }
+    {
+        let kept = self.record(id);
+        EntryAt {
+            entries: self,
+            id,
+            kept,
+            decl: self.decls.decl(kept.decl),
+            unit,
+            header,
+        }
+    }
+
+    /// What is told of an entry besides its attributes. Its depth is counted: each entry above it is looked at.
+    pub fn head(&self, id: EntryId) -> Head
+        requires { id < length (all_entries self.now) }
+        ensures { IfSome (slice_get (all_entries self.now) id) (λ e. result ≡ full_head e) }
+    {
+        let head = self.at(id).head();
+        Head {
+            offset: head.offset,
+            tag: head.tag,
+            unit: head.unit,
+            depth: self.depth(id),
+            parent: head.parent,
+            next_sibling: head.next_sibling,
+        }
+    }
+
+    /// The attributes of an entry in their order, each value decoded on demand.
+    pub fn values(&self, id: EntryId) -> Values<'_, 'a>
+        requires { id < length (all_entries self.now) }
+        ensures { IfSome (slice_get (all_entries self.now) id) (λ e. values_left result ≡ values_of e.head) }
+    {
+        self.at(id).values()
+    }
+
+    /// The value of an entry's attribute, if it has that attribute. Its unit is looked up only where its declaration
+    /// has the attribute.
+    pub fn value(&self, id: EntryId, attribute: Attribute) -> Option<Value<'a>>
+        requires { id < length (all_entries self.now) }
+        ensures { IfSome (slice_get (all_entries self.now) id)
+            (λ e. option_map view result ≡ value_at_entry e attribute) }
+    {
+        if self.decl(id).attributes().lacks(attribute) {
+            return None;
+        }
+        self.at(id).find_value(attribute)
+    }
+
+    /// Where the text of an entry's attribute starts in .debug_info. The text is in the value itself.
+    pub fn text_start(&self, id: EntryId, attribute: Attribute, bytes: &[u8]) -> usize
+        requires id { id < length (all_entries self.now) }
+        requires value { IfSome (slice_get (all_entries self.now) id)
+            (λ e. value_at_entry e attribute ≡ Some (text bytes.now)) }
+        ensures { IsTextAt (sections_of self.now).info.now result bytes.now }
+    {
+        let entry = self.at(id);
+        entry.offset() as usize + entry.text_start(attribute, bytes)
+    }
+}
+
+impl<'e, 'a> EntryAt<'e, 'a> {
+    /// An entry of the unit with this number.
+    #[inline(always)]
+    pub(crate) fn new(entries: &'e Entries<'a>, id: EntryId, unit: usize) -> EntryAt<'e, 'a>
+        requires id { id < length (all_entries entries.now) }
+        requires unit { IfSome (slice_get (all_entries entries.now) id) (λ e. unit ≡ e.unit) }
+        ensures { result ≡ slice_get (all_entries entries.now) id }
+    {
+        entries.at_with(id, unit, entries.units[unit].header)
+    }
+
+    /// Its offset in .debug_info, in bytes.
+    pub fn offset(&self) -> u32
+        ensures { IfSome self.now (λ e. result ≡ e.at) }
+    {
+        self.kept.at
+    }
+
+    /// Its tag, as its declaration says it.
+    pub fn tag(&self) -> Tag
+        ensures { IfSome self.now (λ e. result ≡ e.head.decl.tag) }
+    {
+        self.decl.tag()
+    }
+
+    /// Whether it is a type, as `Tag::is_type` says.
+    pub fn is_type(&self) -> bool
+        ensures { IfSome self.now (λ e. result ≡ is_type_tag e.head.decl.tag) }
+    {
+        self.decl.is_type()
+    }
+
+    /// The number of its unit. Units are numbered in rising offset, from 0.
+    pub fn unit(&self) -> usize
+        ensures { IfSome self.now (λ e. result ≡ e.unit) }
+    {
+        self.unit
+    }
+
+    /// Its parent. None at the first entry of a unit.
+    pub fn parent(&self) -> Option<EntryId>
+        ensures { IfSome self.now (λ e. result ≡ e.parent) }
+    {
+        id_of(self.kept.parent)
+    }
+
+    /// What is told of the entry besides its attributes and its depth.
+    #[inline(always)]
+    pub fn head(&self) -> EntryHead
+        ensures { IfSome self.now (λ e. result ≡ entry_head e) }
+    {
+        EntryHead {
+            offset: self.kept.at,
+            tag: self.decl.tag(),
+            unit: self.unit,
+            parent: id_of(self.kept.parent),
+            next_sibling: id_of(self.kept.next),
+        }
+    }
+
+    /// The bytes of its values, and those after them.
+    #[inline(always)]
+    fn value_bytes(&self) -> &'a [u8]
+        ensures { IfSome self.now
+            (λ e. (rest : List ℕ) × (result.now ≡ flat_map attribute_bytes e.head.attributes ++ rest)) }
+    {
+        let entries = self.entries;
+        match read_code(&entries.sections.info[self.kept.at as usize..]) {
+            Ok((_, values)) => values,
+            Err(_) => unreachable!(),
+        }
+    }
+
+    /// These attributes, which are all that its declaration has.
+    #[inline(always)]
+    fn values_in(&self, attributes: Attributes<'e>) -> Values<'e, 'a>
+        requires { IfSome self.now (λ e. specs_in attributes ≡ e.head.decl.attributes) }
+        ensures left { IfSome self.now (λ e. values_left result ≡ values_of e.head) }
+        ensures attributes { numbered result.attributes ≡ numbered attributes.entry }
+    {
+        Values {
+            attributes,
+            bytes: self.value_bytes(),
+            version: self.header.kind.version(),
+            address_size: self.header.address_size,
+        }
+    }
+
+    /// Its attributes in their order, each value decoded on demand.
+    pub fn values(&self) -> Values<'e, 'a>
+        ensures { IfSome self.now (λ e. values_left result ≡ values_of e.head) }
+    {
+        self.values_in(self.decl.attributes())
+    }
+
+    /// Its attributes whose values may lead elsewhere, in their order, each value decoded on demand.
+    #[inline(always)]
+    pub fn leading(&self) -> Leading<'e, 'a>
+        ensures { IfSome self.now (λ e. leading_left result ≡ values_of e.head) }
+    {
+        Leading {
+            values: self.values_in(self.decl.attributes()),
+            step: self.decl.step(),
+        }
+    }
+
+    /// The value of its attribute, if it has that attribute.
+    #[inline(always)]
+    pub fn value(&self, attribute: Attribute) -> Option<Value<'a>>
+        ensures { IfSome self.now (λ e. option_map view result ≡ value_at_entry e attribute) }
+    {
+        let attributes = self.decl.attributes();
+        if attributes.lacks(attribute) {
+            return None;
+        }
+        self.find_value(attribute)
+    }
+
+    /// The same, without asking first whether its declaration has the attribute.
+    #[inline(always)]
+    pub(crate) fn find_value(&self, attribute: Attribute) -> Option<Value<'a>>
+        ensures { IfSome self.now (λ e. option_map view result ≡ value_at_entry e attribute) }
+    {
+        let version = self.header.kind.version();
+        let size = self.header.address_size;
+        match self
+            .decl
+            .value(version, size, attribute, self.value_bytes())
+        {
+            Ok(value) => value,
+            Err(_) => unreachable!(),
+        }
+    }
+
+    /// Where the text that is the value of its attribute starts, from the first byte of the entry. The text is in the
+    /// value itself.
+    pub(crate) fn text_start(&self, attribute: Attribute, bytes: &[u8]) -> usize
+        requires { IfSome self.now (λ e. value_at_entry e attribute ≡ Some (text bytes.now)) }
+        ensures { IfSome self.now (λ e. IsTextAt (head_bytes e.head) result bytes.now) }
+    {
+        let entries = self.entries;
+        let entry = &entries.sections.info[self.kept.at as usize..];
+        let Ok((_, values)) = read_code(entry) else {
+            unreachable!();
+        };
+        let attributes = self.decl.attributes();
+        let Some((_, rest)) = attributes.find(attribute).split_first() else {
+            unreachable!();
+        };
+        let version = self.header.kind.version();
+        match attributes.pass(version, self.header.address_size, rest, values) {
+            Ok(after) => entry.len() - (after.len() + 1 + bytes.len()),
+            Err(_) => unreachable!(),
+        }
+    }
+}

@@ -1,0 +1,201 @@
+//! The rules that sections can break, each with its code and its name.
+
+ghost use Rattle.std.specs.Prelude.{◌≡◌};
+
+/// A rule. The letter of its code names the group that it belongs to, and the number its place there.
+#[derive(Clone, Copy, Debug, PartialEq, Eq)]
+pub enum Rule {
+    /// A1: a part of a declaration, or the end of the table, passes the end of `.debug_abbrev`.
+    AbbrevCut,
+    /// A2: a number in a table has more than 10 bytes or more than 64 bits.
+    AbbrevNumber,
+    /// A3: an earlier declaration of the table has the code.
+    CodeTwice,
+    /// A4: a tag is 0 or above 0xffff.
+    BadTag,
+    /// A5: the byte that says whether there are children is neither 0 nor 1.
+    BadChildren,
+    /// A6: one of an attribute and its form alone is 0, or the attribute is above 0xffff.
+    BadPair,
+    /// A7: no form has the code.
+    UnknownForm,
+    /// A8: a declaration has an attribute twice.
+    AttributeTwice,
+    /// U1: a unit passes the end of `.debug_info`, or its header passes the unit's end.
+    UnitCut,
+    /// U2: the unit's length is 0xfffffff0 or more, which means 64-bit DWARF or is reserved.
+    Not32Bit,
+    /// U3: the version is neither 4 nor 5.
+    BadVersion,
+    /// U4: the type of a unit of version 5 is not compile (1), type (2) or partial (3).
+    BadUnitType,
+    /// U5: an address has neither 4 nor 8 bytes.
+    BadAddressSize,
+    /// U6: no byte of `.debug_abbrev` is at the table's offset.
+    BadAbbrevOffset,
+    /// U7: a null or nothing is in place of the unit's first entry.
+    NoUnitEntry,
+    /// U8: the first entry's tag is not the one of the unit's type.
+    WrongUnitTag,
+    /// U9: something other than nulls follows the unit's tree.
+    LeftOver,
+    /// G1: the unit's table has no declaration with the code.
+    UndeclaredCode,
+    /// G2: a code or a value passes the unit's end.
+    Cut,
+    /// G3: a code, or a number in a value, has more than 10 bytes or more than 64 bits.
+    BadNumber,
+    /// G4: an indirect value names no form, a form that it may not name, or a form that the unit's version does not
+    /// have.
+    BadIndirect,
+    /// G5: the unit has version 4, and version 4 does not have the form of an attribute.
+    FormVersion,
+    /// K1: the value has none of the classes that the attribute may have.
+    WrongClass,
+    /// S1: the header before the unit's base in `.debug_str_offsets` is malformed, or the unit names no base and has an
+    /// indexed string.
+    BadStrBase,
+    /// S2: the index of a string is not below the number of slots of the unit's contribution to `.debug_str_offsets`.
+    StrIndex,
+    /// S3: a string starts outside its section, or no zero byte ends it there.
+    StringEnd,
+    /// S4: the header before the unit's base in `.debug_addr` is malformed, or the unit names no base and has an
+    /// indexed address.
+    BadAddrBase,
+    /// S5: the index of an address is not below the number of slots of the unit's contribution to `.debug_addr`.
+    AddrIndex,
+    /// R1: no entry starts at the offset that a reference refers to, in its unit or, in form ref_addr, in
+    /// `.debug_info`.
+    NoEntry,
+    /// R2: a reference has a form that its attribute does not permit, or refers to an entry of a kind that it does not
+    /// permit.
+    WrongKind,
+    /// R3: a sibling attribute refers to another entry than the next sibling, or there is no next sibling.
+    NotNextSibling,
+    /// R4: no type unit has the signature.
+    NoSignature,
+    /// R5: an earlier type unit has the signature.
+    SignatureTwice,
+    /// R6: no type of the type unit starts at its type offset.
+    BadTypeOffset,
+    /// Y1: an array or a plain member has neither a type nor a DW_AT_specification nor a DW_AT_abstract_origin.
+    MissingType,
+    /// Y2: a dimension has a known count below 0.
+    BadCount,
+    /// C1: a type contains itself by value.
+    ContainsItself,
+    /// Z1: a base type, or a structure or union that is not declared, has no size; or a byte size that is read, or the
+    /// stride of an array without a byte size, is negative.
+    NoSize,
+    /// Z2: a size is 2^63 or more.
+    SizeTooGreat,
+    /// Z3: a plain member ends outside its structure or union.
+    MemberOutside,
+    /// Z4: an enumeration that is not declared has neither a byte size nor a type nor a DW_AT_specification nor a
+    /// DW_AT_abstract_origin, or its byte size is not the size of its type.
+    EnumSize,
+}
+
+impl Rule {
+    ghost use Rattle.dw_entries.specs.RuleTexts.{code_text, name_text};
+
+    /// The code of the rule: the letter of its group and its number there.
+    #[tactic(auto, unfolding(crate::specs::RuleTexts::code_text))]
+    pub fn code(self) -> &'static str
+        ensures { result.now ≡ code_text self }
+    {
+        match self {
+            Rule::AbbrevCut => "A1",
+            Rule::AbbrevNumber => "A2",
+            Rule::CodeTwice => "A3",
+            Rule::BadTag => "A4",
+            Rule::BadChildren => "A5",
+            Rule::BadPair => "A6",
+            Rule::UnknownForm => "A7",
+            Rule::AttributeTwice => "A8",
+            Rule::UnitCut => "U1",
+            Rule::Not32Bit => "U2",
+            Rule::BadVersion => "U3",
+            Rule::BadUnitType => "U4",
+            Rule::BadAddressSize => "U5",
+            Rule::BadAbbrevOffset => "U6",
+            Rule::NoUnitEntry => "U7",
+            Rule::WrongUnitTag => "U8",
+            Rule::LeftOver => "U9",
+            Rule::UndeclaredCode => "G1",
+            Rule::Cut => "G2",
+            Rule::BadNumber => "G3",
+            Rule::BadIndirect => "G4",
+            Rule::FormVersion => "G5",
+            Rule::WrongClass => "K1",
+            Rule::BadStrBase => "S1",
+            Rule::StrIndex => "S2",
+            Rule::StringEnd => "S3",
+            Rule::BadAddrBase => "S4",
+            Rule::AddrIndex => "S5",
+            Rule::NoEntry => "R1",
+            Rule::WrongKind => "R2",
+            Rule::NotNextSibling => "R3",
+            Rule::NoSignature => "R4",
+            Rule::SignatureTwice => "R5",
+            Rule::BadTypeOffset => "R6",
+            Rule::MissingType => "Y1",
+            Rule::BadCount => "Y2",
+            Rule::ContainsItself => "C1",
+            Rule::NoSize => "Z1",
+            Rule::SizeTooGreat => "Z2",
+            Rule::MemberOutside => "Z3",
+            Rule::EnumSize => "Z4",
+        }
+    }
+
+    /// The name of the rule, which is its variant's.
+    #[tactic(auto, unfolding(crate::specs::RuleTexts::name_text))]
+    pub fn name(self) -> &'static str
+        ensures { result.now ≡ name_text self }
+    {
+        match self {
+            Rule::AbbrevCut => "AbbrevCut",
+            Rule::AbbrevNumber => "AbbrevNumber",
+            Rule::CodeTwice => "CodeTwice",
+            Rule::BadTag => "BadTag",
+            Rule::BadChildren => "BadChildren",
+            Rule::BadPair => "BadPair",
+            Rule::UnknownForm => "UnknownForm",
+            Rule::AttributeTwice => "AttributeTwice",
+            Rule::UnitCut => "UnitCut",
+            Rule::Not32Bit => "Not32Bit",
+            Rule::BadVersion => "BadVersion",
+            Rule::BadUnitType => "BadUnitType",
+            Rule::BadAddressSize => "BadAddressSize",
+            Rule::BadAbbrevOffset => "BadAbbrevOffset",
+            Rule::NoUnitEntry => "NoUnitEntry",
+            Rule::WrongUnitTag => "WrongUnitTag",
+            Rule::LeftOver => "LeftOver",
+            Rule::UndeclaredCode => "UndeclaredCode",
+            Rule::Cut => "Cut",
+            Rule::BadNumber => "BadNumber",
+            Rule::BadIndirect => "BadIndirect",
+            Rule::FormVersion => "FormVersion",
+            Rule::WrongClass => "WrongClass",
+            Rule::BadStrBase => "BadStrBase",
+            Rule::StrIndex => "StrIndex",
+            Rule::StringEnd => "StringEnd",
+            Rule::BadAddrBase => "BadAddrBase",
+            Rule::AddrIndex => "AddrIndex",
+            Rule::NoEntry => "NoEntry",
+            Rule::WrongKind => "WrongKind",
+            Rule::NotNextSibling => "NotNextSibling",
+            Rule::NoSignature => "NoSignature",
+            Rule::SignatureTwice => "SignatureTwice",
+            Rule::BadTypeOffset => "BadTypeOffset",
+            Rule::MissingType => "MissingType",
+            Rule::BadCount => "BadCount",
+            Rule::ContainsItself => "ContainsItself",
+            Rule::NoSize => "NoSize",
+            Rule::SizeTooGreat => "SizeTooGreat",
+            Rule::MemberOutside => "MemberOutside",
+            Rule::EnumSize => "EnumSize",
+        }
+    }
+}
