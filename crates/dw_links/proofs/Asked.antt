@@ -2,10 +2,10 @@
 use Rattle.std.proofs.Common.{rules, ◌≡◌, ℕ, false, Option, Some, None, refl, ◌<◌, true, List, sym, ap, ◌∙◌, subst}
 use Rattle.std.specs.Prelude.{is_some, slice_get, IsSome}
 use Rattle.dw_forms.specs.Value.{Datum, ref_sig}
-use Rattle.dw_entries.specs.declared.fault.Rule.{Rule}
+use Rattle.dw_entries.specs.declared.rule.Rule.{Rule}
 use Rattle.dw_entries.specs.Failures.{IsLeast}
-use Rattle.dw_entries.specs.declared.fault.Rule.TheVariants as rule
-use Rattle.dw_entries.specs.declared.lookup.EntryHead.{EntryHead}
+use Rattle.dw_entries.specs.declared.rule.Rule.TheVariants as rule
+use Rattle.dw_entries.specs.declared.entry.EntryHead.{EntryHead}
 use Rattle.dw_entries.specs.Entries.{Entry, PlacedUnit}
 use Rattle.dw_entries.specs.declared.entries.Entries.{Entries}
 use Rattle.dw_entries.specs.Views.{all_entries, all_units}

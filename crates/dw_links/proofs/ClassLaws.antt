@@ -1,32 +1,30 @@
 -- The rule on classes, by declarations and by values, and what the form of a value says of it.
-use Rattle.std.proofs.Common.{rules, ◌≡◌, ℕ, ◌||◌, Bool, true, false, List, Option, Some, refl, ap, sym, ◌∙◌, ◌⊎◌, inl, inr, subst, ◌<◌, [], ◌∷◌, length, arith, if◌then◌else◌, nat_eq}
-use Rattle.std.specs.Prelude.{◌==◌, slice_get, IfSome, ◌&&◌}
-use Rattle.std.proofs.lemmas.Bool.{eq-eqb, ne_eqb}
-use Rattle.std.specs.List.{list_all}
+use Rattle.std.proofs.Common.{rules, ◌≡◌, ℕ, ◌||◌, Bool, true, false, List, Option, Some, None, refl, ap, sym, ◌∙◌, ◌⊎◌, inl, inr, subst, ◌<◌, length, arith, if◌then◌else◌, nat_eq}
+use Rattle.std.specs.Prelude.{◌==◌, slice_get, IfSome}
+use Rattle.std.proofs.lemmas.Bool.{eq-eqb, not-false}
 use Rattle.std.proofs.lemmas.Option.{slice_get_within}
 use mathlib.Core.Logic.{∥∥₁_elim}
 use Rattle.dw_forms.specs.Codes.{DW_AT_type, DW_AT_str_offsets_base, DW_AT_addr_base}
-use Rattle.dw_forms.specs.declared.decl.AttributeSpec.{AttributeSpec}
+use Rattle.dw_forms.specs.declared.abbrev.AttributeSpec.{AttributeSpec}
 use Rattle.dw_forms.specs.declared.form.Form.{Form}
 use Rattle.dw_forms.specs.declared.form.Form.TheVariants as form
 use Rattle.dw_forms.specs.FormCodes.{may_lead_out, may_refer}
-use Rattle.dw_forms.specs.Value.{Datum, Val}
-use Rattle.dw_forms.specs.Plans.{not_flags, not_constants, stops_in}
-use Rattle.dw_entries.specs.declared.lookup.EntryHead.{EntryHead}
-use Rattle.dw_entries.specs.declared.fault.Rule.{Rule}
+use Rattle.dw_forms.specs.Value.{Datum, Val, laid_out}
+use Rattle.dw_forms.specs.Classes.{class_of, form_class, allows, allows_in, is_open_in}
+use Rattle.dw_forms.specs.declared.class.Class.{Class}
+use Rattle.dw_entries.specs.declared.entry.EntryHead.{EntryHead}
+use Rattle.dw_entries.specs.declared.rule.Rule.{Rule}
 use Rattle.dw_entries.specs.Entries.{Entry, PlacedUnit, entries_of, placed}
 use Rattle.dw_entries.specs.Leading.{DoesNotLead}
-use Rattle.dw_entries.specs.declared.fault.Rule.TheVariants.{WrongClass}
-use Rattle.dw_entries.specs.declared.lookup.UnitHead.{UnitHead}
+use Rattle.dw_entries.specs.declared.rule.Rule.TheVariants.{WrongClass}
+use Rattle.dw_entries.specs.declared.units.UnitHead.{UnitHead}
 use Rattle.dw_entries.specs.Header.{version_of}
 use Rattle.dw_entries.specs.Units.{DebugUnit, Spells}
 use Rattle.dw_entries.specs.Lookups.{unit_head}
 use Rattle.dw_entries.specs.Failures.{IsLeast}
-use Rattle.dw_entries.specs.Chosen.{DoesNotStop}
+use Rattle.dw_entries.specs.Chosen.{IsNotOpen}
 use Rattle.dw_entries.proofs.HeadLaws.{head_stands}
 use Rattle.dw_entries.proofs.EntryFacts.{length-placed_from}
-use Rattle.dw_links.specs.declared.class.Class.{Class}
-use Rattle.dw_links.specs.declared.class.Class.TheVariants.{Constant, Flag}
 use Rattle.dw_elf.specs.declared.sections.Sections.{Sections}
 use Rattle.dw_entries.specs.declared.entries.Entries.{Entries}
 use Rattle.dw_entries.specs.declared.header.UnitHeader.{UnitHeader}
@@ -34,7 +32,7 @@ use Rattle.dw_entries.specs.Views.{sections_of, all_entries}
 use Rattle.dw_links.specs.Bases.{base_in}
 use Rattle.dw_links.specs.Linkable.{FailsByText, FailsByTarget}
 use Rattle.dw_links.specs.Strings.{StringFailsIn}
-use Rattle.dw_links.specs.Classes.{class_of, form_class, is_one_of, allows, allows_in, ClassFails}
+use Rattle.dw_links.specs.Classes.{ClassFails}
 use Rattle.dw_links.specs.Concerns.{Passes}
 use Rattle.dw_links.specs.References.{is_reference_value}
 use Rattle.dw_links.proofs.Skips.{there}
@@ -43,6 +41,7 @@ use Rattle.dw_links.proofs.Skips.{there}
 
 pub class_by_form : (version size : ℕ) (f : Form) (bytes : List ℕ) (v : Datum) (c : Class) → form_class f ≡ Some c
     → Val version f size bytes v → class_of v ≡ c
+unfolding laid_out
 class_by_form version size form.FlagPresent bytes v c is p = search rules
 class_by_form version size _ bytes v c is p = search rules
 
@@ -76,6 +75,7 @@ module _ (sections : Sections) (header : UnitHeader) (strings addresses : Option
 
   no_text : (version size : ℕ) (f : Form) (bytes : List ℕ) (v : Datum) → may_lead_out f ≡ false
       → ((a ≡ DW_AT_str_offsets_base) ⊎ (a ≡ DW_AT_addr_base) → ⊥) → Val version f size bytes v → Fails v → ⊥
+  unfolding laid_out
   no_text version size form.SecOffset bytes v none no_base p fails =
       elim (subst Fails p.2 fails).2 [ inl str ↦ no_base (inl str.0) | inr addr ↦ no_base (inr addr.0) ]
   no_text version size _ bytes v none no_base p fails = search rules
@@ -96,6 +96,7 @@ passes_texts entries spec not x a is head rule fails =
 -- it is no reference
 no_reference : (version size : ℕ) (f : Form) (bytes : List ℕ) (v : Datum) → may_refer f ≡ false
     → Val version f size bytes v → is_reference_value v ≡ false
+unfolding laid_out
 no_reference version size form.FlagPresent bytes v none p = ap is_reference_value p.1
 no_reference version size _ bytes v none p = search rules
 
@@ -126,42 +127,16 @@ class_passes units spec c form ok x a is head rule fails =
     ∙ fails.class in
     let no : true ≡ false = sym (allowed_in (version_of fails.unit.unit.header.kind) spec.attribute c ok) ∙ both in cc)
 
--- ---- a search stops at values that take no bytes, if their class is none of the attribute's
+-- ---- a search passes attributes that are not open
 
-no_one : (all codes : List ℕ) (a : ℕ) → is_one_of all a ≡ false → list_all (is_one_of all) codes ≡ true
-    → is_one_of codes a ≡ false
-no_one all [] a none within = refl
-no_one all (code ∷ codes) a none within =
-    by_code (is_one_of all code) refl within (λ others. no_one all codes a none others)
-  where
-    by_code : (b : Bool) → is_one_of all code ≡ b → (b && list_all (is_one_of all) codes) ≡ true
-        → (list_all (is_one_of all) codes ≡ true → is_one_of codes a ≡ false) → is_one_of (code ∷ codes) a ≡ false
-    by_code true is others rest =
-        rw (ne_eqb a code (λ same. let both : true ≡ false = sym is ∙ ap (is_one_of all) (sym same) ∙ none in cc))
-        (rest others)
-    by_code false is others rest = absurd (let both : false ≡ true = others in cc)
+its_class : (class : Option Class) (a : ℕ) → is_open_in class a ≡ false
+    → (c : Class) × (class ≡ Some c) × (allows a c ≡ true)
+its_class (Some c) a is = (c, refl, not-false (allows a c) is)
+its_class None a is = absurd (let both : true ≡ false = is in cc)
 
-or_else : (b x y : Bool) → b ≡ false → y ≡ true → (if b then x else y) ≡ true
-or_else b x y is not = rw is not
-
-either : (b x y : Bool) → x ≡ true → y ≡ true → (if b then x else y) ≡ true
-either true x y first is = first
-either false x y first is = is
-
-allows_flag : (a : ℕ) → is_one_of not_flags a ≡ false → allows a Flag ≡ true
-allows_flag a none = search (rules, or_else, no_one, either)
-
-allows_constant : (a : ℕ) → is_one_of not_constants a ≡ false → allows a Constant ≡ true
-allows_constant a none = search (rules, or_else, no_one, either)
-
-byteless_class : (f : Form) (a : ℕ) → stops_in f a ≡ false → (c : Class) × (form_class f ≡ Some c) × (allows a c ≡ true)
-byteless_class form.FlagPresent a is = (Flag, refl, allows_flag a is)
-byteless_class (form.ImplicitConst number) a is = (Constant, refl, allows_constant a is)
-byteless_class f a is = absurd (let both : true ≡ false = is in cc)
-
-pub others_pass : (spec : AttributeSpec) → DoesNotStop spec → (units : List PlacedUnit) → Passes (ClassFails units) spec
+pub others_pass : (spec : AttributeSpec) → IsNotOpen spec → (units : List PlacedUnit) → Passes (ClassFails units) spec
 others_pass spec is units =
-    let (c, class, ok) = byteless_class spec.form spec.attribute is in
+    let (c, class, ok) = its_class (form_class spec.form) spec.attribute is in
     class_passes units spec c class ok
 
 -- a value of another class

@@ -1,5 +1,5 @@
 -- The rules at the headers of type units, and the type of each signature.
-use Rattle.std.proofs.Common.{rules, ◌≡◌, ℕ, ◌+◌, ◌≤◌, Bool, true, false, cond, List, Option, Some, None, refl, sym, ap, ◌∙◌, arith, subst, eq-or-lt_of_le, inl, inr, ◌⊎◌, zero, suc, [], ◌∷◌, length, length-append, ◌<◌}
+use Rattle.std.proofs.Common.{rules, ◌≡◌, ℕ, ◌+◌, ◌≤◌, Bool, true, false, cond, List, Option, Some, None, refl, sym, ap, ◌∙◌, arith, subst, eq-or-lt_of_le, inl, inr, ◌⊎◌, zero, suc, [], ◌∷◌, length, ◌<◌}
 use Rattle.std.proofs.lemmas.Bool.Decides.{nat_tests}
 use Rattle.std.specs.Prelude.{slice_get, is_some}
 use Rattle.std.specs.Ordering.{nat_cmp, is_eq}
@@ -7,12 +7,12 @@ use Rattle.std.specs.BTreeMap.{BTreeMap, get, is_at}
 use Rattle.dw_forms.specs.Codes.{is_type_tag}
 use Rattle.dw_entries.specs.Entries.{Entry, PlacedUnit, node_count, placed_from, placed}
 use Rattle.dw_entries.proofs.Firsts.{same_some, first_of_list}
-use Rattle.dw_entries.specs.declared.fault.Rule.{Rule}
-use Rattle.dw_entries.specs.declared.fault.Rule.TheVariants.{SignatureTwice, BadTypeOffset}
+use Rattle.dw_entries.specs.declared.rule.Rule.{Rule}
+use Rattle.dw_entries.specs.declared.rule.Rule.TheVariants.{SignatureTwice, BadTypeOffset}
 use Rattle.dw_entries.specs.declared.fault.Broken.{Broken}
 use Rattle.dw_entries.specs.declared.header.HeaderKind.{HeaderKind}
 use Rattle.dw_entries.specs.declared.header.HeaderKind.TheVariants.{TypeUnit}
-use Rattle.dw_entries.specs.Units.{DebugUnit, unit_bytes}
+use Rattle.dw_entries.specs.Units.{DebugUnit, unit_bytes, AreUnits}
 use Rattle.dw_entries.specs.Places.{at_header, at_attribute}
 use Rattle.dw_entries.specs.Failures.{Failure, Precedes, Names, HasNone, IsFirst, IsLeast}
 use Rattle.dw_entries.specs.Asked.{OffsetsRise, AtPlace}
@@ -20,7 +20,7 @@ use Rattle.dw_entries.proofs.FirstPlaces.{header_precedes_le, first_at_place, no
 use Rattle.dw_entries.specs.Runs.{IsEntryIn}
 use Rattle.dw_entries.proofs.RunLaws.{one_at, in_is_at}
 use Rattle.dw_entries.proofs.NumberOrder.{three_ways}
-use Rattle.dw_entries.proofs.ScanLaws.{few_units}
+use Rattle.dw_entries.specs.UnitLaws.{unit_some}
 use Rattle.dw_links.specs.References.{IsSignedBefore, HasType, TypeUnitFails, HeaderFails, AtHeader, HeaderFailures, AttributeFailures}
 use Rattle.dw_links.specs.Signatures.{type_in, HasSignature, AreDistinct}
 use Rattle.dw_links.specs.SignedTypes.{IsSignedType, AreSignedBelow}
@@ -176,21 +176,25 @@ placed_least at first (u ∷ us) zero b is = search (rules)
 placed_least at first (u ∷ us) (suc j) b is =
     omega (arith, placed_least (at + length (unit_bytes u)) (first + node_count u.root) us j b is)
 
-some_bytes : (u : DebugUnit) → 0 < length (unit_bytes u)
-some_bytes u = omega (arith, few_units (u ∷ []), length-append (unit_bytes u) [])
-
-placed_from_rise : (at first : ℕ) (us : List DebugUnit) (i j : ℕ) (a b : PlacedUnit) → i < j
-    → slice_get (placed_from at first us) i ≡ Some a → slice_get (placed_from at first us) j ≡ Some b → a.at < b.at
-placed_from_rise at first [] i j a b lt is_a is_b = absurd cc
-placed_from_rise at first (u ∷ us) i zero a b lt is_a is_b = absurd (omega arith)
-placed_from_rise at first (u ∷ us) zero (suc j) a b lt is_a is_b =
+placed_from_rise : («abbrev» : List ℕ) (at first : ℕ) (us : List DebugUnit) → AreUnits «abbrev» us
+    → (i j : ℕ) (a b : PlacedUnit) → i < j → slice_get (placed_from at first us) i ≡ Some a
+    → slice_get (placed_from at first us) j ≡ Some b → a.at < b.at
+placed_from_rise «abbrev» at first [] are i j a b lt is_a is_b = absurd cc
+placed_from_rise «abbrev» at first (u ∷ us) are i zero a b lt is_a is_b = absurd (omega arith)
+placed_from_rise «abbrev» at first (u ∷ us) are zero (suc j) a b lt is_a is_b =
     let here : at ≡ a.at = search (rules) in
-    omega (arith, here, placed_least (at + length (unit_bytes u)) (first + node_count u.root) us j b is_b, some_bytes u)
-placed_from_rise at first (u ∷ us) (suc i) (suc j) a b lt is_a is_b =
-    placed_from_rise (at + length (unit_bytes u)) (first + node_count u.root) us i j a b (omega arith) is_a is_b
+    omega (
+      arith,
+      here,
+      placed_least (at + length (unit_bytes u)) (first + node_count u.root) us j b is_b,
+      unit_some «abbrev» u are.0,
+    )
+placed_from_rise «abbrev» at first (u ∷ us) are (suc i) (suc j) a b lt is_a is_b =
+    placed_from_rise «abbrev» (at + length (unit_bytes u)) (first + node_count u.root) us are.1 i j a b (omega arith)
+    is_a is_b
 
-pub placed_rise : (us : List DebugUnit) → UnitsRise (placed us)
-placed_rise = placed_from_rise 0 0
+pub placed_rise : («abbrev» : List ℕ) (us : List DebugUnit) → AreUnits «abbrev» us → UnitsRise (placed us)
+placed_rise «abbrev» = placed_from_rise «abbrev» 0 0
 
 -- no type begins there, and no earlier unit has the signature
 pub least_type_offset : (entries : List Entry) (units : List PlacedUnit) (number at signature t : ℕ)

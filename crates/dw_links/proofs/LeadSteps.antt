@@ -6,16 +6,16 @@ use mathlib.Core.Logic.{∥∥₁_elim}
 use Rattle.dw_forms.specs.Codes.{DW_AT_type, DW_AT_sibling, DW_AT_specification, DW_AT_import, DW_AT_signature, DW_AT_declaration}
 use Rattle.dw_forms.specs.declared.attribute_lists.Lead.{Lead}
 use Rattle.dw_forms.specs.declared.attribute_lists.Lead.TheVariants as lead
-use Rattle.dw_forms.specs.declared.decl.AttributeSpec.{AttributeSpec}
+use Rattle.dw_forms.specs.declared.abbrev.AttributeSpec.{AttributeSpec}
 use Rattle.dw_forms.specs.declared.form.Form.{Form}
 use Rattle.dw_forms.specs.declared.form.Form.TheVariants as form
 use Rattle.dw_forms.specs.Plans.{known_flag, flag_in}
-use Rattle.dw_forms.specs.Value.{Datum, Val, ref_unit}
+use Rattle.dw_forms.specs.Value.{Datum, Val, laid_out, ref_unit}
 use Rattle.dw_forms.specs.Walks.{lead_of}
 use Rattle.dw_forms.proofs.LeadLaws.{lead_says}
 use Rattle.dw_entries.specs.declared.entries.Entries.{Entries}
 use Rattle.dw_entries.specs.declared.fault.Broken.{Broken}
-use Rattle.dw_entries.specs.declared.lookup.EntryHead.{EntryHead}
+use Rattle.dw_entries.specs.declared.entry.EntryHead.{EntryHead}
 use Rattle.dw_entries.specs.Asked.{value_of, OffsetsRise}
 use Rattle.dw_entries.specs.Chosen.{IsNextOf}
 use Rattle.dw_entries.specs.Entries.{Entry}
@@ -81,6 +81,7 @@ index_says spec _ says is = absurd cc
 
 flag_value : (version size : ℕ) (f : Form) (bytes : List ℕ) (v : Datum) → known_flag f ≡ Some true
     → Val version f size bytes v → is_true (Some v) ≡ true
+unfolding laid_out
 flag_value version size form.FlagPresent bytes v known p = ap (λ (d : Datum). is_true (Some d)) p.1
 flag_value version size _ bytes v known p = absurd cc
 

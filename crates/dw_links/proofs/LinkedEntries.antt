@@ -4,17 +4,17 @@ use Rattle.std.specs.Prelude.{slice_get}
 use Rattle.dw_elf.specs.declared.sections.Sections.{Sections}
 use Rattle.dw_forms.specs.Codes.{DW_AT_str_offsets_base, DW_AT_addr_base, is_type_tag}
 use Rattle.dw_forms.specs.Value.{Datum, str_index, ref_info, ref_unit, ref_sig, addr_index}
-use Rattle.dw_entries.specs.declared.fault.Rule.TheVariants.{BadStrBase, BadAddrBase, NoEntry, WrongKind, NotNextSibling, NoSignature, BadTypeOffset}
+use Rattle.dw_entries.specs.declared.rule.Rule.TheVariants.{BadStrBase, BadAddrBase, NoEntry, WrongKind, NotNextSibling, NoSignature, BadTypeOffset}
 use Rattle.dw_entries.specs.declared.header.UnitHeader.{UnitHeader}
 use Rattle.dw_entries.specs.Units.{DebugUnit, Spells}
 use Rattle.dw_entries.specs.Entries.{Entry, PlacedUnit, entries_of, placed}
 use Rattle.dw_entries.specs.Failures.{HasNone}
 use Rattle.dw_entries.specs.Lookups.{value_at_entry, entry_head}
-use Rattle.dw_entries.specs.declared.fault.Rule.{Rule}
+use Rattle.dw_entries.specs.declared.rule.Rule.{Rule}
 use Rattle.dw_entries.specs.Places.{at_header, at_attribute}
 use Rattle.dw_entries.specs.Asked.{OffsetsRise, values_of}
 use Rattle.dw_entries.proofs.EntryFacts.{entries_rise}
-use Rattle.dw_links.specs.declared.class.Class.TheVariants.{Address, String, Reference}
+use Rattle.dw_forms.specs.declared.class.Class.TheVariants.{Address, String, Reference}
 use Rattle.dw_links.specs.Classes.{class_of}
 use Rattle.dw_links.specs.Bases.{base_in}
 use Rattle.dw_links.specs.Strings.{StringIndexFails, AddressIndexFails, StringFailures}

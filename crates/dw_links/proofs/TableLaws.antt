@@ -12,8 +12,9 @@ use Rattle.dw_entries.specs.Entries.{Entry, PlacedUnit, entries_of, placed}
 use Rattle.dw_entries.specs.Views.{sections_of, all_entries, all_units, units_of}
 use Rattle.dw_entries.specs.Lookups.{value_at_entry, unit_head}
 use Rattle.dw_entries.specs.Units.{DebugUnit, Spells, HaveBase}
+use Rattle.dw_entries.specs.UnitLaws.{unit_sized}
 use Rattle.dw_entries.proofs.EntryFacts.{length-placed_from, placed_get, first_entry}
-use Rattle.dw_entries.specs.declared.lookup.UnitHead.{UnitHead}
+use Rattle.dw_entries.specs.declared.units.UnitHead.{UnitHead}
 use Rattle.dw_entries.specs.Header.{IsSize, version_of}
 use Rattle.dw_entries.proofs.Firsts.{same_some}
 use Rattle.dw_entries.proofs.HeadLaws.{all_get}
@@ -21,7 +22,7 @@ use Rattle.dw_links.specs.Bases.{section_offset_in, base_in, bases_in}
 use Rattle.dw_links.specs.Tables.{type_target, AreTables}
 use Rattle.dw_links.specs.Targets.{entry_past, reach_in_info, target_of}
 use Rattle.dw_links.proofs.TargetLaws.{reached_entry}
-use Rattle.dw_links.specs.declared.links.LinkTables.{LinkTables}
+use Rattle.dw_links.specs.declared.tables.LinkTables.{LinkTables}
 use Rattle.dw_links.proofs.Skips.{there}
 use Rattle.dw_links.proofs.ClassLaws.{in_units, unit_there}
 
@@ -101,7 +102,7 @@ sized «abbrev» info us number p spells below is =
     let one : q ≡ p = same_some (slice_get (placed us) number) q p is_q is in
     let unit : u ≡ p.unit = sym same ∙ ap (λ (x : PlacedUnit). x.unit) one in
     let P : DebugUnit → Type 0 = λ x. IsSize x.header.address_size in
-    subst P unit (all_get _ us number u spells.are is_u).header.address_size
+    subst P unit (unit_sized «abbrev» u (all_get _ us number u spells.are is_u)).size
 
 pub size_above : (size : ℕ) → IsSize size → 0 < size
 size_above size is = elim is [ inl four ↦ omega (arith, four) | inr eight ↦ omega (arith, eight) ]

@@ -5,9 +5,9 @@ use Rattle.std.specs.Prelude.{slice_get, IfSome}
 use Rattle.dw_forms.specs.Value.{Datum}
 use Rattle.dw_entries.specs.declared.fault.Broken.{Broken}
 use Rattle.dw_entries.specs.declared.fault.Fault.{Fault as FaultOf}
-use Rattle.dw_entries.specs.declared.fault.Rule.{Rule}
+use Rattle.dw_entries.specs.declared.rule.Rule.{Rule}
 use Rattle.dw_entries.specs.declared.entries.Entries.{Entries}
-use Rattle.dw_entries.specs.declared.lookup.EntryHead.{EntryHead}
+use Rattle.dw_entries.specs.declared.entry.EntryHead.{EntryHead}
 use Rattle.dw_forms.specs.declared.fault.Stop.{Stop}
 use Rattle.dw_forms.specs.declared.fault.Stop.TheVariants.{Memory, Fault}
 use Rattle.dw_entries.specs.Asked.{AtEntries}

@@ -1,10 +1,10 @@
 -- Chapter: rules on the attributes of entries, and the declarations at which none of them can fail.
 use Rattle.std.specs.Prelude.{◌≡◌, ℕ, List, Option, Some, slice_get}
 use Rattle.dw_forms.specs.Value.{Datum}
-use Rattle.dw_forms.specs.declared.decl.AttributeSpec.{AttributeSpec}
-use Rattle.dw_entries.specs.declared.fault.Rule.{Rule}
+use Rattle.dw_forms.specs.declared.abbrev.AttributeSpec.{AttributeSpec}
+use Rattle.dw_entries.specs.declared.rule.Rule.{Rule}
 use Rattle.dw_entries.specs.declared.fault.Broken.{Broken}
-use Rattle.dw_entries.specs.declared.lookup.EntryHead.{EntryHead}
+use Rattle.dw_entries.specs.declared.entry.EntryHead.{EntryHead}
 use Rattle.dw_entries.specs.Grammar.{Context, Attribute, IsAttribute}
 use Rattle.dw_entries.specs.Entries.{Entry}
 use Rattle.dw_entries.specs.Failures.{Failure, HasNone, IsFirst}

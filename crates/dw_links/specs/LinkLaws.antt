@@ -9,8 +9,8 @@ use Rattle.dw_entries.specs.Entries.{Entry, PlacedUnit, entries_of, placed}
 use Rattle.dw_entries.specs.Asked.{EachEntry}
 use Rattle.dw_entries.specs.Lookups.{entry_head, value_at_entry}
 use Rattle.dw_entries.specs.Runs.{IsEntryIn}
-use Rattle.dw_links.specs.declared.class.Class.{Class}
-use Rattle.dw_links.specs.declared.class.Class.TheVariants.{Address, Reference, String}
+use Rattle.dw_forms.specs.declared.class.Class.{Class}
+use Rattle.dw_forms.specs.declared.class.Class.TheVariants.{Address, Reference, String}
 use Rattle.dw_links.specs.Classes.{class_of}
 use Rattle.dw_links.specs.References.{permits, permits_form, HasType}
 use Rattle.dw_links.specs.Signatures.{type_in, HasSignature, AreDistinct}

@@ -5,7 +5,7 @@ use Rattle.dw_forms.specs.declared.attribute_lists.Lead.{Lead}
 use Rattle.dw_forms.specs.declared.attribute_lists.Lead.TheVariants as lead
 use Rattle.dw_forms.specs.Value.{Datum}
 use Rattle.dw_entries.specs.declared.entries.Entries.{Entries}
-use Rattle.dw_entries.specs.declared.lookup.EntryHead.{EntryHead}
+use Rattle.dw_entries.specs.declared.entry.EntryHead.{EntryHead}
 use Rattle.dw_entries.specs.Cursors.{HasEntries}
 use Rattle.dw_entries.specs.Entries.{Entry}
 use Rattle.dw_entries.specs.Views.{sections_of, all_entries, all_units}

@@ -4,7 +4,7 @@ use Rattle.dw_forms.specs.Codes.{DW_AT_type, DW_AT_str_offsets_base, DW_AT_addr_
 use Rattle.dw_entries.specs.declared.entries.Entries.{Entries}
 use Rattle.dw_entries.specs.Entries.{Entry, PlacedUnit}
 use Rattle.dw_entries.specs.Views.{all_entries, all_units}
-use Rattle.dw_links.specs.declared.links.LinkTables.{LinkTables}
+use Rattle.dw_links.specs.declared.tables.LinkTables.{LinkTables}
 use Rattle.dw_links.specs.Bases.{bases_in}
 use Rattle.dw_links.specs.SignedTypes.{HasSignedTypes}
 use Rattle.dw_links.specs.Targets.{target_of}

@@ -1,147 +1,18 @@
-//! The classes of values (DWARF 5, section 7.5.5), which attribute may have which, and the rule on them: by
-//! declarations, and where one of these leaves a class open, by values.
+//! The rule on classes (DWARF 5, 7.5.4 and 7.5.5): by declarations, and where one of these leaves a class open,
+//! by values.
 
-ghost use Rattle.std.specs.Prelude.{◌≡◌, ◌<◌, List, length, slice_get, OnOk, IfErr};
+ghost use Rattle.std.specs.Prelude.{◌≡◌, ◌<◌, length, slice_get, OnOk, IfErr};
 ghost use Rattle.std.specs.Bool.{OnFalse};
 ghost use Rattle.dw_forms.specs.Value.{view};
 ghost use Rattle.dw_entries.specs.declared.fault.Section.TheVariants.{Info};
-ghost use Rattle.dw_entries.specs.Entries.{PlacedUnit};
 ghost use Rattle.dw_entries.specs.Views.{all_entries, all_units, units_of};
 ghost use Rattle.dw_entries.specs.Failures.{HasNone, IsFirst, IsLeast, IsPlainFault};
-ghost use Rattle.dw_links.specs.Classes.{class_of, form_class, allows, allows_in, ClassFails, ClassFailures};
-ghost use Rattle.dw_links.specs.Concerns.{AtHead, Passes, PassesAt, FailsAt};
+ghost use Rattle.dw_links.specs.Classes.{ClassFails, ClassFailures};
+ghost use Rattle.dw_links.specs.Concerns.{AtHead, PassesAt, FailsAt};
 
-use dw_entries::constants::*;
 use dw_entries::{Broken, Entries, EntryHead, EntryId, Fault, Rule, Section};
-use dw_forms::{Attribute, AttributeSpec, Form, Value};
+use dw_forms::{Attribute, Value, class_of_value, is_allowed_in, is_open};
 use std::alloc::Global;
-
-/// A class of values (DWARF 5, section 7.5.5). Values that refer to other sections are distinguished by their forms
-/// alone.
-#[derive(Clone, Copy, Debug, PartialEq, Eq)]
-pub enum Class {
-    Address,
-    Block,
-    Constant,
-    /// A constant of 16 bytes. This project's choice: sizes and offsets are none.
-    WideConstant,
-    Exprloc,
-    Flag,
-    /// An index of a location list or a range list.
-    ListIndex,
-    Reference,
-    /// An offset into a section that has no strings.
-    SectionOffset,
-    String,
-}
-
-/// The class of a value.
-pub fn class_of_value(value: &Value<'_>) -> Class
-    ensures { result ≡ class_of (view value.now) }
-{
-    match value {
-        Value::Addr(_) | Value::AddrIndex(_) => Class::Address,
-        Value::Block(_) => Class::Block,
-        Value::Unsigned(_) | Value::Signed(_) => Class::Constant,
-        Value::Wide(_) => Class::WideConstant,
-        Value::Text(_) | Value::Str(_) | Value::LineStr(_) | Value::StrIndex(_) => Class::String,
-        Value::Flag(_) => Class::Flag,
-        Value::RefInfo(_) | Value::RefUnit(_) | Value::RefSig(_) => Class::Reference,
-        Value::SecOffset(_) => Class::SectionOffset,
-        Value::Expr(_) => Class::Exprloc,
-        Value::LocIndex(_) | Value::RngIndex(_) => Class::ListIndex,
-    }
-}
-
-/// The class of all values in a form; None for the form indirect, whose values name another form.
-fn class_of_form(form: Form) -> Option<Class>
-    ensures { result ≡ form_class form }
-{
-    Some(match form {
-        Form::Addr | Form::Addrx | Form::Addrx1 | Form::Addrx2 | Form::Addrx3 | Form::Addrx4 => {
-            Class::Address
-        }
-        Form::Block | Form::Block1 | Form::Block2 | Form::Block4 => Class::Block,
-        Form::Data1
-        | Form::Data2
-        | Form::Data4
-        | Form::Data8
-        | Form::Sdata
-        | Form::Udata
-        | Form::ImplicitConst(_) => Class::Constant,
-        Form::Data16 => Class::WideConstant,
-        Form::Text
-        | Form::Strp
-        | Form::LineStrp
-        | Form::Strx
-        | Form::Strx1
-        | Form::Strx2
-        | Form::Strx3
-        | Form::Strx4 => Class::String,
-        Form::Flag | Form::FlagPresent => Class::Flag,
-        Form::RefAddr
-        | Form::Ref1
-        | Form::Ref2
-        | Form::Ref4
-        | Form::Ref8
-        | Form::RefUdata
-        | Form::RefSig8 => Class::Reference,
-        Form::SecOffset => Class::SectionOffset,
-        Form::Exprloc => Class::Exprloc,
-        Form::Loclistx | Form::Rnglistx => Class::ListIndex,
-        Form::Indirect => return None,
-    })
-}
-
-/// Whether an attribute may have a value of this class. This project's choice: attributes without a line here may have
-/// any.
-fn is_allowed(attribute: Attribute, class: Class) -> bool
-    ensures { result ≡ allows attribute class }
-{
-    match attribute {
-        DW_AT_sibling
-        | DW_AT_import
-        | DW_AT_abstract_origin
-        | DW_AT_specification
-        | DW_AT_type
-        | DW_AT_signature => matches!(class, Class::Reference),
-        DW_AT_name => matches!(class, Class::String),
-        DW_AT_byte_size
-        | DW_AT_bit_size
-        | DW_AT_count
-        | DW_AT_byte_stride
-        | DW_AT_data_bit_offset => {
-            matches!(class, Class::Constant | Class::Exprloc | Class::Reference)
-        }
-        DW_AT_lower_bound | DW_AT_upper_bound | DW_AT_bit_stride => {
-            matches!(
-                class,
-                Class::Constant | Class::WideConstant | Class::Exprloc | Class::Reference
-            )
-        }
-        DW_AT_data_member_location => {
-            matches!(
-                class,
-                Class::Constant | Class::Exprloc | Class::SectionOffset | Class::ListIndex
-            )
-        }
-        DW_AT_encoding => matches!(class, Class::Constant | Class::WideConstant),
-        DW_AT_prototyped | DW_AT_declaration => matches!(class, Class::Flag),
-        DW_AT_str_offsets_base | DW_AT_addr_base => matches!(class, Class::SectionOffset),
-        _ => true,
-    }
-}
-
-/// The same in a unit of a version. Version 4 does not know the bases of contributions, so their codes may have any
-/// class there.
-fn is_allowed_in(version: u16, attribute: Attribute, class: Class) -> bool
-    ensures { result ≡ allows_in version attribute class }
-{
-    if version == 4 && matches!(attribute, DW_AT_str_offsets_base | DW_AT_addr_base) {
-        return true;
-    }
-    is_allowed(attribute, class)
-}
 
 /// A rule that fails at an attribute of an entry.
 pub fn broken_at(head: &EntryHead, attribute: Attribute, rule: Rule) -> Broken
@@ -152,16 +23,6 @@ pub fn broken_at(head: &EntryHead, attribute: Attribute, rule: Rule) -> Broken
         section: Section::Info,
         at: head.offset,
         attribute: attribute.0,
-    }
-}
-
-/// Whether a value that is declared so may have none of its attribute's classes.
-fn is_open(spec: &AttributeSpec) -> bool
-    ensures { OnFalse result ((units : List PlacedUnit) → Passes (ClassFails units) spec.now) }
-{
-    match class_of_form(spec.form) {
-        Some(class) if is_allowed(spec.attribute, class) => false,
-        _ => true,
     }
 }
 
@@ -196,8 +57,7 @@ fn ask_class(
     }
 }
 
-/// The first attribute of an entry whose value has none of its classes. A search stops at each value that takes bytes,
-/// and at others where `is_allowed` forbids their class.
+/// The first attribute of an entry whose value has none of its classes. Only open attributes are looked at.
 fn check_entry(entries: &Entries<'_>, id: EntryId) -> Result<(), Broken>
     requires { id < length (all_entries entries.now) }
     ensures ok { OnOk result (PassesAt (slice_get (all_entries entries.now) id)
@@ -208,7 +68,7 @@ fn check_entry(entries: &Entries<'_>, id: EntryId) -> Result<(), Broken>
     let entry = entries.at(id);
     let head = entry.head();
     let mut values = entry.values();
-    while let Some(item) = values.next_stop() {
+    while let Some(item) = values.next_open() {
         if let Some(rule) = ask_class(entries, &head, item.0, &item.1) {
             return Err(broken_at(&head, item.0, rule));
         }

@@ -11,12 +11,15 @@ mod links;
 mod reaching;
 mod references;
 mod strings;
+mod tables;
 mod targets;
 mod texts;
 
-pub use class::{Class, check_classes, class_of_value};
+pub use class::check_classes;
 pub use contribution::{base_in_unit, number};
+pub use dw_forms::{Class, class_of_value};
 pub use laws::{one_entry_is_reached, references_have_targets, strings_have_texts};
-pub use links::{LinkTables, Links, link};
+pub use links::{Links, link};
 pub use strings::check_strings;
+pub use tables::LinkTables;
 pub use texts::{TextPlace, string_from};

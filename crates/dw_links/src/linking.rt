@@ -16,9 +16,9 @@ ghost use Rattle.dw_links.specs.References.{HeaderFailures, ReferenceFailures};
 ghost use Rattle.dw_links.specs.SignedTypes.{HasSignedTypes, AreTyped};
 
 use crate::contribution::end_of_strings;
-use crate::links::LinkTables;
 use crate::references::References;
 use crate::strings::check_strings;
+use crate::tables::LinkTables;
 use dw_entries::constants::*;
 use dw_entries::{Broken, Entries, EntryId, Fault, Hints, OptionalId, Rule, Stop, UnitHeader};
 use dw_forms::{Attribute, Lead};

@@ -1,12 +1,11 @@
-//! Entries whose references all have a target, what is read once of all units to find it, and what the attributes of
-//! entries refer to.
+//! Entries whose references all have a target, and what the attributes of entries refer to.
 
 ghost use Rattle.std.specs.Prelude.{◌≡◌, ◌<◌, length, slice_get, IfSome, IfOk, option_copied, OnOk, IfErr};
 ghost use Rattle.dw_entries.specs.Views.{sections_of, all_entries, all_units, units_of};
 ghost use Rattle.dw_entries.specs.Stopped.{IfPlainFault};
 ghost use Rattle.dw_entries.specs.Failures.{HasNone};
 ghost use Rattle.dw_links.specs.Targets.{target_of};
-ghost use Rattle.dw_links.specs.Tables.{type_target, AreTables};
+ghost use Rattle.dw_links.specs.Tables.{AreTables};
 ghost use Rattle.dw_links.specs.Classes.{ClassFailures};
 ghost use Rattle.dw_links.specs.LinkFaults.{IsFirstOfLinks};
 ghost use Rattle.dw_links.specs.Strings.{StringFailures};
@@ -16,55 +15,10 @@ ghost use Rattle.dw_links.specs.AttributeTexts.{text_at, address_at};
 use crate::class::check_classes;
 use crate::linking::{link_entries, strings_first};
 use crate::references::read_signatures;
-use crate::targets::find_target;
-use dw_entries::constants::*;
-use dw_entries::{Entries, EntryId, Fault, OptionalId, Stop};
+use crate::tables::LinkTables;
+use dw_entries::{Entries, EntryId, Fault, Stop};
 use dw_forms::Attribute;
 use std::alloc::Global;
-use std::collections::BTreeMap;
-
-/// What is read once, so that values can be followed: the type of each signature, the bases of each unit, and
-/// the target of each entry's type.
-#[derive(Drop)]
-pub struct LinkTables {
-    pub(crate) signatures: BTreeMap<u64, EntryId>,
-    pub(crate) str_bases: Vec<Option<u32>>,
-    pub(crate) addr_bases: Vec<Option<u32>>,
-    pub(crate) types: Vec<OptionalId>,
-}
-
-impl LinkTables {
-    /// The target of an entry's type.
-    fn type_of(&self, entries: &Entries<'_>, id: EntryId) -> Option<EntryId>
-        requires id { id < length (all_entries entries.now) }
-        requires tables { AreTables entries.now self.now }
-        ensures exact { IfSome (slice_get (all_entries entries.now) id)
-            (λ e. result ≡ type_target (all_entries entries.now) (all_units entries.now) e) }
-        ensures within { IfSome result (λ t. t < length (all_entries entries.now)) }
-    {
-        let number = self.types[id.number()].get()?;
-        Some(entries.id(number as usize))
-    }
-
-    /// The target of an entry's attribute. None if the attribute is absent or no reference.
-    pub fn target(
-        &self,
-        entries: &Entries<'_>,
-        id: EntryId,
-        attribute: Attribute,
-    ) -> Option<EntryId>
-        requires id { id < length (all_entries entries.now) }
-        requires tables { AreTables entries.now self.now }
-        ensures exact { IfSome (slice_get (all_entries entries.now) id)
-            (λ e. result ≡ target_of (all_entries entries.now) (all_units entries.now) e attribute) }
-        ensures within { IfSome result (λ t. t < length (all_entries entries.now)) }
-    {
-        if attribute == DW_AT_type {
-            return self.type_of(entries, id);
-        }
-        find_target(entries, &self.signatures, id, attribute)
-    }
-}
 
 /// Entries at whose values no rule fails. Only `link` makes one.
 #[derive(Drop)]

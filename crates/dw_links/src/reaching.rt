@@ -6,7 +6,7 @@ ghost use Rattle.dw_entries.specs.Views.{all_entries, all_units, units_of};
 ghost use Rattle.dw_links.specs.Tables.{AreTables};
 ghost use Rattle.dw_links.specs.Targets.{reach_of};
 
-use crate::links::LinkTables;
+use crate::tables::LinkTables;
 use crate::targets::reach;
 use dw_entries::{Entries, EntryId};
 use dw_forms::Value;

@@ -14,7 +14,7 @@ ghost use Rattle.dw_links.specs.Tables.{AreTables};
 ghost use Rattle.dw_links.specs.AttributeTexts.{text_at, address_at};
 
 use crate::contribution::number;
-use crate::links::LinkTables;
+use crate::tables::LinkTables;
 use dw_elf::Sections;
 use dw_entries::{Entries, EntryId, UnitHeader};
 use dw_forms::{Attribute, Value};

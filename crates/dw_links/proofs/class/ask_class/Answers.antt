@@ -1,10 +1,10 @@
 use Rattle.std.proofs.Common.{◌≡◌, ℕ, ap, sym, ◌∙◌}
 use Rattle.dw_forms.specs.Value.{view}
-use Rattle.dw_entries.specs.declared.lookup.UnitHead.{UnitHead}
+use Rattle.dw_entries.specs.declared.units.UnitHead.{UnitHead}
 use Rattle.dw_entries.specs.Header.{version_of}
 use Rattle.dw_entries.specs.Entries.{placed}
 use Rattle.dw_entries.specs.Views.{units_of}
-use Rattle.dw_links.specs.declared.class.Class.{Class}
+use Rattle.dw_forms.specs.declared.class.Class.{Class}
 use Rattle.dw_links.specs.Classes.{class_of, allows_in}
 use Rattle.dw_links.proofs.ClassLaws.{class_least, unit_there}
 use Rattle.dw_links.proofs.class.ask_class.Goals as goal

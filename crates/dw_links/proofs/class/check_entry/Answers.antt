@@ -1,6 +1,6 @@
 use Rattle.std.proofs.Common.{◌∙◌}
 use Rattle.dw_entries.specs.Asked.{values_of}
-use Rattle.dw_entries.specs.Chosen.{DoesNotStop}
+use Rattle.dw_entries.specs.Chosen.{IsNotOpen}
 use Rattle.dw_entries.specs.Lookups.{entry_head}
 use Rattle.dw_entries.specs.Views.{all_units}
 use Rattle.dw_entries.specs.ValuesLeft.{values_left}
@@ -23,7 +23,7 @@ ask_class-requires c =
 pub returns-in-Some-ask_class-clause-err : goal.returns-in-Some-ask_class-clause-err
 returns-in-Some-ask_class-clause-err c = λ e is.
     let us = all_units c.args.entries.now in
-    checked_fails (ClassFails us) DoesNotStop (λ spec passed. others_pass spec passed us) e _ _ _ _
+    checked_fails (ClassFails us) IsNotOpen (λ spec passed. others_pass spec passed us) e _ _ _ _
     (c.loop-item.invariant e is) c.in-Some.ensures.some c.head-head.result
     (rw (c.at-entry.ensures ∙ is) at c.head-head.ensures) c.in-Some-ask_class.rule c.broken_at.result
     c.in-Some-ask_class.ensures c.broken_at.ensures
@@ -31,16 +31,16 @@ returns-in-Some-ask_class-clause-err c = λ e is.
 pub loop-item-preserved : goal.loop-item-preserved
 loop-item-preserved c = λ e is.
     let us = all_units c.args.entries.now in
-    checked_more (ClassFails us) DoesNotStop (λ spec passed. others_pass spec passed us) e _ _ _ _
+    checked_more (ClassFails us) IsNotOpen (λ spec passed. others_pass spec passed us) e _ _ _ _
     (c.loop-item.invariant e is) c.in-Some.ensures.some c.head-head.result
     (rw (c.at-entry.ensures ∙ is) at c.head-head.ensures) c.in_default-ask_class.ensures
 
 pub loop-item-smaller : goal.loop-item-smaller
 loop-item-smaller c =
-    fewer _ (values_left c.loop-item.values) _ (values_left c.next_stop.new.self) c.in-Some.ensures.some
+    fewer _ (values_left c.loop-item.values) _ (values_left c.next_open.new.self) c.in-Some.ensures.some
 
 pub returns-clause-ok : goal.returns-clause-ok
 returns-clause-ok c =
-    λ e is. checked_all (ClassFails (all_units c.args.entries.now)) DoesNotStop
+    λ e is. checked_all (ClassFails (all_units c.args.entries.now)) IsNotOpen
     (λ spec passed. others_pass spec passed (all_units c.args.entries.now)) e (values_left c.loop-item.values)
     (c.loop-item.invariant e is) c.in_default.ensures.none

@@ -1,6 +1,6 @@
 use Rattle.std.proofs.Common.{ℕ, ◌≡◌, ◌<◌, List, Some, map}
 use Rattle.std.specs.Prelude.{slice_get}
-use Rattle.dw_forms.specs.declared.decl.AttributeSpec.{AttributeSpec}
+use Rattle.dw_forms.specs.declared.abbrev.AttributeSpec.{AttributeSpec}
 use Rattle.dw_forms.specs.AttributeLists.{spec_of}
 use Rattle.dw_entries.specs.Entries.{PlacedUnit}
 use Rattle.dw_links.specs.Classes.{ClassFails}

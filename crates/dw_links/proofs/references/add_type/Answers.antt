@@ -1,6 +1,6 @@
 use Rattle.std.proofs.Common.{inl, refl, sym, ap, ◌∙◌, ◌≡◌, subst}
-use Rattle.dw_entries.specs.declared.fault.Rule.TheVariants.{SignatureTwice}
-use Rattle.dw_entries.specs.declared.lookup.UnitHead.{UnitHead}
+use Rattle.dw_entries.specs.declared.rule.Rule.TheVariants.{SignatureTwice}
+use Rattle.dw_entries.specs.declared.units.UnitHead.{UnitHead}
 use Rattle.dw_entries.specs.Entries.{entries_of, placed}
 use Rattle.dw_entries.specs.Failures.{IsFirst}
 use Rattle.dw_entries.specs.Views.{units_of}

@@ -56,7 +56,8 @@ returns-in_err-add_type-clause-fault c =
     let (u, is) = there (placed us) c.loop-number.number
     (omega (arith, c.loop-number-test.true, c.unit_count-number-end.ensures, length-placed_from 0 0 us)) in
     rw (p.1, p.2) (if_fault (λ broken first. first_header (entries_of us) (placed us) c.loop-number.number u broken
-    (placed_rise us) is c.loop-number.invariant.none (first u is)) _ c.in_err-add_type.ensures.fault)
+    (placed_rise _ us c.args.entries.now.scanned.1.spells.are) is c.loop-number.invariant.none (first u is)) _
+    c.in_err-add_type.ensures.fault)
 
 pub loop-number-preserved : goal.loop-number-preserved
 loop-number-preserved c =

@@ -1,6 +1,6 @@
 use Rattle.std.proofs.Common.{◌≡◌, None, Some, ap, sym, ◌∙◌}
 use Rattle.dw_forms.specs.Value.{view}
-use Rattle.dw_entries.specs.declared.lookup.EntryHead.{EntryHead}
+use Rattle.dw_entries.specs.declared.entry.EntryHead.{EntryHead}
 use Rattle.dw_entries.specs.Asked.{values_of}
 use Rattle.dw_entries.specs.Leading.{DoesNotLead, leading_left}
 use Rattle.dw_entries.specs.Lookups.{entry_head}

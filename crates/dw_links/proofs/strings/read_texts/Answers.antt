@@ -1,5 +1,5 @@
 use Rattle.std.proofs.Common.{ap, sym, subst, arith}
-use Rattle.dw_entries.specs.declared.lookup.UnitHead.{UnitHead}
+use Rattle.dw_entries.specs.declared.units.UnitHead.{UnitHead}
 use Rattle.dw_entries.specs.Header.{IsSize}
 use Rattle.dw_entries.specs.Views.{units_of}
 use Rattle.dw_links.proofs.ClassLaws.{unit_there}

@@ -1,5 +1,5 @@
 use Rattle.std.proofs.Common.{ap, sym}
-use Rattle.dw_entries.specs.declared.lookup.UnitHead.{UnitHead}
+use Rattle.dw_entries.specs.declared.units.UnitHead.{UnitHead}
 use Rattle.dw_entries.specs.Views.{all_entries, units_of}
 use Rattle.dw_links.specs.Linkable.{entries_in}
 use Rattle.dw_links.proofs.Skips.{there}

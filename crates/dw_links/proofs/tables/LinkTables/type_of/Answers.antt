@@ -2,7 +2,7 @@ use Rattle.std.proofs.Common.{ℕ, Some, sym, ap, ◌∙◌}
 use Rattle.dw_forms.specs.Codes.{DW_AT_type}
 use Rattle.dw_entries.specs.Views.{all_units}
 use Rattle.dw_links.proofs.TableLaws.{target_within, kept_target}
-use Rattle.dw_links.proofs.links.LinkTables.type_of.Goals as goal
+use Rattle.dw_links.proofs.tables.LinkTables.type_of.Goals as goal
 
 pub id-requires : goal.id-requires
 id-requires c =

@@ -10,7 +10,7 @@ use Rattle.dw_links.proofs.TableLaws.{sized, entry_unit, kept_base}
 use Rattle.dw_links.proofs.Transfers.{unit_below}
 use Rattle.std.specs.Prelude.{slice_get}
 use Rattle.dw_links.proofs.SlotLaws.{address_lies}
-use Rattle.dw_links.proofs.links.LinkTables.address.Goals as goal
+use Rattle.dw_links.proofs.tables.LinkTables.address.Goals as goal
 
 pub unit-requires : goal.unit-requires
 unit-requires c =

@@ -9,7 +9,7 @@ use Rattle.dw_links.proofs.Skips.{there}
 use Rattle.dw_links.proofs.TableLaws.{entry_unit, kept_base}
 use Rattle.dw_links.proofs.EndLaws.{begins_within}
 use Rattle.dw_links.proofs.SlotLaws.{text_lies}
-use Rattle.dw_links.proofs.links.LinkTables.text_place.Goals as goal
+use Rattle.dw_links.proofs.tables.LinkTables.text_place.Goals as goal
 
 pub place_of_value-requires-clause-value : goal.place_of_value-requires-clause-value
 place_of_value-requires-clause-value c = search (rules, there)
