@@ -1,25 +1,12 @@
 -- The count of one entry.
-use Rattle.std.proofs.Common.{◌&&◌, length, ◌≡◌, ℕ, ◌<◌, Bool, true, false, if◌then◌else◌, List, None, Option, Some, IfSome, refl, sym, arith}
+use Rattle.std.proofs.Common.{◌&&◌, length, ◌≡◌, ℕ, ◌<◌, List, None, Option, Some, IfSome, sym, arith}
 use Rattle.dw_entries.specs.Entries.{entries_of}
 use Rattle.dw_entries.specs.Units.{DebugUnit}
-use Rattle.dw_types.specs.Counts.{is_array_tag, is_dimension, is_subrange_tag}
-use Rattle.dw_types.specs.Entries.{entry_of, Facts}
+use Rattle.dw_types.specs.Counts.{is_dimension, is_subrange_tag}
+use Rattle.dw_types.specs.Entries.{entry_of}
 use Rattle.dw_types.specs.FactsOf.{facts_in}
-use Rattle.dw_types.specs.Kinds.{has_members, is_array, is_dimensions, parent_role, role_in, role_of, Members, Dimensions, Other}
+use Rattle.dw_types.specs.Kinds.{is_dimensions, parent_role, role_in}
 use Rattle.dw_types.proofs.FactsLemmas.{facts-parents_first}
-
-dimensions-by : (a b : Bool) → (a ≡ true → b ≡ false)
-    → is_dimensions (if a then Members else if b then Dimensions else Other) ≡ b
-dimensions-by true b other = sym (other refl)
-dimensions-by false true other = refl
-dimensions-by false false other = refl
-
-not-both : (entry : Facts) → has_members entry ≡ true → is_array entry ≡ false
-not-both entry is = grind arith
-
--- the entries with dimensions are the arrays
-pub dimensions-role : (entry : Facts) → is_dimensions (role_of entry) ≡ is_array_tag entry.tag
-dimensions-role entry = dimensions-by (has_members entry) (is_array entry) (not-both entry)
 
 -- a dimension by the tag and the parent of an entry
 pub dimension-known : (us : List DebugUnit) (id tag : ℕ) (parent : Option ℕ) → tag ≡ (entry_of (facts_in us) id).tag

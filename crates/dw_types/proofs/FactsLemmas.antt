@@ -1,10 +1,8 @@
 -- The facts of entries, one by one, and how the entries lie.
-use Rattle.std.proofs.Common.{rules, ◌≡◌, ℕ, ◌<◌, List, length, Option, None, Some, arith, refl, ◌≤◌, map, inl, inr, sym, ap, ◌∙◌}
+use Rattle.std.proofs.Common.{rules, ◌≡◌, ℕ, ◌<◌, List, length, Option, None, Some, arith, ◌≤◌, map, inl, inr, sym, ap, ◌∙◌}
 use Rattle.std.specs.Prelude.{slice_get, IfSome, option_map}
 use Rattle.std.proofs.lemmas.Option.{get_or_from_slice_get, slice_get-map, slice_get_cases}
 use Rattle.std.proofs.lemmas.List.{get_or_past, length-map}
-use Rattle.dw_forms.specs.Abbrev.{Declaration}
-use Rattle.dw_forms.specs.Codes.{is_type_tag}
 use Rattle.dw_entries.specs.Units.{DebugUnit, AreUnits}
 use Rattle.dw_entries.specs.Entries.{Entry, entries_of, PlacedUnit, placed}
 use Rattle.dw_entries.proofs.EntryFacts.{entries_rise}
@@ -47,6 +45,11 @@ facts-parents_first us child above =
     by_number (entries_of us) (placed us) (λ id facts. facts.parent ≡ Some above → above < id)
     (λ id e is has. parent-before us id e above is has) (λ id has. absurd cc) child
 
+pub parent-earlier : (us : List DebugUnit) (id : ℕ) (parent : Option ℕ) → parent ≡ (entry_of (facts_in us) id).parent
+    → IfSome parent (λ above. above < id)
+parent-earlier us id None is = tt
+parent-earlier us id (Some above) is = facts-parents_first us id above (sym is)
+
 pub facts-targets : (us : List DebugUnit) → TargetsAreEntries (facts_in us)
 facts-targets us node to =
     let long = length-facts_of (entries_of us) (placed us) in
@@ -76,20 +79,6 @@ pub known : (us : List DebugUnit) (id : ℕ) (o : Option Entry) → o ≡ slice_
     → id < length (entries_of us) → (P : Facts → Type 0)
     → IfSome o (λ e. P (facts_at (entries_of us) (placed us) e)) → P (entry_of (facts_in us) id)
 known us id o there below P is = search (rules, slice_get_cases, facts-get)
-
-same-type : (o : Option Entry) (decl : Declaration) → IfSome o (λ e. decl ≡ e.head.decl)
-    → IfSome o (λ e. is_type_tag decl.tag ≡ is_type_tag e.head.decl.tag)
-same-type None decl is = is
-same-type (Some e) decl is = ap (λ (d : Declaration). is_type_tag d.tag) is
-
--- whether the entry with a number is a type, by its declaration
-pub known-type : (us : List DebugUnit) (id : ℕ) (decl : Declaration) → id < length (entries_of us)
-    → IfSome (slice_get (entries_of us) id) (λ e. decl ≡ e.head.decl)
-    → is_type_tag decl.tag ≡ is_type_tag (entry_of (facts_in us) id).tag
-known-type us id decl below is =
-    known us id (slice_get (entries_of us) id) refl below
-    (λ (facts : Facts). is_type_tag decl.tag ≡ is_type_tag facts.tag)
-    (same-type (slice_get (entries_of us) id) decl is)
 
 module _ (us : List DebugUnit) (facts : List Facts) (same : facts_in us ≡ facts) where
   pub facts-count : length facts ≡ length (entries_of us)

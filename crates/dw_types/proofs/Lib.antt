@@ -13,12 +13,10 @@ pub mod LongestLemmas
 pub mod PackingLemmas
 pub mod StepLemmas
 pub mod RoleLemmas
-pub mod NotedLemmas
+pub mod FirstLemmas
 pub mod ElementCountLemmas
 pub mod TableLemmas
 pub mod SizeLineLemmas
-pub mod SizeFaultLemmas
-pub mod SizingLemmas
 pub mod SizeRankLemmas
+pub mod SizeFaultLemmas
 pub mod PartStepLemmas
-pub mod ShapeLemmas

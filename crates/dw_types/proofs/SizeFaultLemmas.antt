@@ -1,10 +1,11 @@
 -- A first fault over capped sizes is the first fault over the sizes themselves: the one table of sizes, and the capped
 -- table that is filled in its place.
-use Rattle.std.proofs.Common.{rules, ◌≡◌, ℕ, ◌^◌, ◌<◌, ◌≤◌, min, ℤ, pos, negsuc, Bool, true, false, not, ◌&&◌, ◌||◌, if◌then◌else◌, List, Option, Some, None, IfSome, is_some, length, inl, inr, arith, refl, sym, ap, ◌∙◌}
-use Rattle.std.proofs.lemmas.Bool.{cases_lt, false_from_ne_true}
-use Rattle.dw_forms.specs.Codes.{DW_AT_byte_stride}
-use Rattle.dw_entries.specs.declared.fault.Rule.{Rule}
-use Rattle.dw_entries.specs.declared.fault.Rule.TheVariants.{NoSize, SizeTooGreat, MemberOutside, EnumSize}
+use Rattle.std.proofs.Common.{rules, ◌≡◌, ℕ, ◌^◌, ◌<◌, ◌≤◌, min, ℤ, pos, negsuc, Bool, true, false, not, ◌&&◌, ◌||◌, if◌then◌else◌, List, Option, Some, None, IfSome, is_some, length, nat_eq, inl, inr, arith, refl, sym, ap, ◌∙◌}
+use Rattle.std.proofs.lemmas.Bool.{cases_lt, eqb-true, false_from_ne_true, false≢true, or_parts}
+use Rattle.dw_forms.specs.Codes.{DW_AT_byte_stride, DW_TAG_enumeration_type, DW_TAG_member, is_type_tag}
+use Rattle.dw_entries.specs.declared.rule.Rule.{Rule}
+use Rattle.dw_entries.specs.declared.rule.Rule.TheVariants.{NoSize, SizeTooGreat, MemberOutside, EnumSize}
+use Rattle.dw_entries.specs.Failures.{IsLeast}
 use Rattle.dw_entries.specs.Rules.{number_of}
 use Rattle.dw_types.specs.declared.count.Constant.{Constant}
 use Rattle.dw_types.specs.declared.count.Constant.TheVariants.{Absent, NotNumber, Unsigned, Signed}
@@ -13,18 +14,20 @@ use Rattle.dw_types.specs.declared.kind.Kind.TheVariants.{Declared, OwnSized, Po
 use Rattle.dw_types.specs.Constants.{is_negative, is_present, natural_of}
 use Rattle.dw_types.specs.Entries.{entry_of, ParentsComeFirst, TargetsAreEntries, OffsetsRise, Facts, byte_size, constant}
 use Rattle.dw_types.specs.Extents.{bytes_end_past, end_past, is_outside, ends_past_container}
-use Rattle.dw_types.specs.Kinds.{is_enumeration, kind_of, parent_role, Role}
+use Rattle.dw_types.specs.Kinds.{is_enumeration, kind_of, parent_role, Other, Role}
 use Rattle.dw_types.specs.Shapes.{is_plain, stands_alone}
-use Rattle.dw_types.specs.SizeFaults.{breaks_size, differ, fails_size, has_no_size, has_wrong_size, is_too_great, wants_own, IsFirstSizeFault}
+use Rattle.dw_types.specs.SizeFaults.{breaks_size, differ, fails_size, has_no_size, has_wrong_size, is_asked, is_plain_size, is_too_great, wants_own, IsFirstSizeFault}
 use Rattle.dw_types.specs.SizeTables.{Size, cap_size}
 use Rattle.dw_types.specs.Sizes.{constant_or, size_line, size_of_kind, size_to, times, ObeysSizeLines, IsSizeTable}
 use Rattle.dw_types.proofs.SizeLineLemmas.{size_line-local, size_line-caps}
-use Rattle.dw_types.specs.TypeFailures.{IsFirstAt, PassAll}
+use Rattle.dw_types.specs.TypeFailures.{broken_at, IsFirstAt, IsLeastAt, PassBefore}
 use Rattle.dw_types.specs.StoredSizes.{ObeysCappedLines}
 use Rattle.dw_types.specs.Graphs.{FallsAlong, LeadsToNodes}
 use Rattle.dw_types.specs.Steps.{by_value}
 use Rattle.dw_types.proofs.ElementCountLemmas.{uncapped}
-use Rattle.dw_types.proofs.NotedLemmas.{broken_at, first-of_entries}
+use Rattle.dw_types.proofs.FirstLemmas.{first-of_entries}
+use Rattle.dw_types.proofs.RoleLemmas.{untyped-enumeration, untyped-size_none}
+use Rattle.dw_types.proofs.SizeRankLemmas.{untyped-line}
 use Rattle.dw_types.proofs.StepLemmas.{by_value-leads, length-by_value}
 use Rattle.dw_types.proofs.TableLemmas.{ObeysLines, capped-table, only-one, same-obeys, size_by_rank, some-obeys}
 
@@ -153,15 +156,15 @@ module _ (entries : List Facts) (parents : ParentsComeFirst entries) (targets : 
       let none : NoneGreatBefore node = λ k earlier. not-great k (omega arith) (h.before k earlier SizeTooGreat) in
       record {
         inside = h.inside;
-        breaks =
-            sym (fails-same node inside none rule
-            (λ is. not-great node inside (λ great. h.least SizeTooGreat great (rw is (omega arith))))) ∙ h.breaks;
-        least =
-            λ other fails lower. h.least other
-            (fails-same node inside none other
-            (λ is. absurd (let few = number-few (parent_role entries node) (entry_of entries node) (found node)
-            (size_to found (entry_of entries node).parent) (size_to found (entry_of entries node).type_target) rule
-            h.breaks in let more : 4 < number_of rule = rw is at lower in omega arith)) ∙ fails) lower;
+        least = (
+          sym (fails-same node inside none rule
+              (λ is. not-great node inside (λ great. h.least.1 SizeTooGreat great (rw is (omega arith))))) ∙ h.least.0,
+          λ other fails lower. h.least.1 other
+              (fails-same node inside none other
+              (λ is. absurd (let few = number-few (parent_role entries node) (entry_of entries node) (found node)
+              (size_to found (entry_of entries node).parent) (size_to found (entry_of entries node).type_target) rule
+              h.least.0 in let more : 4 < number_of rule = rw is at lower in omega arith)) ∙ fails) lower,
+        );
         before =
             λ earlier lt other fails. h.before earlier lt other
             (fails-same earlier (omega arith) (λ k before. none k (omega arith)) other (λ is. none earlier lt) ∙ fails);
@@ -229,6 +232,114 @@ sized-line entries table node size is =
     cap-some (size_line entries table node) size is
     (λ n sized. sized-kind entries table node (kind_of (entry_of entries node)) refl n sized)
 
+-- a type is no member
+
+true_from_not : (b : Bool) → not b ≡ false → b ≡ true
+true_from_not true is = refl
+true_from_not false is = absurd (false≢true (sym is))
+
+member-untyped : (tag : ℕ) → nat_eq tag DW_TAG_member ≡ true → is_type_tag tag ≡ false
+member-untyped tag is = let same : tag ≡ DW_TAG_member = eqb-true tag DW_TAG_member is in ap is_type_tag same
+
+type-unmember : (tag : ℕ) → is_type_tag tag ≡ true → nat_eq tag DW_TAG_member ≡ false
+type-unmember tag is =
+    false_from_ne_true (nat_eq tag DW_TAG_member) (λ member. false≢true (sym (member-untyped tag member) ∙ is))
+
+least-same : (P Q : Rule → Bool) → ((r : Rule) → P r ≡ Q r) → (rule : Option Rule) → IsLeast (λ r. P r ≡ true) rule
+    → IsLeast (λ r. Q r ≡ true) rule
+least-same P Q same None none = λ r breaks. none r (same r ∙ breaks)
+least-same P Q same (Some rule) least = (sym (same rule) ∙ least.0, λ r breaks lower. least.1 r (same r ∙ breaks) lower)
+
+module _ (entries : List Facts) (found : ℕ → Size) (node : ℕ) where
+  type-same : (size : Size) → is_type_tag (entry_of entries node).tag ≡ true → size ≡ found node → (rule : Rule)
+      → breaks_size Other (entry_of entries node) size None (size_to found (entry_of entries node).type_target) rule
+      ≡ fails_size entries found node rule
+  type-same size is sized NoSize = refl
+  type-same size is sized SizeTooGreat = ap is_too_great sized
+  type-same size is sized MemberOutside = let other = type-unmember (entry_of entries node).tag is in rw other refl
+  type-same size is sized EnumSize = refl
+  type-same size is sized _ = refl
+
+  -- the least rule that a type violates
+  pub type-least : (size : Size) → is_type_tag (entry_of entries node).tag ≡ true → size ≡ found node
+      → (rule : Option Rule)
+      → IsLeast (λ r. breaks_size Other (entry_of entries node) size None
+      (size_to found (entry_of entries node).type_target) r ≡ true) rule
+      → IsLeastAt (fails_size entries found) node rule
+  type-least size is sized = least-same _ (fails_size entries found node) (type-same size is sized)
+
+  module _ (capped : ObeysCappedLines entries found) (below : node < length entries) where
+    -- an entry that is no type violates one rule at most
+
+    module _ (untyped : is_type_tag (entry_of entries node).tag ≡ false) where
+      untyped-none : found node ≡ None
+      untyped-none = capped node below ∙ untyped-line entries found node untyped
+
+      untyped-rule : (rule : Rule) → fails_size entries found node rule ≡ true → rule ≡ MemberOutside
+      untyped-rule NoSize breaks =
+          absurd (false≢true (sym (untyped-size_none (entry_of entries node) untyped) ∙ breaks))
+      untyped-rule SizeTooGreat breaks = absurd (false≢true (ap is_too_great (sym untyped-none) ∙ breaks))
+      untyped-rule MemberOutside breaks = refl
+      untyped-rule EnumSize breaks =
+          let enumeration = untyped-enumeration (entry_of entries node) untyped in
+          absurd (false≢true (rw enumeration at breaks))
+      untyped-rule _ breaks = absurd (false≢true breaks)
+
+      pub untyped-breaks : fails_size entries found node MemberOutside ≡ true
+          → IsLeastAt (fails_size entries found) node (Some MemberOutside)
+      untyped-breaks breaks = (
+        breaks,
+        λ other fails lower.
+            let same = untyped-rule other fails in
+            let less : number_of MemberOutside < number_of MemberOutside = rw same at lower in omega arith,
+      )
+
+      pub untyped-passes : fails_size entries found node MemberOutside ≡ false
+          → IsLeastAt (fails_size entries found) node None
+      untyped-passes passes other fails =
+          let same = untyped-rule other fails in
+          let breaks : fails_size entries found node MemberOutside ≡ true = rw same at fails in
+          false≢true (sym passes ∙ breaks)
+
+    -- a type with a plain size that is no enumeration
+
+    plain-sized : (size : Size) → is_plain_size size ≡ true
+        → IfSome size (λ _. has_no_size (entry_of entries node) ≡ false) → has_no_size (entry_of entries node) ≡ false
+    plain-sized None is own = absurd (false≢true is)
+    plain-sized (Some n) is own = own
+
+    plain-small : (size : Size) → is_plain_size size ≡ true → is_too_great size ≡ false
+    plain-small None is = absurd (false≢true is)
+    plain-small (Some n) is = grind arith
+
+    plain-passes : is_type_tag (entry_of entries node).tag ≡ true → is_plain_size (found node) ≡ true
+        → nat_eq (entry_of entries node).tag DW_TAG_enumeration_type ≡ false → (rule : Rule)
+        → fails_size entries found node rule ≡ true → ⊥
+    plain-passes typed plain other NoSize breaks =
+        let own = sized-line entries found node (found node) (capped node below) in
+        false≢true (sym (plain-sized (found node) plain own) ∙ breaks)
+    plain-passes typed plain other SizeTooGreat breaks =
+        false≢true (sym (plain-small (found node) plain) ∙ breaks)
+    plain-passes typed plain other MemberOutside breaks =
+        let no = type-unmember (entry_of entries node).tag typed in false≢true (rw no at breaks)
+    plain-passes typed plain other EnumSize breaks = false≢true (rw other at breaks)
+    plain-passes typed plain other _ breaks = false≢true breaks
+
+    -- at an entry that is not asked no rule fails
+    pub unasked-passes : is_asked (entry_of entries node).tag (found node) ≡ false
+        → IsLeastAt (fails_size entries found) node None
+    unasked-passes unasked = go (is_type_tag (entry_of entries node).tag) refl
+      where
+        go : (typed : Bool) → is_type_tag (entry_of entries node).tag ≡ typed
+            → IsLeastAt (fails_size entries found) node None
+        go true typed =
+            let parts = or_parts (not (is_plain_size (found node)))
+            (nat_eq (entry_of entries node).tag DW_TAG_enumeration_type) (rw typed at unasked) in
+            plain-passes typed (true_from_not (is_plain_size (found node)) parts.0) parts.1
+        go false untyped =
+            let other : nat_eq (entry_of entries node).tag DW_TAG_member ≡ false = rw untyped at unasked in
+            untyped-passes untyped (rw other refl)
+
 below-limit : (size : Size) (n : ℕ) → is_too_great size ≡ false → size ≡ Some n → n < 2 ^ 63
 below-limit size n small is = let e : is_too_great (Some n) ≡ false = rw is at small in grind arith
 
@@ -267,7 +378,8 @@ module _ (entries : List Facts) (targets : TargetsAreEntries entries) (ranks : L
       (let long = length-by_value entries in omega arith)
 
   -- where no size is too great, the capped table is the table
-  pub found-is_table : (found : ℕ → Size) → ObeysCappedLines entries found → PassAll entries (fails_size entries found)
+  pub found-is_table : (found : ℕ → Size) → ObeysCappedLines entries found
+      → PassBefore (fails_size entries found) (length entries)
       → IsSizeTable entries found
   found-is_table found capped pass =
       is-size_table found (λ node below.
@@ -289,6 +401,6 @@ module _ (entries : List Facts) (targets : TargetsAreEntries entries) (ranks : L
     table = sizes_by_rank;
     is_table = is-size_table sizes_by_rank exact-lines;
     first =
-        first-of_entries entries rise (fails_size entries sizes_by_rank) node rule
+        first-of_entries entries (fails_size entries sizes_by_rank) rise node rule
         (first-same entries parents targets sizes_by_rank found exact-lines (found-caps found capped) node rule first);
   }

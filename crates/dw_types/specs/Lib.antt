@@ -22,9 +22,7 @@ pub mod PackingLaws
 -- State.
 pub mod Held
 pub mod Packing
-pub mod ShapesSeen
 pub mod WalkStates
 pub mod Walks
 pub mod RanksListed
 pub mod StoredSizes
-pub mod Noted

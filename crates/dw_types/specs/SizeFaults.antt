@@ -1,12 +1,14 @@
 -- Chapter: the rules on sizes (DWARF 5, 5.1, 5.5, 5.7 and 5.8).
-use Rattle.std.specs.Prelude.{ℕ, ◌^◌, Bool, true, false, ◌&&◌, ◌||◌, not, List, None, Some, is_some, nat_eq, nat_le}
+use Rattle.std.specs.Prelude.{ℕ, ◌^◌, Bool, true, false, ◌&&◌, ◌||◌, not, List, None, Some, is_some, if◌then◌else◌}
+use Rattle.std.specs.Prelude.{nat_eq, nat_le, nat_lt}
 use Rattle.dw_entries.specs.declared.fault.Broken.{Broken}
 use Rattle.dw_types.specs.declared.kind.Kind.{Kind}
 use Rattle.dw_types.specs.declared.kind.Kind.TheVariants.{Declared, OwnSized, Pointer, Alias, Enumeration, Array}
 use Rattle.dw_types.specs.declared.kind.Kind.TheVariants.{Subroutine, NoType}
-use Rattle.dw_entries.specs.declared.fault.Rule.{Rule}
-use Rattle.dw_entries.specs.declared.fault.Rule.TheVariants.{NoSize, SizeTooGreat, MemberOutside, EnumSize}
-use Rattle.dw_forms.specs.Codes.{DW_TAG_base_type, DW_AT_bit_size, DW_AT_byte_stride}
+use Rattle.dw_entries.specs.declared.rule.Rule.{Rule}
+use Rattle.dw_entries.specs.declared.rule.Rule.TheVariants.{NoSize, SizeTooGreat, MemberOutside, EnumSize}
+use Rattle.dw_forms.specs.Codes.{DW_TAG_base_type, DW_TAG_enumeration_type, DW_TAG_member, DW_AT_bit_size}
+use Rattle.dw_forms.specs.Codes.{DW_AT_byte_stride, is_type_tag}
 use Rattle.dw_types.specs.Constants.{is_present, is_negative, natural_of}
 use Rattle.dw_types.specs.Entries.{entry_of, Facts, byte_size, constant}
 use Rattle.dw_types.specs.Extents.{is_outside}
@@ -66,6 +68,18 @@ breaks_size parent entry size container type_size SizeTooGreat = is_too_great si
 breaks_size parent entry size container type_size MemberOutside = is_outside parent entry container type_size
 breaks_size parent entry size container type_size EnumSize = has_wrong_size entry type_size
 breaks_size parent entry size container type_size _ = false
+
+-- a size of less than 2^63
+abbrev pub is_plain_size : Size → Bool
+is_plain_size None = false
+is_plain_size (Some n) = nat_lt n (2 ^ 63)
+
+-- a rule on sizes may fail at an entry with this tag and this size: at a type with no size or one that is too great, at
+-- an enumeration, or at a member
+abbrev pub is_asked : ℕ → Size → Bool
+is_asked tag size =
+    if is_type_tag tag then not (is_plain_size size) || nat_eq tag DW_TAG_enumeration_type
+    else nat_eq tag DW_TAG_member
 
 -- the entry of a number violates a rule on sizes, by a table of sizes
 abbrev pub fails_size : List Facts → (ℕ → Size) → ℕ → Rule → Bool

@@ -1,6 +1,6 @@
 -- State: what holds of the state of a walk over a graph before and after each turn.
 use Rattle.std.specs.Prelude.{◌≡◌, ◌≢◌, ℕ, ◌+◌, ◌-◌, ◌^◌, ◌<◌, ◌≤◌, ◌⊎◌, Bool, true, false, List, [], length}
-use Rattle.std.specs.Prelude.{slice_index, slice_set}
+use Rattle.std.specs.Prelude.{slice_index}
 use Rattle.std.specs.Prelude.{Option, Some, None, sum, count_by}
 use Rattle.dw_types.specs.Cycles.{ReachesCycle}
 use Rattle.dw_types.specs.declared.walk.Mark.{Mark}
@@ -121,8 +121,8 @@ LooksOn graph marks node from looked None =
 LooksOn graph marks node from looked (Some to) =
     (last : ℕ) × (looked ≡ last + 1) × IsFirstOther graph marks node from last to
 
--- a fresh node was taken up: each node that was taken up from there has its rank, or a step goes to an open node
-pub record HasWalked (graph : Graph) (old : Kept) (start : ℕ) (new : Kept) (stop : Option ℕ) : Type 0 where
+-- a node was taken up: each node that was taken up from there on has its rank, or a step goes to an open node
+pub record HasWalked (graph : Graph) (old new : Kept) (stop : Option ℕ) : Type 0 where
   pub comes : ComesTo graph new stop
-  pub taken : KeepsTaken (slice_set old.marks start Open) new.marks
+  pub taken : KeepsTaken old.marks new.marks
   pub gave_up : new.gave_up ≡ old.gave_up

@@ -2,17 +2,24 @@
 
 ghost use Rattle.std.specs.Prelude.{◌≡◌, ◌^◌, ◌<◌, ◌∷◌, ℕ, Some, length, slice_get, option_map, IfOk, IfSome};
 ghost use Rattle.dw_forms.specs.Codes.{is_type_tag};
+ghost use Rattle.dw_forms.specs.KeptDecls.{decl_view};
 ghost use Rattle.dw_forms.specs.Value.{view};
 ghost use Rattle.dw_links.specs.References.{is_true};
+ghost use Rattle.dw_entries.specs.Stopped.{IfPlainFault};
 ghost use Rattle.dw_entries.specs.Views.{all_entries, units_of};
 ghost use Rattle.dw_types.specs.Children.{children_of, rest_of_children, siblings_from, IsChildOf, IsChild};
 ghost use Rattle.dw_types.specs.Entries.{children, constant, entry_of};
 ghost use Rattle.dw_types.specs.FactsOf.{facts_in, language_of, languages_in};
 ghost use Rattle.dw_types.specs.Held.{all_facts, entries_held, units_held};
+ghost use Rattle.dw_types.specs.Kinds.{is_dimensions, is_members, parent_role};
+ghost use Rattle.dw_types.specs.TypeFailures.{broken_at};
 
 use crate::count::Constant;
 use dw_entries::constants::*;
-use dw_entries::{Attribute, Cursor, Entries, EntryAt, EntryId, Value};
+use dw_entries::{
+    Attribute, Broken, Cursor, Entries, EntryAt, EntryId, Fault, Rule, Section, Stop, Value,
+};
+use dw_forms::DeclAt;
 use dw_links::Links;
 use std::alloc::{AllocError, Global};
 use std::marker::Model;
@@ -192,22 +199,71 @@ impl<'r, 'a> FactsList<'r, 'a> {
         self.links.entries.count()
     }
 
-    /// Where the entry with a number starts, in bytes from the start of .debug_info.
-    pub(crate) fn offset(&self, node: usize) -> u32
+    /// The fault of a rule that the entry with a number violates.
+    pub(crate) fn fault(&self, alloc: Global, node: usize, rule: Rule) -> Stop<Fault>
         requires { node < length self.now }
-        ensures { result ≡ (entry_of self.now node).offset }
+        ensures { IfPlainFault (λ broken. broken ≡ broken_at rule (entry_of self.now node).offset) result }
     {
         let entries = self.links.entries;
-        entries.offset(entries.id(node))
+        let broken = Broken {
+            rule,
+            section: Section::Info,
+            at: entries.offset(entries.id(node)),
+            attribute: 0,
+        };
+        Stop::Fault(broken.into_fault(alloc))
     }
 
-    /// Whether the entry with a number is a type. Its unit is not looked up.
-    pub(crate) fn is_type(&self, node: usize) -> bool
+    /// The declaration of the entry with a number. Its unit is not looked up.
+    #[inline(always)]
+    pub(crate) fn decl(&self, node: usize) -> DeclAt<'r>
         requires { node < length self.now }
-        ensures { result ≡ is_type_tag (entry_of self.now node).tag }
+        ensures { (decl_view result).tag ≡ (entry_of self.now node).tag }
     {
         let entries = self.links.entries;
-        entries.decl(entries.id(node)).is_type()
+        entries.decl(entries.id(node))
+    }
+
+    /// The number of the entry that DW_AT_type of the entry with a number refers to.
+    #[inline(always)]
+    pub(crate) fn type_target(&self, node: usize) -> Option<usize>
+        requires { node < length self.now }
+        ensures { result ≡ (entry_of self.now node).type_target }
+    {
+        number_of(self.links.target(self.links.entries.id(node), DW_AT_type))
+    }
+
+    /// The parent of the entry with a number. Its unit is not looked up.
+    pub(crate) fn parent(&self, node: usize) -> Option<usize>
+        requires { node < length self.now }
+        ensures parent { result ≡ (entry_of self.now node).parent }
+        ensures earlier { IfSome result (λ above. above < node) }
+    {
+        let entries = self.links.entries;
+        number_of(entries.parent(entries.id(node)))
+    }
+
+    /// Whether the parent of the entry with a number is a structure or union that is not declared.
+    pub(crate) fn is_in_members(&mut self, node: usize) -> bool
+        requires { node < length self.old }
+        ensures same { self.new ≡ self.old }
+        ensures role { result ≡ is_members (parent_role self.old node) }
+    {
+        match self.parent(node) {
+            Some(parent) => self.at(parent).has_members(),
+            None => false,
+        }
+    }
+
+    /// Whether the parent of the entry with a number is an array.
+    pub(crate) fn is_in_array(&self, node: usize) -> bool
+        requires { node < length self.now }
+        ensures { result ≡ is_dimensions (parent_role self.now node) }
+    {
+        match self.parent(node) {
+            Some(parent) => self.decl(parent).tag() == DW_TAG_array_type,
+            None => false,
+        }
     }
 
     /// The entry with a number.

@@ -74,16 +74,6 @@ impl FactsAt<'_, '_> {
         matches!(self.tag(), DW_TAG_structure_type | DW_TAG_union_type) && !self.declared()
     }
 
-    /// Whether the entry, which has this kind, is a structure or union that is not declared.
-    #[inline(always)]
-    pub(crate) fn holds_members(&self, kind: Kind) -> bool
-        requires { kind ≡ kind_of self.now }
-        ensures { result ≡ has_members self.now }
-    {
-        matches!(self.tag(), DW_TAG_structure_type | DW_TAG_union_type)
-            && !matches!(kind, Kind::Declared)
-    }
-
     /// Whether it is a declared structure, union or enumeration.
     #[inline(always)]
     pub(crate) fn is_declared_type(&self) -> bool

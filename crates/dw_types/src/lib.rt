@@ -8,6 +8,7 @@ mod graph;
 mod kind;
 mod numbers;
 mod ordering;
+mod shape_rules;
 mod size_rules;
 mod size_table;
 mod walk;

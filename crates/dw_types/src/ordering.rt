@@ -8,7 +8,7 @@ ghost use Rattle.dw_types.specs.LongestRows.{AreLongest, IsOneMore};
 ghost use Rattle.dw_types.specs.OrderFaults.{IsFaultOf};
 ghost use Rattle.dw_types.specs.Orders.{IsOrderOf};
 ghost use Rattle.dw_types.specs.Walks.{HasWalked, IsKept, LooksOn};
-ghost use Rattle.dw_types.specs.WalkStates.{mark_in};
+ghost use Rattle.dw_types.specs.WalkStates.{mark_in, opened, with_hand};
 ghost use Rattle.dw_types.specs.declared.ordering.OrderFault.TheVariants.{Memory};
 ghost use Rattle.dw_types.specs.declared.walk.Mark.TheVariants.{Fresh};
 
@@ -119,8 +119,8 @@ fn one_above<G: StepGraph>(graph: &G, counts: &Numbers, node: usize) -> usize
     most
 }
 
-/// Walks on from a fresh node until each node that was taken up has its rank, or until a step closes a cycle. Then it
-/// returns the node that the step leads to.
+/// Takes up a fresh node, and walks on until each node that was taken up has its rank, or until a step closes a cycle.
+/// Then it returns the node that the step leads to. A node without steps gets its rank at once.
 #[inline(always)]
 fn walk_from<G: StepGraph>(
     graph: &G,
@@ -131,9 +131,27 @@ fn walk_from<G: StepGraph>(
     requires empty { walk.old.stack ≡ [] }
     requires start { start < length (G.graph graph.now) }
     requires fresh { mark_in walk.old.marks start ≡ Fresh }
-    ensures { IfOk result (HasWalked (G.graph graph.now) walk.old start walk.new) }
+    ensures { IfOk result (HasWalked (G.graph graph.now) (opened walk.old start) walk.new) }
 {
-    let mut at = Some(walk.take_up(start));
+    let hand = walk.take_up(start);
+    if graph.steps(start) == 0 {
+        walk.rank(start)?;
+        return Ok(None);
+    }
+    walk_on(graph, walk, hand)
+}
+
+/// Walks on from a node at hand until each node that was taken up has its rank, or until a step closes a cycle.
+#[inline(never)]
+fn walk_on<G: StepGraph>(
+    graph: &G,
+    walk: &mut Walk,
+    hand: Hand,
+) -> Result<Option<usize>, AllocError>
+    requires { IsKept (G.graph graph.now) (with_hand walk.old hand.node hand.looked) }
+    ensures { IfOk result (HasWalked (G.graph graph.now) walk.old walk.new) }
+{
+    let mut at = Some(hand);
     while let Some(hand) = at {
         let (looked, other) = look_on(graph, walk, hand.node, hand.looked);
         walk.count(looked - hand.looked);

@@ -1,74 +1,26 @@
-//! The failing entry of the least number among those that a pass over entries finds; and the rules on sizes: which are
-//! wrong, and whether a plain member ends inside its container (DWARF 5, 5.1, 5.5, 5.7 and 5.8).
+//! The rules on sizes: which are wrong, and whether a plain member ends inside its container (DWARF 5, 5.1, 5.5, 5.7
+//! and 5.8).
 
-ghost use Rattle.std.specs.Prelude.{◌≡◌, ◌^◌, ◌<◌, ◌≤ℤ◌, ℕ, pos, List, None, Some, false, true, length, nat_eq};
-ghost use Rattle.std.specs.Prelude.{IfErr, IfSome, IsSomeAnd, OnOk};
-ghost use Rattle.dw_forms.specs.Codes.{DW_TAG_member as MemberTag};
-ghost use Rattle.dw_entries.specs.declared.fault.Section.TheVariants.{Info as InInfo};
+ghost use Rattle.std.specs.Prelude.{◌≡◌, ◌^◌, ◌<◌, ◌≤◌, ◌≤ℤ◌, ℕ, pos, List, None, Some, false, true, length, IfSome};
+ghost use Rattle.dw_forms.specs.KeptDecls.{decl_view};
 ghost use Rattle.dw_entries.specs.Failures.{IsLeast};
-ghost use Rattle.dw_entries.specs.Stopped.{IfPlainFault};
-ghost use Rattle.dw_types.specs.SizeFaults.{breaks_size, differ, has_no_size, has_wrong_size, is_too_great, reads_own};
-ghost use Rattle.dw_types.specs.SizeFaults.{wants_own};
+ghost use Rattle.dw_types.specs.SizeFaults.{breaks_size, differ, fails_size, has_no_size, has_wrong_size, is_asked};
+ghost use Rattle.dw_types.specs.SizeFaults.{reads_own, wants_own};
 ghost use Rattle.dw_types.specs.Sizes.{size_to, ObeysSizeLines};
-ghost use Rattle.dw_types.specs.SizeTables.{size_at, Size};
-ghost use Rattle.dw_types.specs.Extents.{bits_end_past, end_past, ends_past, start_of};
+ghost use Rattle.dw_types.specs.SizeTables.{size_at, HasSizePlaces, Size};
+ghost use Rattle.dw_types.specs.StoredSizes.{ObeysCappedLines};
+ghost use Rattle.dw_types.specs.Extents.{bits_end_past, end_past, ends_past, is_outside, start_of};
 ghost use Rattle.dw_types.specs.Constants.{natural_of};
-ghost use Rattle.dw_types.specs.Entries.{Facts, byte_size, entry_of};
-ghost use Rattle.dw_types.specs.Kinds.{has_members, kind_of, Members, Other};
-ghost use Rattle.dw_types.specs.Noted.{with_rule};
+ghost use Rattle.dw_types.specs.Entries.{Facts, byte_size, entry_of, TargetsAreEntries};
+ghost use Rattle.dw_types.specs.TypeFailures.{IsFirstFound};
+ghost use Rattle.dw_types.specs.Kinds.{has_members, kind_of, parent_role, Other};
 
 use crate::facts::{FactsAt, FactsList};
 use crate::kind::Kind;
 use crate::size_table::SizeTable;
+use dw_entries::Rule;
 use dw_entries::constants::*;
-use dw_entries::{Broken, Fault, Rule, Section, Stop};
-use std::alloc::Global;
-
-/// The failing entry of the least number so far, with its least rule. None if no entry fails so far.
-pub(crate) type LeastFault = Option<(usize, Rule)>;
-
-/// Notes the least rule that an entry breaks, if it breaks one.
-#[inline(always)]
-pub(crate) fn note(least: &mut LeastFault, node: usize, rule: Option<Rule>)
-    ensures { least.new ≡ with_rule least.old node rule }
-{
-    let Some(rule) = rule else {
-        return;
-    };
-    match *least {
-        Some((first, _)) if first <= node => {}
-        _ => *least = Some((node, rule)),
-    }
-}
-
-/// The fault at the failing entry of the least number, if one fails.
-pub(crate) fn check(
-    alloc: Global,
-    entries: &FactsList<'_, '_>,
-    least: LeastFault,
-) -> Result<(), Stop<Fault>>
-    requires { IfSome least (λ first. first.0 < length entries.now) }
-    ensures none { OnOk result (least ≡ None) }
-    ensures fault { IfErr result (λ stop. IsSomeAnd least (λ first. IfPlainFault (λ broken. broken ≡ record {
-      rule = first.1;
-      section = InInfo;
-      at = (entry_of entries.now first.0).offset;
-      attribute = 0;
-    }) stop)) }
-{
-    match least {
-        Some((node, rule)) => {
-            let broken = Broken {
-                rule,
-                section: Section::Info,
-                at: entries.offset(node),
-                attribute: 0,
-            };
-            Err(Stop::Fault(broken.into_fault(alloc)))
-        }
-        None => Ok(()),
-    }
-}
+use dw_forms::DeclAt;
 
 /// Whether so many bits from a bit on end past some bytes, or one of the numbers is negative.
 fn bits_end_past(bytes: u64, size: Option<u64>, start: Option<u64>) -> bool
@@ -191,10 +143,10 @@ impl FactsAt<'_, '_> {
         differ(own.natural(), sizes.get_to(self.type_target()))
     }
 
-    /// The rule on sizes that an entry of this size breaks, whatever its parent is: the one with the least number.
-    /// Where it has a size, its byte size is not checked again.
+    /// The rule on sizes that a type of this size violates: the one with the least number. Where it has a size, its
+    /// byte size is not read again.
     #[inline(always)]
-    pub(crate) fn broken_size(&self, size: Option<u64>, sizes: &SizeTable) -> Option<Rule>
+    fn broken_size(&self, size: Option<u64>, sizes: &SizeTable) -> Option<Rule>
         requires own { IfSome size (λ _. has_no_size self.now ≡ false) }
         requires type_in { (node : ℕ) → self.now.type_target ≡ Some node → node < length sizes.now }
         ensures { IsLeast (λ rule. breaks_size Other self.now size None
@@ -211,24 +163,104 @@ impl FactsAt<'_, '_> {
         }
         None
     }
+}
 
-    /// The rule on sizes that a child of a structure or union of this size breaks, if it is a member.
-    #[inline(always)]
-    pub(crate) fn broken_as_member(&self, container: Option<u64>, sizes: &SizeTable) -> Option<Rule>
-        requires { (node : ℕ) → self.now.type_target ≡ Some node → node < length sizes.now }
-        ensures member { self.now.tag ≡ MemberTag → IsLeast (λ rule. breaks_size Members self.now None container
-            (size_to (size_at sizes.now) self.now.type_target) rule ≡ true) result }
-        ensures other { nat_eq self.now.tag MemberTag ≡ false → result ≡ None }
-    {
-        let bytes = container?;
-        if matches!(self.tag(), DW_TAG_member)
-            && self.ends_past(bytes, sizes.get_to(self.type_target()))
-            && !self.declared()
-        {
-            return Some(Rule::MemberOutside);
-        }
-        None
+/// Whether an entry, which is at hand, is a plain member that ends outside its container. What its parent is, is looked
+/// up only if it does.
+#[inline(always)]
+fn is_outside(
+    entries: &mut FactsList<'_, '_>,
+    sizes: &SizeTable,
+    node: usize,
+    member: &FactsAt<'_, '_>,
+) -> bool
+    requires places { HasSizePlaces entries.old sizes.now node }
+    requires member { member.now ≡ entry_of entries.old node }
+    ensures same { entries.new ≡ entries.old }
+    ensures outside { result ≡ is_outside (parent_role entries.old node) member.now
+        (size_to (size_at sizes.now) member.now.parent) (size_to (size_at sizes.now) member.now.type_target) }
+{
+    if !matches!(member.tag(), DW_TAG_member) {
+        return false;
     }
+    let Some(bytes) = sizes.get_to(entries.parent(node)) else {
+        return false;
+    };
+    let size = sizes.get_to(member.type_target());
+    member.ends_past(bytes, size) && entries.is_plain(node)
+}
+
+/// The rule on sizes that an entry violates, by the sizes of all: the one with the least number.
+#[inline(always)]
+fn broken_size(entries: &mut FactsList<'_, '_>, sizes: &SizeTable, node: usize) -> Option<Rule>
+    requires places { HasSizePlaces entries.old sizes.now node }
+    requires lines { ObeysCappedLines entries.old (size_at sizes.now) }
+    ensures same { entries.new ≡ entries.old }
+    ensures least { IsLeast (λ rule. fails_size entries.old (size_at sizes.now) node rule ≡ true) result }
+{
+    let entry = entries.at(node);
+    if entry.is_type() {
+        return entry.broken_size(sizes.at(node), sizes);
+    }
+    if is_outside(entries, sizes, node, &entry) {
+        return Some(Rule::MemberOutside);
+    }
+    None
+}
+
+/// Whether a rule on sizes may fail at an entry, which has this declaration: at a type with no size or one that is too
+/// great, at an enumeration, or at a member.
+#[inline(always)]
+fn is_asked(sizes: &SizeTable, node: usize, decl: DeclAt<'_>) -> bool
+    requires { node < length sizes.now }
+    ensures { result ≡ is_asked (decl_view decl.entry).tag (size_at sizes.now node) }
+{
+    if decl.is_type() {
+        !matches!(sizes.at(node), Some(size) if size < 1 << 63)
+            || matches!(decl.tag(), DW_TAG_enumeration_type)
+    } else {
+        matches!(decl.tag(), DW_TAG_member)
+    }
+}
+
+/// The first entry from one on at which a rule on sizes may fail, or how many entries there are.
+fn next_asked(entries: &FactsList<'_, '_>, sizes: &SizeTable, from: usize) -> usize
+    requires from { from ≤ length entries.now }
+    requires long { length sizes.now ≡ length entries.now }
+    ensures within { (from ≤ result) × (result ≤ length entries.now) }
+    ensures none { (k : ℕ) → from ≤ k → k < result
+        → is_asked (entry_of entries.now k).tag (size_at sizes.now k) ≡ false }
+{
+    let count = entries.count();
+    for node in from..count {
+        if is_asked(sizes, node, entries.decl(node)) {
+            return node;
+        }
+    }
+    count
+}
+
+/// The first entry that violates a rule on sizes, by the sizes of all, and its least rule.
+pub(crate) fn first_broken(
+    entries: &mut FactsList<'_, '_>,
+    sizes: &SizeTable,
+) -> Option<(usize, Rule)>
+    requires targets { TargetsAreEntries entries.old }
+    requires long { length sizes.now ≡ length entries.old }
+    requires lines { ObeysCappedLines entries.old (size_at sizes.now) }
+    ensures same { entries.new ≡ entries.old }
+    ensures first { IsFirstFound entries.old (fails_size entries.old (size_at sizes.now)) result }
+{
+    let count = entries.count();
+    let mut node = next_asked(entries, sizes, 0);
+    while node < count {
+        if let Some(rule) = broken_size(entries, sizes, node) {
+            return Some((node, rule));
+        }
+        let next = next_asked(entries, sizes, node + 1);
+        node = next;
+    }
+    None
 }
 
 /// The size of a structure or union that is not declared is its own byte size. So the container of a plain

@@ -1,19 +1,17 @@
 //! The one table of sizes, filled in the order of the ranks.
 
-ghost use Rattle.std.specs.Prelude.{◌≡◌, ◌<◌, ◌≤◌, ◌^◌, ◌⊎◌, ℕ, List, None, Some, Bool, true, length, replicate};
+ghost use Rattle.std.specs.Prelude.{◌≡◌, ◌<◌, ◌≤◌, ◌^◌, ℕ, List, None, Some, length, replicate};
 ghost use Rattle.std.specs.Prelude.{slice_set, IfOk, IfErr, IfSome, OnOk};
-ghost use Rattle.dw_forms.specs.Codes.{is_type_tag};
 ghost use Rattle.dw_entries.specs.Failures.{HasNone};
 ghost use Rattle.dw_entries.specs.Stopped.{IfPlainFault};
 ghost use Rattle.dw_types.specs.Sizes.{size_to, array_size, size_line, IsSizeTable};
 ghost use Rattle.dw_types.specs.SizeTables.{Size, size_at, cap_size, HasSizePlaces, OnlyTypesAreSized};
-ghost use Rattle.dw_types.specs.StoredSizes.{size_in, sizes_in};
-ghost use Rattle.dw_types.specs.Entries.{entry_of};
-ghost use Rattle.dw_types.specs.Kinds.{has_members, kind_of};
+ghost use Rattle.dw_types.specs.StoredSizes.{size_in, sizes_in, ObeysCappedLines};
+ghost use Rattle.dw_types.specs.Entries.{entry_of, TargetsAreEntries};
+ghost use Rattle.dw_types.specs.Kinds.{kind_of};
 ghost use Rattle.dw_types.specs.Held.{all_facts, entries_held};
-ghost use Rattle.dw_types.specs.Noted.{asked_at, IsNoted};
 ghost use Rattle.dw_types.specs.Orders.{IsOrderOf};
-ghost use Rattle.dw_types.specs.SizeFaults.{IsFirstSizeFault, SizeFailures, fails_size};
+ghost use Rattle.dw_types.specs.SizeFaults.{IsFirstSizeFault, SizeFailures};
 ghost use Rattle.dw_types.specs.Steps.{by_value};
 
 use crate::count::{capped_times, count_elements};
@@ -21,7 +19,7 @@ use crate::facts::{FactsAt, FactsList, languages_of};
 use crate::graph::Order;
 use crate::kind::Kind;
 use crate::numbers::Numbers;
-use crate::size_rules::{LeastFault, check, note};
+use crate::size_rules::first_broken;
 use dw_entries::constants::*;
 use dw_entries::{Entries, EntryId, Fault, Stop};
 use dw_links::Links;
@@ -181,69 +179,30 @@ fn capped_size(
     }
 }
 
-/// Notes the members of a structure or union of this size that end outside it.
-fn note_members(
-    entries: &mut FactsList<'_, '_>,
-    sizes: &SizeTable,
-    least: &mut LeastFault,
-    node: usize,
-    size: Option<u64>,
-)
-    requires places { HasSizePlaces entries.old sizes.now node }
-    requires members { has_members (entry_of entries.old node) ≡ true }
-    requires size { size_at sizes.now node ≡ size }
-    requires untyped { OnlyTypesAreSized entries.old (size_at sizes.now) }
-    ensures same { entries.new ≡ entries.old }
-    ensures noted { (seen : ℕ → Bool)
-        → IsNoted (fails_size entries.old (size_at sizes.now)) (λ k. (seen k ≡ true) ⊎ (k ≡ node)) least.old
-        → IsNoted (fails_size entries.old (size_at sizes.now))
-        (λ k. (seen k ≡ true) ⊎ (asked_at entries.old k ≡ node)) least.new }
-{
-    let mut next = entries.first_child(node);
-    while let Some(child) = next {
-        let entry = entries.at(child);
-        note(least, child, entry.broken_as_member(size, sizes));
-        next = entries.next_sibling(child);
-    }
-}
-
-/// Writes the size of a type, by those of what it holds by value, and notes what is wrong with it and its members.
+/// Writes the size of an entry, by those of what it holds by value.
 fn measure_type(
     alloc: Global,
     entries: &mut FactsList<'_, '_>,
     sizes: &mut SizeTable,
-    least: &mut LeastFault,
     node: usize,
 ) -> Result<(), AllocError>
     requires places { HasSizePlaces entries.old sizes.old node }
-    requires untyped { OnlyTypesAreSized entries.old (size_at sizes.old) }
-    requires typed { is_type_tag (entry_of entries.old node).tag ≡ true }
     ensures same { OnOk result (entries.new ≡ entries.old) }
     ensures size { OnOk result (sizes.new
         ≡ slice_set sizes.old node (cap_size (2 ^ 63) (size_line entries.old (size_at sizes.old) node))) }
-    ensures noted { OnOk result ((seen : ℕ → Bool)
-        → IsNoted (fails_size entries.old (size_at sizes.new)) (λ k. seen k ≡ true) least.old
-        → IsNoted (fails_size entries.old (size_at sizes.new))
-        (λ k. (seen k ≡ true) ⊎ (asked_at entries.old k ≡ node)) least.new) }
 {
     let entry = entries.at(node);
     let kind = entry.kind();
     let size = capped_size(entries, sizes, node, &entry, kind);
-    sizes.set(alloc, node, size)?;
-    note(least, node, entry.broken_size(size, sizes));
-    if !entry.holds_members(kind) {
-        return Ok(());
-    }
-    note_members(entries, sizes, least, node, size);
-    Ok(())
+    sizes.set(alloc, node, size)
 }
 
-/// Writes the size of an entry if it is a type, and notes what is wrong with it and its members.
+/// Writes the size of an entry if it is a type.
+#[inline(always)]
 fn measure(
     alloc: Global,
     entries: &mut FactsList<'_, '_>,
     sizes: &mut SizeTable,
-    least: &mut LeastFault,
     node: usize,
 ) -> Result<(), AllocError>
     requires places { HasSizePlaces entries.old sizes.old node }
@@ -251,15 +210,31 @@ fn measure(
     ensures same { OnOk result (entries.new ≡ entries.old) }
     ensures size { OnOk result (sizes.new
         ≡ slice_set sizes.old node (cap_size (2 ^ 63) (size_line entries.old (size_at sizes.old) node))) }
-    ensures noted { OnOk result ((seen : ℕ → Bool)
-        → IsNoted (fails_size entries.old (size_at sizes.new)) (λ k. seen k ≡ true) least.old
-        → IsNoted (fails_size entries.old (size_at sizes.new))
-        (λ k. (seen k ≡ true) ⊎ (asked_at entries.old k ≡ node)) least.new) }
 {
-    if !entries.is_type(node) {
+    if !entries.decl(node).is_type() {
         return Ok(());
     }
-    measure_type(alloc, entries, sizes, least, node)
+    measure_type(alloc, entries, sizes, node)
+}
+
+/// The capped sizes of all entries, one after another in the order of the ranks.
+fn measure_all(
+    alloc: Global,
+    entries: &mut FactsList<'_, '_>,
+    order: &Order,
+) -> Result<SizeTable, AllocError>
+    requires targets { TargetsAreEntries entries.old }
+    requires order { IsOrderOf (by_value entries.old) order.now }
+    ensures same { OnOk result (entries.new ≡ entries.old) }
+    ensures long { IfOk result (λ table. length table ≡ length entries.old) }
+    ensures lines { IfOk result (λ table. ObeysCappedLines entries.old (size_at table)) }
+{
+    let mut sizes = SizeTable::none(alloc, entries.count())?;
+    for rank in 0..order.count() {
+        let node = order.node(rank);
+        measure(alloc, entries, &mut sizes, node)?;
+    }
+    Ok(sizes)
 }
 
 /// The one table of sizes, or the first fault of sizes. The order is that of the graph of the entries' steps by value.
@@ -278,12 +253,9 @@ pub fn sizes(
 {
     let languages = languages_of(alloc, entries)?;
     let mut facts = FactsList::new(links, &languages);
-    let mut sizes = SizeTable::none(alloc, facts.count())?;
-    let mut least: LeastFault = None;
-    for rank in 0..order.count() {
-        let node = order.node(rank);
-        measure(alloc, &mut facts, &mut sizes, &mut least, node)?;
+    let sizes = measure_all(alloc, &mut facts, order)?;
+    if let Some(found) = first_broken(&mut facts, &sizes) {
+        return Err(facts.fault(alloc, found.0, found.1));
     }
-    check(alloc, &facts, least)?;
     Ok(sizes)
 }

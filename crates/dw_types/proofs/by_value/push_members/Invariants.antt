@@ -1,19 +1,13 @@
 use Rattle.std.proofs.Common.{◌≡◌, ◌++◌, length}
 use Rattle.std.specs.List.{flat_map}
-use Rattle.dw_types.specs.Children.{rest_of_children, IsChildOf}
-use Rattle.dw_types.specs.Noted.{IsNoted, Passed}
-use Rattle.dw_types.specs.Shapes.{fails_shape}
-use Rattle.dw_types.specs.ShapesSeen.{HasSeenShapes}
+use Rattle.dw_types.specs.Children.{rest_of_children}
 use Rattle.dw_types.specs.Steps.{part_step}
 use Rattle.dw_types.proofs.ChildSteps.{HasPassed}
 use Rattle.dw_types.proofs.by_value.push_members.Given as goal
 
 abbrev pub invariant-loop-next : goal.invariant-loop-next
 invariant-loop-next l =
-    HasPassed l.fn.entries l.node
-    (λ visited. (l.steps ≡ l.fn.steps ++ flat_map (part_step l.fn.entries) visited)
-    × IsNoted (fails_shape l.fn.entries)
-    (Passed (HasSeenShapes l.fn.entries l.node) (IsChildOf l.fn.entries l.node) visited) l.least) l.next
+    HasPassed l.fn.entries l.node (λ visited. l.steps ≡ l.fn.steps ++ flat_map (part_step l.fn.entries) visited) l.next
     × (l.entries ≡ l.fn.entries)
 
 abbrev pub decreases-loop-next : goal.decreases-loop-next

@@ -3,8 +3,8 @@ use Rattle.dw_entries.specs.Views.{units_of}
 use Rattle.dw_types.specs.Counts.{is_array_tag}
 use Rattle.dw_types.specs.Entries.{Facts, entry_of}
 use Rattle.dw_types.specs.FactsOf.{facts_in}
-use Rattle.dw_types.proofs.CountLemmas.{dimensions-role}
 use Rattle.dw_types.proofs.FactsLemmas.{known}
+use Rattle.dw_types.proofs.RoleLemmas.{dimensions-role}
 use Rattle.dw_types.proofs.count.is_in_array.Goals as goal
 
 pub returns-in-Some : goal.returns-in-Some

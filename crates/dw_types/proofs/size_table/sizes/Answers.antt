@@ -1,81 +1,53 @@
-use Rattle.std.proofs.Common.{rules, ◌≡◌, ◌<◌, ◌≤◌, length, get_or, ◌∙◌, length-set}
-use Rattle.std.proofs.lemmas.Result.{err_from_is_err_and}
+use Rattle.std.proofs.Common.{rules, length}
+use Rattle.dw_types.specs.Entries.{entry_of}
 use Rattle.dw_types.specs.Held.{all_facts, units_held}
+use Rattle.dw_types.specs.SizeFaults.{fails_size, IsFirstSizeFault}
 use Rattle.dw_types.specs.SizeTables.{size_at}
+use Rattle.dw_types.specs.StoredSizes.{ObeysCappedLines}
+use Rattle.dw_types.specs.TypeFailures.{broken_at, IsFirstAt, PassBefore}
 use Rattle.dw_types.proofs.FactsLemmas.{facts-parents_first, facts-rise, facts-targets, length-facts_of}
-use Rattle.dw_types.proofs.SizeLineLemmas.{capped_line}
-use Rattle.dw_types.proofs.SizeRankLemmas.{last-fault, last-sound, last-table, next-filled, next-noted, next-typed, next_sizes, node-in}
+use Rattle.dw_types.proofs.FirstLemmas.{none-of_entries, plain-fault}
+use Rattle.dw_types.proofs.SizeFaultLemmas.{first-is_first, found-is_table}
 use Rattle.dw_types.proofs.size_table.sizes.Goals as goal
 
-pub measure-requires-clause-places : goal.measure-requires-clause-places
-measure-requires-clause-places c =
-    let us = units_held c.args.links.now in
-    let below : c.loop-rank.rank < length c.args.order.now.by_rank = rw (← c.count-rank-end.ensures)
-    c.loop-rank-test.true in
-    rw (c.loop-rank.invariant.1, c.node-node.ensures) record {
-      node_in =
-          node-in (all_facts c.args.links.now) (facts-parents_first us) (facts-targets us) c.args.order.now
-          c.requires.order c.loop-rank.rank below;
-      long = c.loop-rank.invariant.0;
-      targets = facts-targets us;
-    }
+pub measure_all-requires-clause-targets : goal.measure_all-requires-clause-targets
+measure_all-requires-clause-targets c = rw c.new-facts.ensures.same (facts-targets (units_held c.args.links.now))
 
-pub loop-rank-preserved : goal.loop-rank-preserved
-loop-rank-preserved c =
+pub first_broken-requires-clause-targets : goal.first_broken-requires-clause-targets
+first_broken-requires-clause-targets c =
+    rw (c.in_ok-sizes.ensures.same, c.new-facts.ensures.same) (facts-targets (units_held c.args.links.now))
+
+pub returns-in-Some-clause-fault : goal.returns-in-Some-clause-fault
+returns-in-Some-clause-fault c =
     let entries = all_facts c.args.links.now in
-    let order = c.args.order.now in
-    let sizes = c.loop-rank.sizes in
-    let rank = c.loop-rank.rank in
-    let parents = facts-parents_first (units_held c.args.links.now) in
-    let targets = facts-targets (units_held c.args.links.now) in
-    let h = c.requires.order in
-    let node = get_or order.by_rank rank 0 in
-    let below : rank < length order.by_rank = rw (← c.count-rank-end.ensures) c.loop-rank-test.true in
-    let long = c.loop-rank.invariant.0 in
-    let typed = c.loop-rank.invariant.3 in
-    let size : c.measure.new.sizes
-    ≡ next_sizes entries parents targets order h sizes rank below long typed = rw
-    (c.loop-rank.invariant.1, c.node-node.ensures) at c.in_ok-measure.ensures.size in
-    let more = rw (size, c.loop-rank.invariant.1, c.node-node.ensures) at c.in_ok-measure.ensures.noted in
-    rw size (
-      length-set sizes node (capped_line entries (size_at sizes) node) ∙ long,
-      c.in_ok-measure.ensures.same ∙ c.loop-rank.invariant.1,
-      next-filled entries parents targets order h sizes rank below long typed c.loop-rank.invariant.2,
-      next-typed entries parents targets order h sizes rank below long typed,
-      next-noted entries parents targets order h sizes rank below long typed c.loop-rank.least c.measure.new.least
-          c.loop-rank.invariant.4 more,
-    )
-
-pub returns-in_err-check-clause-fault : goal.returns-in_err-check-clause-fault
-returns-in_err-check-clause-fault c =
-    let over : length c.args.order.now.by_rank
-    ≤ c.loop-rank.rank = rw (← c.count-rank-end.ensures) c.loop-rank-test.false in
-    let p = err_from_is_err_and c.from_residual-in_err-check.result c.from_residual-in_err-check.ensures.1 in
-    rw (p.1, p.2)
-    (last-fault (all_facts c.args.links.now) (facts-parents_first (units_held c.args.links.now))
-    (facts-targets (units_held c.args.links.now)) c.args.order.now c.requires.order c.loop-rank.sizes
-    c.loop-rank.rank over c.loop-rank.invariant.2
-    (facts-rise _ (units_held c.args.links.now) c.args.links.now.entries.now.scanned.1.spells.are)
-    c.loop-rank.least c.in_err-check.field-0.0 c.loop-rank.invariant.4
-    (rw c.loop-rank.invariant.1 at c.in_err-check.ensures.fault))
+    let us = units_held c.args.links.now in
+    let found = c.in-Some.found in
+    let table = size_at c.in_ok-sizes.sizes in
+    let lines : ObeysCappedLines entries table = rw c.new-facts.ensures.same at c.in_ok-sizes.ensures.lines in
+    let first : IsFirstAt entries (fails_size entries table) found.0 found.1 =
+    rw (c.in_ok-sizes.ensures.same, c.new-facts.ensures.same, c.in-Some.is) at c.first_broken.ensures.first in
+    plain-fault (IsFirstSizeFault entries) (broken_at found.1 (entry_of entries found.0).offset) c.fault.result
+    (first-is_first entries (facts-targets us) c.args.order.now.ranks c.requires.order.falls (facts-parents_first us)
+    (facts-rise _ us c.args.links.now.entries.now.scanned.1.spells.are) table lines found.0 found.1 first)
+    (rw (c.first_broken.ensures.same, c.in_ok-sizes.ensures.same, c.new-facts.ensures.same) at c.fault.ensures)
 
 pub returns-clause-only : goal.returns-clause-only
 returns-clause-only c =
-    let over : length c.args.order.now.by_rank
-    ≤ c.loop-rank.rank = rw (← c.count-rank-end.ensures) c.loop-rank-test.false in
-    let noted = rw c.in_ok-check.ensures.none at c.loop-rank.invariant.4 in
-    last-table (all_facts c.args.links.now) (facts-parents_first (units_held c.args.links.now))
-    (facts-targets (units_held c.args.links.now)) c.args.order.now c.requires.order c.loop-rank.sizes
-    c.loop-rank.rank over c.loop-rank.invariant.2 noted
+    let entries = all_facts c.args.links.now in
+    let table = size_at c.in_ok-sizes.sizes in
+    let lines : ObeysCappedLines entries table = rw c.new-facts.ensures.same at c.in_ok-sizes.ensures.lines in
+    let pass : PassBefore (fails_size entries table) (length entries) =
+    rw (c.in_ok-sizes.ensures.same, c.new-facts.ensures.same, c.in_default.is) at c.first_broken.ensures.first in
+    found-is_table entries (facts-targets (units_held c.args.links.now)) c.args.order.now.ranks c.requires.order.falls
+    table lines pass
 
 pub returns-clause-sound : goal.returns-clause-sound
 returns-clause-sound c =
-    let over : length c.args.order.now.by_rank
-    ≤ c.loop-rank.rank = rw (← c.count-rank-end.ensures) c.loop-rank-test.false in
-    let noted = rw c.in_ok-check.ensures.none at c.loop-rank.invariant.4 in
-    last-sound (all_facts c.args.links.now) (facts-parents_first (units_held c.args.links.now))
-    (facts-targets (units_held c.args.links.now)) c.args.order.now c.requires.order c.loop-rank.sizes
-    c.loop-rank.rank over c.loop-rank.invariant.2 noted
+    let entries = all_facts c.args.links.now in
+    let table = size_at c.in_ok-sizes.sizes in
+    let pass : PassBefore (fails_size entries table) (length entries) =
+    rw (c.in_ok-sizes.ensures.same, c.new-facts.ensures.same, c.in_default.is) at c.first_broken.ensures.first in
+    none-of_entries entries (fails_size entries table) pass
 
 pub returns-clause-long : goal.returns-clause-long
 returns-clause-long c = search (rules, length-facts_of)

@@ -1,11 +1,10 @@
 use Rattle.std.proofs.Common.{◌≡◌, length, take}
 use Rattle.dw_types.specs.Held.{all_facts}
 use Rattle.dw_types.specs.Kinds.{type_count}
-use Rattle.dw_types.specs.Noted.{IsNoted}
 use Rattle.dw_types.specs.Packing.{LeadsBelow}
 use Rattle.dw_types.specs.Shapes.{fails_shape}
-use Rattle.dw_types.specs.ShapesSeen.{HasSeenShapes}
 use Rattle.dw_types.specs.Steps.{by_value}
+use Rattle.dw_types.specs.TypeFailures.{PassBefore}
 use Rattle.dw_types.proofs.PackingLemmas.{PacksUpTo}
 use Rattle.dw_types.proofs.by_value.ByValue.new.Given as goal
 
@@ -14,5 +13,5 @@ invariant-loop-node l =
     PacksUpTo (by_value (all_facts l.fn.links)) l.steps l.ends l.node
     × LeadsBelow l.steps (length (all_facts l.fn.links))
     × (l.facts ≡ all_facts l.fn.links)
-    × IsNoted (fails_shape (all_facts l.fn.links)) (HasSeenShapes (all_facts l.fn.links) l.node) l.least
+    × PassBefore (fails_shape (all_facts l.fn.links)) l.node
     × (l.types ≡ type_count (take l.node (all_facts l.fn.links)))

@@ -1,7 +1,7 @@
 use Rattle.std.proofs.Common.{rules, ap}
 use Rattle.std.specs.Prelude.{slice_get, ◌≡◌}
 use Rattle.std.proofs.lemmas.Option.{IfSome_then}
-use Rattle.dw_entries.specs.declared.lookup.UnitHead.{UnitHead}
+use Rattle.dw_entries.specs.declared.units.UnitHead.{UnitHead}
 use Rattle.dw_entries.specs.Entries.{placed}
 use Rattle.dw_entries.specs.Scanned.{found_units}
 use Rattle.dw_types.specs.Entries.{Facts}

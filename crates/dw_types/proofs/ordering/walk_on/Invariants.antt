@@ -1,13 +1,12 @@
-use Rattle.std.proofs.Common.{◌≡◌, set}
-use Rattle.dw_types.specs.declared.walk.Mark.TheVariants.{Open}
+use Rattle.std.proofs.Common.{◌≡◌}
 use Rattle.dw_types.specs.Walks.{KeepsTaken}
 use Rattle.dw_types.proofs.HandLemmas.{IsAtHand, work_left}
-use Rattle.dw_types.proofs.ordering.walk_from.Given as goal
+use Rattle.dw_types.proofs.ordering.walk_on.Given as goal
 
 abbrev pub invariant-loop-at : goal.invariant-loop-at
 invariant-loop-at g l =
     IsAtHand (g.G.StepGraph.graph l.graph) l.walk l.at
-    × KeepsTaken (set l.fn.walk.marks l.start Open) l.walk.marks
+    × KeepsTaken l.fn.walk.marks l.walk.marks
     × (l.walk.gave_up ≡ l.fn.walk.gave_up)
 
 abbrev pub decreases-loop-at : goal.decreases-loop-at
