@@ -6,8 +6,8 @@ use Rattle.dw_elf.specs.declared.sections.Sections.{Sections}
 use Rattle.dw_forms.specs.Value.{Datum}
 use Rattle.dw_forms.specs.Codes.{DW_AT_str_offsets_base, DW_AT_addr_base}
 use Rattle.dw_entries.specs.declared.header.UnitHeader.{UnitHeader}
-use Rattle.dw_entries.specs.declared.fault.Rule.{Rule}
-use Rattle.dw_entries.specs.declared.lookup.EntryHead.{EntryHead}
+use Rattle.dw_entries.specs.declared.rule.Rule.{Rule}
+use Rattle.dw_entries.specs.declared.entry.EntryHead.{EntryHead}
 use Rattle.dw_entries.specs.Units.{DebugUnit, AreUnits, HaveBase, unit_bytes, units_bytes}
 use Rattle.dw_entries.specs.Entries.{Entry, entries_of, node_count, placed_from, placed}
 use Rattle.dw_entries.specs.Failures.{Failure, HasNone, broken_of}
@@ -15,7 +15,7 @@ use Rattle.dw_entries.specs.Faults.{Fails}
 use Rattle.dw_links.specs.Bases.{base_in}
 use Rattle.dw_entries.specs.Lookups.{entry_head}
 use Rattle.dw_links.specs.Strings.{StringIndexFails, AddressIndexFails, BaseFails, StringFailsIn, StringFailures}
-use Rattle.dw_units.specs.declared.counting.Counts.{Counts}
+use Rattle.dw_units.specs.declared.counts.Counts.{Counts}
 use Rattle.dw_image.specs.Lookups.{is_type_entry}
 use Rattle.dw_entries.specs.Asked.{EachEntry}
 use Rattle.dw_entries.specs.Views.{units_of}

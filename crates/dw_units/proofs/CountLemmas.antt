@@ -15,7 +15,7 @@ use Rattle.dw_entries.specs.Entries.{Entry, entries_of}
 use Rattle.dw_entries.specs.Failures.{HasNone, broken_of, IsPlainFault}
 use Rattle.dw_entries.specs.Faults.{Fails}
 use Rattle.dw_entries.proofs.HeadLaws.{all-append}
-use Rattle.dw_units.specs.declared.counting.Counts.{Counts}
+use Rattle.dw_units.specs.declared.counts.Counts.{Counts}
 use Rattle.dw_image.specs.Lookups.{is_type_entry}
 use Rattle.dw_image.proofs.JoinLemmas.{sound_by}
 use Rattle.dw_entries.specs.Rules.{group_of}

@@ -3,9 +3,9 @@ use Rattle.std.proofs.Common.{rules, ◌≡◌, ℕ, Bool, true, false, List, So
 use Rattle.std.specs.Prelude.{slice_get, All, Contains}
 use mathlib.Core.Logic.{∥∥₁_elim}
 use Rattle.dw_forms.specs.declared.form.Form.{Form}
-use Rattle.dw_forms.specs.declared.decl.AttributeSpec.{AttributeSpec}
-use Rattle.dw_forms.specs.Value.{Datum, Val}
-use Rattle.dw_entries.specs.declared.fault.Rule.TheVariants.{WrongClass}
+use Rattle.dw_forms.specs.declared.abbrev.AttributeSpec.{AttributeSpec}
+use Rattle.dw_forms.specs.Value.{Datum, Val, laid_out}
+use Rattle.dw_entries.specs.declared.rule.Rule.TheVariants.{WrongClass}
 use Rattle.dw_entries.specs.Units.{DebugUnit, Spells}
 use Rattle.dw_entries.specs.Entries.{Entry, entries_of}
 use Rattle.dw_entries.specs.Places.{at_attribute}
@@ -19,10 +19,12 @@ use Rattle.dw_units.specs.ByUnit.{is_offset}
 
 stays_by_form : (version size : ℕ) (f : Form) (bytes : List ℕ) (v : Datum) → (leaves_by f ≡ BySignature → ⊥)
     → Val version f size bytes v → is_signature v ≡ false
+unfolding laid_out
 stays_by_form version size f bytes v other p = search rules
 
 no_offset_by_form : (version size : ℕ) (f : Form) (bytes : List ℕ) (v : Datum) → leaves_by f ≡ Never
     → Val version f size bytes v → is_offset v ≡ false
+unfolding laid_out
 no_offset_by_form version size f bytes v is p = search rules
 
 -- a fact that no value in a form has, no value under such a declaration has

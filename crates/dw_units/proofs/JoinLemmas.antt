@@ -16,7 +16,7 @@ use Rattle.dw_types.specs.SizeFaults.{fails_size, SizeFailures}
 use Rattle.dw_types.proofs.FactsLemmas.{facts-parents_first, facts-targets}
 use Rattle.dw_image.specs.Valid.{SpellsInfo, HasSizes}
 use Rattle.dw_units.specs.Alone.{joined, whole, FollowFrom, StandsAlone, JoinsUnits}
-use Rattle.dw_entries.specs.declared.fault.Rule.{Rule}
+use Rattle.dw_entries.specs.declared.rule.Rule.{Rule}
 use Rattle.dw_image.specs.First.{FailsBySize}
 use Rattle.dw_image.proofs.MeasureLemmas.{same_failures, none_by_size}
 use Rattle.dw_units.specs.ByUnit.{HasTable}

@@ -5,7 +5,7 @@ use Rattle.std.specs.List.{AllByRecursion}
 use Rattle.dw_elf.specs.declared.sections.Sections.{Sections}
 use Rattle.dw_forms.specs.Value.{Datum}
 use Rattle.dw_forms.specs.Codes.{DW_AT_str_offsets_base, DW_AT_addr_base}
-use Rattle.dw_entries.specs.declared.fault.Rule.{Rule}
+use Rattle.dw_entries.specs.declared.rule.Rule.{Rule}
 use Rattle.dw_entries.specs.Header.{version_of}
 use Rattle.dw_entries.specs.Units.{DebugUnit, IsUnit, AreUnits, units_bytes}
 use Rattle.dw_entries.specs.UnitLaws.{are_based}
@@ -16,7 +16,7 @@ use Rattle.dw_entries.specs.Rules.{number_of}
 use Rattle.dw_entries.specs.Asked.{HasAttribute, AtEntries, values_of}
 use Rattle.dw_entries.specs.Lookups.{entry_head, value_in}
 use Rattle.dw_entries.proofs.Firsts.{same_some}
-use Rattle.dw_entries.specs.declared.walk.Record.{Record}
+use Rattle.dw_entries.specs.declared.records.Record.{Record}
 use Rattle.dw_entries.specs.Records.{records_kept}
 use Rattle.dw_entries.specs.Scanned.{record_of, records_of}
 use Rattle.dw_entries.proofs.HeadLaws.{all-append}

@@ -5,20 +5,23 @@ use Rattle.std.proofs.lemmas.Grind.{flat_map-append}
 use Rattle.dw_forms.specs.declared.fault.AbbrevFault.{AbbrevFault}
 use Rattle.dw_forms.specs.Abbrev.{Declaration}
 use Rattle.dw_forms.specs.AbbrevReading.{table_at}
-use Rattle.dw_entries.specs.declared.fault.Rule.{Rule}
+use Rattle.dw_entries.specs.declared.rule.Rule.{Rule}
 use Rattle.dw_entries.specs.declared.fault.Broken.{Broken}
 use Rattle.dw_entries.specs.declared.fault.Failing.{Failing}
 use Rattle.dw_entries.specs.declared.header.UnitHeader.{UnitHeader}
-use Rattle.dw_entries.specs.Header.{header_size, header_bytes, header_fields, header_at, fields_at, field_at, unit_at}
+use Rattle.dw_entries.specs.Header.{header_size, header_fields, header_at, unit_at}
+use Rattle.dw_entries.specs.UnitLaws.{unit_sized, unit_some}
+use Rattle.dw_forms.specs.BaseFormats.{so_many, taken_at}
+use Rattle.dw_forms.specs.Formats.{choose, failing, mapped, nothing}
 use Rattle.dw_forms.specs.Steps.{◌>>=◌}
-use Rattle.dw_entries.specs.declared.fault.Rule.TheVariants.{Not32Bit}
+use Rattle.dw_entries.specs.declared.rule.Rule.TheVariants.{UnitCut, Not32Bit}
 use Rattle.std.specs.Prelude.{nat_lt}
-use Rattle.byteorder.specs.Endian.{little_number, little_bytes}
-use Rattle.byteorder.specs.Numbers.{little_number-reads_back, length-bytes_low_first}
+use Rattle.byteorder.specs.Endian.{little_number}
+use Rattle.std.proofs.lemmas.List.{take-append-le, drop-append-le}
 use Rattle.std.proofs.lemmas.Bool.{le-ltb, lt-ltb, ltb-true}
 use Rattle.std.proofs.Math.Seq.{take-length, take-add, drop-append_seam}
 use Rattle.dw_entries.specs.Items.{items_bytes}
-use Rattle.dw_entries.specs.Units.{DebugUnit, IsUnit, AreUnits, body_bytes, unit_bytes, units_bytes}
+use Rattle.dw_entries.specs.Units.{DebugUnit, IsUnit, AreUnits, unit_bytes, units_bytes}
 use Rattle.dw_entries.specs.Faults.{place_of, in_unit, FailsBehind, FailsAs, FailsHere, Fails}
 use Rattle.dw_entries.proofs.HeadLaws.{all-append}
 use Rattle.dw_units.specs.ByUnit.{moved_broken, TreesOfUnits}
@@ -83,47 +86,52 @@ trees_first s before rest broken are parts fails =
 
 -- ---- the bytes of whole units, and what comes after them
 
-drop_front : (n : ℕ) (xs ys : List ℕ) → n ≤ length xs → drop n (xs ++ ys) ≡ drop n xs ++ ys
-drop_front zero xs ys le = refl
-drop_front (suc n) [] ys le = absurd (omega (arith, le))
-drop_front (suc n) (x ∷ xs) ys le = drop_front n xs ys (omega (arith, le))
-
-take_front : (n : ℕ) (xs ys : List ℕ) → n ≤ length xs → take n (xs ++ ys) ≡ take n xs
-take_front zero xs ys le = refl
-take_front (suc n) [] ys le = absurd (omega (arith, le))
-take_front (suc n) (x ∷ xs) ys le = ap (λ (zs : List ℕ). x ∷ zs) (take_front n xs ys (omega (arith, le)))
-
-four_before : (part more : List ℕ) → 4 ≤ length part
-    → field_at 4 (part ++ more) ≡ Ok (little_number 4 (take 4 part), drop 4 part ++ more)
-unfolding field_at
-four_before part more four =
+taken_before : (n : ℕ) (part more : List ℕ) → n ≤ length part
+    → taken_at UnitCut n (part ++ more) ≡ Ok (take n part, drop n part ++ more)
+unfolding taken_at
+taken_before n part more long =
     rw (
-      le-ltb (length (part ++ more)) 4 (omega (arith, four, length-append part more)),
-      take_front 4 part more four,
-      drop_front 4 part more four,
-    )
+      le-ltb (length (part ++ more)) n (omega (arith, long, length-append part more)),
+      take-append-le n part more long,
+      drop-append-le n part more long,
+    ) refl
+
+-- a unit after its unit_length n, by whether n is below the numbers that mark other formats
+abbrev after_length : ℕ → Bool → List ℕ → Result (ℕ × List ℕ) Rule
+after_length n b rest =
+    ((choose b (nothing {A = ℕ} {E = Rule} n) (failing {A = ℕ} Not32Bit)).read rest
+    >>= λ len. (mapped (λ (content : List ℕ). (len.0, content)) (so_many UnitCut len.0)).read len.1)
+    >>= λ unit. Ok unit.0
+
+unit_front : (part more : List ℕ) → IsWhole part
+    → unit_at (part ++ more) ≡ after_length (little_number 4 (take 4 part))
+    (nat_lt (little_number 4 (take 4 part)) 0xfffffff0) (drop 4 part ++ more)
+unfolding unit_at
+unit_front part more whole = rw (taken_before 4 part more whole.four) refl
+
+after_low : (n : ℕ) (content more : List ℕ) → length content ≡ n
+    → after_length n true (content ++ more) ≡ Ok (n, content)
+after_low n content more long =
+    let all : take n content ≡ content =
+    ap (λ (k : ℕ). take k content) (sym long) ∙ take-length content in
+    rw (taken_before n content more (omega (arith, long)), all) refl
 
 unit_before : (part more : List ℕ) → IsWhole part → little_number 4 (take 4 part) < 0xfffffff0
     → unit_at (part ++ more) ≡ Ok (little_number 4 (take 4 part), drop 4 part)
-unfolding unit_at
 unit_before part more whole low =
     let four = whole.four in
     let long = whole.long in
-    let body : length (drop 4 part) ≡ little_number 4 (take 4 part) = omega (arith, length-drop 4 part, long) in
-    rw (
-      four_before part more four,
-      lt-ltb (little_number 4 (take 4 part)) 0xfffffff0 low,
-      le-ltb (length (drop 4 part ++ more)) (little_number 4 (take 4 part))
-          (omega (arith, body, length-append (drop 4 part) more)),
-      take_front (little_number 4 (take 4 part)) (drop 4 part) more (omega (arith, body)),
-      sym body,
-    )
-    (ap (λ (xs : List ℕ). Ok (length (drop 4 part), xs)) (take-length (drop 4 part)))
+    let n : ℕ = little_number 4 (take 4 part) in
+    let body : length (drop 4 part) ≡ n = omega (arith, length-drop 4 part, long) in
+    unit_front part more whole
+    ∙ ap (λ (b : Bool). after_length n b (drop 4 part ++ more)) (lt-ltb n 0xfffffff0 low)
+    ∙ after_low n (drop 4 part) more body
 
 unit_past : (part more : List ℕ) → IsWhole part → nat_lt (little_number 4 (take 4 part)) 0xfffffff0 ≡ false
     → unit_at (part ++ more) ≡ Err Not32Bit
-unfolding unit_at
-unit_past part more whole high = rw (four_before part more whole.four, high) refl
+unit_past part more whole high =
+    unit_front part more whole
+    ∙ ap (λ (b : Bool). after_length (little_number 4 (take 4 part)) b (drop 4 part ++ more)) high
 
 -- a unit is read from its own bytes alone
 unit_alike : (part more : List ℕ) → IsWhole part → (b : Bool) → nat_lt (little_number 4 (take 4 part)) 0xfffffff0 ≡ b
@@ -136,7 +144,7 @@ unit_alike part more whole false high = unit_past part more whole high ∙ sym (
 header_alike : (size : ℕ) (part more : List ℕ) → IsWhole part → header_at size (part ++ more) ≡ header_at size part
 unfolding header_at
 header_alike size part more whole =
-    ap (λ (r : Result (ℕ × List ℕ) Rule). r >>= λ unit. fields_at size unit.0 unit.1)
+    ap (λ (r : Result (ℕ × List ℕ) Rule). r >>= λ unit. (header_fields size unit.0).read unit.1)
     (unit_alike part more whole (nat_lt (little_number 4 (take 4 part)) 0xfffffff0) refl ∙ ap unit_at (append-nil part))
 
 -- so what fails at the front of these bytes fails there with more behind them
@@ -150,49 +158,18 @@ here_with_more «abbrev» at part behind more broken whole fails =
 
 -- ---- such bytes are a unit's, or begin with none
 
-first_four : («abbrev» : List ℕ) (u : DebugUnit) (x : List ℕ) → IsUnit «abbrev» u
-    → little_number 4 (take 4 (unit_bytes u ++ x)) ≡ u.header.unit_length
-first_four «abbrev» u x unit =
-    let n : ℕ = u.header.unit_length in
-    let front : List ℕ = little_bytes 4 n in
-    let len : length front ≡ 4 = length-bytes_low_first 0 4 n in
-    let low = unit.header.format in
-    let e : take 4 (unit_bytes u ++ x) ≡ front =
-    take_front 4 (unit_bytes u) x (omega (
-      arith,
-      len,
-      length-append (header_bytes u.header) (body_bytes u),
-      length-append front
-          (header_fields u.header),
-    ))
-    ∙ take_front 4 (header_bytes u.header) (body_bytes u)
-    (omega (arith, len, length-append front (header_fields u.header)))
-    ∙ take_front 4 front (header_fields u.header) (omega (arith, len))
-    ∙ ap (λ (k : ℕ). take k front) (sym len) ∙ take-length front in
-    ap (little_number 4) (e ∙ sym (append-nil front)) ∙ little_number-reads_back 4 n [] (omega (arith, low))
-
 -- what follows such bytes, at whose front are those of a unit, follows the unit
 behind_unit : («abbrev» part behind : List ℕ) (u : DebugUnit) (x : List ℕ) → IsWhole part → IsUnit «abbrev» u
     → part ++ behind ≡ unit_bytes u ++ x → behind ≡ x
 behind_unit «abbrev» part behind u x whole unit parts =
     let long = whole.long in
-    let counted = unit.unit_length in
-    let front : List ℕ = little_bytes 4 u.header.unit_length in
+    let sized = unit_sized «abbrev» u unit in
+    let counted = sized.whole in
     let four : little_number 4 (take 4 part) ≡ u.header.unit_length =
-    ap (little_number 4) (sym (take_front 4 part behind whole.four))
-    ∙ ap (λ (xs : List ℕ). little_number 4 (take 4 xs)) parts
-    ∙ first_four «abbrev» u x unit in
-    let size : length part ≡ length (unit_bytes u) =
-    omega (
-      arith,
-      long,
-      four,
-      counted,
-      length-append (header_bytes u.header) (body_bytes u),
-      length-append front (header_fields u.header),
-      length-bytes_low_first 0 4 u.header.unit_length,
-      length-append (header_fields u.header) (body_bytes u),
-    ) in
+    ap (little_number 4) (sym (take-append-le 4 part behind whole.four) ∙ ap (take 4) parts
+    ∙ take-append-le 4 (unit_bytes u) x (omega (arith, counted)))
+    ∙ sized.unit_length in
+    let size : length part ≡ length (unit_bytes u) = omega (arith, long, four, counted) in
     sym (drop-append_seam part behind) ∙ ap (drop (length part)) parts
     ∙ ap (λ (n : ℕ). drop n (unit_bytes u ++ x)) size ∙ drop-append_seam (unit_bytes u) x
 
@@ -208,15 +185,12 @@ parts_after : («abbrev» : List ℕ) (units : List DebugUnit) (rest : List ℕ)
 parts_after «abbrev» [] rest parts are whole same = (parts, whole, sym same)
 parts_after «abbrev» (u ∷ units) rest [] are whole same =
     let long = ap length same in
-    let unit = are.0 in
     absurd (omega (
       arith,
       long,
       length-append (unit_bytes u ++ units_bytes units) rest,
       length-append (unit_bytes u) (units_bytes units),
-      length-append (header_bytes u.header) (body_bytes u),
-      length-append (little_bytes 4 u.header.unit_length) (header_fields u.header),
-      length-bytes_low_first 0 4 u.header.unit_length,
+      unit_some «abbrev» u are.0,
     ))
 parts_after «abbrev» (u ∷ units) rest (part ∷ parts) are whole same =
     let behind = behind_unit «abbrev» part (flat_map (λ part. part) parts) u (units_bytes units ++ rest) whole.0 are.0

@@ -21,8 +21,8 @@ use Rattle.dw_types.proofs.FactsLemmas.{facts-get, length-facts_of, facts-parent
 use Rattle.dw_units.specs.Alone.{whole, FollowFrom, StandsAlone}
 use Rattle.dw_units.proofs.MovedEntries.{moved_number, moved, moved_facts, found, get}
 use Rattle.dw_types.specs.TypeFailures.{EntryFailures}
-use Rattle.dw_entries.specs.declared.fault.Rule.{Rule}
-use Rattle.dw_entries.specs.declared.fault.Rule.TheVariants.{ContainsItself}
+use Rattle.dw_entries.specs.declared.rule.Rule.{Rule}
+use Rattle.dw_entries.specs.declared.rule.Rule.TheVariants.{ContainsItself}
 use Rattle.dw_entries.specs.declared.fault.Section.TheVariants.{Info}
 use Rattle.dw_entries.specs.declared.fault.Fault.{Fault}
 use Rattle.dw_image.specs.First.{ContainsItselfAt, NamesCycle}

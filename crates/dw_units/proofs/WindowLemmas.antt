@@ -2,7 +2,7 @@
 use Rattle.std.proofs.Common.{rules, ◌≡◌, ℕ, ◌+◌, ◌-◌, zero, suc, ◌<◌, ◌≤◌, true, List, [], ◌∷◌, length, map, Option, Some, refl, sym, ap, subst, ◌∙◌, arith}
 use Rattle.std.proofs.lemmas.Bool.{and_parts, eqb-true}
 use Rattle.std.specs.Prelude.{slice_index, is_some, nat_eq, not}
-use Rattle.dw_entries.specs.declared.fault.Rule.{Rule}
+use Rattle.dw_entries.specs.declared.rule.Rule.{Rule}
 use Rattle.dw_types.specs.Entries.{entry_of, is_parent, ParentsComeFirst, TargetsAreEntries, Facts}
 use Rattle.dw_types.specs.Graphs.{IsStep, IsClosed, IsCycle}
 use Rattle.dw_types.specs.Kinds.{role_in, parent_role, has_members, passes_type_on, is_declared_type, Role}

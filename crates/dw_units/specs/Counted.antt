@@ -8,7 +8,7 @@ use Rattle.dw_image.specs.declared.image.Image.{Image}
 use Rattle.dw_image.specs.Headline.{IsSoundBy, IsFaultOf}
 use Rattle.dw_image.specs.Images.{unit_count, entry_count, type_count}
 use Rattle.dw_image.specs.Lookups.{is_type_entry}
-use Rattle.dw_units.specs.declared.counting.Counts.{Counts}
+use Rattle.dw_units.specs.declared.counts.Counts.{Counts}
 use Rattle.dw_units.specs.declared.counting.Found.{Found}
 use Rattle.dw_units.specs.declared.counting.Found.TheVariants as found
 

@@ -8,12 +8,12 @@ use Rattle.dw_entries.specs.Entries.{Entry, entries_of}
 use Rattle.dw_entries.specs.Asked.{EachEntry}
 use Rattle.dw_image.specs.Lookups.{is_type_entry}
 use Rattle.dw_entries.specs.declared.fault.Fault.{Fault}
-use Rattle.dw_entries.specs.declared.fault.Rule.{Rule}
+use Rattle.dw_entries.specs.declared.rule.Rule.{Rule}
 use Rattle.dw_entries.specs.Rules.{group_of}
 use Rattle.dw_image.specs.Before.{PassBefore}
 use Rattle.dw_image.specs.First.{Group, turn_of}
 use Rattle.dw_image.specs.Headline.{IsFaultOf}
-use Rattle.dw_units.specs.declared.counting.Counts.{Counts}
+use Rattle.dw_units.specs.declared.counts.Counts.{Counts}
 use Rattle.dw_units.specs.declared.counting.Found.{Found}
 use Rattle.dw_units.specs.declared.counting.Found.TheVariants as found
 use Rattle.dw_units.specs.declared.counting.SoFar.{SoFar}

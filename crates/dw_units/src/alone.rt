@@ -10,11 +10,11 @@ ghost use Rattle.dw_entries.specs.Views.{sections_of, all_entries, units_of};
 ghost use Rattle.dw_units.specs.Alone.{leaves_by, HaveNoTypeUnit};
 ghost use Rattle.dw_units.specs.Parts.{IsWhole, AreWhole, Refer, IsVerdictOn, IsKept, IsFoundAlone};
 
-use crate::counting::Counts;
+use crate::counts::Counts;
 use byteorder::{ByteOrder, LittleEndian};
 use dw_elf::Sections;
-use dw_entries::{Entries, Fault, HeaderKind, Rule, Stop, UnitType, scan};
-use dw_forms::{Form, read_sleb, read_uleb};
+use dw_entries::{Entries, Fault, HeaderKind, Rule, Stop, read_header, scan};
+use dw_forms::{Form, code_of, form_with_number, pair_of, tag_and_children};
 use dw_image::{NoMemory, Verdict, verify_before, verify_scanned};
 use std::alloc::Global;
 
@@ -33,28 +33,23 @@ pub fn unit_size(info: &[u8]) -> Option<usize>
     Some(length + 4)
 }
 
-/// Where the abbreviation table of a unit begins (DWARF 4, 7.5.1.1; DWARF 5, 7.5.1). None if it has no such header, and
-/// for a type unit.
-fn table_offset(unit: &[u8]) -> Option<usize> {
-    if unit.len() < 12 {
+/// Where the abbreviation table of a unit begins, if .debug_abbrev has so many bytes. None if the header is malformed,
+/// and for a type unit.
+fn table_offset(abbrev_size: usize, unit: &[u8]) -> Option<usize> {
+    let (header, _) = read_header(abbrev_size, unit).ok()?;
+    if is_type_unit(header.kind) {
         return None;
     }
-    match unit[4] {
-        4 => Some(LittleEndian::read_u32(&unit[6..]) as usize),
-        5 if unit[6] != UnitType::TypeUnit.code() => {
-            Some(LittleEndian::read_u32(&unit[8..]) as usize)
-        }
-        _ => None,
-    }
+    Some(header.abbrev_offset as usize)
 }
 
 /// The size of the unit at the front, if its abbreviation table begins at this offset.
-fn same_table(info: &[u8], table: usize) -> Option<usize>
+fn same_table(abbrev_size: usize, info: &[u8], table: usize) -> Option<usize>
     ensures within { IfSome result (λ n. (0 < n) × (n ≤ length info.now)) }
     ensures whole { IfSome result (λ n. IsWhole (take n info.now)) }
 {
     let size = unit_size(info)?;
-    if table_offset(&info[..size])? != table {
+    if table_offset(abbrev_size, &info[..size])? != table {
         return None;
     }
     Some(size)
@@ -62,36 +57,17 @@ fn same_table(info: &[u8], table: usize) -> Option<usize>
 
 /// The size of the batch at the front: the unit there, and those after it that share its abbreviation table. None if
 /// the bytes end before, or no table is named.
-pub fn batch_size(info: &[u8]) -> Option<usize>
+pub fn batch_size(abbrev_size: usize, info: &[u8]) -> Option<usize>
     ensures within { IfSome result (λ n. (0 < n) × (n ≤ length info.now)) }
     ensures whole { IfSome result (λ n. AreWhole (take n info.now)) }
 {
     let first = unit_size(info)?;
-    let table = table_offset(&info[..first])?;
+    let table = table_offset(abbrev_size, &info[..first])?;
     let mut size = first;
-    while let Some(next) = same_table(&info[size..], table) {
+    while let Some(next) = same_table(abbrev_size, &info[size..], table) {
         size += next;
     }
     Some(size)
-}
-
-/// An unsigned number, and the bytes after it.
-fn number(bytes: &[u8]) -> Option<(u64, &[u8])> {
-    match read_uleb(bytes) {
-        Ok((number, len)) => Some((number, &bytes[len..])),
-        Err(_) => None,
-    }
-}
-
-/// The bytes after the number of an implicit constant, and after any other form.
-fn after_form(form: Form, bytes: &[u8]) -> Option<&[u8]> {
-    match form {
-        Form::ImplicitConst(_) => match read_sleb(bytes) {
-            Ok((_, len)) => Some(&bytes[len..]),
-            Err(_) => None,
-        },
-        _ => Some(bytes),
-    }
 }
 
 /// How the values of a batch may refer to entries of other units.
@@ -124,38 +100,47 @@ fn is_allowed(found: Elsewhere, most: Elsewhere) -> bool {
     )
 }
 
-/// The bytes after a declaration's attributes. None if a form lets a value refer out of the batch.
-fn after_attributes(bytes: &[u8], most: Elsewhere) -> Option<&[u8]> {
+/// The bytes after a declaration's attributes. None if they are malformed, or a form lets a value refer out of the
+/// batch.
+fn after_attributes(bytes: &[u8], most: Elsewhere) -> Option<&[u8]>
+    ensures { IfSome result (λ after. length after.now < length bytes.now) }
+{
     let mut rest = bytes;
-    for _ in 0..bytes.len() {
-        let (_, after) = number(rest)?;
-        let (code, after) = number(after)?;
-        if code == 0 {
+    loop {
+        let Ok((pair, after)) = pair_of(rest) else {
+            return None;
+        };
+        let Some((_, form)) = pair else {
             return Some(after);
-        }
-        let form = Form::from_code(code)?;
+        };
         if !is_allowed(leaves_by(form), most) {
             return None;
         }
-        rest = after_form(form, after)?;
+        let Ok((_, after)) = form_with_number(form, after) else {
+            return None;
+        };
+        rest = after;
     }
-    None
 }
 
-/// The size of the abbreviation table at the front (DWARF 5, 7.5.3). None if a form lets a value refer out of the
+/// The size of the abbreviation table at the front. None if it is malformed, or a form lets a value refer out of the
 /// batch.
-fn table_size(bytes: &[u8], most: Elsewhere) -> Option<usize> {
+fn table_size(bytes: &[u8], most: Elsewhere) -> Option<usize>
+    ensures { IfSome result (λ size. size ≤ length bytes.now) }
+{
     let mut rest = bytes;
-    for _ in 0..bytes.len() {
-        let (code, after) = number(rest)?;
+    loop {
+        let Ok((code, after)) = code_of(rest) else {
+            return None;
+        };
         if code == 0 {
-            return Some(bytes.len().saturating_sub(after.len()));
+            return Some(bytes.len() - after.len());
         }
-        let (_, after) = number(after)?;
-        let (_, after) = after.split_first()?;
+        let Ok((_, _, after)) = tag_and_children(after) else {
+            return None;
+        };
         rest = after_attributes(after, most)?;
     }
-    None
 }
 
 /// Whether the strings end where their section does, so that no search for the last zero byte is long.
@@ -169,20 +154,17 @@ fn after_batch<'a>(
     rest: &'a [u8],
     budget: usize,
 ) -> Option<(&'a [u8], usize)> {
-    let size = batch_size(rest)?;
+    let size = batch_size(sections.abbrev.len(), rest)?;
     if size == sections.info.len() {
         return None;
     }
-    let offset = table_offset(&rest[..size])?;
-    if offset > sections.abbrev.len() {
-        return None;
-    }
+    let offset = table_offset(sections.abbrev.len(), rest)?;
     let most = if unit_size(rest)? < size {
         Elsewhere::ByOffset
     } else {
         Elsewhere::Never
     };
-    let table = table_size(&sections.abbrev[offset..], most)?;
+    let table = table_size(sections.abbrev.get(offset..)?, most)?;
     let budget = budget.saturating_add(size / 16);
     let left = budget.checked_sub(table)?;
     Some((&rest[size..], left))

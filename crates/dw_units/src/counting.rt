@@ -9,49 +9,11 @@ ghost use Rattle.dw_units.specs.Counted.{AreCounts, IsFound, counts_of};
 ghost use Rattle.dw_units.specs.Parts.{AreSoFar, IsFoundAlone, IsFoundAt, least_rule};
 
 use crate::alone::{Verified, are_apart, batch_size, verify_alone};
+use crate::counts::Counts;
 use dw_elf::Sections;
 use dw_entries::{Fault, Rule, Section, Stop};
 use dw_image::{Image, NoMemory};
 use std::alloc::{AllocError, Global};
-
-/// How many units, entries and types there are.
-#[derive(Clone, Copy, Debug, PartialEq, Eq)]
-pub struct Counts {
-    pub units: usize,
-    pub entries: usize,
-    /// How many entries are types, by their tags.
-    pub types: usize,
-}
-
-impl Counts {
-    /// The counts of an image.
-    pub fn of(image: &Image<'_>) -> Counts
-        ensures counts { AreCounts (sections_in image.now) result }
-        ensures same { result ≡ counts_of image.now }
-    {
-        Counts {
-            units: image.units(),
-            entries: image.entries(),
-            types: image.types(),
-        }
-    }
-
-    /// The sums with the counts of other units. None if they exceed usize.
-    pub(crate) fn plus(self, other: Counts) -> Option<Counts>
-        ensures units { IfSome result (λ c. c.units ≡ self.units + other.units) }
-        ensures entries { IfSome result (λ c. c.entries ≡ self.entries + other.entries) }
-        ensures types { IfSome result (λ c. c.types ≡ self.types + other.types) }
-    {
-        let units = self.units.checked_add(other.units)?;
-        let entries = self.entries.checked_add(other.entries)?;
-        let types = self.types.checked_add(other.types)?;
-        Some(Counts {
-            units,
-            entries,
-            types,
-        })
-    }
-}
 
 /// How many bytes of memory `keep_memory` asks for.
 const KEPT: usize = 4 << 20;
@@ -225,7 +187,7 @@ pub fn verify_by_unit<'a>(alloc: Global, sections: &Sections<'a>) -> Result<Opti
         least: None,
     };
     while !rest.is_empty() {
-        let size = match batch_size(rest) {
+        let size = match batch_size(sections.abbrev.len(), rest) {
             Some(size) => size,
             None => return Ok(None),
         };

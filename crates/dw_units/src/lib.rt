@@ -3,5 +3,7 @@
 
 mod alone;
 mod counting;
+mod counts;
 
-pub use counting::{Counts, Found, first_of_units, trees_of_units, units_join, verify_by_unit};
+pub use counting::{Found, first_of_units, trees_of_units, units_join, verify_by_unit};
+pub use counts::Counts;

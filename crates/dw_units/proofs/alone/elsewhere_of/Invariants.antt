@@ -1,6 +1,6 @@
 use Rattle.std.proofs.Common.{ℕ, ◌≡◌, ◌<◌, Some, map, false}
 use Rattle.std.specs.Prelude.{slice_get}
-use Rattle.dw_forms.specs.declared.decl.AttributeSpec.{AttributeSpec}
+use Rattle.dw_forms.specs.declared.abbrev.AttributeSpec.{AttributeSpec}
 use Rattle.dw_forms.specs.AttributeLists.{spec_of}
 use Rattle.dw_links.specs.Concerns.{Passes}
 use Rattle.dw_links.specs.References.{is_signature}

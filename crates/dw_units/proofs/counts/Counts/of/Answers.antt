@@ -1,6 +1,6 @@
 use Rattle.dw_image.specs.Images.{units_in, type_count}
 use Rattle.dw_image.proofs.JoinLemmas.{sound_image}
-use Rattle.dw_units.proofs.counting.Counts.of.Goals as goal
+use Rattle.dw_units.proofs.counts.Counts.of.Goals as goal
 
 pub returns-clause-counts : goal.returns-clause-counts
 unfolding type_count
