@@ -7,7 +7,6 @@ use Rattle.std.proofs.lemmas.List.Elements.{All-weaker, All-nil}
 use Rattle.std.proofs.lemmas.List.Folds.{Any-from_list_any, list_any-from_Any}
 use Rattle.dw_cprint.specs.Declarations.{is_cut_short, is_miscounted, is_misplaced}
 use Rattle.dw_cprint.specs.Shapes.{Parameter, TypeAt, ShapeOf, array, qualified, function, body, SubjectOf, typedef_subject, variable_subject, tag_subject, view_enumerator}
-use Rattle.dw_cprint.specs.declared.shape.Enumerator.{Enumerator}
 use Rattle.dw_cprint.specs.Steps.{parameter_types, types_declared, types_reached}
 use Rattle.dw_cprint.specs.Summaries.{IsBase, Knows, base_known, is_own_unspeakable, is_unspeakable, is_wrong_base, kind_known}
 use Rattle.dw_cprint.specs.declared.survey.Survey.{Survey}
@@ -143,23 +142,9 @@ module _ (shapes : ℕ → ShapeOf) (s : Survey) where
     ],
   )
 
--- ---- parameters, counts and enumerators
+-- ---- parameters
 
 -- whether unspecified parameters among those that are left are misplaced
 abbrev pub has_spare : (typed : Bool) → List Parameter → Bool
 has_spare true ps = is_cut_short ps
 has_spare false ps = is_misplaced ps
-
-pub miscounted : (one : Option ℕ) (counts all : List (Option ℕ)) (r : Bool) → all ≡ one ∷ counts
-    → r ≡ list_any (λ c. is_none c) counts → r ≡ is_miscounted all
-miscounted one counts all r is any = any ∙ ap is_miscounted (sym is)
-
-pub wrong-enumeration : (es all : List Enumerator) (n : ℕ) (empty r : Bool) → es ≡ all → length es ≡ n
-    → empty ≡ (n == 0) → empty ≡ false → r ≡ list_any (λ e. is_none e.value) es
-    → r ≡ is_wrong_enumeration (map view_enumerator all)
-wrong-enumeration [] all n empty r same long is some any =
-    absurd (let none : empty ≡ true = is ∙ ap (λ (k : ℕ). k == 0) (sym long) in
-    let e : true ≡ false = sym none ∙ some in cc)
-wrong-enumeration (e ∷ es) all n empty r same long is some any =
-    any ∙ sym (any_seen lacks_value view_enumerator (e ∷ es))
-    ∙ ap (λ (xs : List Enumerator). is_wrong_enumeration (map view_enumerator xs)) same

@@ -1,17 +1,18 @@
 -- The members, enumerators and parameters that are left to be written, item by item.
 use Rattle.std.proofs.lemmas.Grind.{common_steps}
 use Rattle.std.proofs.Common.{arith, rules, ◌≡◌, ℕ, ℤ, ◌+◌, ◌<◌, false, List, [], ◌∷◌, ◌++◌, Option, Some, None, refl, sym, ◌∙◌, ap, subst, append_assoc, drop, length, get_or, map}
-use Rattle.std.specs.Prelude.{option_map, if◌then◌else◌}
+use Rattle.std.specs.Prelude.{Bool, true, option_map, if◌then◌else◌}
+use Rattle.std.specs.List.{cons_option}
 use Rattle.std.proofs.lemmas.Option.{same_Some}
 use Rattle.std.proofs.lemmas.List.{drop_more}
 use Rattle.dw_cprint.specs.Declarations.{is_cut_short, has_more, constants_of, parameters_by, members_by}
-use Rattle.dw_cprint.specs.Declarators.{body_tokens, enumeration_tokens}
+use Rattle.dw_cprint.specs.Declarators.{body_tokens, comma}
 use Rattle.dw_cprint.specs.Drafts.{appended}
-use Rattle.dw_cprint.specs.Kept.{Writes, WritesEnumerator, WritesEnumerators, WritesParameter, WritesParameters, kept_term}
+use Rattle.dw_cprint.specs.Kept.{Writes, EnumeratorsLeft, constants_left, WritesEnumerator, WritesEnumerators, WritesParameter, WritesParameters, kept_term}
 use Rattle.dw_cprint.specs.Shapes.{Parameter, Typed, More, Name, TypeAt, MemberOf, EnumeratorOf}
 use Rattle.dw_cprint.specs.Terms.{Constant, Valued, Term, Parameters, Parameter as ParameterTerm, Members, Member as MemberTerm}
 use Rattle.dw_cprint.specs.Tokens.{Token, Blank, LeftBrace, RightBrace, Semicolon, Comma, Dot, text_of}
-use Rattle.dw_cprint.specs.Writing.{spell, name_tokens, bits_tokens, ellipsis, constant, more_constants, more_parameters, members_tokens, written}
+use Rattle.dw_cprint.specs.Writing.{spell, name_tokens, bits_tokens, ellipsis, constant, constants, more_constants, more_parameters, members_tokens, written}
 use Rattle.dw_cprint.specs.declared.survey.Survey.{Survey}
 use Rattle.dw_cprint.proofs.OptionLemmas.{both_hold, map_holds, map_inverted, then_inverted, unless_holds}
 use Rattle.dw_cprint.proofs.DraftLemmas.{appended-nil, appended-twice, over-before}
@@ -100,9 +101,6 @@ members_done term all begin old out new opens left closes us e =
 
 -- ---- enumerators
 
-abbrev pub enumerators_left : List EnumeratorOf → Option (List Token)
-enumerators_left es = option_map more_constants (constants_of es)
-
 -- the constants of one enumerator more
 pub record IsMoreConstants (x : EnumeratorOf) (es : List EnumeratorOf) (cs : List Constant) : Type 0 where
   pub name : List ℕ
@@ -117,36 +115,50 @@ pub more-constants : (x : EnumeratorOf) (es : List EnumeratorOf) (cs : List Cons
     → IsMoreConstants x es cs
 more-constants x es cs e = search (rules, then_inverted, map_inverted)
 
-pub enumerators_next : (all : List EnumeratorOf) (x : EnumeratorOf) (left : List EnumeratorOf)
-    (old out mid out' : Option (List ℕ)) → IsLeft enumerators_left all old (x ∷ left) out
-    → Writes (Comma ∷ Blank ∷ []) out mid
-    → WritesEnumerator x mid out' → IsLeft enumerators_left all old left out'
-enumerators_next all x left old out mid out' so_far comma written =
-    left-next enumerators_left all old x left out out' so_far
-    (map_holds (λ (us : List Token). IsSplit enumerators_left left us out out') more_constants (constants_of (x ∷ left))
-    (λ cs e.
-    let m = more-constants x left cs e in
-    let c = constant (Valued m.name m.value) in (
-      Comma ∷ Blank ∷ c,
-      more_constants m.others,
-      ap (option_map more_constants) m.are_others,
-      ap more_constants m.is,
-      both (Comma ∷ Blank ∷ []) c out mid out' comma (written m.name m.value m.is_name m.is_value),
-    )))
+-- all are left
+pub enumerators_begin : (all : List EnumeratorOf) (begin : Option (List ℕ)) → EnumeratorsLeft all begin false all begin
+enumerators_begin all begin = record { rest = λ us is. (us, is, refl) }
 
-pub enumerators_done : (x : EnumeratorOf) (others : List EnumeratorOf) (begin mid old out new : Option (List ℕ))
-    → Writes (LeftBrace ∷ Blank ∷ []) begin mid → WritesEnumerator x mid old → IsLeft enumerators_left others old [] out
-    → Writes (Blank ∷ RightBrace ∷ []) out new → WritesEnumerators (x ∷ others) begin new
-enumerators_done x others begin mid old out new opens first left closes cs e =
-    let m = more-constants x others cs e in
-    let c = constant (Valued m.name m.value) in
-    let inner = left-done enumerators_left others old out (more_constants m.others) refl left
-    (ap (option_map more_constants) m.are_others) in
-    let P : List Constant → Type 0 = λ u. Writes (enumeration_tokens u) begin new in
-    subst P m.is
-    (both (LeftBrace ∷ Blank ∷ []) ((c ++ more_constants m.others) ++ Blank ∷ RightBrace ∷ []) begin mid new opens
-    (both (c ++ more_constants m.others) (Blank ∷ RightBrace ∷ []) mid out new
-    (both c (more_constants m.others) mid old out (first m.name m.value m.is_name m.is_value) inner) closes))
+-- one is written that was left
+pub enumerators_next : (all left : List EnumeratorOf) (x : EnumeratorOf) (begin out mid out' : Option (List ℕ))
+    (others : Bool) → EnumeratorsLeft all begin others (cons_option (Some x) left) out → Writes (comma others) out mid
+    → WritesEnumerator x mid out' → EnumeratorsLeft all begin true left out'
+enumerators_next all left x begin out mid out' others so_far first written = record {
+  rest =
+      λ us is.
+      let (vs, are, so_far) = so_far.rest us is in
+      let m = more-constants x left vs are in
+      let c = constant (Valued m.name m.value) in (
+        m.others,
+        m.are_others,
+        moved (comma others ++ c) (more_constants m.others) (constants_left others vs) begin out out'
+            (text_of (constants us))
+            (both (comma others) c out mid out' first (written m.name m.value m.is_name m.is_value))
+            (parts others m.others (Valued m.name m.value) ∙ ap (constants_left others) m.is) so_far,
+      );
+}
+  where
+    parts : (others : Bool) (cs : List Constant) (one : Constant)
+        → (comma others ++ constant one) ++ more_constants cs ≡ constants_left others (one ∷ cs)
+    parts false cs one = refl
+    parts true cs one = refl
+
+-- all are written, in braces
+pub enumerators_done : (all : List EnumeratorOf) (begin old out new : Option (List ℕ)) (others : Bool)
+    → Writes (LeftBrace ∷ Blank ∷ []) begin old → EnumeratorsLeft all old others [] out
+    → Writes (Blank ∷ RightBrace ∷ []) out new → WritesEnumerators all begin new
+enumerators_done all begin old out new others opens left closes us is =
+    let (vs, are, so_far) = left.rest us is in
+    let none : [] ≡ vs = cc in
+    let inner : Writes (constants us) old out =
+    sym (appended-nil out) ∙ ap (λ (u : List Token). appended out (text_of u)) (nothing others)
+    ∙ ap (λ (cs : List Constant). appended out (text_of (constants_left others cs))) none ∙ so_far in
+    both (LeftBrace ∷ Blank ∷ []) (constants us ++ Blank ∷ RightBrace ∷ []) begin old new opens
+    (both (constants us) (Blank ∷ RightBrace ∷ []) old out new inner closes)
+  where
+    nothing : (others : Bool) → [] ≡ constants_left others []
+    nothing false = refl
+    nothing true = refl
 
 -- ---- parameters
 

@@ -1,4 +1,5 @@
 pub mod CheckedLemmas
+pub mod CountLemmas
 pub mod DeclaratorLemmas
 pub mod HasTermLemmas
 pub mod LegibleLemmas

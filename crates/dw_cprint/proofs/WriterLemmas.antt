@@ -259,7 +259,7 @@ module _ (term : TypeAt → Option Term) (old mid mid2 new : Option (List ℕ)) 
 
 pub specifier-shape : (s : Shape) → ((q : Qualifier) (at : TypeAt) → s ≡ shape.Qualified q at → ⊥)
     → ((at : TypeAt) → s ≡ shape.Pointer at → ⊥)
-    → ((counts : Vec (Option ℕ) Global) (strange : Bool) (at : TypeAt) → s ≡ shape.Array counts strange at → ⊥)
+    → ((counts : List (Option ℕ)) (strange : Bool) (at : TypeAt) → s ≡ shape.Array counts strange at → ⊥)
     → ((at : TypeAt) (parameters : Option (Vec Parameter Global)) → s ≡ shape.Function at parameters → ⊥)
     → is_specifier (view_shape s) ≡ true
 specifier-shape (shape.Qualified q at) a b c d = absurd (a q at refl)

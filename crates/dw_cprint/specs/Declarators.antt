@@ -4,13 +4,18 @@ use Rattle.dw_types.specs.Sizes.{has_elements}
 use Rattle.dw_cprint.specs.Terms.{Qualifier, Enum, Constant, Members, Term, Void, Named, Basic, Tagged, Body}
 use Rattle.dw_cprint.specs.Terms.{Enumeration, Qualified, Pointer, Array, Function}
 use Rattle.dw_cprint.specs.Tokens.{Token, Blank, Star, Open, Close, LeftBrace, RightBrace, VoidWord, TagWord}
-use Rattle.dw_cprint.specs.Tokens.{QualifierWord, Identifier}
+use Rattle.dw_cprint.specs.Tokens.{QualifierWord, Identifier, Comma}
 use Rattle.dw_cprint.specs.Writing.{qualifying, basic, count_tokens, constants, signature_tokens, members_tokens}
 
 -- a space, where a declarator that is not empty comes inside
 abbrev pub gap : Bool → List Token
 gap false = []
 gap true = Blank ∷ []
+
+-- a comma and a space, where others come before
+abbrev pub comma : Bool → List Token
+comma false = []
+comma true = Comma ∷ Blank ∷ []
 
 -- the qualifiers of a pointer, joined by spaces, and one after them where a declarator follows
 abbrev pub pointer_row : List Qualifier → Bool → List Token

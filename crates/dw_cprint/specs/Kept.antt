@@ -1,5 +1,5 @@
 -- State: the shapes that a survey keeps, and what is written from them.
-use Rattle.std.specs.Prelude.{◌≡◌, ℕ, ℤ, Bool, false, List, [], ◌∷◌, ◌++◌, Option, Some, None, slice_get}
+use Rattle.std.specs.Prelude.{◌≡◌, ℕ, ℤ, Bool, true, false, List, [], ◌∷◌, ◌++◌, Option, Some, None, slice_get}
 use Rattle.std.specs.Prelude.{option_and_then}
 use Rattle.std.specs.Option.{option_map_or}
 use Rattle.dw_cprint.specs.Declarations.{term_at, members_by, parameters_by, term_by, has_more, is_misplaced}
@@ -10,7 +10,8 @@ use Rattle.dw_cprint.specs.Shapes.{Qualifier, Parameter, Typed, More, Name, Type
 use Rattle.dw_cprint.specs.Shapes.{other, SubjectOf, view_shape}
 use Rattle.dw_cprint.specs.Terms.{Term, Members, Parameters, Prototyped, Constant, Valued, Declaration}
 use Rattle.dw_cprint.specs.Tokens.{Token, Semicolon, Blank, Dot, text_of}
-use Rattle.dw_cprint.specs.Writing.{spell, name_tokens, bits_tokens, constant, signature_tokens, written}
+use Rattle.dw_cprint.specs.Writing.{spell, name_tokens, bits_tokens, constant, constants, more_constants}
+use Rattle.dw_cprint.specs.Writing.{signature_tokens, written}
 use Rattle.dw_cprint.specs.declared.survey.Survey.{Survey}
 
 -- the shape that is kept of an entry; other where none is
@@ -68,6 +69,18 @@ abbrev pub WritesEnumerator : EnumeratorOf → Option (List ℕ) → Option (Lis
 WritesEnumerator e old new =
     (name : List ℕ) (value : ℤ) → e.name ≡ Some name → e.value ≡ Some value
     → Writes (constant (Valued name value)) old new
+
+-- the constants that are left, with a comma and a space before each; not before the first of all
+abbrev pub constants_left : (others : Bool) → List Constant → List Token
+constants_left false cs = constants cs
+constants_left true cs = more_constants cs
+
+-- the enumerators that are left are still to be written
+pub record EnumeratorsLeft (all : List EnumeratorOf) (begin : Option (List ℕ)) (others : Bool)
+    (left : List EnumeratorOf) (out : Option (List ℕ)) : Type 0 where
+  pub rest : (us : List Constant) → constants_of all ≡ Some us
+      → (vs : List Constant) × (constants_of left ≡ Some vs)
+      × (appended out (text_of (constants_left others vs)) ≡ appended begin (text_of (constants us)))
 
 -- the enumerators were written, in braces
 abbrev pub WritesEnumerators : List EnumeratorOf → Option (List ℕ) → Option (List ℕ) → Type 0

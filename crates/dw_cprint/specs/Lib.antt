@@ -1,5 +1,6 @@
 -- Chapters, in reading order.
 pub mod LookUps
+pub mod Enumerators
 pub mod Shapes
 pub mod EntryShapes
 pub mod Steps
@@ -22,6 +23,7 @@ pub mod SameShapes
 pub mod Reach
 pub mod Rows
 pub mod Lengths
+pub mod Counted
 pub mod Summaries
 pub mod Drafts
 pub mod Kept

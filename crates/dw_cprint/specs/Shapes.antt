@@ -1,7 +1,8 @@
 -- Chapter: the shape of an entry that is reached, and the subject that is declared: all that the printer reads of an
 -- entry.
-use Rattle.std.specs.Prelude.{ℕ, ℤ, Bool, List, Option, map, option_map, Vec}
+use Rattle.std.specs.Prelude.{ℕ, Bool, List, Option, map, option_map, Vec}
 use Rattle.std.specs.Global.{Global}
+pub use Rattle.dw_cprint.specs.Enumerators.{Name, EnumeratorOf}
 pub use Rattle.dw_cprint.specs.declared.words.Qualifier.{Qualifier}
 pub use Rattle.dw_cprint.specs.declared.words.Qualifier.TheVariants.{Const, Volatile, Restrict, Atomic}
 pub use Rattle.dw_cprint.specs.declared.words.TagKeyword.{TagKeyword}
@@ -10,15 +11,11 @@ pub use Rattle.dw_cprint.specs.declared.shape.Parameter.{Parameter}
 pub use Rattle.dw_cprint.specs.declared.shape.Parameter.TheVariants.{Typed, More}
 use Rattle.dw_cprint.specs.declared.words.Text.{Text}
 use Rattle.dw_cprint.specs.declared.shape.Member.{Member}
-use Rattle.dw_cprint.specs.declared.shape.Enumerator.{Enumerator}
+use Rattle.dw_cprint.specs.declared.enumerators.Enumerator.{Enumerator}
 use Rattle.dw_cprint.specs.declared.shape.Shape.{Shape}
 use Rattle.dw_cprint.specs.declared.shape.Shape.TheVariants as shape
 use Rattle.dw_cprint.specs.declared.shape.Subject.{Subject}
 use Rattle.dw_cprint.specs.declared.shape.Subject.TheVariants as subject
-
--- a name as DW_AT_name has it, if it is there
-abbrev pub Name : Type 0
-Name = Option (List ℕ)
 
 -- the entry of a type; a type that is absent is void
 abbrev pub TypeAt : Type 0
@@ -29,11 +26,6 @@ pub record MemberOf : Type 0 where
   pub name : Name
   pub type_at : TypeAt
   pub bits : Option ℕ
-
--- an enumerator, and its value where that is a number
-pub record EnumeratorOf : Type 0 where
-  pub name : Name
-  pub value : Option ℤ
 
 -- an entry that is reached
 pub data ShapeOf : Type 0 where
@@ -84,12 +76,12 @@ view_shape (shape.Base name) = base (view_name name)
 view_shape (shape.Typedef name) = typedef (view_name name)
 view_shape (shape.Qualified q at) = qualified q at
 view_shape (shape.Pointer at) = pointer at
-view_shape (shape.Array counts strange at) = array counts.items strange at
+view_shape (shape.Array counts strange at) = array counts strange at
 view_shape (shape.Function at parameters) = function at (parameter_items parameters)
 view_shape (shape.Tagged word name) = tagged word name.bytes.now
 view_shape (shape.Nameless word) = nameless word
 view_shape (shape.Body word odd members) = body word odd (map view_member members.items)
-view_shape (shape.Enumeration odd enumerators) = enumeration odd (map view_enumerator enumerators.items)
+view_shape (shape.Enumeration odd enumerators) = enumeration odd enumerators
 view_shape shape.Foreign = foreign
 view_shape shape.Other = other
 

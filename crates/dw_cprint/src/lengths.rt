@@ -1,20 +1,20 @@
 //! How many bytes the text of a type has, from those of the types that it names. A number above the limit is kept as
 //! the limit plus one.
 
-ghost use Rattle.std.specs.Prelude.{◌≡◌, ◌+◌, Option, false, length, map, sum_by, if◌then◌else◌};
+ghost use Rattle.std.specs.Prelude.{◌≡◌, ◌+◌, false, length, map, if◌then◌else◌};
 ghost use Rattle.dw_cprint.specs.Digits.{numeral};
-ghost use Rattle.dw_cprint.specs.Lengths.{bytes_around, byte_count, capped, declared_bytes, enumerator_bytes};
-ghost use Rattle.dw_cprint.specs.Lengths.{enumerators_bytes, has_gap, member_bytes, members_bytes, name_bytes};
+ghost use Rattle.dw_cprint.specs.Lengths.{bytes_around, byte_count, capped, declared_bytes};
+ghost use Rattle.dw_cprint.specs.Lengths.{has_gap, member_bytes, members_bytes, name_bytes};
 ghost use Rattle.dw_cprint.specs.Lengths.{named_bytes, parameter_bytes, parameters_bytes, qualifier_bytes, shape_bytes};
 ghost use Rattle.dw_cprint.specs.Lengths.{space, tag_bytes, value_bytes};
-ghost use Rattle.dw_cprint.specs.Shapes.{tag_subject, view_enumerator, view_member, view_name, view_shape};
+ghost use Rattle.dw_cprint.specs.Shapes.{tag_subject, view_member, view_name, view_shape};
 ghost use Rattle.dw_cprint.specs.Shapes.{view_subject};
 ghost use Rattle.dw_cprint.specs.Summaries.{known_of};
 ghost use Rattle.dw_cprint.specs.Tokens.{qualifier_spelling};
-ghost use Rattle.dw_cprint.specs.Writing.{bits_tokens, count_tokens};
+ghost use Rattle.dw_cprint.specs.Writing.{bits_tokens};
 
 use crate::refusals::TypeKind;
-use crate::shape::{Enumerator, Member, Name, Parameter, Shape, Subject, TypeAt};
+use crate::shape::{Member, Name, Parameter, Shape, Subject, TypeAt};
 use crate::summary::Summary;
 use crate::survey::Survey;
 use crate::text::LIMIT;
@@ -80,7 +80,7 @@ fn named_length(survey: &Survey<'_>, at: TypeAt, name: Name<'_>) -> usize
 
 /// The bytes of a name, if there is one.
 #[inline]
-fn name_length(name: Name<'_>) -> usize
+pub fn name_length(name: Name<'_>) -> usize
     ensures { result ≡ name_bytes (view_name name.entry) }
 {
     name.map_or(0, |name| name.bytes.len())
@@ -95,7 +95,7 @@ fn tag_length(word: TagKeyword, name: Name<'_>) -> usize
 
 /// How many decimal digits a number has.
 #[tactic(auto, using(crate::proofs::LexingLemmas::numeral_low))]
-fn digit_count(n: u128) -> usize
+pub fn digit_count(n: u128) -> usize
     ensures { result ≡ capped (length (numeral n)) }
 {
     if n < 10 {
@@ -137,7 +137,7 @@ fn members_length(survey: &Survey<'_>, members: &[Member<'_>]) -> usize
 }
 
 /// The bytes of an enumerator's value.
-fn value_length(value: Option<i128>) -> usize
+pub fn value_length(value: Option<i128>) -> usize
     ensures { result ≡ capped (value_bytes value) }
 {
     match value {
@@ -147,30 +147,6 @@ fn value_length(value: Option<i128>) -> usize
             if value < 0 { plus(1, digits) } else { digits }
         }
     }
-}
-
-/// The bytes of an enumerator, ` = ` and its value, and of the comma or the brace before it and a space.
-fn enumerator_length(enumerator: &Enumerator<'_>) -> usize
-    ensures { result ≡ capped (enumerator_bytes (view_enumerator enumerator.now)) }
-{
-    plus(
-        plus(name_length(enumerator.name), 5),
-        value_length(enumerator.value),
-    )
-}
-
-/// The bytes of enumerators, in braces.
-fn enumerators_length(enumerators: &[Enumerator<'_>]) -> usize
-    ensures { result ≡ capped (enumerators_bytes (map view_enumerator enumerators.now)) }
-{
-    if enumerators.is_empty() {
-        return 4;
-    }
-    let mut bytes = 2;
-    for enumerator in enumerators {
-        bytes = plus(bytes, enumerator_length(enumerator));
-    }
-    bytes
 }
 
 /// The bytes of a parameter, and of the comma and the space or the parentheses around the first.
@@ -197,27 +173,6 @@ fn parameters_length(survey: &Survey<'_>, parameters: &[Parameter]) -> usize
     bytes
 }
 
-/// The bytes of the brackets of a dimension.
-fn count_length(count: Option<u128>) -> usize
-    ensures { result ≡ capped (byte_count (count_tokens count)) }
-{
-    match count {
-        None => 2,
-        Some(n) => plus(2, digit_count(n)),
-    }
-}
-
-/// The bytes of the brackets of dimensions.
-fn counts_length(counts: &[Option<u128>]) -> usize
-    ensures { result ≡ capped (sum_by (λ n. byte_count (count_tokens n)) counts.now) }
-{
-    let mut bytes = 0;
-    for count in counts {
-        bytes = plus(bytes, count_length(*count));
-    }
-    bytes
-}
-
 /// The bytes of the text of a shape without a declarator.
 pub fn length_of(survey: &Survey<'_>, shape: &Shape<'_>) -> usize
     ensures { result ≡ capped (shape_bytes (known_of survey.now) (view_shape shape.now)) }
@@ -233,7 +188,7 @@ pub fn length_of(survey: &Survey<'_>, shape: &Shape<'_>) -> usize
             let star = if kind.is_bracketed() { 3 } else { 1 };
             plus(length_around(survey, *to), star)
         }
-        Shape::Array(counts, _, at) => plus(length_around(survey, *at), counts_length(counts)),
+        Shape::Array(counts, _, at) => plus(length_around(survey, *at), counts.length()),
         Shape::Function(at, None) => plus(length_around(survey, *at), 2),
         Shape::Function(at, Some(parameters)) => {
             plus(
@@ -245,7 +200,7 @@ pub fn length_of(survey: &Survey<'_>, shape: &Shape<'_>) -> usize
         Shape::Body(word, _, members) => {
             plus(tag_length(*word, None), members_length(survey, members))
         }
-        Shape::Enumeration(_, enumerators) => plus(5, enumerators_length(enumerators)),
+        Shape::Enumeration(_, enumerators) => plus(5, enumerators.length()),
         _ => 0,
     }
 }
@@ -264,7 +219,7 @@ fn tag_declaration_length(survey: &Survey<'_>, name: Name<'_>, shape: &Shape<'_>
         }
         Shape::Enumeration(_, enumerators) => {
             let tag = plus(tag_length(TagKeyword::Enum, name), 2);
-            plus(tag, enumerators_length(enumerators))
+            plus(tag, enumerators.length())
         }
         Shape::Tagged(word, name) => plus(tag_length(*word, Some(*name)), 1),
         _ => 0,

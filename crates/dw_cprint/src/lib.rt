@@ -2,6 +2,8 @@
 #![tactic(auto)]
 
 mod digits;
+mod dimensions;
+mod enumerators;
 mod fault;
 mod laws;
 mod lengths;

@@ -24,7 +24,7 @@ use crate::shape::{Name, Shape, Subject};
 use crate::shape_reader::subject_of;
 use crate::source::Source;
 use crate::survey::Survey;
-use crate::text::{Draft, put_enumerators, put_tag};
+use crate::text::{Draft, put_tag};
 use crate::words::TagKeyword;
 use dw_image::{EntryId, Image, NoMemory};
 use dw_types::{Numbers, clear_nodes, longest_at, longest_rows};
@@ -57,7 +57,7 @@ impl<'a> Survey<'a> {
             Shape::Enumeration(_, enumerators) => {
                 put_tag(out, TagKeyword::Enum, name)?;
                 out.put(b" ")?;
-                put_enumerators(out, enumerators)?;
+                enumerators.write(out)?;
                 out.put(b";")
             }
             Shape::Tagged(tag, name) => {
@@ -96,7 +96,7 @@ impl<'a> Survey<'a> {
 /// Why the declaration of an entry is refused, if it is. Otherwise its text is written to the draft.
 fn refusal_of(
     alloc: Global,
-    source: &Source<'_, '_>,
+    source: &Source<'_>,
     id: EntryId,
     draft: &mut Draft,
 ) -> Result<Option<PrintFault>, AllocError>

@@ -42,10 +42,11 @@ fn is_keyword_text(word: &[u8]) -> bool
                 "_Complex", "_Generic",
             ],
         ),
-        _ => is_one_of(
-            word,
-            &["_Imaginary", "_Noreturn", "_Static_assert", "_Thread_local"],
-        ),
+        9 => is_one_of(word, &["_Noreturn"]),
+        10 => is_one_of(word, &["_Imaginary"]),
+        13 => is_one_of(word, &["_Thread_local"]),
+        14 => is_one_of(word, &["_Static_assert"]),
+        _ => false,
     }
 }
 

@@ -111,7 +111,7 @@ pub fn put_declared_types(types: &mut Vec<TypeAt>, subject: &Subject<'_>) -> Res
 /// The shape of the entry with a number.
 fn shape_at<'a>(
     alloc: Global,
-    source: &Source<'_, 'a>,
+    source: &'a Source<'a>,
     entry: usize,
 ) -> Result<Shape<'a>, AllocError>
     requires { entry < length (entries_in source.now.image.now) }
@@ -155,7 +155,7 @@ pub fn put_types_of_members(
 /// the shape, and no summary yet; the graph has the steps between the nodes.
 pub fn reach<'a>(
     alloc: Global,
-    source: &Source<'_, 'a>,
+    source: &'a Source<'a>,
     types: &[TypeAt],
 ) -> Result<(Survey<'a>, Packed), AllocError>
     requires { All (λ to. to < length (entries_in source.now.image.now)) (entries_of types.now) }

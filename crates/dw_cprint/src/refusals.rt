@@ -2,7 +2,7 @@
 
 ghost use Rattle.std.specs.Prelude.{◌≡◌, Some, ◌||◌};
 ghost use Rattle.std.specs.List.{list_any};
-ghost use Rattle.dw_cprint.specs.Declarations.{is_miscounted, is_misplaced};
+ghost use Rattle.dw_cprint.specs.Declarations.{is_misplaced};
 ghost use Rattle.dw_cprint.specs.Shapes.{view_shape, view_name};
 ghost use Rattle.dw_cprint.specs.Steps.{types_reached};
 ghost use Rattle.dw_cprint.specs.Summaries.{base_known, is_unspeakable, kind_known};
@@ -47,7 +47,7 @@ pub fn kind_of(shape: &Shape<'_>) -> TypeKind
         Shape::Qualified(_, _) => TypeKind::Qualified,
         Shape::Pointer(_) => TypeKind::Pointer,
         Shape::Array(counts, _, _) => TypeKind::Array {
-            open: matches!(counts.first(), Some(None)),
+            open: counts.start_open(),
         },
         Shape::Function(_, _) => TypeKind::Function,
         Shape::Nameless(TagKeyword::Struct | TagKeyword::Union) | Shape::Body(_, _, _) => {
@@ -93,9 +93,7 @@ pub fn has_bad_name(survey: &Survey<'_>, shape: &Shape<'_>) -> bool
         Shape::Body(_, _, members) => members
             .iter()
             .any(|member| lacks_member_name(survey, member)),
-        Shape::Enumeration(_, enumerators) => enumerators
-            .iter()
-            .any(|enumerator| lacks_name(enumerator.name)),
+        Shape::Enumeration(_, enumerators) => enumerators.lack_name(),
         _ => false,
     }
 }
@@ -119,16 +117,6 @@ fn is_wrong_member(survey: &Survey<'_>, member: &Member<'_>) -> bool
         None => matches!(kind, TypeKind::Function),
         Some(0) => true,
         Some(_) => { kind.is_bracketed() || matches!(kind, TypeKind::Pointer) }
-    }
-}
-
-/// Whether there is no count, or one after the first is unknown.
-fn has_wrong_counts(counts: &[Option<u128>]) -> bool
-    ensures { result ≡ is_miscounted counts.now }
-{
-    match counts.split_first() {
-        None => true,
-        Some((_, others)) => others.iter().any(|count| count.is_none()),
     }
 }
 
@@ -166,7 +154,7 @@ pub fn is_unspeakable(survey: &Survey<'_>, shape: &Shape<'_>, types: &[TypeAt]) 
         Shape::Array(counts, strange, at) => {
             let kind = survey.known(*at).kind;
             *strange
-                || has_wrong_counts(counts)
+                || counts.are_miscounted()
                 || matches!(kind, TypeKind::Function | TypeKind::Array { open: true })
                 || has_void(survey, types)
         }
@@ -179,12 +167,7 @@ pub fn is_unspeakable(survey: &Survey<'_>, shape: &Shape<'_>, types: &[TypeAt]) 
         Shape::Body(_, _, members) => {
             has_void(survey, types) || members.iter().any(|member| is_wrong_member(survey, member))
         }
-        Shape::Enumeration(_, enumerators) => {
-            enumerators.is_empty()
-                || enumerators
-                    .iter()
-                    .any(|enumerator| enumerator.value.is_none())
-        }
+        Shape::Enumeration(_, enumerators) => enumerators.is_wrong(),
         _ => false,
     }
 }

@@ -102,7 +102,7 @@ fn name_place(image: &Image<'_>, id: EntryId) -> Option<Place>
 }
 
 /// The text at a place.
-fn text_of<'a>(source: &Source<'_, 'a>, place: Place) -> Text<'a>
+fn text_of<'a>(source: &Source<'a>, place: Place) -> Text<'a>
     requires { IsWithin source.now.image.now place }
     ensures { result.bytes.now ≡ text_at source.now.image.now place }
 {
@@ -253,7 +253,7 @@ pub fn all_types(alloc: Global, image: &Image<'_>, named: &Named) -> Result<Vec<
 #[tactic(auto, using(crate::proofs::RowLemmas::is_typedef, crate::proofs::RowLemmas::is_tag))]
 pub fn subject_at<'a>(
     alloc: Global,
-    source: &Source<'_, 'a>,
+    source: &'a Source<'a>,
     id: EntryId,
     row: Row,
 ) -> Result<Subject<'a>, AllocError>

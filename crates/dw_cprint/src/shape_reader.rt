@@ -3,14 +3,16 @@
 ghost use Rattle.std.specs.Prelude.{◌≡◌, ◌<◌, ℕ, length, IfOk, option_map};
 ghost use Rattle.dw_image.specs.Images.{entries_in};
 ghost use Rattle.dw_cprint.specs.Children.{AreKept, TellsAny};
-ghost use Rattle.dw_cprint.specs.EntryShapes.{body_in, counts_in, dimension_at, enumerator_at, has_stride};
-ghost use Rattle.dw_cprint.specs.EntryShapes.{member_at, parameter_at, parameters_in, shape_in, subject_in, tag_in};
+ghost use Rattle.dw_cprint.specs.EntryShapes.{body_in, counts_in, has_stride, member_at, parameter_at};
+ghost use Rattle.dw_cprint.specs.EntryShapes.{parameters_in, shape_in, subject_in, tag_in};
 ghost use Rattle.dw_cprint.specs.EntryShapes.{is_strange, tag_shape};
 ghost use Rattle.dw_cprint.specs.LookUps.{children_at, name_at, type_at};
-ghost use Rattle.dw_cprint.specs.Shapes.{array, function, view_enumerator, view_member, view_shape, view_subject};
+ghost use Rattle.dw_cprint.specs.Shapes.{array, function, view_member, view_shape, view_subject};
 
-use crate::shape::{Enumerator, Member, Parameter, Shape, Subject};
-use crate::source::{Source, bits_at, flag_at, integer_at, tag_at, type_at, value_at};
+use crate::dimensions::Dimensions;
+use crate::enumerators::Enumerators;
+use crate::shape::{Member, Parameter, Shape, Subject};
+use crate::source::{Source, bits_at, flag_at, tag_at, type_at, value_at};
 use crate::words::{Qualifier, TagKeyword};
 use dw_entries::constants::*;
 use dw_image::{EntryId, Image};
@@ -60,21 +62,12 @@ fn has_stride(image: &Image<'_>, id: EntryId) -> bool
         || value_at(image, id, DW_AT_bit_stride).is_some()
 }
 
-/// The count of a child that is a dimension.
-fn dimension_at(image: &Image<'_>, id: EntryId) -> Option<Option<u128>>
-    requires { id < length (entries_in image.now) }
-    ensures { result ≡ dimension_at image.now id }
-{
-    (tag_at(image, id) == DW_TAG_subrange_type).then_some(image.count_of(id))
-}
-
 /// The shape of an array.
-fn array_shape<'a>(alloc: Global, image: &Image<'a>, id: EntryId) -> Result<Shape<'a>, AllocError>
+fn array_shape<'a>(image: &'a Image<'a>, id: EntryId) -> Shape<'a>
     requires { id < length (entries_in image.now) }
-    ensures { IfOk result (λ shape. view_shape shape
-        ≡ array (counts_in image.now id) (is_strange image.now id) (type_at image.now id)) }
+    ensures { view_shape result
+        ≡ array (counts_in image.now id) (is_strange image.now id) (type_at image.now id) }
 {
-    let counts = read_children(alloc, image, id, |child| dimension_at(image, child))?;
     let strided = any_child(image, id, |child| {
         tag_at(image, child) == DW_TAG_subrange_type && has_stride(image, child)
     });
@@ -85,7 +78,7 @@ fn array_shape<'a>(alloc: Global, image: &Image<'a>, id: EntryId) -> Result<Shap
         )
     });
     let strange = has_stride(image, id) || strided || other;
-    Ok(Shape::Array(counts, strange, type_at(image, id)))
+    Shape::Array(Dimensions::read(image, id), strange, type_at(image, id))
 }
 
 /// A child that is a parameter, or unspecified parameters.
@@ -117,7 +110,7 @@ fn function_shape<'a>(
 }
 
 /// A child that is a plain member: one that is not declared.
-fn member_at<'a>(source: &Source<'_, 'a>, id: EntryId) -> Option<Member<'a>>
+fn member_at<'a>(source: &Source<'a>, id: EntryId) -> Option<Member<'a>>
     requires { id < length (entries_in source.now.image.now) }
     ensures { option_map view_member result ≡ member_at source.now.image.now id }
 {
@@ -132,24 +125,10 @@ fn member_at<'a>(source: &Source<'_, 'a>, id: EntryId) -> Option<Member<'a>>
     })
 }
 
-/// A child that is an enumerator.
-fn enumerator_at<'a>(source: &Source<'_, 'a>, id: EntryId) -> Option<Enumerator<'a>>
-    requires { id < length (entries_in source.now.image.now) }
-    ensures { option_map view_enumerator result ≡ enumerator_at source.now.image.now id }
-{
-    if tag_at(source.image, id) != DW_TAG_enumerator {
-        return None;
-    }
-    Some(Enumerator {
-        name: source.name(id),
-        value: integer_at(source.image, id, DW_AT_const_value),
-    })
-}
-
 /// A structure, union or enumeration with its body. An inheritance or a variant part cannot be in a body of C.
 pub fn body_at<'a>(
     alloc: Global,
-    source: &Source<'_, 'a>,
+    source: &'a Source<'a>,
     id: EntryId,
     word: TagKeyword,
 ) -> Result<Shape<'a>, AllocError>
@@ -164,8 +143,7 @@ pub fn body_at<'a>(
         )
     });
     if word == TagKeyword::Enum {
-        let enumerators = read_children(alloc, image, id, |child| enumerator_at(source, child))?;
-        return Ok(Shape::Enumeration(odd, enumerators));
+        return Ok(Shape::Enumeration(odd, Enumerators::read(source, id)));
     }
     let members = read_children(alloc, image, id, |child| member_at(source, child))?;
     Ok(Shape::Body(word, odd, members))
@@ -174,7 +152,7 @@ pub fn body_at<'a>(
 /// A structure, union or enumeration by its name; without one as it is declared, or with its body.
 fn tag_shape<'a>(
     alloc: Global,
-    source: &Source<'_, 'a>,
+    source: &'a Source<'a>,
     id: EntryId,
     word: TagKeyword,
 ) -> Result<Shape<'a>, AllocError>
@@ -195,7 +173,7 @@ fn tag_shape<'a>(
 #[tactic(auto, unfolding(crate::specs::EntryShapes::shape_in))]
 pub fn shape_of<'a>(
     alloc: Global,
-    source: &Source<'_, 'a>,
+    source: &'a Source<'a>,
     id: EntryId,
 ) -> Result<Shape<'a>, AllocError>
     requires { id < length (entries_in source.now.image.now) }
@@ -211,7 +189,7 @@ pub fn shape_of<'a>(
         DW_TAG_restrict_type => Ok(Shape::Qualified(Qualifier::Restrict, type_at(image, id))),
         DW_TAG_atomic_type => Ok(Shape::Qualified(Qualifier::Atomic, type_at(image, id))),
         DW_TAG_pointer_type => Ok(Shape::Pointer(type_at(image, id))),
-        DW_TAG_array_type => array_shape(alloc, image, id),
+        DW_TAG_array_type => Ok(array_shape(image, id)),
         DW_TAG_subroutine_type => function_shape(alloc, image, id),
         DW_TAG_structure_type => tag_shape(alloc, source, id, TagKeyword::Struct),
         DW_TAG_union_type => tag_shape(alloc, source, id, TagKeyword::Union),
@@ -227,7 +205,7 @@ pub fn shape_of<'a>(
 /// A structure, union or enumeration that is declared to C: one that is only a declaration by its name.
 fn tag_subject<'a>(
     alloc: Global,
-    source: &Source<'_, 'a>,
+    source: &'a Source<'a>,
     id: EntryId,
     word: TagKeyword,
 ) -> Result<Subject<'a>, AllocError>
@@ -244,7 +222,7 @@ fn tag_subject<'a>(
 #[tactic(auto, unfolding(crate::specs::EntryShapes::subject_in))]
 pub fn subject_of<'a>(
     alloc: Global,
-    source: &Source<'_, 'a>,
+    source: &'a Source<'a>,
     id: EntryId,
 ) -> Result<Subject<'a>, AllocError>
     requires { id < length (entries_in source.now.image.now) }

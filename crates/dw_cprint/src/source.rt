@@ -96,8 +96,8 @@ impl<'a> StringTable<'a> {
 
 /// An image and the strings that its entries share, in which names are found without being read to their ends.
 #[derive(Drop)]
-pub struct Source<'i, 'a> {
-    pub image: &'i Image<'a>,
+pub struct Source<'a> {
+    pub image: &'a Image<'a>,
     /// The strings of .debug_str.
     str: StringTable<'a>,
     /// Those of .debug_line_str.
@@ -106,9 +106,9 @@ pub struct Source<'i, 'a> {
     ghost same_line_str: { line_str.section ≡ (sections_in image.now).line_str },
 }
 
-impl<'i, 'a> Source<'i, 'a> {
+impl<'a> Source<'a> {
     /// An image, whose two sections of strings are read once.
-    pub fn read(alloc: Global, image: &'i Image<'a>) -> Result<Source<'i, 'a>, AllocError>
+    pub fn read(alloc: Global, image: &'a Image<'a>) -> Result<Source<'a>, AllocError>
         ensures { IfOk result (λ it. it.image ≡ image.entry) }
     {
         let sections = image.sections();

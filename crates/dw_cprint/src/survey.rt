@@ -7,14 +7,14 @@ ghost use Rattle.dw_image.specs.Images.{entries_in};
 ghost use Rattle.dw_cprint.specs.EntryShapes.{shape_in};
 ghost use Rattle.dw_cprint.specs.Judgements.{IsJudgement, IsRefusalBelow};
 ghost use Rattle.dw_cprint.specs.Shapes.{view_subject};
-ghost use Rattle.dw_cprint.specs.Steps.{entries_of, first_steps};
+ghost use Rattle.dw_cprint.specs.Steps.{entries_of, first_steps, types_declared};
 ghost use Rattle.dw_cprint.specs.Summaries.{known_of, summary_at};
 ghost use Rattle.dw_cprint.specs.Surveys.{BySurvey, IsSurveyOf, lacks_summary};
 ghost use Rattle.dw_cprint.specs.Wrong.{is_other_kind};
 
 use crate::fault::PrintFault;
 use crate::lengths::length_declared;
-use crate::reaching::{put_declared_types, reach};
+use crate::reaching::{put_reached_types, reach};
 use crate::shape::{Shape, Subject, TypeAt};
 use crate::source::Source;
 use crate::summary::{Summary, VOID, findings_declared, summarize};
@@ -50,7 +50,7 @@ impl<'a> Survey<'a> {
     /// Surveys what is reached from some types. Each entry is looked at once, and no path by itself.
     pub fn new(
         alloc: Global,
-        source: &Source<'_, 'a>,
+        source: &'a Source<'a>,
         types: Vec<TypeAt>,
     ) -> Result<Survey<'a>, AllocError>
         requires { All (λ to. to < length (entries_in source.now.image.now)) (entries_of types.items) }
@@ -91,7 +91,22 @@ impl<'a> Survey<'a> {
         types.iter().any(|at| self.summary(*at).is_none())
     }
 
-    /// Why a declaration is refused, if it is by a rule that does not need its text.
+    /// Why a declaration is refused, if it is by a rule that needs no text. `types` are those that it leads to.
+    fn refusal_by_types(&self, subject: &Subject<'a>, types: &[TypeAt]) -> Option<PrintFault>
+        requires { types.now ≡ types_declared (view_subject subject.now) }
+        ensures { BySurvey self.now (first_steps (view_subject subject.now)) (λ shapes.
+            IsRefusalBelow 6 shapes (view_subject subject.now) result) }
+    {
+        if is_other_kind(subject) {
+            return Some(PrintFault::NotPrintable);
+        }
+        if self.reaches_cycle(types) {
+            return Some(PrintFault::NotPrintable);
+        }
+        findings_declared(self, subject, types).refusal()
+    }
+
+    /// The same, by the types that are read of the declared entry.
     fn refusal_before_text(
         &self,
         alloc: Global,
@@ -100,15 +115,15 @@ impl<'a> Survey<'a> {
         ensures { IfOk result (λ r. BySurvey self.now (first_steps (view_subject subject.now)) (λ shapes.
             IsRefusalBelow 6 shapes (view_subject subject.now) r)) }
     {
-        let mut types = Vec::new(alloc);
-        put_declared_types(&mut types, subject)?;
-        if is_other_kind(subject) {
-            return Ok(Some(PrintFault::NotPrintable));
+        match subject {
+            Subject::Typedef(_, at) => Ok(self.refusal_by_types(subject, &[*at])),
+            Subject::Variable(_, at) => Ok(self.refusal_by_types(subject, &[*at])),
+            Subject::Tag(_, shape) => {
+                let mut types = Vec::new(alloc);
+                put_reached_types(&mut types, shape)?;
+                Ok(self.refusal_by_types(subject, &types))
+            }
         }
-        if self.reaches_cycle(&types) {
-            return Ok(Some(PrintFault::NotPrintable));
-        }
-        Ok(findings_declared(self, subject, &types).refusal())
     }
 
     /// Why a declaration is refused, if it is. Otherwise its text is written to the draft, and no other text is.

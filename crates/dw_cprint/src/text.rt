@@ -1,17 +1,17 @@
 //! The text of a declaration as it is written, up to the limit.
 
 ghost use Rattle.std.specs.Prelude.{◌≡◌, ℕ, if◌then◌else◌, List, [], Option, None, Some, IfSome, OnOk, is_none, ◌++◌};
-ghost use Rattle.std.specs.Prelude.{◌∷◌, flat_map, map};
+ghost use Rattle.std.specs.Prelude.{◌∷◌};
 ghost use Rattle.dw_cprint.specs.Drafts.{appended};
-ghost use Rattle.dw_cprint.specs.Declarators.{gap, pointer_row};
+ghost use Rattle.dw_cprint.specs.Declarators.{comma, gap, pointer_row};
 ghost use Rattle.dw_cprint.specs.Digits.{numeral};
-ghost use Rattle.dw_cprint.specs.Kept.{Writes, WritesEnumerator, WritesEnumerators};
-ghost use Rattle.dw_cprint.specs.Shapes.{view_enumerator, view_name};
+ghost use Rattle.dw_cprint.specs.Kept.{Writes};
+ghost use Rattle.dw_cprint.specs.Shapes.{view_name};
 ghost use Rattle.dw_cprint.specs.Tokens.{Blank, TagWord};
-ghost use Rattle.dw_cprint.specs.Writing.{count_tokens, qualifying, name_tokens, value_tokens, bits_tokens};
+ghost use Rattle.dw_cprint.specs.Writing.{qualifying, name_tokens, value_tokens, bits_tokens};
 
 use crate::digits::put_decimal;
-use crate::shape::{Enumerator, Name};
+use crate::shape::Name;
 use crate::words::{Qualifier, TagKeyword};
 use std::alloc::{AllocError, Global};
 use std::marker::Model;
@@ -96,7 +96,7 @@ impl Draft {
 }
 
 /// An enumerator's value in decimal.
-fn put_value(out: &mut Draft, value: i128) -> Result<(), AllocError>
+pub fn put_value(out: &mut Draft, value: i128) -> Result<(), AllocError>
     ensures { OnOk result (Writes (value_tokens value) out.old out.new) }
 {
     if value < 0 {
@@ -113,33 +113,6 @@ pub fn put_name(out: &mut Draft, name: Name<'_>) -> Result<(), AllocError>
         None => Ok(()),
         Some(name) => out.put(name.bytes),
     }
-}
-
-/// The brackets of a dimension.
-fn put_count(out: &mut Draft, count: Option<u128>) -> Result<(), AllocError>
-    ensures { OnOk result (Writes (count_tokens count) out.old out.new) }
-{
-    match count {
-        None => out.put(b"[]"),
-        Some(n) => {
-            out.put(b"[")?;
-            out.put_number(n)?;
-            out.put(b"]")
-        }
-    }
-}
-
-/// The brackets of dimensions.
-pub fn put_counts(out: &mut Draft, counts: &[Option<u128>]) -> Result<(), AllocError>
-    ensures { OnOk result (Writes (flat_map count_tokens counts.now) out.old out.new) }
-{
-    for count in counts {
-        if out.is_over() {
-            return Ok(());
-        }
-        put_count(out, *count)?;
-    }
-    Ok(())
 }
 
 /// Each qualifier, followed by a space.
@@ -177,6 +150,16 @@ pub fn put_gap(out: &mut Draft, inside: bool) -> Result<(), AllocError>
     Ok(())
 }
 
+/// A comma and a space, if others are before what follows.
+pub fn put_comma(out: &mut Draft, others: bool) -> Result<(), AllocError>
+    ensures { OnOk result (Writes (comma others) out.old out.new) }
+{
+    if others {
+        out.put(b", ")?;
+    }
+    Ok(())
+}
+
 /// A word before a tag, and the tag.
 pub fn put_tag(out: &mut Draft, tag: TagKeyword, name: Name<'_>) -> Result<(), AllocError>
     ensures { OnOk result (Writes (TagWord tag ∷ Blank ∷ name_tokens (view_name name.entry)) out.old out.new) }
@@ -184,37 +167,6 @@ pub fn put_tag(out: &mut Draft, tag: TagKeyword, name: Name<'_>) -> Result<(), A
     out.put(tag.text())?;
     out.put(b" ")?;
     put_name(out, name)
-}
-
-/// An enumerator and its value.
-fn put_enumerator(out: &mut Draft, enumerator: &Enumerator<'_>) -> Result<(), AllocError>
-    ensures { OnOk result (WritesEnumerator (view_enumerator enumerator.now) out.old out.new) }
-{
-    put_name(out, enumerator.name)?;
-    out.put(b" = ")?;
-    match enumerator.value {
-        None => Ok(()),
-        Some(value) => put_value(out, value),
-    }
-}
-
-/// The enumerators, in braces.
-pub fn put_enumerators(out: &mut Draft, enumerators: &[Enumerator<'_>]) -> Result<(), AllocError>
-    ensures { OnOk result (WritesEnumerators (map view_enumerator enumerators.now) out.old out.new) }
-{
-    let Some((first, others)) = enumerators.split_first() else {
-        return out.put(b"{  }");
-    };
-    out.put(b"{ ")?;
-    put_enumerator(out, first)?;
-    for enumerator in others {
-        if out.is_over() {
-            return Ok(());
-        }
-        out.put(b", ")?;
-        put_enumerator(out, enumerator)?;
-    }
-    out.put(b" }")
 }
 
 /// The bits of a member, if it has a size in bits.

@@ -11,10 +11,7 @@ ghost use Rattle.dw_cprint.specs.Wrong.{is_bracketed, kind_at};
 use crate::refusals::kind_of;
 use crate::shape::{Member, Name, Parameter, Shape, TypeAt};
 use crate::survey::Survey;
-use crate::text::{
-    Draft, put_bits, put_counts, put_enumerators, put_gap, put_joined, put_name, put_qualifiers,
-    put_tag,
-};
+use crate::text::{Draft, put_bits, put_gap, put_joined, put_name, put_qualifiers, put_tag};
 use crate::words::Qualifier;
 use std::alloc::{AllocError, Global};
 
@@ -196,7 +193,7 @@ impl<'a> Survey<'a> {
             }
             Shape::Enumeration(_, enumerators) => {
                 out.put(b"enum ")?;
-                put_enumerators(out, enumerators)
+                enumerators.write(out)
             }
             _ => Ok(()),
         }
@@ -278,7 +275,7 @@ impl<'a> Survey<'a> {
                 self.put_after(alloc, out, *to, below)
             }
             Shape::Array(counts, _, element) => {
-                put_counts(out, counts)?;
+                counts.write(out)?;
                 self.put_after(alloc, out, *element, below)
             }
             Shape::Function(returned, None) => {

@@ -1,10 +1,14 @@
-use Rattle.std.proofs.Common.{◌≡◌, true, sym, ◌∙◌, length, arith}
-use Rattle.std.specs.Prelude.{◌==◌, ◌||◌, nat_lt}
+use Rattle.std.proofs.Common.{◌≡◌, ℕ, Bool, true, sym, ◌∙◌, length, arith}
+use Rattle.std.specs.Prelude.{◌==◌, ◌&&◌, ◌||◌, nat_lt}
 use Rattle.std.proofs.lemmas.Bool.{eq-eqb}
 use Rattle.std.proofs.lemmas.Bool.Decides.{nat_tests}
 use Rattle.dw_cprint.specs.Legible.{is_keyword, keywords}
 use Rattle.dw_cprint.proofs.NameLemmas.{by_length}
 use Rattle.dw_cprint.proofs.names.is_keyword_text.Goals as goal
+
+-- no keyword is so long
+abbrev is_other_length : ℕ → Bool
+is_other_length n = nat_lt n 2 || ((nat_lt 10 n && nat_lt n 13) || nat_lt 14 n)
 
 pub returns-in-2 : goal.returns-in-2
 unfolding is_keyword
@@ -48,10 +52,33 @@ returns-in-8 c =
     c.is_one_of-in-8.ensures ∙ sym
     (by_length (λ n. n == 8) c.args.word.now keywords (eq-eqb (length c.args.word.now) 8 c.in-8.is))
 
+pub returns-in-9 : goal.returns-in-9
+unfolding is_keyword
+returns-in-9 c =
+    c.is_one_of-in-9.ensures ∙ sym
+    (by_length (λ n. n == 9) c.args.word.now keywords (eq-eqb (length c.args.word.now) 9 c.in-9.is))
+
+pub returns-in-10 : goal.returns-in-10
+unfolding is_keyword
+returns-in-10 c =
+    c.is_one_of-in-10.ensures ∙ sym
+    (by_length (λ n. n == 10) c.args.word.now keywords (eq-eqb (length c.args.word.now) 10 c.in-10.is))
+
+pub returns-in-13 : goal.returns-in-13
+unfolding is_keyword
+returns-in-13 c =
+    c.is_one_of-in-13.ensures ∙ sym
+    (by_length (λ n. n == 13) c.args.word.now keywords (eq-eqb (length c.args.word.now) 13 c.in-13.is))
+
+pub returns-in-14 : goal.returns-in-14
+unfolding is_keyword
+returns-in-14 c =
+    c.is_one_of-in-14.ensures ∙ sym
+    (by_length (λ n. n == 14) c.args.word.now keywords (eq-eqb (length c.args.word.now) 14 c.in-14.is))
+
 pub returns-in_default : goal.returns-in_default
 unfolding is_keyword
 returns-in_default c =
     let d = c.in_default in
-    let other : (nat_lt (length c.args.word.now) 2 || nat_lt 8 (length c.args.word.now))
-    ≡ true = grind (arith, nat_tests) in
-    c.is_one_of-in_default.ensures ∙ sym (by_length (λ n. nat_lt n 2 || nat_lt 8 n) c.args.word.now keywords other)
+    let other : is_other_length (length c.args.word.now) ≡ true = grind (arith, nat_tests) in
+    sym (by_length is_other_length c.args.word.now keywords other)

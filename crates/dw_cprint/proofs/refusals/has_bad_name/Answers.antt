@@ -1,10 +1,9 @@
 use Rattle.std.proofs.Common.{◌≡◌, sym, subst, rules, tests}
 use Rattle.std.proofs.lemmas.Iterator.{YieldsList-from_slice}
 use Rattle.std.proofs.lemmas.Iterator.Search.{any_from_yields_List}
-use Rattle.dw_cprint.specs.Shapes.{EnumeratorOf, MemberOf, view_enumerator, view_member, view_name, view_shape}
+use Rattle.dw_cprint.specs.Shapes.{MemberOf, view_member, view_name, view_shape}
 use Rattle.dw_cprint.specs.Summaries.{kind_known}
-use Rattle.dw_cprint.specs.Wrong.{has_bad_name, lacks_member_name, lacks_name}
-use Rattle.dw_cprint.specs.declared.shape.Enumerator.{Enumerator}
+use Rattle.dw_cprint.specs.Wrong.{has_bad_name, lacks_member_name}
 use Rattle.dw_cprint.specs.declared.shape.Member.{Member}
 use Rattle.dw_cprint.specs.declared.shape.Shape.{Shape}
 use Rattle.dw_cprint.proofs.FaultLemmas.{seen_any}
@@ -19,13 +18,3 @@ returns-in-Body c =
     (any_from_yields_List (λ (m : Member). lacks_member_name (kinds m.type_at) m.bits (view_name m.name)) _ _ _
     c.any.ensures.ran (YieldsList-from_slice c.deref.result.now cc) (λ x b q k. search (rules, tests)))
     c.deref.ensures.value)
-
-pub returns-in-Enumeration : goal.returns-in-Enumeration
-returns-in-Enumeration c =
-    let P : Shape → Type 0 = λ s. c.any-in-Enumeration.result
-    ≡ has_bad_name (kind_known c.args.survey.now) (view_shape s) in
-    subst P (sym c.in-Enumeration.is)
-    (seen_any (λ (e : EnumeratorOf). lacks_name e.name) view_enumerator _ _ _
-    (any_from_yields_List (λ (e : Enumerator). lacks_name (view_name e.name)) _ _ _ c.any-in-Enumeration.ensures.ran
-    (YieldsList-from_slice c.deref-in-Enumeration.result.now cc) (λ x b q k. search (rules, tests)))
-    c.deref-in-Enumeration.ensures.value)

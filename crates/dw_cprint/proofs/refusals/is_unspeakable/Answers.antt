@@ -7,10 +7,9 @@ use Rattle.dw_cprint.specs.Shapes.{MemberOf, TypeAt, view_member, view_shape}
 use Rattle.dw_cprint.specs.Steps.{types_reached}
 use Rattle.dw_cprint.specs.Summaries.{base_known, is_unspeakable, kind_known}
 use Rattle.dw_cprint.specs.Wrong.{is_function, is_void, is_wrong_bits}
-use Rattle.dw_cprint.specs.declared.shape.Enumerator.{Enumerator}
 use Rattle.dw_cprint.specs.declared.shape.Member.{Member}
 use Rattle.dw_cprint.specs.declared.shape.Shape.{Shape}
-use Rattle.dw_cprint.proofs.FaultLemmas.{seen_any, wrong-enumeration}
+use Rattle.dw_cprint.proofs.FaultLemmas.{seen_any}
 use Rattle.dw_cprint.proofs.refusals.is_unspeakable.Goals as goal
 
 alone : (wrong void : Bool) → void ≡ false → wrong ≡ (wrong || (void || false))
@@ -33,13 +32,7 @@ returns-else-has_void c =
     c.deref-else-has_void.ensures.value
     ∙ alone _ _ (sym (ap (list_any test) types) ∙ sym c.has_void-in-Body.ensures ∙ c.if-has_void.false))
 
-pub returns-else-is_empty : goal.returns-else-is_empty
-returns-else-is_empty c =
-    let es = c.deref-else-is_empty in
-    let P : Shape → Type 0 = λ s. c.any-else-is_empty.result ≡ is_unspeakable c.args.survey.now (view_shape s) in
-    subst P (sym c.in-Enumeration.is)
-    (wrong-enumeration es.result.now c.in-Enumeration.enumerators.items _ c.is_empty.result c.any-else-is_empty.result
-    es.ensures.value es.ensures.len c.is_empty.ensures c.if-is_empty.false
-    (any_from_yields_List (λ (e : Enumerator). is_none e.value) _ _ _ c.any-else-is_empty.ensures.ran
-    (YieldsList-from_slice es.result.now cc) (λ x b q k. search (rules, tests)))
-    ∙ alone _ false refl)
+pub returns-in-Enumeration : goal.returns-in-Enumeration
+returns-in-Enumeration c =
+    let P : Shape → Type 0 = λ s. c.is_wrong.result ≡ is_unspeakable c.args.survey.now (view_shape s) in
+    subst P (sym c.in-Enumeration.is) (c.is_wrong.ensures ∙ alone _ false refl)

@@ -17,14 +17,14 @@ use Rattle.dw_cprint.proofs.ItemWriterLemmas.{IsLeft, next-of, left-over, member
 use Rattle.dw_cprint.proofs.DraftLemmas.{none-is, over-stays}
 use Rattle.dw_cprint.proofs.survey.Survey.+writing.Goals as goal
 
-pub put_after-returns-in_ok-put_counts-in-Array : goal.put_after-returns-in_ok-put_counts-in-Array
-put_after-returns-in_ok-put_counts-in-Array t c =
+pub put_after-returns-in_ok-write-in-Array : goal.put_after-returns-in_ok-write-in-Array
+put_after-returns-in_ok-write-in-Array t c =
     let seen = c.in-Some-shape_within in
     let is = sym c.get.ensures ∙ c.in-Some.is in
     let step = step-at _ _ _ _ _ _ _ is seen.ensures.found (ap view_shape c.in-Array.is) in
     ok_then _ _ _
     (array_after (term_at seen.below (kept c.args.self.now)) _ _ _ _ _ c.in-Array.field-1 c.in-Array.element step
-    (as_tokens _ _ _ _ (ap (flat_map count_tokens) c.deref.ensures.value) c.in_ok-put_counts-in-Array.ensures))
+    c.in_ok-write-in-Array.ensures)
     c.put_after-in-Array.ensures
 
 pub put_after-returns-in_ok-put-in-Function-default-Some-2 : goal.put_after-returns-in_ok-put-in-Function-default-Some-2
@@ -33,7 +33,7 @@ put_after-returns-in_ok-put-in-Function-default-Some-2 t c =
     let is = sym c.get.ensures ∙ c.in-Some.is in
     let f = c.in-Function-default-Some in
     let shape : view_shape seen.shape.now ≡ function f.returned (Some f.parameters.items) = search rules in
-    let same : c.deref-in-Function-default-Some.result.now ≡ f.parameters.items = search rules in
+    let same : c.deref.result.now ≡ f.parameters.items = search rules in
     let P : List Parameter → Type 0 = λ us. WritesParameters c.args.self.now seen.below us
     c.put-in-Function-default-Some.new.self c.put_parameters.new.out in
     ok_then _ _ _
@@ -91,7 +91,7 @@ put_before-returns-in-Array t c =
     let P : List Qualifier → Type 0 = λ us. WritesBefore s seen.below a.element us true c.args.out.now
     c.put_before-in-Array.new.out in
     ok_then _ _ _ (λ inner. array_before (term_at seen.below (kept s)) _ _ _ c.args.qualifiers.items c.args.inside
-    a.field-0.items a.field-1 a.element step (subst P c.new-in-Array.ensures.items inner))
+    a.field-0 a.field-1 a.element step (subst P c.new-in-Array.ensures.items inner))
     c.put_before-in-Array.ensures
 
 pub put_before-returns-in_ok-put_core-in_default-shape : goal.put_before-returns-in_ok-put_core-in_default-shape

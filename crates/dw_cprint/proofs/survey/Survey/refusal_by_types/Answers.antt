@@ -1,4 +1,4 @@
-use Rattle.std.proofs.Common.{rules, ◌≡◌, Bool, true, false, ap, sym, ◌∙◌}
+use Rattle.std.proofs.Common.{◌≡◌, Bool, true, false, ap, sym, ◌∙◌}
 use Rattle.std.specs.List.{list_any}
 use Rattle.dw_cprint.specs.Refusals.{other_kind, cycle}
 use Rattle.dw_cprint.specs.Shapes.{view_subject}
@@ -6,7 +6,7 @@ use Rattle.dw_cprint.specs.Steps.{ReachACycle, first_steps, types_declared}
 use Rattle.dw_cprint.specs.Surveys.{lacks_summary}
 use Rattle.dw_cprint.proofs.RefusalLemmas.{none-first, printable}
 use Rattle.dw_cprint.proofs.SurveyLemmas.{cycle-told, types-known}
-use Rattle.dw_cprint.proofs.survey.Survey.refusal_before_text.Goals as goal
+use Rattle.dw_cprint.proofs.survey.Survey.refusal_by_types.Goals as goal
 
 apart : {b : Bool} → b ≡ true → b ≡ false → ⊥
 apart t f = (let e : true ≡ false = sym t ∙ f in absurd (cc))
@@ -22,19 +22,18 @@ pub returns-then-reaches_cycle : goal.returns-then-reaches_cycle
 returns-then-reaches_cycle c = λ shapes roots survey among.
     let told = cycle-told shapes roots c.args.self.now survey (types_declared (view_subject c.args.subject.now)) among
     in
-    let same : c.deref.result.now ≡ types_declared (view_subject c.args.subject.now) = search rules in
-    let (entry, r, round) = told.0 (sym (rw same at c.reaches_cycle.ensures) ∙ c.if-reaches_cycle.true) in
+    let (entry, r, round) = told.0 (sym (rw c.requires at c.reaches_cycle.ensures) ∙ c.if-reaches_cycle.true) in
     record { holds = cycle entry r round; least = none-first shapes (view_subject c.args.subject.now) }
 
 pub returns : goal.returns
 returns c = λ shapes roots survey among.
     let x = view_subject c.args.subject.now in
     let s = c.args.self.now in
-    let same : c.deref-2.result.now ≡ types_declared x = search rules in
-    let none = ap (list_any (lacks_summary s)) (sym same ∙ (c.deref-2.ensures.value ∙ sym c.deref.ensures.value))
-    ∙ sym c.reaches_cycle.ensures ∙ c.if-reaches_cycle.false in
+    let none = ap (list_any (lacks_summary s)) (sym c.requires) ∙ sym c.reaches_cycle.ensures
+    ∙ c.if-reaches_cycle.false in
     let clear : ReachACycle shapes (first_steps x)
     → ⊥ = λ r. apart ((cycle-told shapes roots s survey (types_declared x) among).1 r) none in
     c.refusal.ensures shapes x (printable shapes x
     (λ e. apart e (sym c.is_other_kind.ensures ∙ c.if-is_other_kind.false)) clear)
-    ((rw same at c.findings_declared.ensures) shapes (types-known shapes roots s survey (types_declared x) among clear))
+    ((rw c.requires at c.findings_declared.ensures) shapes
+    (types-known shapes roots s survey (types_declared x) among clear))

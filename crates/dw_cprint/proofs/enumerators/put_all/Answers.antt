@@ -1,0 +1,38 @@
+use Rattle.std.proofs.Common.{rules, ◌<◌, [], ◌∷◌, length}
+use Rattle.std.proofs.lemmas.List.Elements.{All-head, All-rest}
+use Rattle.dw_image.specs.Images.{entries_in}
+use Rattle.dw_cprint.specs.EntryShapes.{enumerators_in}
+use Rattle.dw_cprint.specs.Kept.{Writes, WritesEnumerators}
+use Rattle.dw_cprint.specs.Tokens.{Blank, RightBrace}
+use Rattle.dw_cprint.proofs.LookUpLemmas.{children_within}
+use Rattle.dw_cprint.proofs.ItemWriterLemmas.{enumerators_begin, enumerators_done}
+use Rattle.dw_cprint.proofs.OptionLemmas.{ok_then}
+use Rattle.dw_cprint.proofs.enumerators.put_all.Goals as goal
+
+pub loop-child-init : goal.loop-child-init
+loop-child-init c = search (rules, children_within, enumerators_begin)
+
+pub enumerator_at-requires : goal.enumerator_at-requires
+enumerator_at-requires c =
+    All-head (λ child. child < length (entries_in c.args.source.now.image.now)) _ _
+    (rw c.in-Some.ensures.steps at c.loop-child.invariant.within)
+
+pub loop-child-preserved : goal.loop-child-preserved
+loop-child-preserved c = record {
+  within =
+      All-rest (λ child. child < length (entries_in c.args.source.now.image.now)) _ _ _ c.in-Some.ensures.steps
+      c.loop-child.invariant.within;
+  so_far =
+      c.in_ok-some.ensures _ _ _
+      (rw (c.in-Some.ensures.steps, ← c.enumerator_at.ensures) at c.loop-child.invariant.so_far);
+}
+
+pub returns : goal.returns
+returns c =
+    let es = enumerators_in c.args.source.now.image.now c.args.id in
+    let out = c.loop-child.out in
+    let new = c.put-2.new.self in
+    ok_then c.put-2.result (Writes (Blank ∷ RightBrace ∷ []) out new) (WritesEnumerators es c.args.out.now new)
+    (λ closes. enumerators_done es c.args.out.now c.put.new.self out new c.loop-child.some c.in_ok-put.ensures
+    (rw c.in-None.ensures.steps.0 at c.loop-child.invariant.so_far) closes)
+    c.put-2.ensures

@@ -1,0 +1,213 @@
+//! The dimensions of an array. Their counts are read from the image each time; what one pass over them finds is kept.
+
+ghost use Rattle.std.specs.Prelude.{◌≡◌, ◌<◌, ◌&&◌, ◌||◌, List, [], Option, ℕ, length, flat_map, sum_by, OnOk};
+ghost use Rattle.std.specs.Prelude.{if◌then◌else◌};
+ghost use Rattle.std.specs.List.{cons_option};
+ghost use Rattle.dw_image.specs.Images.{entries_in};
+ghost use Rattle.dw_cprint.specs.Counted.{AreDimensions, DimensionsSoFar, IsDimensionsStart, count_bytes, is_unknown};
+ghost use Rattle.dw_cprint.specs.Declarations.{is_miscounted};
+ghost use Rattle.dw_cprint.specs.EntryShapes.{counts_in, dimension_at};
+ghost use Rattle.dw_cprint.specs.Kept.{Writes};
+ghost use Rattle.dw_cprint.specs.Lengths.{capped};
+ghost use Rattle.dw_cprint.specs.Writing.{count_tokens};
+ghost use Rattle.dw_cprint.specs.Wrong.{starts_open};
+
+use crate::lengths::{digit_count, plus};
+use crate::source::tag_at;
+use crate::text::Draft;
+use dw_entries::constants::*;
+use dw_image::{EntryId, Image};
+use std::alloc::AllocError;
+use std::marker::Model;
+
+/// The count of a child that is a dimension.
+fn dimension_at(image: &Image<'_>, id: EntryId) -> Option<Option<u128>>
+    requires { id < length (entries_in image.now) }
+    ensures { result ≡ dimension_at image.now id }
+{
+    (tag_at(image, id) == DW_TAG_subrange_type).then_some(image.count_of(id))
+}
+
+/// The bytes of the brackets of a dimension.
+fn count_length(count: Option<u128>) -> usize
+    ensures { result ≡ capped (count_bytes count) }
+{
+    match count {
+        None => 2,
+        Some(n) => plus(2, digit_count(n)),
+    }
+}
+
+/// The brackets of a dimension.
+fn put_count(out: &mut Draft, count: Option<u128>) -> Result<(), AllocError>
+    ensures { OnOk result (Writes (count_tokens count) out.old out.new) }
+{
+    match count {
+        None => out.put(b"[]"),
+        Some(n) => {
+            out.put(b"[")?;
+            out.put_number(n)?;
+            out.put(b"]")
+        }
+    }
+}
+
+/// The brackets of a child that is a dimension.
+fn put_next(out: &mut Draft, next: Option<Option<u128>>) -> Result<(), AllocError>
+    ensures { OnOk result (Writes (flat_map count_tokens (cons_option next [])) out.old out.new) }
+{
+    match next {
+        None => Ok(()),
+        Some(count) => put_count(out, count),
+    }
+}
+
+/// What a pass over dimensions finds.
+#[derive(Clone, Copy, Debug)]
+pub struct DimensionTally {
+    /// Whether there is one.
+    some: bool,
+    /// Whether the first count is unknown.
+    first_unknown: bool,
+    /// Whether there is none, or a count after the first is unknown.
+    wrong: bool,
+    /// The bytes of their brackets.
+    length: u32,
+}
+
+impl DimensionTally {
+    /// What is found of none.
+    fn new() -> DimensionTally
+        ensures { IsDimensionsStart result }
+    {
+        DimensionTally {
+            some: false,
+            first_unknown: false,
+            wrong: true,
+            length: 0,
+        }
+    }
+
+    /// Whether the first count is unknown, with this one.
+    fn first_with(self, count: Option<u128>) -> bool
+        ensures { result ≡ (if self.some then self.first_unknown else is_unknown count) }
+    {
+        if self.some {
+            self.first_unknown
+        } else {
+            count.is_none()
+        }
+    }
+
+    /// Whether a count after the first is unknown, with this one.
+    fn wrong_with(self, count: Option<u128>) -> bool
+        ensures { result ≡ (self.some && (self.wrong || is_unknown count)) }
+    {
+        self.some && (self.wrong || count.is_none())
+    }
+
+    /// What is found with the next dimension, if a child is one.
+    #[tactic(auto, using(crate::proofs::CountLemmas::dimensions_more))]
+    fn with(self, next: Option<Option<u128>>) -> DimensionTally
+        ensures { (all left : List (Option ℕ)) → DimensionsSoFar all self (cons_option next left)
+            → DimensionsSoFar all result left }
+    {
+        let Some(count) = next else {
+            return self;
+        };
+        DimensionTally {
+            some: true,
+            first_unknown: self.first_with(count),
+            wrong: self.wrong_with(count),
+            length: plus(self.length as usize, count_length(count)) as u32,
+        }
+    }
+}
+
+/// What a pass over the dimensions of an array finds.
+fn tally_of(image: &Image<'_>, id: EntryId) -> DimensionTally
+    requires { id < length (entries_in image.now) }
+    ensures { AreDimensions (counts_in image.now id) result }
+{
+    let mut tally = DimensionTally::new();
+    for child in image.children(id) {
+        tally = tally.with(dimension_at(image, child));
+    }
+    tally
+}
+
+/// Writes the brackets of the dimensions of an array.
+fn put_all(out: &mut Draft, image: &Image<'_>, id: EntryId) -> Result<(), AllocError>
+    requires { id < length (entries_in image.now) }
+    ensures { OnOk result (Writes (flat_map count_tokens (counts_in image.now id)) out.old out.new) }
+{
+    for child in image.children(id) {
+        put_next(out, dimension_at(image, child))?;
+    }
+    Ok(())
+}
+
+/// The counts of the dimensions of an array.
+#[derive(Drop)]
+pub struct Dimensions<'a> {
+    image: &'a Image<'a>,
+    id: EntryId,
+    tally: DimensionTally,
+}
+
+impl<'a> Model for Dimensions<'a> {
+    ghost use Rattle.std.specs.Prelude.{◌<◌, ℕ, List, Option, length};
+    ghost use Rattle.dw_image.specs.Images.{entries_in};
+
+    ghost Value = { List (Option ℕ) };
+
+    ghost use Rattle.dw_cprint.specs.EntryShapes.{counts_in};
+    ghost use Rattle.dw_cprint.specs.Counted.{AreDimensions};
+
+    ghost view = { λ it. counts_in it.image.now it.id };
+
+    ghost invariant = { λ it. (it.id < length (entries_in it.image.now))
+        × AreDimensions (counts_in it.image.now it.id) it.tally };
+}
+
+impl<'a> Dimensions<'a> {
+    /// Reads those of an array once.
+    pub fn read(image: &'a Image<'a>, id: EntryId) -> Dimensions<'a>
+        requires { id < length (entries_in image.now) }
+        ensures { result ≡ counts_in image.now id }
+    {
+        Dimensions {
+            image,
+            id,
+            tally: tally_of(image, id),
+        }
+    }
+
+    /// Whether the first count is unknown.
+    pub fn start_open(&self) -> bool
+        ensures { result ≡ starts_open self.now }
+    {
+        self.tally.first_unknown
+    }
+
+    /// Whether there is none, or a count after the first is unknown.
+    pub fn are_miscounted(&self) -> bool
+        ensures { result ≡ is_miscounted self.now }
+    {
+        self.tally.wrong
+    }
+
+    /// The bytes of their brackets.
+    pub fn length(&self) -> usize
+        ensures { result ≡ capped (sum_by count_bytes self.now) }
+    {
+        self.tally.length as usize
+    }
+
+    /// Writes their brackets.
+    pub fn write(&self, out: &mut Draft) -> Result<(), AllocError>
+        ensures { OnOk result (Writes (flat_map count_tokens self.now) out.old out.new) }
+    {
+        put_all(out, self.image, self.id)
+    }
+}
