@@ -11,15 +11,15 @@ use Rattle.dw_cprint.specs.Listings.{IsListing, listing_text}
 use Rattle.dw_cprint.specs.declared.fault.PrintFault.{PrintFault}
 use Rattle.dw_image.specs.declared.image.Image.{Image}
 use Rattle.dw_image.specs.Headline.{IsImageOf, IsFaultOf}
-use Rattle.dw_units.specs.declared.counting.Counts.{Counts}
+use Rattle.dw_units.specs.declared.counts.Counts.{Counts}
 use Rattle.dw_units.specs.Counted.{AreCounts}
 use Rattle.dw_report.specs.Lines.{sound_line, elf_fault_line, fault_lines}
 use Rattle.dw_report.specs.Shown.{show_lines, size_text, size_status, type_at_offset}
 use Rattle.dw_report.specs.Objects.{sound_object, fault_object, elf_fault_object, object_line}
-use Rattle.dw_report.specs.declared.reporting.Request.{Request}
-use Rattle.dw_report.specs.declared.reporting.Request.TheVariants.{Check, Show, Types, Size}
-use Rattle.dw_report.specs.declared.reporting.Status.{Status}
-use Rattle.dw_report.specs.declared.reporting.Status.TheVariants.{Sound, Fault, NotAType}
+use Rattle.dw_report.specs.declared.request.Request.{Request}
+use Rattle.dw_report.specs.declared.request.Request.TheVariants.{Check, Show, Types, Size}
+use Rattle.dw_report.specs.declared.request.Status.{Status}
+use Rattle.dw_report.specs.declared.request.Status.TheVariants.{Sound, Fault, NotAType}
 
 -- the most bytes that a file may have: 4 GiB
 abbrev pub file_limit : ℕ

@@ -10,8 +10,8 @@ use Rattle.dw_image.specs.Images.{entries_in, name_in, size_table_in}
 use Rattle.dw_image.specs.Lookups.{is_type_entry, entry_at, type_number}
 use Rattle.dw_cprint.specs.Digits.{places}
 use Rattle.dw_report.specs.Lines.{line, offset_text}
-use Rattle.dw_report.specs.declared.reporting.Status.{Status}
-use Rattle.dw_report.specs.declared.reporting.Status.TheVariants.{Sound, NotAType}
+use Rattle.dw_report.specs.declared.request.Status.{Status}
+use Rattle.dw_report.specs.declared.request.Status.TheVariants.{Sound, NotAType}
 
 -- an offset, a space and two more for each depth, and the four digits of a tag
 unfoldable pub entry_part : ℕ → ℕ → ℕ → List ℕ

@@ -4,8 +4,10 @@
 mod json;
 mod lines;
 mod reporting;
+mod request;
 mod shown;
 
 pub use dw_image::NoMemory;
-pub use reporting::{Answer, Request, Status, longest_file, report};
+pub use reporting::{Answer, longest_file, report};
+pub use request::{Request, Status};
 pub use shown::size_of_entry;

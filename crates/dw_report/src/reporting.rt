@@ -8,51 +8,13 @@ ghost use Rattle.dw_report.specs.Shown.{show_lines, size_text, size_status, type
 
 use crate::json::{put_elf_fault_object, put_fault_object, put_sound_object};
 use crate::lines::{put_elf_fault_line, put_fault_lines, put_sound_line};
+use crate::request::{Request, Status};
 use crate::shown::{put_show_lines, put_size_at};
 use dw_cprint::declare_all;
 use dw_elf::{ElfFault, ElfRule, Sections, find};
 use dw_image::{Fault, Image, NoMemory, Verdict, verify};
 use dw_units::{Counts, Found, verify_by_unit};
 use std::alloc::{AllocError, Global};
-
-/// What is requested of a file.
-#[derive(Clone, Copy, Debug, PartialEq, Eq)]
-pub enum Request {
-    /// Whether the file is sound: a line, or an object in JSON.
-    Check { json: bool },
-    /// Each entry on a line: its offset, its tag, its name and its size.
-    Show,
-    /// The C declaration of each named type, or why it has none.
-    Types,
-    /// The size of the type whose entry starts at this offset of .debug_info.
-    Size(u32),
-}
-
-/// How a request ends that has a result.
-#[derive(Clone, Copy, Debug, PartialEq, Eq)]
-pub enum Status {
-    /// The file is sound.
-    Sound,
-    /// The file violates a rule.
-    Fault,
-    /// The file is sound, and no type's entry starts at the given offset.
-    NotAType,
-}
-
-impl Status {
-    ghost use Rattle.dw_report.specs.Reports.{status_code};
-
-    /// The exit status of the program.
-    pub fn code(self) -> u8
-        ensures { result ≡ status_code self }
-    {
-        match self {
-            Status::Sound => 0,
-            Status::Fault => 1,
-            Status::NotAType => 2,
-        }
-    }
-}
 
 /// How many bytes the longest file has that is read as one.
 pub fn longest_file() -> usize

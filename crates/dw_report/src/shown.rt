@@ -10,7 +10,7 @@ ghost use Rattle.dw_report.specs.Lines.{line};
 ghost use Rattle.dw_report.specs.Shown.{show_lines, size_line, size_text, size_status, type_at_offset};
 
 use crate::lines::put_offset;
-use crate::reporting::Status;
+use crate::request::Status;
 use dw_cprint::{put_decimal, put_hex};
 use dw_image::{EntryId, Image, Tag, TypeId};
 use std::alloc::AllocError;

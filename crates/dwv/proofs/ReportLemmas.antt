@@ -5,8 +5,8 @@ use Rattle.std.proofs.lemmas.Grind.{common_steps}
 use Rattle.dw_elf.specs.Checks.{ChecksPass}
 use Rattle.dw_elf.specs.Rules.{IsFault}
 use Rattle.dw_elf.specs.Sections.{AreSections}
-use Rattle.dw_report.specs.declared.reporting.Request.{Request}
-use Rattle.dw_report.specs.declared.reporting.Status.{Status}
+use Rattle.dw_report.specs.declared.request.Request.{Request}
+use Rattle.dw_report.specs.declared.request.Status.{Status}
 use Rattle.dwv.specs.Reports.{WritesReport, WritesPrefix}
 use Rattle.dw_report.specs.Reports.{Report, large, fails, of_sections}
 

@@ -13,8 +13,8 @@ use Rattle.clap.specs.declared.error.kind.ErrorKind.TheVariants as kind
 use Rattle.clap.specs.declared.parser.matches.ArgMatches.{ArgMatches}
 use Rattle.clap.specs.declared.parser.matches.ArgMatches.TheViews.{out-ArgMatches, out-SubCommand}
 use Rattle.clap.specs.declared.parser.matches.SubCommand.{SubCommand}
-use Rattle.dw_report.specs.declared.reporting.Request.{Request}
-use Rattle.dw_report.specs.declared.reporting.Request.TheVariants.{Check, Show, Types, Size}
+use Rattle.dw_report.specs.declared.request.Request.{Request}
+use Rattle.dw_report.specs.declared.request.Request.TheVariants.{Check, Show, Types, Size}
 use Rattle.dwv.specs.Words.{AreRequest, HaveCommand, IsBadOffset, IsFlag, IsOffset, IsRequest, command_line, offset_in}
 
 some_is : {X : Type 0} {x y : X} → Some x ≡ Some y → x ≡ y

@@ -2,8 +2,8 @@
 use Rattle.std.specs.Prelude.{ℕ, List, [], codes, take, Option, Result, Ok, Err}
 use Rattle.std.specs.Io.KnownBytes.{Appends}
 use Rattle.dw_report.specs.Reports.{Report, status_code}
-use Rattle.dw_report.specs.declared.reporting.Request.{Request}
-use Rattle.dw_report.specs.declared.reporting.Status.{Status}
+use Rattle.dw_report.specs.declared.request.Request.{Request}
+use Rattle.dw_report.specs.declared.request.Status.{Status}
 use Rattle.dwv.specs.declared.running.RunFault.{RunFault}
 use Rattle.dwv.specs.declared.running.RunFault.TheVariants.{ReadFailed, WriteFailed, Memory}
 

@@ -3,7 +3,7 @@
 ghost use Rattle.std.specs.Prelude.{◌≡◌, ◌≢◌, List, ℕ, false, map, codes, IfOk, IsErrOf, SomeIff};
 ghost use Rattle.std.specs.String.{string_bytes};
 ghost use Rattle.clap.specs.Words.{app_of, found_of, kind_of, rows_of, rule_of};
-ghost use Rattle.dw_report.specs.declared.reporting.Request.{Request as RequestOf};
+ghost use Rattle.dw_report.specs.declared.request.Request.{Request as RequestOf};
 ghost use Rattle.dwv.specs.Words.{AreRequest, IsBadOffset, HaveBadOffset, IsOffset, IsRequest, offset_in};
 ghost use Rattle.dwv.specs.Words.{command_line, json_option, required_word};
 ghost use Rattle.dwv.specs.declared.words.WordsFault.TheVariants.{Memory};

@@ -1,7 +1,7 @@
 -- The image, the counts or the error of sections, and those of the file or of the six sections that they are.
 use Rattle.std.proofs.Common.{◌≡◌, ℕ, List, Result, Ok, Err, MatchResult}
 use Rattle.dw_elf.specs.declared.sections.Sections.{Sections}
-use Rattle.dw_units.specs.declared.counting.Counts.{Counts}
+use Rattle.dw_units.specs.declared.counts.Counts.{Counts}
 use Rattle.dw_units.specs.Counted.{AreCounts}
 use Rattle.dw_image.specs.declared.image.Image.{Image}
 use Rattle.dw_image.specs.Headline.{IsImageOf}

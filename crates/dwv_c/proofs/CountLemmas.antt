@@ -12,7 +12,7 @@ use Rattle.dw_forms.specs.Abbrev.{Declaration}
 use Rattle.dw_entries.specs.declared.entries.Entries.{Entries}
 use Rattle.dw_entries.specs.Views.{all_entries}
 use Rattle.dw_forms.specs.declared.attributes.Attributes.{Attributes}
-use Rattle.dw_forms.specs.declared.decl.AttributeSpec.{AttributeSpec}
+use Rattle.dw_forms.specs.declared.abbrev.AttributeSpec.{AttributeSpec}
 use Rattle.dw_forms.proofs.SuffixLaws.{first_specs}
 use Rattle.dw_entries.specs.Asked.{value_of, values_of}
 use Rattle.dw_entries.specs.Entries.{Entry}

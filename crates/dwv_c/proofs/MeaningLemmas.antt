@@ -13,10 +13,10 @@ use Rattle.dw_entries.specs.Failures.{HasNone}
 use Rattle.dw_entries.specs.Header.{IsSize}
 use Rattle.dw_entries.specs.Lookups.{entry_head, unit_head}
 use Rattle.dw_entries.specs.Places.{at_attribute}
-use Rattle.dw_entries.specs.declared.fault.Rule.{Rule}
-use Rattle.dw_entries.specs.declared.fault.Rule.TheVariants.{NoEntry, NoSignature}
+use Rattle.dw_entries.specs.declared.rule.Rule.{Rule}
+use Rattle.dw_entries.specs.declared.rule.Rule.TheVariants.{NoEntry, NoSignature}
 use Rattle.dw_entries.specs.declared.entries.Entries.{Entries}
-use Rattle.dw_entries.specs.declared.lookup.UnitHead.{UnitHead}
+use Rattle.dw_entries.specs.declared.units.UnitHead.{UnitHead}
 use Rattle.dw_entries.specs.Views.{all_entries, all_units, units_of}
 use Rattle.dw_entries.proofs.EntryFacts.{entries_rise, length-placed_from}
 use Rattle.dw_entries.proofs.HeadLaws.{head_stands}
@@ -201,7 +201,7 @@ module _ (i : Image) (u : UnitAtHand) (hand : IsAtHand i u) where
       omega (
         arith,
         unit_within,
-        few_units (units_in i),
+        few_units _ (units_in i) i.entries.scanned.1.spells.are,
         ap length i.entries.scanned.1.spells.parts,
         i.entries.sections.info_fits,
       )

@@ -6,8 +6,8 @@ use Rattle.dw_elf.specs.declared.fault.ElfRule.TheVariants.{TooLarge}
 use Rattle.dw_elf.specs.RuleTexts as elf
 use Rattle.dw_entries.specs.declared.fault.Section.{Section}
 use Rattle.dw_entries.specs.declared.fault.Section.TheVariants.{Abbrev}
-use Rattle.dw_entries.specs.declared.fault.Rule.{Rule}
-use Rattle.dw_entries.specs.declared.fault.Rule.TheVariants.{AbbrevCut}
+use Rattle.dw_entries.specs.declared.rule.Rule.{Rule}
+use Rattle.dw_entries.specs.declared.rule.Rule.TheVariants.{AbbrevCut}
 use Rattle.dw_entries.specs.RuleTexts.{code_text, name_text, section_text}
 use Rattle.dwv_c.specs.declared.verdict.Verdict.{Verdict}
 use Rattle.dwv_c.specs.Verdicts.{fault_verdict, field_text}

@@ -1,6 +1,6 @@
 -- State: what is known of a check before the caller's memory is written, and what is written and returned then.
 use Rattle.std.specs.Prelude.{ℕ, Result, Ok, Err}
-use Rattle.dw_units.specs.declared.counting.Counts.{Counts}
+use Rattle.dw_units.specs.declared.counts.Counts.{Counts}
 use Rattle.dw_forms.specs.declared.fault.Stop.{Stop}
 use Rattle.dw_forms.specs.declared.fault.Stop.TheVariants.{Fault, Memory}
 use Rattle.dwv_c.specs.declared.verdict.Verdict.{Verdict}

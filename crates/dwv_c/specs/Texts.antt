@@ -1,9 +1,9 @@
 -- Chapter: the report of a request in a buffer of the caller.
 use Rattle.std.specs.Prelude.{◌≡◌, ℕ, ◌==◌, ◌<◌, ◌≤◌, true, false, List, ◌++◌, length, drop, Option, Some, None}
 use Rattle.std.specs.Prelude.{if◌then◌else◌}
-use Rattle.dw_report.specs.declared.reporting.Request.{Request}
-use Rattle.dw_report.specs.declared.reporting.Request.TheVariants.{Check, Show, Types, Size}
-use Rattle.dw_report.specs.declared.reporting.Status.{Status}
+use Rattle.dw_report.specs.declared.request.Request.{Request}
+use Rattle.dw_report.specs.declared.request.Request.TheVariants.{Check, Show, Types, Size}
+use Rattle.dw_report.specs.declared.request.Status.{Status}
 use Rattle.dw_report.specs.Reports.{Report, file_limit, status_code}
 use Rattle.dwv_c.specs.Verdicts.{NO_MEMORY, TOO_SHORT, NO_REQUEST}
 

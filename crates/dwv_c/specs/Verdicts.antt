@@ -11,7 +11,7 @@ use Rattle.dw_entries.specs.declared.fault.Fault.{Fault as FirstFault}
 use Rattle.dw_entries.specs.RuleTexts.{code_text, name_text, section_text}
 use Rattle.dw_image.specs.declared.image.Image.{Image}
 use Rattle.dw_image.specs.Headline.{IsImageOf, IsFaultOf}
-use Rattle.dw_units.specs.declared.counting.Counts.{Counts}
+use Rattle.dw_units.specs.declared.counts.Counts.{Counts}
 use Rattle.dw_units.specs.Counted.{AreCounts, counts_of}
 use Rattle.dw_report.specs.Reports.{file_limit, too_large}
 use Rattle.dwv_c.specs.declared.verdict.Verdict.{Verdict}

@@ -1,8 +1,8 @@
 use Rattle.std.proofs.Common.{sym, subst}
 use Rattle.dw_image.specs.Headline.{IsFaultOf}
-use Rattle.dw_report.specs.declared.reporting.Request.{Request}
-use Rattle.dw_report.specs.declared.reporting.Request.TheVariants.{Check}
-use Rattle.dw_report.specs.declared.reporting.Status.TheVariants.{Sound, Fault}
+use Rattle.dw_report.specs.declared.request.Request.{Request}
+use Rattle.dw_report.specs.declared.request.Request.TheVariants.{Check}
+use Rattle.dw_report.specs.declared.request.Status.TheVariants.{Sound, Fault}
 use Rattle.dw_report.specs.Reports.{SoundReport, SectionsReport, counted, fault, sound}
 use Rattle.dw_units.specs.Counted.{AreCounts}
 use Rattle.dw_report.proofs.reporting.answer_by_unit.Goals as goal

@@ -1,5 +1,5 @@
 use Rattle.std.proofs.Common.{sym, subst}
-use Rattle.dw_report.specs.declared.reporting.Status.TheVariants.{Fault}
+use Rattle.dw_report.specs.declared.request.Status.TheVariants.{Fault}
 use Rattle.dw_image.specs.Headline.{IsFaultOf, IsImageOf}
 use Rattle.dw_report.specs.Reports.{SoundReport, SectionsReport, fault, sound}
 use Rattle.dw_report.proofs.reporting.answer_of_sections.Goals as goal

@@ -1,10 +1,10 @@
 use Rattle.std.proofs.Common.{sym, subst}
 use Rattle.dw_image.specs.Images.{sections_in}
 use Rattle.dw_image.proofs.JoinLemmas.{sound_image}
-use Rattle.dw_report.specs.declared.reporting.Request.{Request}
-use Rattle.dw_report.specs.declared.reporting.Request.TheVariants.{Check, Show, Size}
-use Rattle.dw_report.specs.declared.reporting.Status.{Status}
-use Rattle.dw_report.specs.declared.reporting.Status.TheVariants.{Sound}
+use Rattle.dw_report.specs.declared.request.Request.{Request}
+use Rattle.dw_report.specs.declared.request.Request.TheVariants.{Check, Show, Size}
+use Rattle.dw_report.specs.declared.request.Status.{Status}
+use Rattle.dw_report.specs.declared.request.Status.TheVariants.{Sound}
 use Rattle.dw_report.specs.Shown.{size_status, type_at_offset}
 use Rattle.dw_report.specs.Reports.{SoundReport, counted, shown, listed, sized}
 use Rattle.dw_report.proofs.reporting.answer_of_sound.Goals as goal

@@ -1,5 +1,5 @@
 use Rattle.std.proofs.Common.{sym, subst}
-use Rattle.dw_report.specs.declared.reporting.Status.TheVariants.{Fault}
+use Rattle.dw_report.specs.declared.request.Status.TheVariants.{Fault}
 use Rattle.dw_report.specs.Reports.{Report, large, fails, of_sections}
 use Rattle.dw_report.proofs.reporting.report.Goals as goal
 
