@@ -37,6 +37,7 @@ checks = $(if $(filter-out 0,$(fits)),$(fits),1)
 test:
 	tests/dead-names.py
 	tests/reading-order.py
+	tests/imports.py
 	tests/format-proofs.py --check
 	tests/made.py
 	tests/calling.py

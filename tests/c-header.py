@@ -154,7 +154,8 @@ def listings(folder):
     for name, text, wanted in LISTINGS:
         path = folder / "listing"
         path.write_text(text)
-        status, header, errors = run(*(["--all"] if "--all" in name else []), common.SAMPLE, DWV=folder / "dwv", LISTING=path)
+        words = ["--all"] if "--all" in name else []
+        status, header, errors = run(*words, common.SAMPLE, DWV=folder / "dwv", LISTING=path)
         wrong = [it for it in wanted if it.startswith("!") == (it.removeprefix("!") in header)]
         tally.add(name, errors or wrong or status or refusals(header))
         for line in text.splitlines():

@@ -203,22 +203,49 @@ def module(folder, env):
     tally.add("dask, by the Python module", None if is_right else errors[-500:] or said)
 
 
+@contextlib.contextmanager
+def scheduler(folder, env):
+    """The address of a scheduler of Dask, which has a worker in another folder. Both are children of this process."""
+    port = str(free_port())
+    address = f"tcp://127.0.0.1:{port}"
+    env = {**env, "PYTHONPATH": os.pathsep.join(str(common.TOP / it) for it in ("contrib", "python"))}
+    started = []
+    try:
+        for command in (["scheduler", "--host", "127.0.0.1", "--port", port],
+                        ["worker", address, "--nthreads", "1", "--local-directory", folder / "work"]):
+            words = ["/usr/bin/python3", "-m", f"distributed.cli.dask_{command[0]}", *command[1:], "--no-dashboard"]
+            with open(folder / f"{command[0]}.out", "wb") as out:
+                started.append(subprocess.Popen(words, stdout=out, stderr=out, env=env, cwd="/"))
+        yield address
+    finally:
+        for it in reversed(started):
+            it.terminate()
+            it.wait(30)
+
+
 def census(folder, env):
-    """The types of all files by contrib/census.py, and once more from its store."""
+    """The types of all files by contrib/census.py: by workers of its own, once more from its store, and by those of
+    another scheduler."""
     if not os.path.exists(LIBRARY):
         tally.skip("the C library is not built (make lib)")
         return
     env = {**env, "DWV_LIBRARY": LIBRARY}
     names = sorted(it.name for it in folder.glob("file *"))
-    for title in ("census", "census, from the store"):
-        status, said, errors = common.run("/usr/bin/python3", common.TOP / "contrib/census.py", "--store", "store",
-                                          "--sqlite", "census.db", *names, text=True, cwd=folder, env=env, timeout=300)
-        parts = {it: it.stat().st_mtime_ns for it in (folder / "store").glob("*.csv")}
-        is_right = status == 0 and len(parts) == FILES and "G1 UndeclaredCode" in said
+
+    def runs(title, store, read, *more):
+        words = ("/usr/bin/python3", common.TOP / "contrib/census.py", "--store", store, "--sqlite", "census.db", *more)
+        status, said, errors = common.run(*words, *names, text=True, cwd=folder, env=env, timeout=300)
+        is_right = status == 0 and "G1 UndeclaredCode" in said
         tally.add(title, None if is_right else errors[-500:] or said)
-        if title != "census":
-            tally.same("the store is not written again", parts, before)
-        before = parts
+        tally.same(f"{title}: what is read", re.findall(r"\d+ files were read.*", errors),
+                   [f"{read} files were read, the store had {FILES - read}"])
+        return {it: it.stat().st_mtime_ns for it in (folder / store).glob("*.csv")}
+
+    parts = runs("census", "store", FILES)
+    tally.same("a part for each file", len(parts), FILES)
+    tally.same("the store is not written again", runs("census, from the store", "store", 0), parts)
+    with scheduler(folder, env) as address:
+        runs("census, another scheduler", "other", FILES, "--scheduler", address)
 
 
 def main():

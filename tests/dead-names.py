@@ -70,7 +70,9 @@ class File:
                     groups.append(indent)
                     item = self.items[0]
                 elif found := LEMMA.match(line):
-                    item = Item(found[1] or found[2], number, is_root=answers and "goal." in line)
+                    # The type of a long name stands in the next line.
+                    head = line + "".join(lines[number : number + 1])
+                    item = Item(found[1] or found[2], number, is_root=answers and "goal." in head)
                     self.items.append(item)
                     line = line[found.end() :]
             item.text.append(line)

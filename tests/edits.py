@@ -57,11 +57,14 @@ class Report:
 
     def read(self, line):
         proof = re.match(r"(?:note: )?(?:\./)?proofs/(\S+)/\w+\.antt:\d+:\d+: (?:error: )?(.*)", line)
+        law = re.match(r"(?:note: |so far: )?(?:\./)?specs/(\S+)\.antt:\d+:\d+: error: (.*)", line)
         code = re.match(r"(?:note: )?(?:\./)?(src/\S+?):(\d+):\d+: (.*)", line)
         if proof and ("error: " in line or "not admitted" in line):
             function = short("::".join([self.crate.name, *proof[1].split("/")]))
             is_name = NAMES.search(line) and "no proof of" not in line
             self.told[function].append(("name" if is_name else "term", proof[2]))
+        elif law and not NAMES.search(line) and "depend" not in line:
+            self.told[f"specs/{law[1]}"].append(("term", law[2]))
         elif code and re.search(r"it is not proved|found no proof|: error", line):
             self.told[self.function_at(code[1], int(code[2]) - 1)].append((
                 "values" if "allow values" in line else "search", code[3]))

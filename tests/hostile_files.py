@@ -164,6 +164,7 @@ def late_faults():
     at = len(units) + own
     for name, items, fault in (
             ("an undeclared code", b"\x7f", f"G1 UndeclaredCode at .debug_info+0x{at:08x} attribute 0x0\n"),
+            ("a name outside .debug_str", b"\x08\0\0\0\0", f"S3 StringEnd at .debug_info+0x{at:08x} attribute 0x3\n"),
             ("a typedef of itself", b"\x03" + struct.pack("<I", own),
              f"C1 ContainsItself at .debug_info+0x{at:08x} attribute 0x0\ncycle 0x{at:08x} 0x{at:08x}\n"),
             ("a member outside its structure", b"\x04\x01\x05" + struct.pack("<I", FIRST) + b"\0",
@@ -507,9 +508,7 @@ def twice():
 
 
 def deep_codes():
-    """Entries whose codes are found two bits at a time: in each group, each code agrees with the next one up to two bits
-    more.
-    """
+    """Entries whose codes are found two bits at a time: in a group, each agrees with the next up to two bits more."""
     rows, codes = [], [mixed(n + 1) >> LOW_BITS << LOW_BITS | n for n in range(GROUPS)]
     for bit in range(LOW_BITS, 64, 2):
         rows += [uleb(codes[n * 7919 % GROUPS]) + b"\x34\0\0\0" for n in range(GROUPS)]
@@ -934,6 +933,18 @@ def nodes():
     yield (f"a function of {SMALL_TYPES:,} parameters without a type", sections(table, unit(items)),
            f"/* 0x{at:08x} P4 Unspeakable */\n")
 
+    # 2 enumeration with the size 4, 3 enumerator, 4 typedef with a name and a type
+    table = bytes.fromhex("0204010b2104" "0000" "03280000" "00" "04160003084913" "0000")
+    yield (f"an enumeration of {SMALL_TYPES:,} enumerators of one byte each", sections(table, unit(items)),
+           f"/* 0x{at:08x} P2 BadName */\n")
+
+    # 2 array with a type, 3 dimension, 4 typedef with a name and a type, 5 pointer
+    table = bytes.fromhex("0201014911" "0000" "03210000" "00" "04160003084913" "0000" "050f0000" "00")
+    items = b"\x01\x05\x02" + bytes([FIRST]) + b"\x03" * SMALL_TYPES + b"\0"
+    items += b"\x04t\0" + struct.pack("<I", FIRST + 1) + b"\0"
+    yield (f"an array of {SMALL_TYPES:,} dimensions of one byte each", sections(table, unit(items)),
+           f"/* 0x{at + 2:08x} P4 Unspeakable */\n")
+
     # 2 const with a type, 3 typedef with a name and a type, 4 const
     table = bytes.fromhex("0226004911" "0000" "0316000308491100" "00" "04260000" "00")
     items = bytearray(b"\x01\x04")
@@ -1158,7 +1169,7 @@ def main():
             print(f"{name} (within {ask.limits}). {reason(name)}")
         return 0
     common.build_library()
-    tally = common.Tally(108)
+    tally = common.Tally(109)
     with common.empty_folder() as folder:
         path, unsaid = folder / "file", []
         for name, file, ask, want in runs():

@@ -15,8 +15,14 @@ import pytest
 import rows
 from common import DWV, TOP
 
-LEAST = 16
+LEAST = 17
 LIBRARY = TOP / "out/lib"
+# The command that the wheel installs.
+TABLE = """#!/usr/bin/env python3
+import sys
+from dwv.tools import table
+sys.exit(table())
+"""
 EDIT = "crates/dw_types/{}/accepts_a_negative_count.edit"
 # A unit by the table T of tests/rows: `int`, a typedef `t`, a structure `s`, and a typedef of a pointer to itself.
 LISTING = """unit( 01 "a" 00  02 "int" 00 04 05  03 "t" 00 0f 00 00 00  04 "s" 00 04  05 "x" 00 16 00 00 00 00  00
@@ -41,6 +47,12 @@ def source(folder, page):
     """Makes the C file that the page gives in a sentence."""
     name, text = re.search(r"Here `(\w+\.c)` has\s`([^`]+)`", page).groups()
     (folder / name).write_text(f"{text}\n")
+
+
+def demo(folder, page):
+    """Makes the library of that source."""
+    source(folder, page)
+    common.run("gcc", "-g", "-shared", "-o", "demo.so", "demo.c", cwd=folder)
 
 
 def tree(folder, page):
@@ -80,7 +92,7 @@ def example(folder, page):
 
 # For each console example of a page, in their order: what makes its files, and the tools that it needs.
 EXAMPLES = {
-    "README.md": [(source, ("gcc",)), (None, ()), (kinds, ("gcc", "objcopy"))],
+    "README.md": [(source, ("gcc",)), (None, ()), (kinds, ("gcc", "objcopy")), (demo, ("gcc", "sqlite3"))],
     "docs/REPORTS.md": [
         (lambda folder, page: app(folder, "F"), ()),
         (lambda folder, page: app(folder, LISTING), ()),
@@ -110,8 +122,8 @@ def blocks(name, language):
     return re.findall(rf"(?ms)^```{language}\n(.*?)^```$", (TOP / name).read_text())
 
 
-def needs_library(name):
-    if name == "docs/LIBRARY.md" and not (LIBRARY / "libdwv.a").exists():
+def needs_library():
+    if not (LIBRARY / "libdwv.a").exists():
         common.lack("the C library is not built (make lib)")
 
 
@@ -124,7 +136,8 @@ def test_count(name):
 def test_console(tmp_path, name, number):
     """Runs the commands of an example one after another. Files in /tmp are in the folder."""
     make, tools = EXAMPLES[name][number]
-    needs_library(name)
+    if name == "docs/LIBRARY.md" or make is demo:
+        needs_library()
     common.needs(*tools)
     common.build()
     if make:
@@ -133,7 +146,10 @@ def test_console(tmp_path, name, number):
     for link, to in (("bin/dwv", DWV), ("crates", TOP / "crates"), ("contrib", TOP / "contrib"),
                      ("bin/dwv-check", TOP / "contrib/check"), ("bin/python3", shutil.which(common.PYTHON))):
         (tmp_path / link).symlink_to(to)
-    env = {**os.environ, "PATH": f"{tmp_path}/bin:{os.environ['PATH']}", "PKG_CONFIG_PATH": str(LIBRARY / "pkgconfig")}
+    (tmp_path / "bin/dwv-table").write_text(TABLE)
+    (tmp_path / "bin/dwv-table").chmod(0o755)
+    env = {**os.environ, "PATH": f"{tmp_path}/bin:{os.environ['PATH']}", "PKG_CONFIG_PATH": str(LIBRARY / "pkgconfig"),
+           "PYTHONPATH": str(TOP / "python")}
     for step in re.split(r"(?m)^\$ ", blocks(name, "console")[number])[1:]:
         command, _, wanted = step.partition("\n")
         words = ("bash", "-c", command.replace("/tmp/", f"{tmp_path}/"))
@@ -143,7 +159,7 @@ def test_console(tmp_path, name, number):
 
 def test_python(tmp_path, monkeypatch):
     """Runs the Python example of LIBRARY, on X1."""
-    needs_library("docs/LIBRARY.md")
+    needs_library()
     monkeypatch.setenv("DWV_LIBRARY", str(LIBRARY / "libdwv.so.0"))
     monkeypatch.chdir(tmp_path)
     shutil.copy(common.SAMPLE, "a.out")

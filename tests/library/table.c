@@ -5,29 +5,13 @@
 #include <string.h>
 #include "dwv.h"
 #include "file.h"
-
-#define NEED(fact) ((fact) ? (void)0 : (fprintf(stderr, "%s:%d: %s\n", __FILE__, __LINE__, #fact), exit(99)))
-enum { FILLER = 0x5a };
+#include "filler.h"
 
 struct table {
     struct dwv_unit *units;
     struct dwv_table_entry *entries;
     struct dwv_value *values;
 };
-
-static int is_untouched(const void *memory, size_t length) {
-    for (size_t k = 0; k < length; k++)
-        if (((const uint8_t *)memory)[k] != FILLER)
-            return 0;
-    return 1;
-}
-
-/* Memory full of the filler, in bytes. */
-static void *filled(size_t length) {
-    void *memory = malloc(length ? length : 1);
-    NEED(memory);
-    return memset(memory, FILLER, length ? length : 1);
-}
 
 /* The table, of which some arrays have less room than the counts say, or more. */
 static uint32_t called(const uint8_t *file, size_t length, struct table *t, const struct dwv_counts *n,
