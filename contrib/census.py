@@ -4,7 +4,8 @@
 Each file is a task: it is prepared and verified as dwv-check does it, its table is read, and the types that it defines
 are written to a part of their own in the store. A file that has a part, and did not change since, is not read again.
 Then three questions are asked of all parts, and the results are tables of the database: which structures have one name
-and several layouts, how many types each compiler wrote, and what `dwv types` refuses and why.
+and several layouts, how many types each compiler wrote, and what `dwv types` refuses and why. Standard error says how
+many files were read, how many the store had, and how long that and each question took.
 
 With --scheduler the tasks run on the workers of that Dask scheduler, which must see the same files and the same store,
 and have dwv, its Python package and this folder (in PYTHONPATH); else on workers of this machine. It needs
@@ -19,6 +20,7 @@ import pathlib
 import re
 import sqlite3
 import sys
+import time
 
 sys.dont_write_bytecode = True
 HERE = pathlib.Path(__file__).resolve().parent
@@ -33,7 +35,7 @@ COMPILER = re.compile(r"GNU \S+ [\d.]+|\w*[Cc]lang version [\d.]+|rustc version 
 REFUSED = re.compile(rb"/\* 0x([0-9a-f]{8}) (P\d \w+) \*/")
 
 
-def compilers(file):
+def compilers_of(file):
     """The compiler of each unit, without its options."""
     units, found = file.table.columns["units"], []
     for first in units["first"]:
@@ -63,7 +65,7 @@ def rows_of(path, plain):
     import dwv
     from dwv_tools import c_file
     file, found = c_file.File(plain), collections.Counter()
-    by = compilers(file)
+    by = compilers_of(file)
     for row, tag in enumerate(file.tags):
         if tag in KINDS:
             entry = file.entry(row)
@@ -80,41 +82,59 @@ def rows_of(path, plain):
 
 
 def part_of(path, store, dwv):
-    """Writes the part of a file, if the store does not have it, and returns its name."""
+    """Writes the part of a file, if the store does not have it. Returns its name, and whether it was written."""
     from dwv_tools import preparing
     stat = os.stat(path)
     key = hashlib.sha256(f"{os.path.abspath(path)} {stat.st_size} {stat.st_mtime_ns}".encode()).hexdigest()[:24]
     part = pathlib.Path(store) / f"{key}.csv"
-    if not part.exists():
+    if is_new := not part.exists():
         with preparing.checked(dwv, path) as (verdict, plain):
             rows = rows_of(path, plain) if verdict.status == 0 else [
                 (path, None, "fault", None, None, None, None, verdict.what, 1)]
         with open(part.with_suffix(".new"), "w", newline="", errors="backslashreplace") as out:
             csv.writer(out).writerows([COLUMNS, *rows])
         part.with_suffix(".new").replace(part)
-    return str(part)
+    return str(part), is_new
 
 
-def answers(parts):
-    """The answers to the three questions, as frames by their names."""
+def rows_in(parts):
+    """The rows of all parts, as a frame of Dask."""
     import dask.dataframe
     texts = {name: "object" for name in COLUMNS if name not in ("size", "count")}
-    rows = dask.dataframe.read_csv(parts, dtype={**texts, "size": "float64", "count": "int64"}, keep_default_na=False,
+    return dask.dataframe.read_csv(parts, dtype={**texts, "size": "float64", "count": "int64"}, keep_default_na=False,
                                    na_values={name: [""] for name in COLUMNS}, blocksize=None)
+
+
+def layouts(rows):
+    """How many layouts the structures, unions and classes of one name have, if more than one, and in how many files."""
     types = rows[rows.kind.isin(["struct", "union", "class"])]
     named = types[~types.name.isna()]
-    layouts, files = (named[["kind", "name", it]].drop_duplicates().groupby(["kind", "name"]).size().compute()
-                      for it in ("digest", "file"))
-    layouts = layouts[layouts > 1].rename("layouts").to_frame().join(files.rename("files")).reset_index()
-    written = rows[~rows.kind.isin(["fault", "refused"])]
-    by_compiler = written.groupby(["compiler", "kind"])["count"].sum().compute().reset_index()
+    found, files = (named[["kind", "name", it]].drop_duplicates().groupby(["kind", "name"]).size().compute()
+                    for it in ("digest", "file"))
+    found = found[found > 1].rename("layouts").to_frame().join(files.rename("files")).reset_index()
+    return found.sort_values(["layouts", "files", "name"], ascending=[False, False, True])
+
+
+def compilers(rows):
+    """How many types of each kind each compiler wrote. The units that dwz moved types to name none."""
+    written = rows[~rows.kind.isin(["fault", "refused"])].fillna({"compiler": "none named"})
+    found = written.groupby(["compiler", "kind"])["count"].sum().compute().reset_index()
+    return found.sort_values("count", ascending=False)
+
+
+def refusals(rows):
+    """How many files are not sound, by their faults, and how many types are refused, by the reason and the tag."""
     refused = rows[rows.kind.isin(["fault", "refused"])].fillna({"members": ""})
-    reasons = refused.groupby(["kind", "reason", "members"])["count"].sum().compute().reset_index()
-    return {
-        "layouts": layouts.sort_values(["layouts", "files", "name"], ascending=[False, False, True]),
-        "compilers": by_compiler.sort_values("count", ascending=False),
-        "refusals": reasons.rename(columns={"members": "tag"}).sort_values("count", ascending=False),
-    }
+    found = refused.groupby(["kind", "reason", "members"])["count"].sum().compute().reset_index()
+    return found.rename(columns={"members": "tag"}).sort_values("count", ascending=False)
+
+
+def timed(what, call, *words):
+    """What a call returns. How long it took is told."""
+    start = time.monotonic()
+    found = call(*words)
+    print(f"{what}: {time.monotonic() - start:.1f} s", file=sys.stderr)
+    return found
 
 
 def draw(found, image):
@@ -144,18 +164,21 @@ def main():
     words = parser.parse_args()
     dwv = running.find_dwv(parser)
     folders = [sorted(map(str, pathlib.Path(it).rglob("*.debug"))) if os.path.isdir(it) else [it] for it in words.files]
-    files = [file for folder in folders for file in folder if not os.path.islink(file)]
+    files = [os.path.abspath(file) for folder in folders for file in folder if not os.path.islink(file)]
     pathlib.Path(words.store).mkdir(parents=True, exist_ok=True)
     os.environ["PYTHONPATH"] = os.pathsep.join(sys.path[:2])
     from dask.distributed import Client
     here = dict(n_workers=words.workers, threads_per_worker=1, dashboard_address=None)
     with Client(words.scheduler) if words.scheduler else Client(**here) as client:
         tasks = client.map(part_of, files, store=os.path.abspath(words.store), dwv=dwv, retries=1)
-        parts = client.gather(tasks, errors="skip")
+        parts = dict(timed("the parts", client.gather, tasks, "skip"))
+        written = sum(parts.values())
+        print(f"{written} files were read, the store had {len(parts) - written}", file=sys.stderr)
         for file, task in zip(files, tasks):
             if task.status == "error":
                 print(f"not read: {running.plain(file)}: {task.exception()}", file=sys.stderr)
-        found = answers(sorted(set(parts)))
+        rows = rows_in(sorted(parts))
+        found = {it.__name__: timed(it.__name__, it, rows) for it in (layouts, compilers, refusals)}
     for name, frame in found.items():
         print(f"{name}\n{frame.head(12).to_string(index=False)}\n")
     if words.sqlite:

@@ -14,19 +14,23 @@ NAME, BYTE_SIZE, BIT_OFFSET, BIT_SIZE, LANGUAGE, UPPER = 0x03, 0x0B, 0x0C, 0x0D,
 COUNT, MEMBER_LOCATION, DECLARATION, TYPE, BIT_POSITION, ALIGNMENT, VECTOR = 0x37, 0x38, 0x3C, 0x49, 0x6B, 0x88, 0x2107
 # The kinds of values that are numbers: without a sign, with a sign, flags (enum dwv_kind of dwv.h).
 NUMBERS, SIGNED = {1, 2, 3}, 2
-# How many entries are kept that types refer to.
+# How many entries are kept that types refer to, and how many lists of attributes.
 KEPT = 2**14
+
+
+def places(attributes):
+    """Where each attribute is among those of an entry, by the bytes of their column."""
+    return {attribute: place for place, attribute in enumerate(memoryview(attributes).cast("I"))}
 
 
 class Entry:
     """An entry of a file, by its row."""
 
-    __slots__ = ("file", "row", "tag", "values")
+    __slots__ = ("file", "row", "tag", "first", "places")
 
     def __init__(self, file, row):
-        self.file, self.row, self.tag = file, row, file.tags[row]
-        first, count = file.first[row], file.count[row]
-        self.values = dict(zip(file.attributes[first : first + count], range(first, first + count)))
+        self.file, self.row, self.tag, self.first = file, row, file.tags[row], file.first[row]
+        self.places = file.places_of(file.attributes[self.first : self.first + file.count[row]].tobytes())
 
     @property
     def at(self):
@@ -40,19 +44,19 @@ class Entry:
 
     def number(self, attribute):
         """The number that an attribute has, or None."""
-        found = self.values.get(attribute)
-        if found is None or (kind := self.file.kinds[found]) not in NUMBERS:
+        place = self.places.get(attribute)
+        if place is None or (kind := self.file.kinds[self.first + place]) not in NUMBERS:
             return None
-        number = self.file.numbers[found]
+        number = self.file.numbers[self.first + place]
         return number - 2**64 if kind == SIGNED and number >= 2**63 else number
 
     def has(self, attribute):
-        return attribute in self.values
+        return attribute in self.places
 
     def type(self):
         """The entry that DW_AT_type refers to, or None. It is always a reference."""
-        found = self.values.get(TYPE)
-        return None if found is None else self.file.entry(self.file.numbers[found])
+        place = self.places.get(TYPE)
+        return None if place is None else self.file.entry(self.file.numbers[self.first + place])
 
     def children(self):
         """The entries right below."""
@@ -89,6 +93,7 @@ class File:
         self.numbers, self.kinds = values["number"], values["kind"]
         self.has_vectors = VECTOR in self.attributes.tolist()
         self.entry = functools.lru_cache(KEPT)(functools.partial(Entry, self))
+        self.places_of = functools.lru_cache(KEPT)(places)
 
     def at(self, offset):
         """The entry at an offset."""

@@ -12,7 +12,7 @@ from dwv_tools import c_types
 from dwv_tools.c_layout import Extent, Layouts, Misfit, enum_extent, sized_enum
 from dwv_tools.c_names import ALIASES, GCC_ONLY, KNOWN
 from dwv_tools.c_types import (
-    Array, Body, Enum, Function, Name, Pointer, Qualified, Tag, Vector, Void, bare, innermost,
+    Array, Body, Declaration, Enum, Function, Name, Pointer, Qualified, Tag, Vector, Void, bare, innermost,
 )
 from dwv_tools.c_writing import Writer, plain_name
 
@@ -221,7 +221,7 @@ class Header:
         declaration = found.declaration
         shapes = self.shapes(declaration)
         first = next(shapes, None)
-        sizes = dict(enum_sizes(declaration.type, first and first[1]))
+        sizes = dict(enum_sizes(declaration.type, first and first[1])) if found.needs.enums else {}
         for constants in found.needs.enums:
             if self.enum_uses[constants] > 1 and constants not in self.writer.hoisted:
                 self.hoist(constants, sizes.get(constants))
@@ -230,7 +230,7 @@ class Header:
         self.claim([constant for constants in enums for constant in constants])
         shapes = shapes if first is None else itertools.chain([first], shapes)
         declaration, note = self.fitted(node, declaration, shapes)
-        text = self.writer.declaration(declaration._replace(name=node[1]))
+        text = self.writer.declaration(Declaration(declaration.kind, node[1], declaration.type))
         if node[0] == "typedef" and node[1] in ALIASES:
             text = f"#if {ALIASES[node[1]][2]}\n{text}\n#endif"
         others = [self.other(node, it, first) for it in self.texts[node][number + 1 :]]
@@ -286,7 +286,7 @@ class Header:
                 self.layouts.of[node] = extent
                 if self.has_asserts:
                     self.asserted.append((node, t, shape))
-                return declaration._replace(type=t), []
+                return Declaration(*declaration[:2], t), []
             except Misfit as error:
                 reason = str(error)
         self.guessed += 1

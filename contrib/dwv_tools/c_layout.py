@@ -42,9 +42,9 @@ def enum_extent(constants, is_packed=False):
 
 def sized_enum(found, size):
     """An enumeration with the attribute that gives it a size."""
-    packed = enum_extent(found.constants, True)
     if size in (None, enum_extent(found.constants).size):
         return found
+    packed = enum_extent(found.constants, True)
     if size == packed.size:
         return found._replace(attribute=" __attribute__((packed))")
     if size in MODES and packed.size < size:
@@ -143,7 +143,7 @@ class Layouts:
                 natural = start
             at = natural + (8 * extent.size if member.bits is None else member.bits)
             end, alignment = max(end, at), max(alignment, step)
-            members.append(member._replace(type=t))
+            members.append(member if t is member.type else Member(member.name, t, member.bits))
         return self.closed(Body(body.kind, tuple(members)), -(-end // 8), alignment, shape, is_packed)
 
     def pad(self, count):
@@ -188,7 +188,7 @@ class Layouts:
                 body = body._replace(members=(*body.members, self.pad(count)))
                 size = shape.size
         attribute = f" __attribute__(({', '.join(words)}))" if words else ""
-        return body._replace(attribute=attribute), Extent(size, alignment)
+        return Body(body.kind, body.members, attribute), Extent(size, alignment)
 
 
 def next_place(at, bits, size, step, is_packed):

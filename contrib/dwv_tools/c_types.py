@@ -27,8 +27,9 @@ LETTERS = {*string.ascii_letters, "_"}
 QUALIFIERS = {"const", "volatile", "restrict", "_Atomic"}
 WORDS = {"__int128", "char", "short", "int", "long", "signed", "unsigned", "float", "double", "_Bool", "_Complex"}
 TAGS = {"struct", "union", "enum"}
-# The first declarations that were read, by their lines, and how many are kept.
-DECLARATIONS, KEPT = {}, 2**16
+# The first declarations that were read, by their lines, the first members and lists of parameters by their tokens, and
+# how many of each are kept. Many types have the same.
+DECLARATIONS, MEMBERS, PARAMETERS, KEPT = {}, {}, {}, 2**17
 
 
 class Malformed(Exception):
@@ -79,11 +80,18 @@ class Reader:
         self.at += 1
         return token
 
-    def has(self, token, *more):
-        """Takes these tokens, if they are next."""
-        if self.tokens[self.at] != token or more and self.tokens[self.at + 1 : self.at + 1 + len(more)] != [*more]:
+    def has(self, token):
+        """Takes this token, if it is next."""
+        if self.tokens[self.at] != token:
             return False
-        self.at += 1 + len(more)
+        self.at += 1
+        return True
+
+    def has_all(self, *tokens):
+        """Takes these tokens, if they are next."""
+        if self.tokens[self.at : self.at + len(tokens)] != [*tokens]:
+            return False
+        self.at += len(tokens)
         return True
 
     def run(self, words):
@@ -116,7 +124,7 @@ class Reader:
             found = self.body(kind) if self.tokens[self.at] == "{" else Tag(kind, self.identifier())
         else:
             found = Name(self.identifier())
-        if self.has("__attribute__", "(", "(", "vector_size", "("):
+        if self.tokens[self.at] == "__attribute__" and self.has_all("__attribute__", "(", "(", "vector_size", "("):
             found = Vector(int(self.take()), self.alignment(), found)
         return Qualified(qualifiers, found) if qualifiers else found
 
@@ -124,7 +132,7 @@ class Reader:
         """The alignment in the attribute of a vector, after its size, or None."""
         self.take(")")
         found = None
-        if self.has(",", "aligned", "("):
+        if self.has_all(",", "aligned", "("):
             found = int(self.take())
             self.take(")")
         self.take(")")
@@ -141,10 +149,30 @@ class Reader:
             return Enum(tuple(constants))
         members = []
         while not self.has("}"):
-            name, member = self.declared()
-            members.append(Member(name, member, int(self.take()) if self.has(":") else None))
-            self.take(";")
+            members.append(self.kept(MEMBERS, self.member, ";", "{"))
         return Body(kind, tuple(members))
+
+    def kept(self, found, read, last, deeper):
+        """What `read` reads of the tokens up to `last`. It is kept by them, unless `deeper` is among them: then they
+        may go on."""
+        try:
+            end = self.tokens.index(last, self.at) + 1
+        except ValueError:
+            return read()
+        tokens = tuple(self.tokens[self.at : end])
+        if tokens in found:
+            self.at = end
+            return found[tokens]
+        it = read()
+        if deeper not in tokens and len(found) < KEPT:
+            found[tokens] = it
+        return it
+
+    def member(self):
+        name, t = self.declared()
+        found = Member(name, t, int(self.take()) if self.has(":") else None)
+        self.take(";")
+        return found
 
     def constant(self):
         name = self.identifier()
@@ -176,7 +204,7 @@ class Reader:
                 if parts[-1][1] is not None:
                     self.take("]")
             elif self.has("("):
-                parts.append((Function, *self.parameters()))
+                parts.append((Function, *self.kept(PARAMETERS, self.parameters, ")", "(")))
             else:
                 return name, parts + stars[::-1]
 
@@ -184,10 +212,10 @@ class Reader:
         """The parameters of a function, and whether more follow."""
         if self.has(")"):
             return None, False
-        if self.has("void", ")"):
+        if self.has_all("void", ")"):
             return (), False
         found = []
-        while not self.has("...", ")"):
+        while not self.has_all("...", ")"):
             found.append(self.declared()[1])
             if self.has(")"):
                 return tuple(found), False

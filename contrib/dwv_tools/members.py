@@ -41,7 +41,8 @@ def start_of(entry):
 def own_alignment(entry):
     """The alignment that a member itself asks for, or 1. clang also writes that of its type, which packing takes away.
     """
-    found, of = entry.number(ALIGNMENT) or 1, entry.type()
+    found = entry.number(ALIGNMENT) or 1
+    of = entry.type() if found > 1 else None
     while of and of.number(ALIGNMENT) is None and of.tag in {ARRAY, *SAME_SIZE}:
         of = of.type()
     return 1 if of and of.number(ALIGNMENT) == found else found
@@ -80,9 +81,10 @@ def inner_of(of, entry):
 
 def shape_at(file, declaration, at):
     """What the file says of the body of a declaration, whose entry is at an offset, or None."""
-    entry, of = file.at(at), innermost(declaration.type)
+    of = innermost(declaration.type)
     if type(of) not in (Body, Enum):
         return None
+    entry = file.at(at)
     if declaration.kind == "typedef":
         entry = innermost_entry(entry)
         entry = entry if entry and entry.name() is None else None
