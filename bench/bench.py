@@ -6,7 +6,8 @@ usage: bench.py [WORD ..]      only the programs whose names have one of the wor
 All tools are measured in one run. On each program they take turns several times, and the least processor time counts.
 The tables are Markdown; docs/PERFORMANCE.md has them joined into one. gnuplot draws the first into
 docs/performance.svg, if it is installed. The walks with gimli are built by cargo from Debian's librust-gimli-dev and
-librust-object-dev; DEBIAN_CARGO is the folder of such packages, if it is another.
+librust-object-dev; DEBIAN_CARGO is the folder of such packages, if it is another. So is the walk by the table of dwv,
+if `make lib` built the C library.
 """
 import datetime
 import multiprocessing
@@ -25,6 +26,7 @@ import generate
 HERE = pathlib.Path(__file__).resolve().parent
 DWV = HERE.parent / "crates/dwv/out/dwv"
 OUT = HERE / "out"
+LIBRARY = HERE.parent / "out/lib"
 PICTURE = HERE.parent / "docs/performance.svg"
 # How often a tool is run on a program; no further run starts when these took so many seconds of processor time.
 ROUNDS, ENOUGH = 9, 20
@@ -44,14 +46,14 @@ PROGRAMS = {
 SMALL, MIDDLE, LARGE = list(PROGRAMS)[:3]
 
 CHECK, TYPES = "dwv check", "dwv types"
-WALK, RESOLVE = "gimli, plain walk", "gimli, resolving walk"
+WALK, RESOLVE, TABLE = "gimli, plain walk", "gimli, resolving walk", "dwv::Table, resolved walk"
 VERIFY, DWARFDUMP, PAHOLE = "llvm-dwarfdump --verify", "dwarfdump -ka", "pahole"
 # The tools in the order of the table, the words of the peers, and what is compared with what in the second table.
-TOOLS = (CHECK, WALK, RESOLVE, VERIFY, DWARFDUMP, TYPES, PAHOLE)
-RATIOS = ((CHECK, WALK), (CHECK, RESOLVE), (CHECK, VERIFY), (TYPES, PAHOLE))
+TOOLS = (CHECK, WALK, RESOLVE, TABLE, VERIFY, DWARFDUMP, TYPES, PAHOLE)
+RATIOS = ((CHECK, WALK), (CHECK, RESOLVE), (TABLE, RESOLVE), (CHECK, VERIFY), (TYPES, PAHOLE))
 
 # Debian's packages of Rust's libraries, among them librust-gimli-dev.
-LIBRARIES = pathlib.Path(os.environ.get("DEBIAN_CARGO", "/usr/share/cargo/registry"))
+CRATES = pathlib.Path(os.environ.get("DEBIAN_CARGO", "/usr/share/cargo/registry"))
 
 # What draws the picture, before the times of each tool and the command that plots them.
 AXES = """set terminal svg size 1000,520 background rgb "white"
@@ -101,15 +103,21 @@ def build(name):
     return program
 
 
+def has_library():
+    return (LIBRARY / "libdwv.a").exists()
+
+
 def walk():
     """The program that walks over all entries with gimli, or None if gimli or cargo is not installed."""
-    if not shutil.which("cargo") or not all(list(LIBRARIES.glob(name)) for name in ("gimli-0.27.*", "object-0.30.*")):
+    if not shutil.which("cargo") or not all(list(CRATES.glob(name)) for name in ("gimli-0.27.*", "object-0.30.*")):
         return None
     folder = OUT / "gimli"
     shutil.copytree(HERE / "gimli", folder, dirs_exist_ok=True)
-    settings = ('source.crates-io.replace-with="debian"', f'source.debian.directory="{LIBRARIES}"')
+    settings = ('source.crates-io.replace-with="debian"', f'source.debian.directory="{CRATES}"')
     words = [word for setting in settings for word in ("--config", setting)]
-    subprocess.run(["cargo", "build", "--quiet", "--offline", "--release", *words], cwd=folder, check=True)
+    words += ["--features", "table"] if has_library() else []
+    subprocess.run(["cargo", "build", "--quiet", "--offline", "--release", *words], cwd=folder, check=True,
+                   env={**os.environ, "DWV_LIB_DIR": str(LIBRARY)})
     return folder / "target/release/walk"
 
 
@@ -118,6 +126,7 @@ def installed():
     found = {CHECK: [DWV, "check"], TYPES: [DWV, "types"]}
     if gimli := walk():
         found |= {WALK: [gimli], RESOLVE: [gimli, "--resolve"]}
+        found |= {TABLE: [gimli, "--table"]} if has_library() else {}
     for tool in (VERIFY, DWARFDUMP, PAHOLE):
         if shutil.which(tool.split()[0]):
             found[tool] = tool.split()
@@ -163,6 +172,16 @@ def measure(commands):
             best[name] = row and min(best.get(name, row), row)
             spent[name] += row[0] if row else LIMIT
     return best
+
+
+def reading(tools, program):
+    """The least milliseconds that reading all values takes by the table, once it is made. gimli has to read the same.
+    """
+    runs = [subprocess.run([*tools[TABLE], program], capture_output=True, text=True, check=True) for _ in range(ROUNDS)]
+    by_gimli = subprocess.run([*tools[RESOLVE], program], capture_output=True, text=True, check=True).stdout
+    if {run.stdout for run in runs} != {by_gimli}:
+        sys.exit(f"bench: {program}: gimli reads {by_gimli.strip()}, and the table has {runs[0].stdout.strip()}")
+    return min(int(run.stderr.split()[0]) for run in runs) / 1e3
 
 
 def machine():
@@ -229,7 +248,7 @@ def main():
     print(f"{title}\n")
     print("| program | .debug_info, MB | entries | tool | processor s | ns an entry | peak MB |")
     print("|---|---|---|---|---|---|---|")
-    times, counts, over = {}, {}, {}
+    times, counts, over, taken = {}, {}, {}, {}
     for name, program in programs.items():
         if program is None:
             continue
@@ -239,6 +258,8 @@ def main():
             times[name, tool] = best
             row = f"{best[0]:.3f} | {best[0] / count * 1e9:.0f} | {best[1]:.0f}" if best else f"over {LIMIT} | |"
             print(f"| {name.rsplit(',', 1)[0]} | {info(program)[1] / 1e6:.1f} | {count} | {tool} | {row} |", flush=True)
+        if TABLE in tools:
+            taken[name] = reading(tools, program)
         over[name] = (times[name, CHECK][1] * 2**20 - program.stat().st_size) / count
     print("\nThe ratios of times, and the memory of `dwv check` over the size of the file:\n")
     print(f"| program | {' | '.join(f'{tool} to {other}' for tool, other in RATIOS)} | bytes an entry |")
@@ -259,6 +280,8 @@ def main():
             part = both["broken"][0] / both["sound"][0]
             print(f"{MIDDLE}, with `{said.strip()}`: `dwv check` takes {part:.2f} of the time of the sound file.")
             copy.unlink()
+    for name, milliseconds in taken.items():
+        print(f"{name}: of the walk by dwv::Table, reading all values takes {milliseconds:.1f} ms.")
     absent = [tool for tool in TOOLS if tool not in tools]
     absent += [PROGRAMS[name][2][0] for name, program in programs.items() if program is None]
     if absent:

@@ -1,5 +1,6 @@
-/* library DWV FILE: the processor time of a call of dwv_check and of a run of `DWV check`, in microseconds. Each is
-   repeated for at least two seconds. It prints both times with three digits or more, and the status of each. */
+/* library DWV FILE: the processor time of a call of dwv_check, of a run of `DWV check`, and of a call of dwv_table with
+   room for all rows, in microseconds. Each is repeated for at least two seconds. It prints these times with three
+   digits or more, how many nanoseconds a value row takes over the check, and the status of each. */
 #define _GNU_SOURCE
 #include <fcntl.h>
 #include <spawn.h>
@@ -39,6 +40,31 @@ static void print_time(double seconds) {
     printf("%.*f ", time < 10 ? 2 : time < 100 ? 1 : 0, time);
 }
 
+/* The arrays of dwv_table, and how many rows each has. */
+struct table {
+    struct dwv_unit *units;
+    struct dwv_table_entry *entries;
+    struct dwv_value *values;
+    struct dwv_counts n;
+};
+
+/* A call of dwv_table, if `t` has arrays with room for its counts of rows. */
+static enum dwv_status fill(const uint8_t *file, size_t length, struct table *t, struct dwv_verdict *v) {
+    struct dwv_counts n = t->n;
+    return dwv_table(file, length, t->units, n.units, t->entries, n.entries, t->values, n.values, &t->n, v);
+}
+
+/* Arrays of as many rows as the file has. Their memory was written, so that no call pays for its pages. */
+static struct table table_of(const uint8_t *file, size_t length, struct dwv_verdict *v) {
+    struct table t = {malloc(1), malloc(1), malloc(1), {0}};
+    fill(file, length, &t, v);
+    t.units = realloc(t.units, (t.n.units + 1) * sizeof *t.units);
+    t.entries = realloc(t.entries, (t.n.entries + 1) * sizeof *t.entries);
+    t.values = realloc(t.values, (t.n.values + 1) * sizeof *t.values);
+    fill(file, length, &t, v);
+    return t;
+}
+
 int main(int argc, char **argv) {
     FILE *opened = argc == 3 ? fopen(argv[2], "rb") : NULL;
     if (!opened || fseek(opened, 0, SEEK_END))
@@ -49,18 +75,24 @@ int main(int argc, char **argv) {
     if (!file || fread(file, 1, length, opened) != length)
         return 3;
     struct dwv_verdict v = {0};
-    uint32_t called = 0;
+    struct table t = table_of(file, length, &v);
+    enum dwv_status called = DWV_SOUND, filled = DWV_SOUND;
     int ran = 0;
-    double calls = 0, runs = 0, start = used(RUSAGE_SELF);
+    double calls = 0, runs = 0, fills = 0, start = used(RUSAGE_SELF);
     for (; used(RUSAGE_SELF) - start < SECONDS; calls++)
         called = dwv_check(file, length, &v);
-    double in_process = used(RUSAGE_SELF) - start;
+    double in_process = (used(RUSAGE_SELF) - start) / calls;
+    start = used(RUSAGE_SELF);
+    for (; used(RUSAGE_SELF) - start < SECONDS; fills++)
+        filled = fill(file, length, &t, &v);
+    double with_rows = (used(RUSAGE_SELF) - start) / fills;
     start = used(RUSAGE_CHILDREN);
     for (; used(RUSAGE_CHILDREN) - start < SECONDS; runs++)
         ran = run(argv);
     double as_program = used(RUSAGE_CHILDREN) - start;
-    print_time(in_process / calls);
+    print_time(in_process);
     print_time(as_program / runs);
-    printf("%u %d\n", (unsigned)called, ran);
+    print_time(with_rows);
+    printf("%.0f %u %d %u\n", (with_rows - in_process) / t.n.values * 1e9, (unsigned)called, ran, (unsigned)filled);
     return 0;
 }

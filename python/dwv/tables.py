@@ -5,9 +5,10 @@ copied. The methods on one entry or value need no other module; `arrays` needs n
 """
 import ctypes
 import functools
+import mmap
 import pathlib
 import re
-from typing import Any, Dict, Iterator, List, NamedTuple, Optional, Tuple, Union
+from typing import Any, Dict, Iterator, NamedTuple, Optional, Tuple, Union
 
 # The row of a parent or of a next sibling that an entry does not have.
 NONE = 0xFFFFFFFF
@@ -259,17 +260,30 @@ def code_of(kind: str, name: str) -> int:
 def read(call, parts: Tuple[bytes, ...], limit: Optional[int]) -> Union[Table, int]:
     """The table that a call of the library writes, or its status: 4 also if there are more values than the limit.
 
-    `call` gets the memory and the rooms of the arrays, and the counts. It is called twice, since only it knows how many
-    rows there are."""
-    rooms: List[int] = [0, 0, 0]
+    `call` gets the memory and the rooms of the arrays, and the counts. It is called again only if the bytes have more
+    rows than compilers write, or there is no memory for so many: then the call says how many there are. Rows that are
+    not written are not touched."""
+    # Compilers write fewer rows for 64 bytes of .debug_info. In all, these take at most 1 GiB.
+    blocks = min(len(parts[1]) // 64, 500_000) + 1
+    rooms = [blocks, 12 * blocks, 40 * blocks if limit is None else max(0, min(40 * blocks, limit))]
     counts = (ctypes.c_uint64 * 3)()
+    is_guess = True
     while True:
-        memory = {part: (ctypes.c_uint64 * (max(room, 1) * SIZES[part] // 8))() for part, room in zip(FIELDS, rooms)}
-        status = call([word for part, room in zip(FIELDS, rooms) for word in (memory[part], room)], counts)
+        try:
+            memory = {part: mmap.mmap(-1, max(room, 1) * SIZES[part], mmap.MAP_PRIVATE | mmap.MAP_ANONYMOUS)
+                      for part, room in zip(FIELDS, rooms)}
+            starts = [ctypes.byref(ctypes.c_char.from_buffer(it)) for it in memory.values()]
+            status = call([word for pair in zip(starts, rooms) for word in pair], counts)
+        except OSError:  # there is no memory
+            status = 4
         if status == 0:
             return Table(parts, memory, dict(zip(FIELDS, counts)))
-        if status != 5:
+        if status == 5:
+            rooms = list(counts)
+            if limit is not None and rooms[2] > limit:
+                return 4
+        elif status == 4 and is_guess:
+            rooms = [0, 0, 0]
+        else:
             return status
-        rooms = list(counts)
-        if limit is not None and rooms[2] > limit:
-            return 4
+        is_guess = False

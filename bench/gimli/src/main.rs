@@ -1,6 +1,7 @@
-//! Reads each entry and each attribute of a program with gimli, and checks nothing: `walk [--resolve] FILE`.
+//! Reads each entry and each attribute of a program with gimli, and checks nothing: `walk [--resolve | --table] FILE`.
 //!
-//! With --resolve it also reads each string, and the tag of the entry that each reference names.
+//! With --resolve it also reads each string, and the tag of the entry that each reference names. With --table, a feature
+//! of this crate, it reads the same from the table of dwv, which checks the file, and says how long the reading took.
 
 use std::collections::HashMap;
 use std::error::Error;
@@ -15,6 +16,10 @@ type Unit<'a> = gimli::Unit<Bytes<'a>>;
 fn main() -> Result<(), Box<dyn Error>> {
     let mut words: Vec<String> = std::env::args().skip(1).collect();
     let file = std::fs::read(words.pop().ok_or("no file")?)?;
+    #[cfg(feature = "table")]
+    if words == ["--table"] {
+        return read_table(&dwv::Table::of(&file)?);
+    }
     let file = object::File::parse(&*file)?;
     let dwarf = gimli::Dwarf::load(|id| {
         let section = file.section_by_name(id.name()).and_then(|section| section.data().ok());
@@ -79,6 +84,27 @@ fn resolve(dwarf: &Dwarf) -> Result<(), Box<dyn Error>> {
         }
     }
     println!("{entries} entries, {length} bytes of strings, {types} references to base types");
+    Ok(())
+}
+
+/// What `resolve` reads, from the table of a sound file.
+#[cfg(feature = "table")]
+fn read_table(table: &dwv::Table) -> Result<(), Box<dyn Error>> {
+    use dwv::table::Value;
+    let start = std::time::Instant::now();
+    let (mut length, mut types) = (0, 0u64);
+    for entry in table.entries() {
+        for (_, value) in entry.attributes() {
+            match value {
+                Value::Text(text) => length += text.len(),
+                Value::Reference(target) => types += u64::from(target.tag() == dwv::constants::DW_TAG_base_type),
+                _ => {}
+            }
+        }
+    }
+    let (entries, taken) = (table.entries().len(), start.elapsed().as_micros());
+    println!("{entries} entries, {length} bytes of strings, {types} references to base types");
+    eprintln!("{taken} microseconds for reading the table");
     Ok(())
 }
 

@@ -3,7 +3,7 @@ use crate::{table::Unit, Raw};
 
 /// `struct dwv_table_entry` of dwv.h.
 #[repr(C)]
-#[derive(Clone, Copy, Debug, Default)]
+#[derive(Clone, Copy, Debug)]
 pub(crate) struct EntryRow {
     pub(crate) size: u64,
     pub(crate) name: u64,
@@ -22,7 +22,7 @@ pub(crate) struct EntryRow {
 
 /// `struct dwv_value` of dwv.h.
 #[repr(C)]
-#[derive(Clone, Copy, Debug, Default)]
+#[derive(Clone, Copy, Debug)]
 pub(crate) struct ValueRow {
     pub(crate) number: u64,
     pub(crate) length: u32,

@@ -92,18 +92,19 @@ impl<'a> Table<'a> {
     /// The table of a sound file. Any other gives its fault.
     pub fn of(file: &'a [u8]) -> Result<Table<'a>, Error> {
         Table::filled([file; 4], |table, counts, raw| {
-            // SAFETY: the pointers of slices are not null and valid for their lengths, rows have a value, and only this
-            // call uses the arrays, the counts and `raw`.
+            // SAFETY: the pointers of slices are not null and valid for their lengths, and those of arrays for their
+            // capacities. Rows are numbers, so any memory has a value of them, and none is read before it is written.
+            // Only this call uses the arrays, the counts and `raw`.
             unsafe {
                 dwv_table(
                     file.as_ptr(),
                     file.len(),
                     table.units.as_mut_ptr(),
-                    table.units.len(),
+                    table.units.capacity(),
                     table.entries.as_mut_ptr(),
-                    table.entries.len(),
+                    table.entries.capacity(),
                     table.values.as_mut_ptr(),
-                    table.values.len(),
+                    table.values.capacity(),
                     counts,
                     raw,
                 )
@@ -131,11 +132,11 @@ impl<'a> Table<'a> {
                     addr.as_ptr(),
                     addr.len(),
                     table.units.as_mut_ptr(),
-                    table.units.len(),
+                    table.units.capacity(),
                     table.entries.as_mut_ptr(),
-                    table.entries.len(),
+                    table.entries.capacity(),
                     table.values.as_mut_ptr(),
-                    table.values.len(),
+                    table.values.capacity(),
                     counts,
                     raw,
                 )
@@ -143,24 +144,38 @@ impl<'a> Table<'a> {
         })
     }
 
-    /// The table that a call fills. It is called twice, since only it knows how many rows there are.
+    /// The table that a call fills. It is called again only if the bytes have more rows than compilers write, or there
+    /// is no memory for so many: then the call says how many there are. Rows that are not written are not touched.
     fn filled(
         parts: [&'a [u8]; 4],
         call: impl Fn(&mut Table<'a>, &mut Counts, &mut Raw) -> u32,
     ) -> Result<Table<'a>, Error> {
-        let mut table = Table { parts, units: Vec::new(), entries: Vec::new(), values: Vec::new() };
+        // Compilers write fewer rows for 64 bytes of .debug_info. In all, these take at most 1 GiB.
+        let blocks = (parts[1].len() as u64 / 64).min(500_000) + 1;
+        let mut counts = Counts { units: blocks, entries: 12 * blocks, values: 40 * blocks };
+        let mut is_guess = true;
         loop {
-            let (mut counts, mut raw) = (Counts::default(), Raw::default());
-            match call(&mut table, &mut counts, &mut raw) {
-                0 => return Ok(table),
-                1 => return Err(Error::Fault(raw.fault())),
-                4 => return Err(Error::NoMemory),
-                _ => {
-                    resize(&mut table.units, counts.units)?;
-                    resize(&mut table.entries, counts.entries)?;
-                    resize(&mut table.values, counts.values)?;
+            let mut table = Table { parts, units: Vec::new(), entries: Vec::new(), values: Vec::new() };
+            let mut raw = Raw::default();
+            let has_memory = table.units.try_reserve_exact(counts.units as usize).is_ok()
+                && table.entries.try_reserve_exact(counts.entries as usize).is_ok()
+                && table.values.try_reserve_exact(counts.values as usize).is_ok();
+            match if has_memory { call(&mut table, &mut counts, &mut raw) } else { 4 } {
+                0 => {
+                    // SAFETY: a call that returns DWV_SOUND had room for so many rows of each array, and wrote them.
+                    unsafe {
+                        table.units.set_len(counts.units as usize);
+                        table.entries.set_len(counts.entries as usize);
+                        table.values.set_len(counts.values as usize);
+                    }
+                    return Ok(table);
                 }
+                1 => return Err(Error::Fault(raw.fault())),
+                4 if is_guess => counts = Counts::default(),
+                4 => return Err(Error::NoMemory),
+                _ => {}
             }
+            is_guess = false;
         }
     }
 
@@ -178,14 +193,6 @@ impl<'a> Table<'a> {
     pub fn entry(&self, row: u32) -> Option<Entry<'_>> {
         ((row as usize) < self.entries.len()).then_some(Entry { table: self, row })
     }
-}
-
-/// Makes room for so many rows. A small file may have more than there is memory for.
-fn resize<T: Clone + Default>(rows: &mut Vec<T>, count: u64) -> Result<(), Error> {
-    let count = usize::try_from(count).map_err(|_| Error::NoMemory)?;
-    rows.try_reserve_exact(count.saturating_sub(rows.len())).map_err(|_| Error::NoMemory)?;
-    rows.resize(count, T::default());
-    Ok(())
 }
 
 impl<'t> Entry<'t> {

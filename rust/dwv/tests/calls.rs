@@ -66,6 +66,19 @@ fn a_table_of_sections() -> Result<(), Error> {
 }
 
 #[test]
+fn a_table_with_more_values_than_compilers_write() -> Result<(), Error> {
+    let info = [9, 0, 0, 0, 5, 0, 1, 8, 0, 0, 0, 0, 1];
+    for count in [1, 100] {
+        let flags = (0..count).flat_map(|code| [0x80 | code, 0x40, 0x19]);
+        let abbrev: Vec<u8> = [1, 0x11, 0].into_iter().chain(flags).chain([0; 3]).collect();
+        let table = Table::of_sections(&Sections { abbrev: &abbrev, info: &info, ..Sections::default() })?;
+        let unit = table.entry(0).unwrap();
+        assert!(unit.attributes().eq((0..count).map(|code| (0x2000 + u32::from(code), Value::Flag(true)))));
+    }
+    Ok(())
+}
+
+#[test]
 fn names_of_codes() {
     let named = include_str!("../../../contrib/dwv_tools/names.txt");
     let constants = include_str!("../src/constants.rs");

@@ -1,12 +1,12 @@
-//! Verifies files with dwv, and reads the sound ones with gimli without a check: `dwv-gimli [--time] FILE..`
+//! Verifies files with dwv, and reads the sound ones with gimli without a check: `dwv-gimli FILE..`
 //!
 //! gimli gets the same six sections that dwv verified. Each of its reads returns a `Result`, and in sound sections none
 //! is an error: `sure` takes the value. `sound` says nothing about other sections, so this program reads none of them.
 //! For example `gimli::Dwarf::unit` reads `.debug_line`, and its error has to be handled.
 //!
 //! Then it reads the same from the table of dwv, which has resolved all strings and references, and where no read can
-//! fail. With --time it prints how long each of the two takes: gimli after a check, and the table with its own check.
-use std::{env, error::Error, fs, process::ExitCode, time::Instant};
+//! fail.
+use std::{env, error::Error, fs, process::ExitCode};
 
 use dwv::{constants::DW_AT_name, table::Value, Table};
 use gimli::{AttributeValue, DebugStrOffsetsBase, EndianSlice, Format, LittleEndian};
@@ -16,8 +16,7 @@ type Bytes<'a> = EndianSlice<'a, LittleEndian>;
 
 fn main() -> Result<ExitCode, Box<dyn Error>> {
     let mut is_sound = true;
-    let (options, paths): (Vec<String>, Vec<String>) = env::args().skip(1).partition(|word| word == "--time");
-    for path in paths {
+    for path in env::args().skip(1) {
         let file = fs::read(&path)?;
         let file = object::File::parse(&*file)?;
         let section = |name| file.section_by_name(name).and_then(|it| it.data().ok()).unwrap_or_default();
@@ -29,16 +28,10 @@ fn main() -> Result<ExitCode, Box<dyn Error>> {
             str_offsets: section(".debug_str_offsets"),
             addr: section(".debug_addr"),
         };
-        let start = Instant::now();
         match dwv::check_sections(&sections) {
             Ok(counts) => {
                 let (entries, names) = read(&sections);
-                let by_gimli = start.elapsed();
-                let start = Instant::now();
                 assert_eq!(read_table(&Table::of_sections(&sections)?), (entries, names));
-                if !options.is_empty() {
-                    println!("{path}: by gimli {by_gimli:.1?}, by the table {:.1?}", start.elapsed());
-                }
                 println!("{path}: {counts}; gimli reads {entries} entries, {names} of them with a name");
                 assert_eq!(entries, counts.entries);
             }
