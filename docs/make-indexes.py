@@ -172,7 +172,7 @@ def proofs(crate):
             yield "|".join(["", label, ", ".join(it.chapters), ", ".join(it.lemmas), ", ".join(it.edits), ""])
     elsewhere = sorted(name for name, changed in crate.edits.items() if not changed - {None})
     plain = [f"`{it.label}`" for it in crate.functions if it.is_public and it.clauses and not (it.edits or it.lemmas)]
-    for title, found in (("Edits of types and constants", elsewhere), ("With no lemma and no edit", plain)):
+    for title, found in (("Edits of types, constants and definitions", elsewhere), ("With no lemma and no edit", plain)):
         yield from ("", *wrapped(f"{title}: {', '.join(found)}.")) if found else ()
     yield ""
 

@@ -19,7 +19,7 @@ TOP = pathlib.Path(__file__).resolve().parent.parent
 COLUMNS = "code name sentence place attribute remedy".split()
 WIDTH = 120
 # Files of the code whose comments on the variants of an enum say what a rule is, and those of specs/ that name a rule.
-FAULTS = [f"crates/{crate}/src/fault.rt" for crate in ("dw_elf", "dw_forms", "dw_entries", "dw_cprint")]
+FAULTS = [f"crates/dw_{file}.rt" for file in ("elf/src/fault", "forms/src/fault", "entries/src/rule", "cprint/src/fault")]
 SPECS = [f"crates/dw_links/specs/{chapter}.antt" for chapter in ("Classes", "References")]
 
 
@@ -155,10 +155,10 @@ def wordings(rule):
         (rf"^\.It Sy {code} {name}\n((?:(?!\.It|\.El|\.\\\").*\n)*)", "docs/*.1"),
         (rf"^{code} {name} \| (.*?) \|", "contrib/dwv_tools/*.txt"),
         (rf'^    {code} {name} "((?s:.*?))"$', "rust/dwv/src/*.rs"),
-        (rf"((?:^    /// .*\n)+)(?:    ///(?: .*)?\n)*    {name},$", "crates/*/src/fault.rt"),
+        (rf"((?:^    /// .*\n)+)(?:    ///(?: .*)?\n)*    {name},$", FAULTS),
         (rf"^-- {name}: (.*\n(?:^-- .*\n)*)", "crates/*/specs/*.antt"),
     ):
-        for path in sorted(TOP.glob(files)):
+        for path in sorted(TOP.glob(files) if isinstance(files, str) else map(TOP.joinpath, files)):
             for text in re.findall(pattern, path.read_text(), re.M):
                 said = sentence(text)
                 if not re.fullmatch(r"yes|no|crash|no end|(same|other) .*|[-\w ]{0,9}", said):
