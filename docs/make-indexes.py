@@ -67,8 +67,9 @@ class Function:
         is_open = self.owner in traits or head is not None and "pub " in head[0]
         self.is_public = is_open and (crate.exported is None or (of_type or self.name) in crate.exported)
         self.edits = sorted(name for name, changed in crate.edits.items() if path in changed)
-        folder = crate.path / "proofs" / module / self.owner / self.name
-        proof = "\n".join(it.read_text() for it in sorted(folder.glob("*.antt")))
+        # The answers of a method stand by the file of its type, which need not be the file of the method.
+        folder = f"*/{self.owner}" if self.owner else module
+        proof = "\n".join(it.read_text() for it in sorted(crate.path.glob(f"proofs/{folder}/{self.name}/*.antt")))
         cited = [(owner, kind, file) for owner, kind, file, _ in USE.findall(proof)]
         cited += [(crate.name, kind, file) for kind, file in GIVEN.findall(text)]
         self.lemmas = sorted({files(crate, owner, file) for owner, kind, file in cited
