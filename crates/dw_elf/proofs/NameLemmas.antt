@@ -8,7 +8,7 @@ use Rattle.std.proofs.lemmas.Bool.{cases_Bool, eqb-true, eq-eqb}
 use Rattle.memchr.specs.Find.{Nowhere, NoneBefore, NoneAfter, Passes, is_byte}
 use Rattle.dw_elf.specs.declared.sections.DebugSection.{DebugSection}
 use Rattle.dw_elf.specs.Elf.{HasText, string_at}
-use Rattle.dw_elf.specs.Names.{name_of}
+use Rattle.dw_elf.specs.Names.{name_of, IsWanted}
 use Rattle.dw_elf.specs.Reading.{IsAfterLastZero, StandsFor}
 
 -- no byte is zero
@@ -25,12 +25,14 @@ pub has_text : (bytes : List ℕ) (end offset : ℕ) → IsAfterLastZero bytes e
 has_text bytes end offset is lt = search (rules, (get_or-drop offset bytes (end - 1 - offset) 0), length-drop)
 
 -- what is before a first zero byte
-take_before_first : (xs : List ℕ) (k : ℕ) → NoneBefore (Passes (is_byte 0) xs) 0 (length xs) k → Passes (is_byte 0) xs k
+pub take_before_first : (xs : List ℕ) (k : ℕ) → NoneBefore (Passes (is_byte 0) xs) 0 (length xs) k
+    → Passes (is_byte 0) xs k
     → take k xs ≡ before_first (λ b. b == 0) xs
 take_before_first xs k none here = search (rules, position_or_len_is, cases_Bool)
 
 -- all bytes where none is zero
-all_before_first : (xs : List ℕ) → Nowhere (Passes (is_byte 0) xs) 0 (length xs) → xs ≡ before_first (λ b. b == 0) xs
+pub all_before_first : (xs : List ℕ) → Nowhere (Passes (is_byte 0) xs) 0 (length xs)
+    → xs ≡ before_first (λ b. b == 0) xs
 all_before_first xs none = search (rules, (passes_at_first (λ b. b == 0) xs 0), take_all)
 
 take_next : (k x : ℕ) (xs : List ℕ) → take (1 + k) (x ∷ xs) ≡ x ∷ take k xs
@@ -54,7 +56,6 @@ first_bytes_stand name = search (rules, take-take, name_short, take_all, length-
 -- the text at the front of the first 19 bytes stands for the text at the front of all
 part_stands : (bytes front : List ℕ) (offset : ℕ) → front ≡ take 19 (drop offset bytes)
     → StandsFor (before_first (λ b. b == 0) front) (string_at bytes offset)
-unfolding string_at
 part_stands bytes front offset is =
     rw (is, front_before_first 19 (drop offset bytes))
     (first_bytes_stand (before_first (λ b. b == 0) (drop offset bytes)))
@@ -70,3 +71,7 @@ cut_stands bytes front offset k is none here =
 pub whole_stands : (bytes front : List ℕ) (offset : ℕ) → front ≡ take 19 (drop offset bytes)
     → Nowhere (Passes (is_byte 0) front) 0 (length front) → StandsFor front (string_at bytes offset)
 whole_stands bytes front offset is none = rw (all_before_first front none) (part_stands bytes front offset is)
+
+-- a part of a name that is none of the six says that the name is none
+pub not_wanted : (part name : List ℕ) → StandsFor part name → ¬ IsWanted part → ¬ IsWanted name
+not_wanted part name stands none = search rules

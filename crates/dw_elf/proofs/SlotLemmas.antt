@@ -1,5 +1,5 @@
 -- What the headers so far name, from one header to the next, and what it says once all are read.
-use Rattle.std.proofs.Common.{rules, ◌≡◌, ◌≢◌, ℕ, ◌+◌, ◌<◌, ◌≤◌, true, false, List, [], set, length, Option, Some, None, is_some, unwrap_or, get_or}
+use Rattle.std.proofs.Common.{rules, ◌≡◌, ◌≢◌, ℕ, ◌+◌, ◌<◌, ◌≤◌, true, false, List, [], set, length, Option, Some, None, is_some, unwrap_or, get_or, inl, inr, subst, arith}
 use Rattle.std.specs.Option.{option_copied}
 use Rattle.std.proofs.lemmas.Bool.{cases_eq}
 use Rattle.std.proofs.lemmas.List.{get_or-set_same, get_or-set_other}
@@ -11,12 +11,26 @@ use Rattle.dw_elf.specs.Elf.{section_name, section_bytes, section_count}
 use Rattle.dw_elf.specs.Names.{name_of, IsWanted}
 use Rattle.dw_elf.specs.Checks.{HasNoSection, Passes, ChecksPass}
 use Rattle.dw_elf.specs.Sections.{IsSection}
-use Rattle.dw_elf.specs.Reading.{index_of, slot, SlotsUpTo}
+use Rattle.dw_elf.specs.Reading.{index_of, slot, IsSlot, SlotsUpTo}
 
 -- after a header that is not looked for
 pub slots_after_other : (file : List ℕ) (k : ℕ) (f : List (Option (Bor (List ℕ)))) → ¬ IsWanted (section_name file k)
     → SlotsUpTo file k f → SlotsUpTo file (k + 1) f
-slots_after_other file k f other h = search (rules, cases_eq)
+slots_after_other file k f other h = λ s. step s (slot f s) (h s)
+  where
+    -- a header with this name is not the last one
+    below : (s : DebugSection) (j : ℕ) → j < k + 1 → section_name file j ≡ name_of s → j < k
+    below s j lt named = elim (cases_eq j k) [
+      | inl same ↦ absurd (other (s, subst (λ (i : ℕ). section_name file i ≡ name_of s) same named))
+      | inr differs ↦ grind (arith, differs)
+    ]
+
+    step : (s : DebugSection) (o : Option (Bor (List ℕ))) → IsSlot file k (name_of s) o
+        → IsSlot file (k + 1) (name_of s) o
+    step s None none = λ j pos lt named. none j pos (below s j lt named) named
+    step s (Some bytes) (j, inside, named, alone, same, small) =
+        let within = inside.1 in
+        (j, (inside.0, omega (arith, within)), named, (λ i pos lt is. alone i pos (below s i lt is) is), same, small)
 
 -- after a header that is
 pub slots_after_put : (file : List ℕ) (k : ℕ) (f : List (Option (Bor (List ℕ)))) (s : DebugSection) (at : ℕ)

@@ -10,7 +10,7 @@ unfoldable pub number_at : ℕ → List ℕ → ℕ → ℕ
 number_at n file offset = little_number n (drop offset file)
 
 -- the text at an offset of some bytes: the bytes from there on, before the first zero byte
-unfoldable pub string_at : List ℕ → ℕ → List ℕ
+abbrev pub string_at : List ℕ → ℕ → List ℕ
 string_at bytes offset = before_first (λ b. b == 0) (drop offset bytes)
 
 -- a text starts at an offset inside these bytes, and a zero byte ends it inside them

@@ -49,18 +49,14 @@ pub pair_some : (bytes rest after : List ℕ) (attribute : ℕ) (form own : Form
 unfolding next_at
 pair_some bytes rest after attribute form own e f = rw (e, f) refl
 
-pub pair_fails : (error : Stop DeclFault) (bytes : List ℕ) → FailsOrMemory error (begun_at bytes)
-    → FailsOrMemory error (pair_at [] bytes)
+pub pair_fails : (bytes : List ℕ) (fault : DeclFault) → begun_at bytes ≡ Err fault → pair_at [] bytes ≡ Err fault
 unfolding next_at
-pair_fails stops.Memory bytes e = tt
-pair_fails (stops.Fault fault) bytes e = rw e refl
+pair_fails bytes fault e = rw e refl
 
-pub form_fails : (error : Stop DeclFault) (bytes rest : List ℕ) (attribute : ℕ) (form : Form)
-    → begun_at bytes ≡ Ok (Some (attribute, form), rest) → FailsOrMemory error (form_at form rest)
-    → FailsOrMemory error (pair_at [] bytes)
+pub form_fails : (bytes rest : List ℕ) (attribute : ℕ) (form : Form) (fault : DeclFault)
+    → begun_at bytes ≡ Ok (Some (attribute, form), rest) → form_at form rest ≡ Err fault → pair_at [] bytes ≡ Err fault
 unfolding next_at
-form_fails stops.Memory bytes rest attribute form e f = tt
-form_fails (stops.Fault fault) bytes rest attribute form e f = rw (e, f) refl
+form_fails bytes rest attribute form fault e f = rw (e, f) refl
 
 -- ---- a declaration, by its code, its tag and its attributes
 

@@ -10,7 +10,7 @@ use Rattle.dw_forms.specs.AbbrevReading.{unsigned_at, attributes_of, tagged_at, 
 use Rattle.dw_forms.specs.AttributeLists.{list_in}
 use Rattle.dw_forms.specs.ListOffsets.{IsListAt, NoListAt}
 use Rattle.dw_forms.specs.TableStarts.{IfNoDecl}
-use Rattle.dw_forms.specs.Stops.{IfFault, FailsOrMemory}
+use Rattle.dw_forms.specs.Stops.{IfFault}
 use Rattle.dw_forms.proofs.AbbrevSteps.{decl_by, decl_end, code_fault}
 use Rattle.dw_forms.proofs.BitLaws.{eq_true}
 use Rattle.dw_forms.proofs.DeclLaws.{number_ends, tag_ends}
@@ -18,10 +18,8 @@ use Rattle.dw_forms.proofs.ListLaws.{rest_of}
 
 module _ (section : List ℕ) (offset : ℕ) where
   -- no code
-  pub code_breaks : (error : Stop DeclFault) → FailsOrMemory error (unsigned_at (drop offset section))
-      → IfFault (λ _. IfNoDecl section offset) error
-  code_breaks stops.Memory e = tt
-  code_breaks (stops.Fault fault) e = (fault, code_fault (drop offset section) fault e)
+  pub code_breaks : (fault : DeclFault) → unsigned_at (drop offset section) ≡ Err fault → IfNoDecl section offset
+  code_breaks fault e = (fault, code_fault (drop offset section) fault e)
 
   module _ (code : ℕ) (rest : List ℕ) (code_is : unsigned_at (drop offset section) ≡ Ok (code, rest)) where
     -- the code 0
@@ -33,10 +31,8 @@ module _ (section : List ℕ) (offset : ℕ) where
 
     module _ (some : code ≡ 0 → ⊥) where
       -- no tag
-      pub tag_breaks : (error : Stop DeclFault) → FailsOrMemory error (tagged_at rest)
-          → IfFault (λ _. IfNoDecl section offset) error
-      tag_breaks stops.Memory e = tt
-      tag_breaks (stops.Fault fault) e =
+      pub tag_breaks : (fault : DeclFault) → tagged_at rest ≡ Err fault → IfNoDecl section offset
+      tag_breaks fault e =
           (fault, decl_by (drop offset section) code rest code_is (ne_eqb code 0 some) ∙ rw e refl)
 
       module _ (tag : ℕ × Bool) (after : List ℕ) (tag_is : tagged_at rest ≡ Ok (tag, after)) where

@@ -11,7 +11,7 @@ use Rattle.dw_forms.specs.declared.attributes.Attributes.{Attributes}
 use Rattle.dw_forms.specs.AttributeLists.{has_this, numbered_in, spec_of, varies, known_of, IsKnown}
 use Rattle.dw_forms.specs.Chains.{Numbered, items_of, number_where}
 use Rattle.dw_forms.specs.DeclaredLists.{before_code, IsPlaced}
-use Rattle.dw_forms.specs.Plans.{cut_at, known_sum, values_end}
+use Rattle.dw_forms.specs.KnownValues.{cut_at, known_sum, values_end}
 use Rattle.dw_forms.specs.Suffixes.{nodes_of, numbered, specs_in, Ends, IsFrom}
 use Rattle.dw_forms.proofs.BitLaws.{eq_true}
 use Rattle.dw_forms.proofs.ChainLaws.{where_first}

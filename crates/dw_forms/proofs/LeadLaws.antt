@@ -8,7 +8,7 @@ use Rattle.dw_forms.specs.declared.form.Form.TheVariants.{Ref4, Strp, Strx1, Str
 use Rattle.dw_forms.specs.declared.attribute_lists.Lead.{Lead}
 use Rattle.dw_forms.specs.declared.attribute_lists.Lead.TheVariants as lead
 use Rattle.dw_forms.specs.Codes.{DW_AT_type, DW_AT_sibling, DW_AT_specification, DW_AT_import, DW_AT_signature}
-use Rattle.dw_forms.specs.Walks.{does_lead, lead_by, lead_of}
+use Rattle.dw_forms.specs.LeadingWalks.{does_lead, lead_by, lead_of}
 
 -- an attribute of this form and code has a lead, and this says so much of it
 abbrev pub Says : Lead → Form → ℕ → Bool → Type 0

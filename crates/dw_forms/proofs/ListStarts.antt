@@ -1,5 +1,5 @@
 -- Lists of attributes that begin at offsets of a section, as more attributes are kept.
-use Rattle.std.proofs.Common.{◌≡◌, ℕ, suc, ◌<◌, ◌≤◌, List, [], ◌∷◌, ◌++◌, ◌-◌, length, drop, Option, Some, None, Ok, sym, ap, subst, ◌∙◌, append_assoc, append-nil, rules, arith}
+use Rattle.std.proofs.Common.{◌≡◌, ℕ, suc, ◌<◌, ◌≤◌, List, [], ◌∷◌, ◌++◌, ◌-◌, length, drop, Option, Some, None, Ok, Err, sym, ap, subst, ◌∙◌, append_assoc, append-nil, rules, arith}
 use Rattle.std.specs.Prelude.{get_or}
 use Rattle.std.proofs.lemmas.Bool.{cases_eq}
 use Rattle.std.proofs.lemmas.List.{length-append, get_or_append_left, get_or_at}
@@ -8,9 +8,7 @@ use Rattle.dw_forms.specs.declared.attribute_lists.Node.{Node}
 use Rattle.dw_forms.specs.declared.offsets.Placed.{Placed}
 use Rattle.dw_forms.specs.Abbrev.{IsCode16, attribute_of, specifications, broken}
 use Rattle.dw_forms.specs.declared.fault.AbbrevRule.TheVariants.{AbbrevCut}
-use Rattle.dw_forms.specs.declared.fault.Stop.{Stop}
 use Rattle.dw_forms.specs.declared.fault.DeclFault.{DeclFault}
-use Rattle.dw_forms.specs.declared.fault.Stop.TheVariants as stops
 use Rattle.dw_forms.specs.AbbrevReading.{pair_at}
 use Rattle.dw_forms.specs.Chains.{Numbered, items_of}
 use Rattle.dw_forms.specs.AttributeLists.{numbered_in, list_in, IsLast, AddedSpec}
@@ -18,7 +16,6 @@ use Rattle.dw_forms.specs.Offsets.{BeginsAt, NothingAt, AreAlong, AreNew, Stay}
 use Rattle.dw_forms.specs.ListOffsets.{IsListAt, ArePlaced, NoListAt, IsPairAt, Leads}
 use Rattle.dw_forms.specs.ListFormats.{ReadsNext, reads_next}
 use Rattle.dw_forms.specs.Elements.{SpellsElement, SpellsEnd, NextFails}
-use Rattle.dw_forms.specs.Stops.{IfFault, FailsOrMemory}
 use Rattle.dw_forms.proofs.ChainLaws.{chain_none}
 use Rattle.dw_forms.specs.Keys.{lacks_from, lacks_test}
 use Rattle.dw_forms.proofs.ListLaws.{rest_of}
@@ -154,10 +151,9 @@ end_list section nodes at after e rises fits = search (rules, (list_end pair_at 
 
 -- where an attribute is broken, no list begins before it
 pub pairs_break : (section : List ℕ) (pairs : List (Placed AttributeSpec)) (offset at : ℕ)
-    → AreAlong (IsPairAt section) pairs offset at → (error : Stop DeclFault)
-    → FailsOrMemory error (pair_at [] (drop at section)) → IfFault (λ _. NoListAt section offset) error
-pairs_break section pairs offset at after stops.Memory e = tt
-pairs_break section pairs offset at after (stops.Fault fault) e =
+    → AreAlong (IsPairAt section) pairs offset at → (fault : DeclFault) → pair_at [] (drop at section) ≡ Err fault
+    → NoListAt section offset
+pairs_break section pairs offset at after fault e =
     none_along section pairs offset at after (none_broken pair_at _ (drop at section) fault e)
 
 -- a list that is kept begins at its offset

@@ -12,7 +12,7 @@ use Rattle.dw_forms.specs.Abbrev.{IsCode16, AreAttributes, attribute_of}
 use Rattle.dw_forms.specs.AbbrevReading.{has_attribute}
 use Rattle.dw_forms.specs.AttributeLists.{spec_of, specs_of, numbered_in, list_in, Knows, IsKnown, AreKnown, AreCoded}
 use Rattle.dw_forms.specs.Chains.{Numbered, chain_in, chains_of, codes_of, codes_in, number_in, number_where}
-use Rattle.dw_forms.specs.Walks.{IsStep}
+use Rattle.dw_forms.specs.LeadingWalks.{IsStep}
 use Rattle.dw_forms.proofs.BitLaws.{eq_true, differ}
 use Rattle.dw_forms.proofs.CodeLaws.{codes_long}
 use Rattle.dw_forms.specs.Keys.{apart_cons, lacks_from}

@@ -8,7 +8,7 @@ use Rattle.dw_forms.specs.declared.attribute_lists.Node.{Node}
 use Rattle.dw_forms.specs.Abbrev.{AreAttributes}
 use Rattle.dw_forms.specs.AttributeLists.{IsKnown, AreKnown}
 use Rattle.dw_forms.specs.Chains.{Numbered, items_of, number_where}
-use Rattle.dw_forms.specs.Plans.{known_size, known_sum}
+use Rattle.dw_forms.specs.KnownValues.{known_size, known_sum}
 use Rattle.dw_forms.proofs.FewAttributes.{few_specs}
 
 -- the next list of a kind: this one, or the next after it

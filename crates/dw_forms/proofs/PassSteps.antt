@@ -18,7 +18,7 @@ use Rattle.dw_forms.specs.AttributeLists.{Knows, EndsWith, known_of, varies, lis
 use Rattle.dw_forms.specs.Steps.{◌>>=◌}
 use Rattle.dw_forms.specs.Sizes.{fixed_size_of, rest_at}
 use Rattle.dw_forms.specs.SizeLaws.{rest_skips, rest_cuts}
-use Rattle.dw_forms.specs.Plans.{known_size, does_vary, known_sum, cut_at, values_end}
+use Rattle.dw_forms.specs.KnownValues.{known_size, does_vary, known_sum, cut_at, values_end}
 
 -- ---- a form that does not vary has one size
 

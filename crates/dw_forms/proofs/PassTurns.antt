@@ -9,7 +9,7 @@ use Rattle.dw_forms.specs.declared.attribute_lists.Node.{Node}
 use Rattle.dw_forms.specs.declared.attributes.Attributes.{Attributes}
 use Rattle.dw_forms.specs.Chains.{Numbered, items_of, number_where}
 use Rattle.dw_forms.specs.AttributeLists.{spec_of, numbered_in, list_in, varies, known_of, IsKnown, EndsWith}
-use Rattle.dw_forms.specs.Plans.{known_sum, cut_at, values_end}
+use Rattle.dw_forms.specs.KnownValues.{known_sum, cut_at, values_end}
 use Rattle.dw_forms.specs.Sizes.{rest_at}
 use Rattle.dw_forms.specs.Steps.{◌>>=◌}
 use Rattle.dw_forms.specs.Suffixes.{nodes_of, specs_in, Ends}

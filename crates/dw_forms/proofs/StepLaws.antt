@@ -3,9 +3,9 @@ use Rattle.std.proofs.Common.{rules, ◌≡◌, ℕ, ◌+◌, ◌≤◌, true, f
 use Rattle.dw_forms.specs.declared.abbrev.AttributeSpec.{AttributeSpec}
 use Rattle.dw_forms.specs.declared.attribute_lists.Step.{Step}
 use Rattle.dw_forms.specs.Chains.{Numbered}
-use Rattle.dw_forms.specs.Plans.{known_size}
+use Rattle.dw_forms.specs.KnownValues.{known_size}
 use Rattle.dw_forms.specs.declared.attribute_lists.Lead.{Lead}
-use Rattle.dw_forms.specs.Walks.{stops_at, step_in, skip_in, lead_of, lead_in, IsStep}
+use Rattle.dw_forms.specs.LeadingWalks.{stops_at, step_in, skip_in, lead_of, lead_in, IsStep}
 
 module _ (number : ℕ) (spec : AttributeSpec) (list : List (Numbered AttributeSpec)) (after : Step)
     (is : IsStep list after) where

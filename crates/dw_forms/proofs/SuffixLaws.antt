@@ -12,7 +12,7 @@ use Rattle.dw_forms.specs.declared.value.ValueFault.{ValueFault}
 use Rattle.dw_forms.specs.AttributeLists.{IsKnown, spec_of, numbered_in, specs_of, has_this, varies}
 use Rattle.dw_forms.specs.Chains.{Numbered, items_of, number_where, number_in, codes_in}
 use Rattle.dw_forms.specs.FirstPlaces.{StandsFirst, ReadsFirst, value_behind}
-use Rattle.dw_forms.specs.Plans.{values_end, known_flag, flag_by, flag_in, known_sum, cut_at, whole_in}
+use Rattle.dw_forms.specs.KnownValues.{values_end, known_flag, flag_by, flag_in, known_sum, cut_at, whole_in}
 use Rattle.dw_forms.specs.Steps.{◌>>=◌}
 use Rattle.dw_forms.specs.Suffixes.{nodes_of, numbered, specs_in, Ends, IsFrom}
 use Rattle.dw_forms.specs.Value.{Datum}

@@ -9,9 +9,9 @@ use Rattle.dw_forms.specs.declared.attribute_lists.Node.{Node}
 use Rattle.dw_forms.specs.declared.attribute_lists.Step.{Step}
 use Rattle.dw_forms.specs.AttributeLists.{spec_of, numbered_in, varies, IsKnown, AreKnown, EndsWith}
 use Rattle.dw_forms.specs.Chains.{Numbered, items_of}
-use Rattle.dw_forms.specs.Plans.{does_vary, known_size, known_sum}
+use Rattle.dw_forms.specs.KnownValues.{does_vary, known_size, known_sum}
 use Rattle.dw_forms.specs.declared.attribute_lists.Lead.TheVariants.{Nothing}
-use Rattle.dw_forms.specs.Walks.{does_lead, stops_at, step_in, skip_in, lead_of, lead_in, IsStep}
+use Rattle.dw_forms.specs.LeadingWalks.{does_lead, stops_at, step_in, skip_in, lead_of, lead_in, IsStep}
 use Rattle.dw_forms.proofs.ChainLaws.{chain_none}
 use Rattle.dw_forms.proofs.LeadLaws.{lead_says}
 use Rattle.dw_forms.proofs.PartLaws.{known_at, none_both}

@@ -8,11 +8,11 @@ use Rattle.dw_forms.specs.declared.chains.Link.{Link}
 use Rattle.dw_forms.specs.Abbrev.{AreAttributes}
 use Rattle.dw_forms.specs.AbbrevReading.{has_attribute}
 use Rattle.dw_forms.specs.Chains.{Numbered, items_of, chain_in, chains_of, number_where, codes_of}
-use Rattle.dw_forms.specs.Plans.{known_sum, does_vary}
+use Rattle.dw_forms.specs.KnownValues.{known_sum, does_vary}
 use Rattle.dw_forms.specs.Classes.{is_open}
 use Rattle.dw_forms.specs.AttributeBits.{AreBitsOf}
 use Rattle.dw_forms.specs.Sizes.{are_allowed}
-use Rattle.dw_forms.specs.Walks.{IsStep}
+use Rattle.dw_forms.specs.LeadingWalks.{IsStep}
 
 -- the attribute of the node
 abbrev pub spec_of : Node → AttributeSpec

@@ -13,7 +13,7 @@ use Rattle.dw_forms.specs.Front.{BeginsWith, Takes}
 use Rattle.dw_forms.specs.Leb.{Uleb, Sleb, UlebFails, SlebFails}
 use Rattle.dw_forms.specs.LebReading.{uleb_at, sleb_at}
 use Rattle.dw_forms.specs.LebLaws.{uleb_says, uleb_again, uleb_refuses, sleb_says, sleb_again, sleb_refuses}
-use Rattle.dw_forms.specs.Says.{bind_says, cond_says}
+use Rattle.dw_forms.specs.StepLaws.{bind_says, cond_says}
 use Rattle.dw_forms.specs.Steps.{◌>>=◌}
 
 -- ---- one byte

@@ -8,8 +8,8 @@ use Rattle.dw_forms.specs.declared.attribute_lists.Step.{Step}
 use Rattle.dw_forms.specs.AttributeLists.{has_this, list_in, numbered_in, varies}
 use Rattle.dw_forms.specs.Chains.{Numbered, items_of, number_where}
 use Rattle.dw_forms.specs.Codes.{DW_AT_declaration}
-use Rattle.dw_forms.specs.Plans.{flag_in, known_sum, whole_in}
-use Rattle.dw_forms.specs.Walks.{IsStep}
+use Rattle.dw_forms.specs.KnownValues.{flag_in, known_sum, whole_in}
+use Rattle.dw_forms.specs.LeadingWalks.{IsStep}
 
 -- the attributes before the first one with this code, or all
 abbrev pub before_code : ℕ → List AttributeSpec → List AttributeSpec

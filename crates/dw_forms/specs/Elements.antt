@@ -7,7 +7,7 @@ use Rattle.dw_forms.specs.Formats.{Format}
 use Rattle.dw_forms.specs.Front.{Takes}
 use Rattle.dw_forms.specs.Keys.{Lacks, lacks_from, lacks_test, any_from, any_test}
 use Rattle.dw_forms.specs.Readers.{reads_on, joined}
-use Rattle.dw_forms.specs.Says.{bind_says, cond_says}
+use Rattle.dw_forms.specs.StepLaws.{bind_says, cond_says}
 use Rattle.dw_forms.specs.Steps.{◌>>=◌, on_option}
 
 -- what a list is made of: what an element begins with, or the end of the list; the rest of the element; and its key

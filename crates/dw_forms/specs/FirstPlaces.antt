@@ -8,7 +8,7 @@ use Rattle.dw_forms.specs.declared.value.ValueFault.{ValueFault}
 use Rattle.dw_forms.specs.Steps.{◌>>=◌}
 use Rattle.dw_forms.specs.Value.{Datum, view}
 use Rattle.dw_forms.specs.ValueReading.{value_at}
-use Rattle.dw_forms.specs.Plans.{values_end}
+use Rattle.dw_forms.specs.KnownValues.{values_end}
 
 -- the attribute at this place has the code, and none before it has
 pub record StandsFirst (specs : List AttributeSpec) (code place : ℕ) : Type 0 where

@@ -7,7 +7,7 @@ use Rattle.std.proofs.lemmas.List.{append-nil, take_at, length-append}
 use Rattle.std.proofs.lemmas.Result.{MatchResult-weaker}
 use Rattle.dw_forms.specs.Front.{Takes}
 use Rattle.dw_forms.specs.Readers.{IsReader, read_is, fault_is, reads_on, joined}
-use Rattle.dw_forms.specs.Says.{bind_says}
+use Rattle.dw_forms.specs.StepLaws.{bind_says}
 use Rattle.dw_forms.specs.Steps.{◌>>=◌}
 
 -- what reads a value at the front of some bytes, the bytes that spell it, and the faults where none is spelled. What is

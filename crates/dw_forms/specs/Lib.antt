@@ -8,7 +8,7 @@ pub mod AbbrevFaults
 pub mod Steps
 pub mod LebReading
 -- Laws.
-pub mod Says
+pub mod StepLaws
 pub mod Readers
 pub mod SpellingLaws
 pub mod LebLaws
@@ -32,14 +32,14 @@ pub mod SizeLaws
 -- State.
 pub mod Stops
 pub mod Sizes
-pub mod Seen
-pub mod Plans
+pub mod AttributesSoFar
+pub mod KnownValues
 pub mod AttributeBits
 pub mod Places
 pub mod FirstPlaces
 pub mod CodeBits
 pub mod Chains
-pub mod Walks
+pub mod LeadingWalks
 pub mod Offsets
 pub mod AttributeLists
 pub mod DeclaredLists

@@ -9,7 +9,7 @@ use Rattle.dw_forms.specs.Formats.{Format, renamed}
 use Rattle.dw_forms.specs.Front.{Takes}
 use Rattle.dw_forms.specs.Keys.{Apart, apart_push, apart_lacks}
 use Rattle.dw_forms.specs.Readers.{IsReader, joined}
-use Rattle.dw_forms.specs.Says.{bind_says}
+use Rattle.dw_forms.specs.StepLaws.{bind_says}
 use Rattle.dw_forms.specs.Steps.{◌>>=◌, on_option}
 
 -- element after element up to the end, after the earlier ones. There are fewer than this bound

@@ -8,7 +8,7 @@ use Rattle.dw_forms.specs.declared.decl.DeclAt.{DeclAt}
 use Rattle.dw_forms.specs.declared.attribute_lists.Step.{Step}
 use Rattle.dw_forms.specs.Chains.{Numbered, items_of, number_where}
 use Rattle.dw_forms.specs.AttributeLists.{numbered_in, EndsWith}
-use Rattle.dw_forms.specs.Walks.{IsStep}
+use Rattle.dw_forms.specs.LeadingWalks.{IsStep}
 
 -- all attributes that are kept
 abbrev pub nodes_of : Attributes → List Node

@@ -4,13 +4,14 @@ ghost use Rattle.std.specs.Prelude.{◌≡◌, ◌<◌, ◌≤◌, ℕ, [], ◌�
 ghost use Rattle.std.specs.Prelude.{IfOk, IfErr, IfSome, OnOk};
 ghost use Rattle.dw_forms.specs.Front.{BeginsWith, BeginsWithNone};
 ghost use Rattle.dw_forms.specs.Abbrev.{table_view, Decls, IsCode16, TableFails};
-ghost use Rattle.dw_forms.specs.Seen.{AreSeen};
+ghost use Rattle.dw_forms.specs.AttributesSoFar.{AreSeen};
 ghost use Rattle.dw_forms.specs.AbbrevReading.{has_attribute, has_code, unsigned_at, signed_at};
 ghost use Rattle.dw_forms.specs.AbbrevReading.{form_at, begun_at, pair_at, tagged_at, attributes_of, children_at};
 ghost use Rattle.dw_forms.specs.AbbrevReading.{decl_at, table_at};
 ghost use Rattle.dw_forms.specs.AbbrevFaults.{fault_at};
 ghost use Rattle.dw_forms.specs.Formats.{as_other};
 ghost use Rattle.dw_forms.specs.Stops.{IfFault, GivesOrMemory};
+ghost use Rattle.dw_forms.specs.ValueReading.{Gives};
 
 use crate::abbrev::{AbbrevTable, AttributeSpec, Decl};
 use crate::constants::{Attribute, Tag};
@@ -21,8 +22,8 @@ use std::alloc::{AllocError, Global};
 use std::collections::BTreeSet;
 
 /// An unsigned number, and the bytes after it.
-fn unsigned(bytes: &[u8]) -> Result<(u64, &[u8]), Stop<DeclFault>>
-    ensures exact { GivesOrMemory (λ x. (x.0, x.1.now)) result (unsigned_at bytes.now) }
+fn unsigned(bytes: &[u8]) -> Result<(u64, &[u8]), DeclFault>
+    ensures exact { Gives (λ x. (x.0, x.1.now)) result (unsigned_at bytes.now) }
     ensures shorter { IfOk result (λ x. length x.1.now < length bytes.now) }
 {
     let (number, len) = read_uleb(bytes)?;
@@ -30,24 +31,24 @@ fn unsigned(bytes: &[u8]) -> Result<(u64, &[u8]), Stop<DeclFault>>
 }
 
 /// A signed number, and the bytes after it.
-fn signed(bytes: &[u8]) -> Result<(i64, &[u8]), Stop<DeclFault>>
-    ensures exact { GivesOrMemory (λ x. (x.0, x.1.now)) result (signed_at bytes.now) }
+fn signed(bytes: &[u8]) -> Result<(i64, &[u8]), DeclFault>
+    ensures exact { Gives (λ x. (x.0, x.1.now)) result (signed_at bytes.now) }
     ensures shorter { IfOk result (λ x. length x.1.now < length bytes.now) }
 {
     let (number, len) = read_sleb(bytes)?;
     Ok((number, &bytes[len..]))
 }
 
-/// The error of a declaration that breaks a rule.
-pub fn fault(rule: AbbrevRule, attribute: u16) -> Stop<DeclFault>
-    ensures { result ≡ Stop.Fault (record { rule = rule; attribute = attribute }) }
+/// What is wrong with a declaration that breaks a rule.
+pub fn fault(rule: AbbrevRule, attribute: u16) -> DeclFault
+    ensures { result ≡ record { rule = rule; attribute = attribute } }
 {
-    Stop::Fault(DeclFault { rule, attribute })
+    DeclFault { rule, attribute }
 }
 
 /// The form, with the number that comes after an implicit constant.
-pub fn form_with_number(form: Form, bytes: &[u8]) -> Result<(Form, &[u8]), Stop<DeclFault>>
-    ensures exact { GivesOrMemory (λ x. (x.0, x.1.now)) result (form_at form bytes.now) }
+pub fn form_with_number(form: Form, bytes: &[u8]) -> Result<(Form, &[u8]), DeclFault>
+    ensures exact { Gives (λ x. (x.0, x.1.now)) result (form_at form bytes.now) }
     ensures within { IfOk result (λ x. length x.1.now ≤ length bytes.now) }
 {
     match form {
@@ -83,8 +84,8 @@ fn add(
 
 /// The next attribute and its form, without the number of a constant, or none at the pair 0, 0.
 #[tactic(auto, unfolding(crate::specs::Abbrev::pair))]
-pub fn pair_of(bytes: &[u8]) -> Result<(Option<(u16, Form)>, &[u8]), Stop<DeclFault>>
-    ensures exact { GivesOrMemory (λ x. (x.0, x.1.now)) result (begun_at bytes.now) }
+pub fn pair_of(bytes: &[u8]) -> Result<(Option<(u16, Form)>, &[u8]), DeclFault>
+    ensures exact { Gives (λ x. (x.0, x.1.now)) result (begun_at bytes.now) }
     ensures shorter { IfOk result (λ x. length x.1.now < length bytes.now) }
 {
     let (attribute, rest) = unsigned(bytes)?;
@@ -108,9 +109,9 @@ fn next_attribute<'a>(
     earlier: &[AttributeSpec],
     seen: &BTreeSet<u16>,
     bytes: &'a [u8],
-) -> Result<(Option<AttributeSpec>, &'a [u8]), Stop<DeclFault>>
+) -> Result<(Option<AttributeSpec>, &'a [u8]), DeclFault>
     requires { AreSeen earlier.now seen.now }
-    ensures exact { GivesOrMemory (λ x. (x.0, x.1.now)) result (pair_at earlier.now bytes.now) }
+    ensures exact { Gives (λ x. (x.0, x.1.now)) result (pair_at earlier.now bytes.now) }
     ensures shorter { IfOk result (λ x. length x.1.now < length bytes.now) }
 {
     let (pair, rest) = pair_of(bytes)?;
@@ -142,7 +143,7 @@ fn read_attributes(
     loop {
         let (next, after) = match next_attribute(&attributes, &seen, rest) {
             Ok(found) => found,
-            Err(error) => return Err(error),
+            Err(fault) => return Err(Stop::Fault(fault)),
         };
         let Some(spec) = next else {
             return Ok((attributes, after));
@@ -154,8 +155,8 @@ fn read_attributes(
 }
 
 /// The byte that says whether entries have children, and the bytes after it.
-fn read_children(bytes: &[u8]) -> Result<(bool, &[u8]), Stop<DeclFault>>
-    ensures exact { GivesOrMemory (λ x. (x.0, x.1.now)) result (children_at bytes.now) }
+fn read_children(bytes: &[u8]) -> Result<(bool, &[u8]), DeclFault>
+    ensures exact { Gives (λ x. (x.0, x.1.now)) result (children_at bytes.now) }
     ensures shorter { IfOk result (λ x. length x.1.now < length bytes.now) }
 {
     match bytes {
@@ -167,8 +168,8 @@ fn read_children(bytes: &[u8]) -> Result<(bool, &[u8]), Stop<DeclFault>>
 }
 
 /// The code of a declaration, and the bytes after it.
-pub fn code_of(bytes: &[u8]) -> Result<(u64, &[u8]), Stop<DeclFault>>
-    ensures exact { GivesOrMemory (λ x. (x.0, x.1.now)) result (unsigned_at bytes.now) }
+pub fn code_of(bytes: &[u8]) -> Result<(u64, &[u8]), DeclFault>
+    ensures exact { Gives (λ x. (x.0, x.1.now)) result (unsigned_at bytes.now) }
     ensures shorter { IfOk result (λ x. length x.1.now < length bytes.now) }
 {
     unsigned(bytes)
@@ -176,8 +177,8 @@ pub fn code_of(bytes: &[u8]) -> Result<(u64, &[u8]), Stop<DeclFault>>
 
 /// The tag of a declaration, whether entries have children, and the bytes after both.
 #[tactic(auto, unfolding(crate::specs::Abbrev::tag_and_children))]
-pub fn tag_and_children(bytes: &[u8]) -> Result<(Tag, bool, &[u8]), Stop<DeclFault>>
-    ensures exact { GivesOrMemory (λ x. ((x.0, x.1), x.2.now)) result (tagged_at bytes.now) }
+pub fn tag_and_children(bytes: &[u8]) -> Result<(Tag, bool, &[u8]), DeclFault>
+    ensures exact { Gives (λ x. ((x.0, x.1), x.2.now)) result (tagged_at bytes.now) }
     ensures code { IfOk result (λ x. IsCode16 x.0) }
     ensures shorter { IfOk result (λ x. length x.2.now < length bytes.now) }
 {
@@ -205,11 +206,11 @@ fn next_decl<'a>(
         return Ok((None, rest));
     }
     if earlier.has_code(code) {
-        return Err(fault(AbbrevRule::CodeTwice, 0));
+        return Err(Stop::Fault(fault(AbbrevRule::CodeTwice, 0)));
     }
     let (tag, has_children, rest) = match tag_and_children(rest) {
         Ok(found) => found,
-        Err(error) => return Err(error),
+        Err(fault) => return Err(Stop::Fault(fault)),
     };
     let (attributes, rest) = read_attributes(alloc, rest)?;
     let decl = Decl {

@@ -43,7 +43,7 @@ fn next_at(
     }
     let (tag, has_children, rest) = match tag_and_children(rest) {
         Ok(found) => found,
-        Err(error) => return Err(error),
+        Err(fault) => return Err(Stop::Fault(fault)),
     };
     let (first, end) = match lists.read(section, section.len() - rest.len()) {
         Ok(list) => list,

@@ -1,8 +1,9 @@
 //! The lists of attributes of a section, with each attribute kept once.
 
 ghost use Rattle.std.specs.Prelude.{◌≡◌, ◌≤◌, ◌<◌, ◌∷◌, List, [], length, IfOk, if◌then◌else◌};
-ghost use Rattle.dw_forms.specs.Plans.{known_size, does_vary};
-ghost use Rattle.dw_forms.specs.Walks.{may_lead, does_lead, stops_at, reference_lead, value_lead, lead_of, IsStep};
+ghost use Rattle.dw_forms.specs.KnownValues.{known_size, does_vary};
+ghost use Rattle.dw_forms.specs.LeadingWalks.{may_lead, does_lead, stops_at, reference_lead, value_lead, lead_of};
+ghost use Rattle.dw_forms.specs.LeadingWalks.{IsStep};
 ghost use Rattle.dw_forms.specs.declared.abbrev.AttributeSpec.{AttributeSpec as SpecData};
 ghost use Rattle.dw_forms.specs.Chains.{Numbered};
 ghost use Rattle.dw_forms.specs.Abbrev.{IsCode16};

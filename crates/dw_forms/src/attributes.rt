@@ -5,11 +5,11 @@ ghost use Rattle.dw_forms.specs.declared.abbrev.AttributeSpec.{AttributeSpec as 
 ghost use Rattle.dw_forms.specs.Chains.{Numbered, items_of};
 ghost use Rattle.dw_forms.specs.AttributeLists.{known_of, has_this, IsKnown};
 ghost use Rattle.dw_forms.specs.FirstPlaces.{AnswersFirst};
-ghost use Rattle.dw_forms.specs.Plans.{cut_at, flag_in, known_flag, known_sum, values_end, whole_in};
+ghost use Rattle.dw_forms.specs.KnownValues.{cut_at, flag_in, known_flag, known_sum, values_end, whole_in};
 ghost use Rattle.dw_forms.specs.Classes.{is_open};
 ghost use Rattle.dw_forms.specs.Sizes.{are_allowed, rest_at};
 ghost use Rattle.dw_forms.specs.ValueReading.{Gives};
-ghost use Rattle.dw_forms.specs.Walks.{IsStep};
+ghost use Rattle.dw_forms.specs.LeadingWalks.{IsStep};
 
 use crate::abbrev::AttributeSpec;
 use crate::attribute_lists::{AttributeLists, Node, Step};

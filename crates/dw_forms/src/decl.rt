@@ -86,11 +86,11 @@ impl Decls {
 impl<'a> DeclAt<'a> {
     ghost use Rattle.dw_forms.specs.KeptDecls.{decl_view};
     ghost use Rattle.dw_forms.specs.Codes.{DW_AT_declaration};
-    ghost use Rattle.dw_forms.specs.Plans.{flag_in, values_end};
+    ghost use Rattle.dw_forms.specs.KnownValues.{flag_in, values_end};
     ghost use Rattle.dw_forms.specs.Sizes.{are_allowed};
     ghost use Rattle.dw_forms.specs.Suffixes.{numbered, numbered_of, specs_in};
     ghost use Rattle.dw_forms.specs.FirstPlaces.{AnswersFirst};
-    ghost use Rattle.dw_forms.specs.Walks.{IsStep};
+    ghost use Rattle.dw_forms.specs.LeadingWalks.{IsStep};
 
     /// A declaration with the lists of its attributes.
     pub(crate) fn new(kept: &'a KeptDecl, lists: &'a AttributeLists) -> DeclAt<'a>

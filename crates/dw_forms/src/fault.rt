@@ -86,14 +86,22 @@ impl Stop<DeclFault> {
     }
 }
 
-impl From<NumberFault> for Stop<DeclFault> {
-    ghost from_gives = { λ f e. e ≡ Fault (decl_fault_of f) };
+impl From<DeclFault> for Stop<DeclFault> {
+    ghost from_gives = { λ f e. e ≡ Fault f };
 
-    fn from(fault: NumberFault) -> Stop<DeclFault> {
+    fn from(fault: DeclFault) -> Stop<DeclFault> {
+        Stop::Fault(fault)
+    }
+}
+
+impl From<NumberFault> for DeclFault {
+    ghost from_gives = { λ f e. e ≡ decl_fault_of f };
+
+    fn from(fault: NumberFault) -> DeclFault {
         let rule = match fault {
             NumberFault::Cut => AbbrevRule::AbbrevCut,
             NumberFault::BadNumber => AbbrevRule::AbbrevNumber,
         };
-        Stop::Fault(DeclFault { rule, attribute: 0 })
+        DeclFault { rule, attribute: 0 }
     }
 }

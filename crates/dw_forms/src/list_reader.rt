@@ -4,7 +4,8 @@ ghost use Rattle.std.specs.Prelude.{◌≡◌, ◌<◌, ◌≤◌, ℕ, List, []
 ghost use Rattle.dw_forms.specs.AbbrevReading.{pair_at};
 ghost use Rattle.dw_forms.specs.ListOffsets.{IsListAt, ArePlaced, AreListsOf, MoreLists, NoListAt, Leads};
 ghost use Rattle.dw_forms.specs.Offsets.{AreKnownFrom, IsOffset};
-ghost use Rattle.dw_forms.specs.Stops.{IfFault, GivesOrMemory};
+ghost use Rattle.dw_forms.specs.Stops.{IfFault};
+ghost use Rattle.dw_forms.specs.ValueReading.{Gives};
 
 use crate::abbrev::AttributeSpec;
 use crate::abbrev_reader::{fault, form_with_number, pair_of};
@@ -27,12 +28,9 @@ pub struct KeptLists {
 }
 
 /// The attribute at an offset, and the offset after it; or none at the pair 0, 0. An attribute may be there twice.
-fn next_pair(
-    section: &[u8],
-    offset: usize,
-) -> Result<(Option<AttributeSpec>, usize), Stop<DeclFault>>
+fn next_pair(section: &[u8], offset: usize) -> Result<(Option<AttributeSpec>, usize), DeclFault>
     requires { offset ≤ length section.now }
-    ensures exact { GivesOrMemory (λ x. (x.0, drop x.1 section.now)) result (pair_at [] (drop offset section.now)) }
+    ensures exact { Gives (λ x. (x.0, drop x.1 section.now)) result (pair_at [] (drop offset section.now)) }
     ensures rises { IfOk result (λ x. offset < x.1) }
     ensures within { IfOk result (λ x. x.1 ≤ length section.now) }
 {
@@ -49,8 +47,8 @@ fn next_pair(
 }
 
 /// The fault of a list that has an attribute twice.
-fn twice(spec: &AttributeSpec) -> Stop<DeclFault>
-    ensures { result ≡ Stop.Fault (record { rule = AbbrevRule.AttributeTwice; attribute = spec.now.attribute }) }
+fn twice(spec: &AttributeSpec) -> DeclFault
+    ensures { result ≡ record { rule = AbbrevRule.AttributeTwice; attribute = spec.now.attribute } }
 {
     fault(AbbrevRule::AttributeTwice, spec.attribute.0)
 }
@@ -82,7 +80,7 @@ fn read_pairs(
         }
         let (next, after) = match next_pair(section, at) {
             Ok(found) => found,
-            Err(error) => return Err(error),
+            Err(fault) => return Err(Stop::Fault(fault)),
         };
         let Some(spec) = next else {
             return Ok((0, after));
@@ -134,7 +132,7 @@ impl KeptLists {
         let mut first = rest;
         while let Some(Placed { at, item: spec }) = self.pairs.pop() {
             let Some(longer) = self.lists.push(spec, first)? else {
-                return Err(twice(&spec));
+                return Err(Stop::Fault(twice(&spec)));
             };
             self.starts.push(at as u32)?;
             self.ends.push(end as u32)?;

@@ -1,10 +1,11 @@
 use Rattle.std.proofs.Common.{arith, refl}
+use Rattle.dw_forms.specs.declared.fault.Stop.TheVariants as stops
 use Rattle.dw_forms.proofs.SpelledLists.{goes_to_end, goes_further, goes_wrong}
 use Rattle.dw_forms.proofs.abbrev_reader.read_attributes.Goals as goal
 
 pub returns-in-Err-clause-exact : goal.returns-in-Err-clause-exact
 returns-in-Err-clause-exact c =
-    goes_wrong _ _ c.in-Err.error _ _ _ c.loop-found.invariant.goes_on
+    goes_wrong _ _ (stops.Fault c.in-Err.fault) _ _ _ c.loop-found.invariant.goes_on
     (rw c.deref.ensures.value at c.in-Err.ensures.exact)
 
 pub returns-in_default-clause-exact : goal.returns-in_default-clause-exact

@@ -1,18 +1,14 @@
-use Rattle.std.proofs.Common.{List, ℕ, sym, ap, subst, ◌∙◌, rules}
+use Rattle.std.proofs.Common.{sym, ap, ◌∙◌, rules}
 use Rattle.std.proofs.lemmas.Grind.{common_steps}
 use Rattle.std.proofs.lemmas.Result.{err_from_is_err_and}
 use Rattle.dw_forms.specs.AbbrevReading.{unsigned_at}
-use Rattle.dw_forms.specs.Stops.{FailsOrMemory}
 use Rattle.dw_forms.proofs.FrontLaws.{code_breaks, next_none, tag_breaks, next_some, list_breaks}
 use Rattle.dw_forms.proofs.ListLaws.{bytes_from}
 use Rattle.dw_forms.proofs.abbrev_tables.next_at.Goals as goal
 
 pub returns-in_err-code-clause-fault : goal.returns-in_err-code-clause-fault
 returns-in_err-code-clause-fault c =
-    let p = err_from_is_err_and c.from_residual.result c.from_residual.ensures.1 in
-    let fails = subst (λ (bytes : List ℕ). FailsOrMemory c.in_err-code.field-0.0 (unsigned_at bytes))
-    (bytes_from c.args.section.now c.args.offset) c.in_err-code.ensures.exact in
-    rw (p.1, p.2) (code_breaks c.args.section.now c.args.offset c.in_err-code.field-0.0 fails)
+    search (rules, err_from_is_err_and, bytes_from, code_breaks)
 
 pub returns-then-code-eq0-clause-next : goal.returns-then-code-eq0-clause-next
 returns-then-code-eq0-clause-next c = search (rules, bytes_from, next_none)
@@ -21,7 +17,7 @@ pub returns-in-Err-clause-fault : goal.returns-in-Err-clause-fault
 returns-in-Err-clause-fault c =
     let code = sym (ap unsigned_at (bytes_from c.args.section.now c.args.offset)) ∙ c.in_ok-code.ensures.exact in
     tag_breaks c.args.section.now c.args.offset c.in_ok-code.code c.in_ok-code.rest.now code c.if-code-eq0.false
-    c.in-Err.error c.in-Err.ensures.exact
+    c.in-Err.fault c.in-Err.ensures.exact
 
 pub returns-in-Err-read-clause-fault : goal.returns-in-Err-read-clause-fault
 returns-in-Err-read-clause-fault c =

@@ -29,7 +29,7 @@ returns-then-first-ne0-clause-leads c =
 pub returns-in-Err-clause-fault : goal.returns-in-Err-clause-fault
 returns-in-Err-clause-fault c =
     pairs_break c.args.section.now c.loop-end.pairs.items c.args.offset c.loop-end.at c.loop-end.invariant.along
-    c.in-Err.error c.in-Err.ensures.exact
+    c.in-Err.fault c.in-Err.ensures.exact
 
 pub returns-in_default-clause-leads : goal.returns-in_default-clause-leads
 returns-in_default-clause-leads c = search (rules, end_list)

@@ -2,6 +2,7 @@ use Rattle.std.proofs.Common.{rules, refl, arith}
 use Rattle.std.proofs.lemmas.Grind.{common_steps}
 use Rattle.dw_elf.specs.Elf.{section_bytes}
 use Rattle.dw_elf.specs.Checks.{IsTooLarge, SectionName, Zdebug, SectionTwice, NoBits, Compressed, SectionRange, TooLarge}
+use Rattle.dw_elf.proofs.NameLemmas.{not_wanted}
 use Rattle.dw_elf.proofs.SlotLemmas.{named_below, none_below, slots_after_other, slots_after_put}
 use Rattle.dw_elf.proofs.section_table.SectionTable.check.Goals as goal
 
@@ -15,7 +16,8 @@ returns-then-is_zdebug-clause-fails c =
 
 pub returns-in_default-section_named-clause-found : goal.returns-in_default-section_named-clause-found
 returns-in_default-section_named-clause-found c =
-    slots_after_other _ c.args.k c.args.found.now (search rules) c.requires.so_far
+    slots_after_other _ c.args.k c.args.found.now (not_wanted c.in-Some.front.now _ (search rules) (search rules))
+    c.requires.so_far
 
 pub returns-then-is_some-clause-fails : goal.returns-then-is_some-clause-fails
 returns-then-is_some-clause-fails c =

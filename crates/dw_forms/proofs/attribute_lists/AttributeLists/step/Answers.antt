@@ -1,6 +1,6 @@
 use Rattle.std.proofs.Common.{◌∷◌, subst, arith}
 use Rattle.dw_forms.specs.declared.abbrev.AttributeSpec.{AttributeSpec}
-use Rattle.dw_forms.specs.Walks.{IsStep}
+use Rattle.dw_forms.specs.LeadingWalks.{IsStep}
 use Rattle.dw_forms.specs.AttributeLists.{specs_of, numbered_in}
 use Rattle.dw_forms.proofs.ChainLaws.{chain_none}
 use Rattle.dw_forms.proofs.NodeSteps.{known_small, node_read}

@@ -18,8 +18,8 @@ push-requires-clause-code c =
 
 pub returns-in_default-2-clause-fault : goal.returns-in_default-2-clause-fault
 returns-in_default-2-clause-fault c =
-    rw c.twice.ensures (no_list c.pop.new.self.items c.in-Some.field-0 c.in-Some.ensures.items c.loop-at.invariant.leads
-    c.push.new.self.nodes.items (search rules))
+    no_list c.pop.new.self.items c.in-Some.field-0 c.in-Some.ensures.items c.loop-at.invariant.leads
+    c.push.new.self.nodes.items (search rules)
 
 pub loop-at-preserved : goal.loop-at-preserved
 loop-at-preserved c =

@@ -10,7 +10,7 @@ use Rattle.dw_forms.specs.Chains.{Numbered}
 use Rattle.dw_forms.specs.FormCodes.{may_lead_out, may_refer}
 use Rattle.dw_forms.specs.Codes.{DW_AT_type, DW_AT_str_offsets_base, DW_AT_addr_base}
 use Rattle.dw_forms.specs.Codes.{DW_AT_sibling, DW_AT_specification, DW_AT_import, DW_AT_signature}
-use Rattle.dw_forms.specs.Plans.{known_size, does_vary}
+use Rattle.dw_forms.specs.KnownValues.{known_size, does_vary}
 
 -- values of the form may lead elsewhere: to a string, an address or an entry, or by another form (DWARF 5, 7.5.5)
 abbrev pub may_lead : Form → Bool
