@@ -3,7 +3,7 @@ use Rattle.std.proofs.Common.{rules, ◌≡◌, ◌≢◌, ℕ, suc, ◌+◌, �
 use Rattle.std.proofs.lemmas.List.{length-reverse}
 use Rattle.dw_entries.specs.declared.records.Record.{Record}
 use Rattle.dw_entries.specs.declared.tree.Level.{Level}
-use Rattle.dw_entries.specs.declared.fault.Broken.{Broken}
+use Rattle.dw_entries.specs.declared.fault.PlainFault.{PlainFault}
 use Rattle.dw_entries.specs.declared.header.HeaderKind.{HeaderKind}
 use Rattle.dw_forms.specs.Abbrev.{Declaration}
 use Rattle.dw_entries.specs.Header.{fits_tag, header_size}
@@ -162,7 +162,8 @@ along_end t numbers kind at body old rest w a e =
           ∙ ap (λ (js : List Item). walk_along numbers at js start) (sym items) ∙ end);
     }
 
-pub first_fault : (t : Context) (kind : HeaderKind) (header start : ℕ) (body : List ℕ) (f : Failing) (fault : Broken)
+pub first_fault : (t : Context) (kind : HeaderKind) (header start : ℕ) (body : List ℕ) (f : Failing)
+    (fault : PlainFault)
     → start ≡ header + header_size kind → first_at t kind body ≡ Err f → fault ≡ in_unit f header start
     → BodyFails t kind header body fault
 first_fault t kind header start body f fault s read e = record {

@@ -12,8 +12,8 @@ use Rattle.dw_forms.specs.Suffixes.{specs_in, IsFrom, Ends}
 use Rattle.dw_forms.specs.Value.{Datum}
 use Rattle.dw_forms.proofs.SuffixLaws.{specs_ends, first_specs, follow}
 use Rattle.dw_entries.specs.Grammar.{Context, Attribute, AreAttributes}
-use Rattle.dw_entries.specs.Asked.{value_of}
-use Rattle.dw_entries.specs.Chosen.{ArePassed, IsNextOf, TakesFirst}
+use Rattle.dw_entries.specs.EntryRules.{value_of}
+use Rattle.dw_entries.specs.PassedAttributes.{ArePassed, IsNextOf, TakesFirst}
 use Rattle.dw_entries.specs.ValuesLeft.{viewed}
 
 module _ (test : AttributeSpec → Bool) (x : Context) where

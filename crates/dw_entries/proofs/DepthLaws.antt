@@ -1,6 +1,6 @@
 -- How deep an entry is: one deeper than its parent, which is an earlier entry.
 use Rattle.std.proofs.Common.{rules, ◌≡◌, ℕ, zero, suc, ◌+◌, ◌-◌, ◌<◌, ◌≤◌, List, [], ◌∷◌, ◌++◌, length, get_or, Option, Some, None, refl, sym, ap, subst, ◌∙◌, inl, inr, arith}
-use Rattle.std.specs.Prelude.{◌⊎◌, slice_get, IfSome}
+use Rattle.std.specs.Prelude.{◌⊎◌, slice_get}
 use Rattle.std.proofs.lemmas.Bool.{cases_lt}
 use Rattle.std.proofs.lemmas.Option.{slice_get_within, slice_get-get_or}
 use Rattle.dw_forms.specs.KeptDecls.{Tables}
@@ -11,10 +11,11 @@ use Rattle.dw_entries.specs.Header.{header_size}
 use Rattle.dw_entries.specs.Tree.{Node, Nodes, leaf, parent, none, ◌then◌, node_bytes}
 use Rattle.dw_entries.specs.Units.{DebugUnit, unit_bytes}
 use Rattle.dw_entries.specs.Entries.{Entry, node_count, first_id, node_entries, nodes_entries, entries_from, entries_of}
+use Rattle.dw_entries.specs.ByNumber.{entry_of}
 use Rattle.dw_entries.specs.Scanned.{found_units, Scanned}
 use Rattle.dw_entries.proofs.EntryFacts.{length-node_entries, kept_get}
 use Rattle.dw_entries.proofs.FindLaws.{entries_counted}
-use Rattle.dw_entries.proofs.KeptLaws.{kept_entry, one_some}
+use Rattle.dw_entries.proofs.KeptLaws.{found_entry, kept_entry, one_some}
 use Rattle.dw_entries.proofs.UnitRanges.{get_front, get_behind}
 
 -- one of these entries, numbered from id, is the parent, and is one less deep
@@ -175,13 +176,11 @@ one_deeper us k p e is under = go (units_below 0 0 0 us k e is)
 
 -- so many steps above an entry is one with this parent
 pub record Climbs (es : List Entry) (id depth : ℕ) (above : Option ℕ) : Type 0 where
-  pub start : Entry
-  pub is_start : slice_get es id ≡ Some start
   pub place : ℕ
   pub here : Entry
   pub is_here : slice_get es place ≡ Some here
   pub parent : here.parent ≡ above
-  pub sum : here.depth + depth ≡ start.depth
+  pub sum : here.depth + depth ≡ (entry_of es id).depth
   pub fewer : place + depth ≤ id
 
 -- how many entries may be above, by the number of the next
@@ -201,12 +200,10 @@ module _ {base : ℕ} (a info : List ℕ) (tables : Tables) (rs : List UnitRecor
   starts id r within read =
       let k = kept_entry a info tables rs records s id within in
       record {
-        start = k.entry;
-        is_start = k.is_entry;
         place = id;
-        here = k.entry;
+        here = found_entry s id;
         is_here = k.is_entry;
-        parent = sym (parent_kept id r k.entry read k.is_entry);
+        parent = sym (parent_kept id r (found_entry s id) read k.is_entry);
         sum = omega arith;
         fewer = omega arith;
       }
@@ -238,8 +235,6 @@ module _ {base : ℕ} (a info : List ℕ) (tables : Tables) (rs : List UnitRecor
           let sum = c.sum in
           let fewer = c.fewer in
           record {
-            start = c.start;
-            is_start = c.is_start;
             place = p;
             here = above;
             is_here = is;
@@ -260,5 +255,5 @@ module _ {base : ℕ} (a info : List ℕ) (tables : Tables) (rs : List UnitRecor
               omega (arith, before)
 
   pub is_deep : (id depth : ℕ) → Climbs (entries_of (found_units s)) id depth None
-      → IfSome (slice_get (entries_of (found_units s)) id) (λ e. depth ≡ e.depth)
+      → depth ≡ (found_entry s id).depth
   is_deep id depth c = search (rules, no_depth)

@@ -11,7 +11,7 @@ use Rattle.dw_entries.specs.Entries.{Entry, node_count, nodes_count, first_id, n
 use Rattle.dw_entries.specs.UnitLaws.{with_base}
 use Rattle.dw_entries.specs.Records.{records_kept}
 use Rattle.dw_entries.specs.Scanned.{record_of, records_of}
-use Rattle.dw_entries.specs.Asked.{OffsetsRise}
+use Rattle.dw_entries.specs.EntryRules.{OffsetsRise}
 use Rattle.dw_entries.proofs.OrderLaws.{Rises, units_rise}
 
 -- the entries of units do not depend on their base

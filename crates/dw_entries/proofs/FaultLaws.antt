@@ -2,7 +2,7 @@
 use Rattle.std.proofs.Common.{rules, ◌≡◌, ℕ, zero, suc, true, true≢false, map, List, [], ◌∷◌, ◌++◌, length, Option, Some, Ok, Err, inl, inr, refl, sym, ap, ◌∙◌, append_assoc, append-nil, arith, length-append}
 use Rattle.std.specs.List.{AllByRecursion}
 use Rattle.dw_entries.specs.declared.fault.Failing.{Failing}
-use Rattle.dw_entries.specs.declared.fault.Broken.{Broken}
+use Rattle.dw_entries.specs.declared.fault.PlainFault.{PlainFault}
 use Rattle.dw_entries.specs.declared.header.HeaderKind.{HeaderKind}
 use Rattle.dw_entries.specs.Grammar.{Context}
 use Rattle.dw_entries.specs.Header.{fits_tag}
@@ -50,7 +50,7 @@ no_items t (i ∷ is) rest p e =
     ))
 
 -- a body that spells a node and nulls has no fault
-pub node_or_fault : (t : Context) (kind : HeaderKind) (header : ℕ) (n : Node) (zs : List (List ℕ)) (f : Broken)
+pub node_or_fault : (t : Context) (kind : HeaderKind) (header : ℕ) (n : Node) (zs : List (List ℕ)) (f : PlainFault)
     → IsNode t n → AreNulls zs → fits_tag kind (head_of n).decl.tag ≡ true
     → BodyFails t kind header (node_bytes n ++ nulls_bytes zs) f → ⊥
 node_or_fault t kind header n zs f p nulls tag b =
@@ -90,12 +90,13 @@ node_or_fault t kind header n zs f p nulls tag b =
         (rest ∙ append_assoc (item_bytes i) (items_bytes more) [])
 
 -- where a unit fails there is no unit
-pub unit_or_fault : (a : List ℕ) (header : ℕ) (rest : List ℕ) (f : Broken) (u : DebugUnit) (x : List ℕ)
+pub unit_or_fault : (a : List ℕ) (header : ℕ) (rest : List ℕ) (f : PlainFault) (u : DebugUnit) (x : List ℕ)
     → FailsHere a header rest f → IsUnit a u → rest ≡ unit_bytes u ++ x → ⊥
 unit_or_fault a header rest f u x fails p e = search (rules, unit_header, node_or_fault)
 
 -- a fault, and units for all of the bytes: not both
-pub no_list : (a : List ℕ) (bytes : List ℕ) (us : List DebugUnit) (f : Broken) → Spells a us bytes → Fails a bytes f → ⊥
+pub no_list : (a : List ℕ) (bytes : List ℕ) (us : List DebugUnit) (f : PlainFault) → Spells a us bytes → Fails a bytes f
+    → ⊥
 no_list a bytes us f p b =
     let e : units_bytes b.units ++ b.rest
     ≡ units_bytes us ++ [] = sym b.parts ∙ p.parts ∙ sym (append-nil (units_bytes us)) in
@@ -122,14 +123,14 @@ stops_same t kind is rest (suc d) f g p q =
     let a : next_at t kind is rest ≡ Err f = p in let b : next_at t kind is rest ≡ Err g = q in cc
 
 -- a front that stops is the longest one
-longest : (t : Context) (kind : HeaderKind) (header : ℕ) (body : List ℕ) (f g : Broken)
+longest : (t : Context) (kind : HeaderKind) (header : ℕ) (body : List ℕ) (f g : PlainFault)
     (b : BodyFails t kind header body f) (c : BodyFails t kind header body g) (more : List Item) → AreItems t more
     → c.items ≡ b.items ++ more → b.rest ≡ items_bytes more ++ c.rest → f ≡ g
 longest t kind header body f g b c [] are items rest = search (rules, append-nil, some_is, stops_same)
 longest t kind header body f g b c (i ∷ more) are items rest = search (rules, stops_there, append_assoc)
 
 -- two faults of one body are one
-one_in_body : (t : Context) (kind : HeaderKind) (header : ℕ) (body : List ℕ) (f g : Broken)
+one_in_body : (t : Context) (kind : HeaderKind) (header : ℕ) (body : List ℕ) (f g : PlainFault)
     → BodyFails t kind header body f → BodyFails t kind header body g → f ≡ g
 one_in_body t kind header body f g b c =
     let e : items_bytes b.items ++ b.rest ≡ items_bytes c.items ++ c.rest = sym b.front.parts ∙ c.front.parts in
@@ -139,12 +140,12 @@ one_in_body t kind header body f g b c =
     ]
 
 -- two faults of one header are one
-one_here : (a : List ℕ) (header : ℕ) (rest : List ℕ) (f g : Broken) → FailsHere a header rest f
+one_here : (a : List ℕ) (header : ℕ) (rest : List ℕ) (f g : PlainFault) → FailsHere a header rest f
     → FailsHere a header rest g → f ≡ g
 one_here a header rest f g p q = search (rules, one_in_body)
 
 -- the units before a fault are all that stand there
-last_units : (a : List ℕ) (bytes : List ℕ) (f g : Broken) (b : Fails a bytes f) (c : Fails a bytes g)
+last_units : (a : List ℕ) (bytes : List ℕ) (f g : PlainFault) (b : Fails a bytes f) (c : Fails a bytes g)
     (more : List DebugUnit) → AllByRecursion (IsBased 0 a) more
     → map (with_base 0) c.units ≡ map (with_base 0) b.units ++ more → b.rest ≡ units_bytes more ++ c.rest → f ≡ g
 last_units a bytes f g b c [] are units rest =
@@ -154,7 +155,7 @@ last_units a bytes f g b c [] are units rest =
 last_units a bytes f g b c (u ∷ more) are units rest = search (rules, unit_or_fault, append_assoc)
 
 -- there is one fault at most
-pub one_fault : (a : List ℕ) (bytes : List ℕ) (f g : Broken) → Fails a bytes f → Fails a bytes g → f ≡ g
+pub one_fault : (a : List ℕ) (bytes : List ℕ) (f g : PlainFault) → Fails a bytes f → Fails a bytes g → f ≡ g
 one_fault a bytes f g b c =
     let e : units_bytes b.units ++ b.rest ≡ units_bytes c.units ++ c.rest = sym b.parts ∙ c.parts in
     elim (units_begin 0 a b.units c.units b.rest c.rest b.are c.are e) [

@@ -9,10 +9,10 @@ use Rattle.dw_entries.specs.declared.records.Record.{Record}
 use Rattle.dw_entries.specs.declared.records.UnitRecord.{UnitRecord}
 use Rattle.dw_entries.specs.Entries.{entries_of}
 use Rattle.dw_entries.specs.Scanned.{found_units, numbers_of, record_of, Scanned}
-use Rattle.dw_entries.specs.Runs.{IsEntryAt}
+use Rattle.dw_entries.specs.EntriesAt.{IsEntryAt}
 use Rattle.dw_entries.proofs.NumberOrder.{three_ways}
-use Rattle.dw_entries.proofs.EntryFacts.{kept_get, entries_rise}
-use Rattle.dw_entries.proofs.KeptLaws.{KeptEntry, kept_entry, one_some, record_is}
+use Rattle.dw_entries.proofs.EntryFacts.{entries_rise}
+use Rattle.dw_entries.proofs.KeptLaws.{KeptEntry, found_entry, kept_entry, one_some, record_is}
 
 -- the records before this one start below the offset, and it and those after it start there or after it
 abbrev pub IsFirstFrom : List Record → ℕ → ℕ → Type 0
@@ -30,10 +30,8 @@ module _ {base : ℕ} (a info : List ℕ) (tables : Tables) (rs : List UnitRecor
 
   -- the record of an entry
   stands_at : (id : ℕ) {offset : ℕ} (found : IsEntryAt (entries_of (found_units s)) offset id)
-      → slice_get records id ≡ Some (record_of (numbers_of tables rs) found.entry)
-  stands_at id found =
-      ap (λ (xs : List Record). slice_get xs id) s.1.entries
-      ∙ kept_get (numbers_of tables rs) (found_units s) id found.entry found.is_entry
+      → slice_get records id ≡ Some (record_of (numbers_of tables rs) (found_entry s id))
+  stands_at id found = (kept_entry a info tables rs records s id found.within).is_record
 
   -- records stand in rising offset
   pub records_rise : IsNonDecreasingBy (λ (r : Record). r.at) records
@@ -64,8 +62,8 @@ module _ {base : ℕ} (a info : List ℕ) (tables : Tables) (rs : List UnitRecor
     none_from_end end id found =
         let at = found.begins in
         let is = stands_at id found in
-        let b = before id (record_of (numbers_of tables rs) found.entry)
-        (let w = slice_get_within records id (record_of (numbers_of tables rs) found.entry) is in
+        let b = before id (record_of (numbers_of tables rs) (found_entry s id))
+        (let w = slice_get_within records id (record_of (numbers_of tables rs) (found_entry s id)) is in
         omega (arith, w, end)) is in
         omega (arith, at, b)
 
@@ -73,34 +71,36 @@ module _ {base : ℕ} (a info : List ℕ) (tables : Tables) (rs : List UnitRecor
       here : KeptEntry a info tables rs records s number
       here = kept_entry a info tables rs records s number (omega (arith, within, entries_counted))
 
-      at_is : r.at ≡ here.entry.at
+      at_is : r.at ≡ (found_entry s number).at
       at_is =
           let stands : slice_get records number
           ≡ Some r = slice_get-get_or records number r within ∙ ap (λ (x : Record). Some x) (sym read) in
           ap (λ (q : Record). q.at) (record_is here r stands)
 
       pub found_first : r.at ≡ offset → IsEntryAt (entries_of (found_units s)) offset number
-      found_first same = record { entry = here.entry; is_entry = here.is_entry; begins = sym at_is ∙ same }
+      found_first same = record { within = omega (arith, within, entries_counted); begins = sym at_is ∙ same }
 
       pub none_from : (r.at ≡ offset → ⊥) → (id : ℕ) → IsEntryAt (entries_of (found_units s)) offset id → ⊥
       none_from other id found =
           let at = found.begins in
           let is = stands_at id found in
           elim (three_ways id number) [
-            | inl (inl less) ↦ let b = before id (record_of (numbers_of tables rs) found.entry) less is in
+            | inl (inl less) ↦ let b = before id (record_of (numbers_of tables rs) (found_entry s id)) less is in
                 omega (arith, at, b)
             | inl (inr same) ↦
-                let P : ℕ → Type 0 = λ n. slice_get records n ≡ Some (record_of (numbers_of tables rs) found.entry) in
+                let P : ℕ → Type 0 = λ n. slice_get records n
+                ≡ Some (record_of (numbers_of tables rs) (found_entry s id)) in
                 let stands : slice_get records number
                 ≡ Some r = slice_get-get_or records number r within ∙ ap (λ (x : Record). Some x) (sym read) in
                 other (ap (λ (q : Record). q.at)
-                (one_some (slice_get records number) r (record_of (numbers_of tables rs) found.entry) stands
+                (one_some (slice_get records number) r (record_of (numbers_of tables rs) (found_entry s id)) stands
                 (subst P same is)) ∙ at)
             | inr more ↦
                 let stands : slice_get records number
                 ≡ Some r = slice_get-get_or records number r within ∙ ap (λ (x : Record). Some x) (sym read) in
                 let low = behind r stands in
-                let rise = entries_rise a (found_units s) s.1.spells.are number id here.entry found.entry more
-                here.is_entry found.is_entry in
+                let rise = entries_rise a (found_units s) s.1.spells.are number id (found_entry s number)
+                (found_entry s id) more
+                here.is_entry (kept_entry a info tables rs records s id found.within).is_entry in
                 omega (arith, at, at_is, low, rise)
           ]

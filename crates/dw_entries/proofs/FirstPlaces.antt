@@ -1,10 +1,10 @@
 -- The first failure at one place, and of groups that are asked at headers and at entries.
 use Rattle.std.proofs.Common.{rules, ◌≡◌, ℕ, ◌≤◌, ◌⊎◌, Some, None, arith, inl, inr}
 use Rattle.dw_entries.specs.declared.rule.Rule.{Rule}
-use Rattle.dw_entries.specs.declared.fault.Broken.{Broken}
+use Rattle.dw_entries.specs.declared.fault.PlainFault.{PlainFault}
 use Rattle.dw_entries.specs.Places.{Place, at_header, at_entry, at_attribute, IsBefore}
 use Rattle.dw_entries.specs.Failures.{Failure, Precedes, Names, HasNone, IsFirst, IsLeast}
-use Rattle.dw_entries.specs.Asked.{AtPlace}
+use Rattle.dw_entries.specs.EntryRules.{AtPlace}
 
 -- no place comes before itself
 pub not_before_itself : (p : Place) → IsBefore p p → ⊥
@@ -13,7 +13,8 @@ not_before_itself (at_entry o) before = omega arith
 not_before_itself (at_attribute o k) before = elim before [ inl less ↦ omega arith | inr same ↦ omega (arith, same.1) ]
 
 -- at one place the rule with the least number is named
-pub first_at_place : (place : Place) (Fails : Rule → Type 0) (rule : Rule) (broken : Broken) → IsLeast Fails (Some rule)
+pub first_at_place : (place : Place) (Fails : Rule → Type 0) (rule : Rule) (broken : PlainFault)
+    → IsLeast Fails (Some rule)
     → Names broken (record { rule = rule; place = place; attribute = 0 }) → IsFirst (AtPlace place Fails) broken
 first_at_place place Fails rule broken least named = search (rules, not_before_itself)
 
@@ -25,7 +26,7 @@ pub header_precedes_le : (a b : ℕ) (f g : Failure) → f.place ≡ at_header a
     → a ≤ b
 header_precedes_le a b f g f_at g_at precedes = search (rules)
 
-pub first_by_right : (P Q : Failure → Type 0) (broken : Broken) → HasNone P → IsFirst Q broken
+pub first_by_right : (P Q : Failure → Type 0) (broken : PlainFault) → HasNone P → IsFirst Q broken
     → IsFirst (λ f. P f ⊎ Q f) broken
 first_by_right P Q broken none first = search (rules)
 

@@ -4,12 +4,12 @@ use Rattle.std.specs.Prelude.{slice_get}
 use Rattle.std.proofs.lemmas.Option.{slice_get_within}
 use Rattle.dw_forms.specs.Value.{Datum}
 use Rattle.dw_entries.specs.declared.rule.Rule.{Rule}
-use Rattle.dw_entries.specs.declared.fault.Broken.{Broken}
+use Rattle.dw_entries.specs.declared.fault.PlainFault.{PlainFault}
 use Rattle.dw_entries.specs.Rules.{number_of}
 use Rattle.dw_entries.specs.Entries.{Entry}
 use Rattle.dw_entries.specs.Places.{Place, at_header, at_entry, at_attribute, IsBefore, offset_of}
 use Rattle.dw_entries.specs.Failures.{Failure, Precedes, Names, HasNone, IsFirst, IsLeast}
-use Rattle.dw_entries.specs.Asked.{OffsetsRise, values_of, HasAttribute, AtAttributes, InList, AtEntries}
+use Rattle.dw_entries.specs.EntryRules.{OffsetsRise, values_of, HasAttribute, AtAttributes, InList, AtEntries}
 use Rattle.dw_entries.proofs.NumberOrder.{three_ways}
 
 -- the place is the entry at this offset, or an attribute of it
@@ -44,7 +44,7 @@ same_some o x y p q = cc
 -- THE law of the order: where the items of a list rise in offset, and no failure of a later item precedes one of
 -- an earlier item, the first failure of the first item that has one is the first of all
 pub first_of_list : {X : Type 0} (xs : List X) (offset : X → ℕ) (Fails : ℕ → X → Failure → Type 0) (number : ℕ) (x : X)
-    (broken : Broken)
+    (broken : PlainFault)
     → ((i j : ℕ) (a b : X) → i < j → slice_get xs i ≡ Some a → slice_get xs j ≡ Some b → offset a < offset b)
     → ((i j : ℕ) (a b : X) (f g : Failure) → Fails i a f → Fails j b g → Precedes f g → offset a ≤ offset b)
     → slice_get xs number ≡ Some x
@@ -80,7 +80,7 @@ more_of_list {X} xs Fails number x is_x passed here j y below is_y = search (rul
 
 -- the same for entries
 pub first_of_entries : (entries : List Entry) (Fails : Entry → Failure → Type 0) (id : ℕ) (entry : Entry)
-    (broken : Broken)
+    (broken : PlainFault)
     → OffsetsRise entries
     → ((e : Entry) (f : Failure) → Fails e f → IsAt e.at f.place)
     → slice_get entries id ≡ Some entry
@@ -107,7 +107,7 @@ precedes_in o j k f g f_at g_at precedes = search (rules, before_in)
 
 -- the first attribute at which a rule fails, by the least rule that does
 pub first_of_attributes : (Fails : Entry → ℕ → Datum → Rule → Type 0) (entry : Entry) (k attribute : ℕ) (value : Datum)
-    (rule : Rule) (broken : Broken)
+    (rule : Rule) (broken : PlainFault)
     → HasAttribute entry k attribute value
     → ((j a : ℕ) (v : Datum) → j < k → HasAttribute entry j a v → (r : Rule) → Fails entry a v r → ⊥)
     → IsLeast (Fails entry attribute value) (Some rule)

@@ -2,6 +2,7 @@
 use Rattle.std.proofs.Common.{rules, ◌≡◌, ℕ, zero, suc, ◌+◌, ◌<◌, List, [], ◌∷◌, ◌++◌, length, drop, Option, Some, None, Ok, refl, sym, ap, ◌∙◌, arith, length-append, length-drop, subst, append_assoc, append-nil, drop_at, drop-drop}
 use Rattle.std.specs.Prelude.{slice_get}
 use Rattle.std.specs.List.{flat_map, AllByRecursion}
+use Rattle.std.proofs.lemmas.Option.{slice_get_within, get_or_from_slice_get}
 use Rattle.dw_entries.specs.Grammar.{Context, head_bytes, attribute_bytes, IsHead}
 use Rattle.dw_entries.specs.Header.{header_size}
 use Rattle.dw_entries.specs.UnitLaws.{header_long}
@@ -11,6 +12,7 @@ use Rattle.dw_entries.specs.ReadingLaws.{code_again, item_some}
 use Rattle.dw_entries.specs.Tree.{Node, Nodes, leaf, parent, none, ◌then◌, IsNode, AreNodes, node_bytes, nodes_bytes}
 use Rattle.dw_entries.specs.Units.{DebugUnit, context_of, body_bytes, nulls_bytes, unit_bytes, IsUnit, AreUnits, units_bytes, Spells}
 use Rattle.dw_entries.specs.Entries.{Entry, node_count, first_id, node_entries, nodes_entries, entries_from, entries_of}
+use Rattle.dw_entries.specs.ByNumber.{no_unit, unit_of}
 
 -- the head of this entry is at its offset, and the entry is of this unit, whose context is x
 pub record StandsIn (x : Context) (unit : ℕ) (info : List ℕ) (e : Entry) : Type 0 where
@@ -21,9 +23,8 @@ pub record StandsIn (x : Context) (unit : ℕ) (info : List ℕ) (e : Entry) : T
 
 -- the head of this entry is at its offset, in the context of its unit
 pub record Stands (us : List DebugUnit) (info : List ℕ) (e : Entry) : Type 0 where
-  pub unit : DebugUnit
-  pub is_unit : slice_get us e.unit ≡ Some unit
-  pub is : IsHead (context_of unit) e.head
+  pub within : e.unit < length us
+  pub is : IsHead (context_of (unit_of us e.unit)) e.head
   pub after : List ℕ
   pub parts : drop e.at info ≡ head_bytes e.head ++ after
 
@@ -92,7 +93,15 @@ from_here all unit u us f = ap (slice_get all) (let e : unit ≡ unit + 0 = omeg
 stands_among : (all : List DebugUnit) (info : List ℕ) (unit : ℕ) (u : DebugUnit) → slice_get all unit ≡ Some u
     → (e : Entry) → StandsIn (context_of u) unit info e → Stands all info e
 stands_among all info unit u is e s =
-    record { unit = u; is_unit = ap (slice_get all) s.in_unit ∙ is; is = s.is; after = s.after; parts = s.parts }
+    let at : slice_get all e.unit ≡ Some u = ap (slice_get all) s.in_unit ∙ is in
+    let same : unit_of all e.unit ≡ u = get_or_from_slice_get all e.unit u no_unit at in
+    let P : DebugUnit → Type 0 = λ v. IsHead (context_of v) e.head in
+    record {
+      within = slice_get_within all e.unit u at;
+      is = subst P (sym same) s.is;
+      after = s.after;
+      parts = s.parts;
+    }
 
 -- the bytes of a unit after its header
 pub behind_header : (a info : List ℕ) (at : ℕ) (u : DebugUnit) (after : List ℕ) → IsUnit a u
@@ -142,7 +151,7 @@ stands_within us info e s =
       arith,
       ap length s.parts,
       length-append (head_bytes e.head) s.after,
-      item_some (context_of s.unit)
+      item_some (context_of (unit_of us e.unit))
           (entry e.head) s.is,
       length-drop e.at info,
     )

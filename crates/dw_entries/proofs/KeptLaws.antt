@@ -1,9 +1,9 @@
 -- What is kept of an entry and of its unit, and what is in .debug_info where they point.
-use Rattle.std.proofs.Common.{rules, ◌≡◌, ℕ, zero, suc, ◌-◌, ◌<◌, ◌≤◌, List, [], ◌∷◌, ◌++◌, length, take, drop, get_or, Option, Some, None, Ok, Err, refl, sym, ap, subst, ◌∙◌, inl, inr, arith}
-use Rattle.std.specs.Prelude.{slice_get, IfSome, IsSomeAnd}
+use Rattle.std.proofs.Common.{rules, ◌≡◌, ℕ, zero, suc, ◌-◌, ◌<◌, ◌≤◌, List, [], ◌∷◌, ◌++◌, length, take, drop, get_or, Option, Some, None, Ok, Err, refl, sym, ap, subst, ◌∙◌, arith}
+use Rattle.std.specs.Prelude.{slice_get, IsSomeAnd}
 use Rattle.std.specs.List.{AllZip, flat_map}
 use Rattle.std.proofs.lemmas.List.{length-map}
-use Rattle.std.proofs.lemmas.Option.{slice_get_within, slice_get_cases, get_or_from_slice_get}
+use Rattle.std.proofs.lemmas.Option.{slice_get_within, slice_get-get_or, get_or_from_slice_get}
 use Rattle.std.proofs.lemmas.Slice.Zip.{AllZip-right, AllZip-long}
 use Rattle.dw_forms.specs.declared.decl.Decls.{Decls}
 use Rattle.dw_forms.specs.declared.attribute_lists.Node.{Node}
@@ -26,6 +26,7 @@ use Rattle.dw_entries.specs.Reading.{seen, code_at}
 use Rattle.dw_entries.specs.ReadingLaws.{ok_pair}
 use Rattle.dw_entries.specs.Units.{DebugUnit, head_of}
 use Rattle.dw_entries.specs.Entries.{Entry, entries_of, PlacedUnit, placed}
+use Rattle.dw_entries.specs.ByNumber.{no_entry, no_placed, no_unit, entry_of, placed_of, unit_of}
 use Rattle.dw_entries.specs.Scanned.{found_units, tables_among, table_of, numbers_of, record_of, IsKept, Scanned}
 use Rattle.dw_entries.specs.Lookups.{IsKeptIn, HasSpecsIn, unit_head}
 use Rattle.dw_entries.proofs.ScanLaws.{rest_of}
@@ -56,41 +57,49 @@ unit_kept tables rs ps zip k p is =
     let at_p : IsSomeAnd (slice_get rs k) (λ r. IsKept tables r p) = rw is at m in
     some_and (slice_get rs k) (λ r. IsKept tables r p) at_p
 
--- an entry of this number, with its unit and what is kept of both
+-- the entry of a number, of those that were found
+abbrev pub found_entry : {base : ℕ} {a info : List ℕ} {tables : Tables} {rs : List UnitRecord} {records : List Record}
+    → Scanned base a info tables rs records → ℕ → Entry
+found_entry s id = entry_of (entries_of (found_units s)) id
+
+-- and the unit of that entry
+abbrev pub found_unit : {base : ℕ} {a info : List ℕ} {tables : Tables} {rs : List UnitRecord} {records : List Record}
+    → Scanned base a info tables rs records → ℕ → DebugUnit
+found_unit s id = unit_of (found_units s) (found_entry s id).unit
+
+-- what is kept of the entry of this number and of its unit
 pub record KeptEntry {base : ℕ} (a info : List ℕ) (tables : Tables) (rs : List UnitRecord) (records : List Record)
     (s : Scanned base a info tables rs records) (id : ℕ) : Type 0 where
-  pub entry : Entry
-  pub is_entry : slice_get (entries_of (found_units s)) id ≡ Some entry
-  pub is_record : slice_get records id ≡ Some (record_of (numbers_of tables rs) entry)
-  pub stands : Stands (found_units s) info entry
+  pub is_entry : slice_get (entries_of (found_units s)) id ≡ Some (found_entry s id)
+  pub is_record : slice_get records id ≡ Some (record_of (numbers_of tables rs) (found_entry s id))
+  pub stands : Stands (found_units s) info (found_entry s id)
   pub unit_record : UnitRecord
-  pub is_unit_record : slice_get rs entry.unit ≡ Some unit_record
-  pub header : unit_record.header ≡ stands.unit.header
-  pub table : items_of (chain_in tables unit_record.table) ≡ stands.unit.table
+  pub is_unit_record : slice_get rs (found_entry s id).unit ≡ Some unit_record
+  pub header : unit_record.header ≡ (found_unit s id).header
+  pub table : items_of (chain_in tables unit_record.table) ≡ (found_unit s id).table
 
 pub kept_entry : {base : ℕ} (a info : List ℕ) (tables : Tables) (rs : List UnitRecord) (records : List Record)
     (s : Scanned base a info tables rs records) (id : ℕ)
     → id < length (entries_of (found_units s)) → KeptEntry a info tables rs records s id
-kept_entry a info tables rs records s id within = elim (slice_get_cases (entries_of (found_units s)) id).1 [
-  | inr past ↦ absurd (omega (arith, past.0, within))
-  | inl it ↦
-      let e : Entry = it.0 in
-      let stands = head_stands a info (found_units s) id e s.1.spells it.2 in
-      let (p, is_p, same) = placed_get 0 0 (found_units s) e.unit stands.unit stands.is_unit in
-      let (r, is_r, kept) = unit_kept tables rs (placed (found_units s)) s.1.kept e.unit p is_p in
-      record {
-        entry = e;
-        is_entry = it.2;
-        is_record =
-            ap (λ (xs : List Record). slice_get xs id) s.1.entries
-            ∙ kept_get (numbers_of tables rs) (found_units s) id e it.2;
-        stands = stands;
-        unit_record = r;
-        is_unit_record = is_r;
-        header = kept.header ∙ ap (λ (u : DebugUnit). u.header) same;
-        table = kept.table ∙ ap (λ (u : DebugUnit). u.table) same;
-      }
-]
+kept_entry a info tables rs records s id within =
+    let e : Entry = found_entry s id in
+    let is : slice_get (entries_of (found_units s)) id ≡ Some e =
+    slice_get-get_or (entries_of (found_units s)) id no_entry within in
+    let stands = head_stands a info (found_units s) id e s.1.spells is in
+    let (p, is_p, same) = placed_get 0 0 (found_units s) e.unit (unit_of (found_units s) e.unit)
+    (slice_get-get_or (found_units s) e.unit no_unit stands.within) in
+    let (r, is_r, kept) = unit_kept tables rs (placed (found_units s)) s.1.kept e.unit p is_p in
+    record {
+      is_entry = is;
+      is_record =
+          ap (λ (xs : List Record). slice_get xs id) s.1.entries
+          ∙ kept_get (numbers_of tables rs) (found_units s) id e is;
+      stands = stands;
+      unit_record = r;
+      is_unit_record = is_r;
+      header = kept.header ∙ ap (λ (u : DebugUnit). u.header) same;
+      table = kept.table ∙ ap (λ (u : DebugUnit). u.table) same;
+    }
 
 -- an element that was read is the one that is there
 pub read_is : {A : Type 0} (xs : List A) (k : ℕ) (x y : A) → slice_get xs k ≡ Some x → y ≡ get_or xs k y → y ≡ x
@@ -98,31 +107,28 @@ read_is xs k x y is read = read ∙ get_or_from_slice_get xs k x y is
 
 module _ {base : ℕ} {a info : List ℕ} {tables : Tables} {rs : List UnitRecord} {records : List Record}
     {s : Scanned base a info tables rs records} {id : ℕ} (k : KeptEntry a info tables rs records s id) where
-  -- a fact of the entry of this number
-  pub of_entry : (P : Entry → Type 0) → P k.entry → IfSome (slice_get (entries_of (found_units s)) id) P
-  of_entry P p = rw k.is_entry p
-
-  pub from_entry : (P : Entry → Type 0) → IfSome (slice_get (entries_of (found_units s)) id) P → P k.entry
-  from_entry P p = rw k.is_entry at p
-
   module _ (r : Record) (read : slice_get records id ≡ Some r) where
-    pub record_is : r ≡ record_of (numbers_of tables rs) k.entry
-    record_is = one_some (slice_get records id) r (record_of (numbers_of tables rs) k.entry) read k.is_record
+    pub record_is : r ≡ record_of (numbers_of tables rs) (found_entry s id)
+    record_is = one_some (slice_get records id) r (record_of (numbers_of tables rs) (found_entry s id)) read k.is_record
 
     pub at_within : r.at < length info
     at_within =
-        let e : r.at ≡ k.entry.at = ap (λ (q : Record). q.at) record_is in
-        let w = stands_within (found_units s) info k.entry k.stands in omega (arith, e, w)
+        let e : r.at ≡ (found_entry s id).at = ap (λ (q : Record). q.at) record_is in
+        let w = stands_within (found_units s) info (found_entry s id) k.stands in omega (arith, e, w)
 
     -- its code is read at its offset, and its values follow
     code_read : seen (λ c. c.number) (code_at (take (length info - r.at) (drop r.at info)))
-        ≡ Ok (k.entry.head.decl.code, flat_map attribute_bytes k.entry.head.attributes ++ k.stands.after)
+        ≡ Ok (
+          (found_entry s id).head.decl.code,
+          flat_map attribute_bytes (found_entry s id).head.attributes
+              ++ k.stands.after,
+        )
     code_read =
-        let e : r.at ≡ k.entry.at = ap (λ (q : Record). q.at) record_is in
+        let e : r.at ≡ (found_entry s id).at = ap (λ (q : Record). q.at) record_is in
         let w = at_within in
         ap (λ (b : List ℕ). seen (λ c. c.number) (code_at b))
         (rest_of r.at info (omega (arith, w)) ∙ ap (λ (n : ℕ). drop n info) e)
-        ∙ stands_code (found_units s) info k.entry k.stands
+        ∙ stands_code (found_units s) info (found_entry s id) k.stands
 
     pub never_unread : (f : Failing)
         → seen (λ c. c.number) (code_at (take (length info - r.at) (drop r.at info))) ≡ Err f → ⊥
@@ -130,31 +136,27 @@ module _ {base : ℕ} {a info : List ℕ} {tables : Tables} {rs : List UnitRecor
 
     pub values_are : (n : ℕ) (rest : List ℕ)
         → seen (λ c. c.number) (code_at (take (length info - r.at) (drop r.at info))) ≡ Ok (n, rest)
-        → rest ≡ flat_map attribute_bytes k.entry.head.attributes ++ k.stands.after
+        → rest ≡ flat_map attribute_bytes (found_entry s id).head.attributes ++ k.stands.after
     values_are n rest got =
-        (ok_pair {E = Failing} n k.entry.head.decl.code rest
-        (flat_map attribute_bytes k.entry.head.attributes ++ k.stands.after) (sym got ∙ code_read)).1
+        (ok_pair {E = Failing} n (found_entry s id).head.decl.code rest
+        (flat_map attribute_bytes (found_entry s id).head.attributes ++ k.stands.after) (sym got ∙ code_read)).1
 
     pub values_follow : (n : ℕ) (rest : List ℕ)
         → seen (λ c. c.number) (code_at (take (length info - r.at) (drop r.at info))) ≡ Ok (n, rest)
-        → IfSome (slice_get (entries_of (found_units s)) id)
-        (λ e. (behind : List ℕ) × (rest ≡ flat_map attribute_bytes e.head.attributes ++ behind))
-    values_follow n rest got =
-        of_entry (λ e. (behind : List ℕ) × (rest ≡ flat_map attribute_bytes e.head.attributes ++ behind))
-        (k.stands.after, values_are n rest got)
+        → (behind : List ℕ) × (rest ≡ flat_map attribute_bytes (found_entry s id).head.attributes ++ behind)
+    values_follow n rest got = (k.stands.after, values_are n rest got)
 
     -- the entry is at the front of the bytes from its offset on
-    pub entry_parts : take (length info - r.at) (drop r.at info) ≡ head_bytes k.entry.head ++ k.stands.after
+    pub entry_parts : take (length info - r.at) (drop r.at info) ≡ head_bytes (found_entry s id).head ++ k.stands.after
     entry_parts =
-        let e : r.at ≡ k.entry.at = ap (λ (q : Record). q.at) record_is in
+        let e : r.at ≡ (found_entry s id).at = ap (λ (q : Record). q.at) record_is in
         let w = at_within in
         rest_of r.at info (omega (arith, w)) ∙ ap (λ (n : ℕ). drop n info) e ∙ k.stands.parts
 
   -- the header of a unit that has the number of the entry's
-  pub header_is : (number : ℕ) (u : UnitRecord) → number ≡ k.entry.unit → u ≡ get_or rs number u
-      → IfSome (slice_get (entries_of (found_units s)) id)
-      (λ e. IfSome (slice_get (found_units s) e.unit) (λ v. u.header ≡ v.header))
-  header_is number u same read = search (rules, read_is, of_entry)
+  pub header_is : (number : ℕ) (u : UnitRecord) → number ≡ (found_entry s id).unit → u ≡ get_or rs number u
+      → u.header ≡ (found_unit s id).header
+  header_is number u same read = search (rules, read_is)
 
 -- the declaration of an entry is the one of its number
 module _ (decls : Decls) {base : ℕ} {a info : List ℕ} {rs : List UnitRecord} {records : List Record}
@@ -166,27 +168,27 @@ module _ (decls : Decls) {base : ℕ} {a info : List ℕ} {rs : List UnitRecord}
   abbrev kept : List KeptDecl
   kept = decls.kept.items
 
-  entry_decl : decl_of nodes kept (numbers_of (tables_among decls) rs k.entry.unit k.entry.head.decl.code)
-      ≡ Some k.entry.head.decl
+  entry_decl : decl_of nodes kept
+      (numbers_of (tables_among decls) rs (found_entry s id).unit (found_entry s id).head.decl.code)
+      ≡ Some (found_entry s id).head.decl
   unfolding declared_in
   entry_decl = search (rules, table_is, numbers_find, own_numbers)
 
   module _ (r : Record) (read : slice_get records id ≡ Some r) where
-    decl_stands : decl_of nodes kept r.decl ≡ Some k.entry.head.decl
+    decl_stands : decl_of nodes kept r.decl ≡ Some (found_entry s id).head.decl
     decl_stands = ap (λ (q : Record). decl_of nodes kept q.decl) (record_is k r read) ∙ entry_decl
 
     pub decl_numbered : 0 < r.decl
-    decl_numbered = item_some (decls_of nodes kept) r.decl k.entry.head.decl decl_stands
+    decl_numbered = item_some (decls_of nodes kept) r.decl (found_entry s id).head.decl decl_stands
 
     pub decl_kept : r.decl ≤ length kept
     decl_kept =
-        let within = item_within (decls_of nodes kept) r.decl k.entry.head.decl decl_stands in
+        let within = item_within (decls_of nodes kept) r.decl (found_entry s id).head.decl decl_stands in
         omega (arith, within, length-map {B = Declaration × ℕ} kept (λ (x : KeptDecl). (kept_view nodes x, x.rest)))
 
     pub decl_is : (d : Declaration) → decl_of nodes kept r.decl ≡ Some d
-        → IfSome (slice_get (entries_of (found_units s)) id) (λ e. d ≡ e.head.decl)
-    decl_is d found =
-        of_entry k (λ e. d ≡ e.head.decl) (one_some (decl_of nodes kept r.decl) d k.entry.head.decl found decl_stands)
+        → d ≡ (found_entry s id).head.decl
+    decl_is d found = one_some (decl_of nodes kept r.decl) d (found_entry s id).head.decl found decl_stands
 
 -- an entry's declaration is one of those that are kept
 pub declared_among : {base : ℕ} (a info : List ℕ) (decls : Decls) (rs : List UnitRecord) (records : List Record)
@@ -195,9 +197,9 @@ pub declared_among : {base : ℕ} (a info : List ℕ) (decls : Decls) (rs : List
 declared_among a info decls rs records s id e is =
     let k = kept_entry a info (tables_among decls) rs records s id
     (slice_get_within (entries_of (found_units s)) id e is) in
-    let same : k.entry ≡ e = one_some (slice_get (entries_of (found_units s)) id) k.entry e k.is_entry is in
+    let same : found_entry s id ≡ e = get_or_from_slice_get (entries_of (found_units s)) id e no_entry is in
     let P : Entry → Type 0 = λ x. IsKeptIn decls x.head.decl in
-    subst P same (numbers_of (tables_among decls) rs k.entry.unit k.entry.head.decl.code, entry_decl decls k)
+    subst P same (_, entry_decl decls k)
 
 -- and each of its attributes is one of those that are kept
 pub specs_among : {base : ℕ} (a info : List ℕ) (decls : Decls) (rs : List UnitRecord) (records : List Record)
@@ -209,22 +211,27 @@ specs_among a info decls rs records s id e is =
 
 -- ---- a unit
 
+-- the unit of a number, of those that were found
+abbrev pub found_place : {base : ℕ} {a info : List ℕ} {tables : Tables} {rs : List UnitRecord} {records : List Record}
+    → Scanned base a info tables rs records → ℕ → PlacedUnit
+found_place s number = placed_of (placed (found_units s)) number
+
 pub record KeptUnit {base : ℕ} (a info : List ℕ) (tables : Tables) (rs : List UnitRecord) (records : List Record)
     (s : Scanned base a info tables rs records) (number : ℕ) : Type 0 where
-  pub place : PlacedUnit
-  pub is_place : slice_get (placed (found_units s)) number ≡ Some place
+  pub is_place : slice_get (placed (found_units s)) number ≡ Some (found_place s number)
   pub unit_record : UnitRecord
   pub is_unit_record : slice_get rs number ≡ Some unit_record
-  pub kept : IsKept tables unit_record place
-  pub first : HasFirst (entries_of (found_units s)) place.first number place
+  pub kept : IsKept tables unit_record (found_place s number)
+  pub first : HasFirst (entries_of (found_units s)) (found_place s number).first number (found_place s number)
 
 pub kept_unit : {base : ℕ} (a info : List ℕ) (tables : Tables) (rs : List UnitRecord) (records : List Record)
     (s : Scanned base a info tables rs records) (number : ℕ) → number < length (found_units s)
     → KeptUnit a info tables rs records s number
-kept_unit a info tables rs records s number within = elim (slice_get_cases (placed (found_units s)) number).1 [
-  | inr past ↦ absurd (omega (arith, past.0, within, length-placed_from 0 0 (found_units s)))
-  | inl it ↦ search (rules, unit_kept, first_entry)
-]
+kept_unit a info tables rs records s number within =
+    let is : slice_get (placed (found_units s)) number ≡ Some (found_place s number) =
+    slice_get-get_or (placed (found_units s)) number no_placed
+    (omega (arith, within, length-placed_from 0 0 (found_units s))) in
+    search (rules, unit_kept, first_entry)
 
 abbrev told : ℕ → UnitHeader → UnitType → ℕ → UnitHead
 told offset header unit_type first = record { offset = offset; header = header; unit_type = unit_type; first = first }
@@ -235,9 +242,9 @@ module _ {base : ℕ} {a info : List ℕ} {tables : Tables} {rs : List UnitRecor
   number_within = slice_get_within rs number k.unit_record k.is_unit_record
 
   module _ (u : UnitRecord) (read : u ≡ get_or rs number u) where
-    pub kept_is : IsKept tables u k.place
+    pub kept_is : IsKept tables u (found_place s number)
     kept_is =
-        let P : UnitRecord → Type 0 = λ q. IsKept tables q k.place in
+        let P : UnitRecord → Type 0 = λ q. IsKept tables q (found_place s number) in
         subst P (sym (read_is rs number k.unit_record u k.is_unit_record read)) k.kept
 
     first_is : slice_get (entries_of (found_units s)) u.first ≡ Some k.first.entry
@@ -247,17 +254,20 @@ module _ {base : ℕ} {a info : List ℕ} {tables : Tables} {rs : List UnitRecor
     first_within = slice_get_within (entries_of (found_units s)) u.first k.first.entry first_is
 
     pub unit_told : (first : ℕ) (d : Declaration) (t : UnitType) → first ≡ u.first
-        → IfSome (slice_get (entries_of (found_units s)) first) (λ e. d ≡ e.head.decl) → t ≡ type_of u.header.kind d.tag
-        → IfSome (slice_get (placed (found_units s)) number) (λ p. told u.at u.header t first ≡ unit_head p)
+        → d ≡ (found_entry s first).head.decl → t ≡ type_of u.header.kind d.tag
+        → told u.at u.header t first ≡ unit_head (found_place s number)
     unit_told first d t same declared typed =
-        let of_first = rw (ap (slice_get (entries_of (found_units s))) same ∙ first_is) at declared in
-        let tag : d.tag ≡ (head_of k.place.unit.root).decl.tag = ap (λ (c : Declaration). c.tag) of_first
+        let is : found_entry s first ≡ k.first.entry = get_or_from_slice_get (entries_of (found_units s)) first
+        k.first.entry no_entry (ap (slice_get (entries_of (found_units s))) same ∙ first_is) in
+        let of_first : d ≡ k.first.entry.head.decl = declared ∙ ap (λ (e : Entry). e.head.decl) is in
+        let tag : d.tag ≡ (head_of (found_place s number).unit.root).decl.tag = ap (λ (c : Declaration). c.tag) of_first
         ∙ ap (λ (h : Head). h.decl.tag) k.first.is_first.head in
-        let type_is : t ≡ type_of k.place.unit.header.kind (head_of k.place.unit.root).decl.tag =
+        let type_is : t ≡ type_of (found_place s number).unit.header.kind
+        (head_of (found_place s number).unit.root).decl.tag =
         typed ∙ ap (λ (h : UnitHeader). type_of h.kind d.tag) kept_is.header
-        ∙ ap (type_of k.place.unit.header.kind) tag in
-        let number_is : first ≡ k.place.first = same ∙ kept_is.first in
-        rw k.is_place (λ i. told (kept_is.at i) (kept_is.header i) (type_is i) (number_is i))
+        ∙ ap (type_of (found_place s number).unit.header.kind) tag in
+        let number_is : first ≡ (found_place s number).first = same ∙ kept_is.first in
+        λ i. told (kept_is.at i) (kept_is.header i) (type_is i) (number_is i)
 
 -- as many records as units
 pub units_counted : {base : ℕ} (a info : List ℕ) (tables : Tables) (rs : List UnitRecord) (records : List Record)

@@ -19,11 +19,11 @@ use Rattle.dw_forms.specs.Suffixes.{nodes_of, numbered, specs_in}
 use Rattle.dw_forms.specs.BaseFormats.{taken_at}
 use Rattle.dw_forms.specs.Value.{Datum, laid_out, view, str, str_index, ref_unit, addr_index, fixed, leb}
 use Rattle.dw_forms.specs.ValueReading.{layout_at, fixed_at, uleb_then}
-use Rattle.dw_forms.specs.Walks.{lead_of, does_lead, IsStep}
+use Rattle.dw_forms.specs.LeadingWalks.{lead_of, does_lead, IsStep}
 use Rattle.dw_forms.proofs.LeadLaws.{lead_says}
 use Rattle.dw_forms.proofs.WalkSteps.{step_lead, step_none, step_nothing}
-use Rattle.dw_entries.specs.Asked.{value_of}
-use Rattle.dw_entries.specs.Chosen.{ArePassed}
+use Rattle.dw_entries.specs.EntryRules.{value_of}
+use Rattle.dw_entries.specs.PassedAttributes.{ArePassed}
 use Rattle.dw_entries.specs.Grammar.{Context}
 use Rattle.dw_entries.specs.Leading.{DoesNotLead, IsMade, is_reference_lead}
 use Rattle.dw_entries.specs.ReadingLaws.{ok_pair}

@@ -12,20 +12,20 @@ use Rattle.dw_forms.specs.declared.form.Form.{Form}
 use Rattle.dw_forms.specs.AttributeLists.{specs_of, list_in, numbered_in}
 use Rattle.dw_forms.specs.Chains.{Numbered, items_of}
 use Rattle.dw_forms.specs.FormCodes.{is_allowed}
-use Rattle.dw_forms.specs.Plans.{known_sum, cut_at}
+use Rattle.dw_forms.specs.KnownValues.{known_sum, cut_at}
 use Rattle.dw_forms.specs.Suffixes.{nodes_of, numbered, specs_in, Ends}
 use Rattle.dw_forms.specs.Value.{Datum}
 use Rattle.dw_forms.specs.ValueReading.{value_at}
 use Rattle.dw_forms.specs.Sizes.{rest_at}
 use Rattle.dw_forms.specs.Steps.{◌>>=◌}
-use Rattle.dw_forms.specs.Walks.{does_lead, lead_of, IsStep}
+use Rattle.dw_forms.specs.LeadingWalks.{does_lead, lead_of, IsStep}
 use Rattle.dw_forms.proofs.ChainLaws.{chain_none}
 use Rattle.dw_forms.proofs.PartLaws.{known_at}
 use Rattle.dw_forms.proofs.PassSteps.{run, items_append}
 use Rattle.dw_forms.proofs.SuffixLaws.{first_specs}
 use Rattle.dw_forms.proofs.WalkSteps.{GoesTo, goes_to, step_none, step_within, skip_is}
-use Rattle.dw_entries.specs.Asked.{value_of}
-use Rattle.dw_entries.specs.Chosen.{ArePassed, IsNextOf}
+use Rattle.dw_entries.specs.EntryRules.{value_of}
+use Rattle.dw_entries.specs.PassedAttributes.{ArePassed, IsNextOf}
 use Rattle.dw_entries.specs.Grammar.{Context, AreAttributes}
 use Rattle.dw_entries.specs.Leading.{DoesNotLead, LeadsIn, IsPassedBy, lead_with}
 use Rattle.dw_entries.specs.declared.values.Values.{Values}

@@ -11,12 +11,12 @@ use Rattle.dw_forms.specs.declared.form.Form.TheVariants.{Flag}
 use Rattle.dw_forms.specs.declared.value.Value.{Value}
 use Rattle.dw_forms.specs.Value.{Datum, view}
 use Rattle.dw_forms.specs.Sizes.{rest_at, are_allowed}
-use Rattle.dw_forms.specs.Plans.{values_end}
+use Rattle.dw_forms.specs.KnownValues.{values_end}
 use Rattle.dw_forms.specs.FirstPlaces.{StandsFirst, value_behind, ReadsFirst, AnswersFirst}
 use Rattle.dw_entries.specs.Grammar.{Context, Attribute, IsAttribute, AreAttributes, attribute_bytes}
 use Rattle.dw_entries.specs.Reading.{after, attributes_at}
 use Rattle.dw_entries.specs.ReadingLaws.{value_again, bind_ok}
-use Rattle.dw_entries.specs.Asked.{value_of}
+use Rattle.dw_entries.specs.EntryRules.{value_of}
 use Rattle.dw_entries.specs.Lookups.{value_in}
 use Rattle.dw_entries.specs.Values.{Left}
 use Rattle.dw_entries.specs.ValueLaws.{left_unique}

@@ -15,8 +15,8 @@ use Rattle.dw_entries.specs.declared.records.UnitRecord.{UnitRecord}
 use Rattle.dw_entries.specs.Grammar.{attribute_bytes, head_bytes}
 use Rattle.dw_entries.specs.Reading.{code_at, seen}
 use Rattle.dw_entries.specs.Scanned.{Scanned}
-use Rattle.dw_entries.proofs.KeptLaws.{KeptEntry, values_are}
-use Rattle.dw_entries.specs.Leaving.{bytes_of, IsRest, Leaves}
+use Rattle.dw_entries.proofs.KeptLaws.{KeptEntry, found_entry, values_are}
+use Rattle.dw_entries.specs.OwnBytes.{bytes_of, IsRest, Leaves}
 use Rattle.dw_entries.specs.Placed.{EndsAt}
 
 -- bytes that end with those of a value
@@ -144,11 +144,12 @@ module _ {base : ℕ} {a info : List ℕ} {tables : Tables} {rs : List UnitRecor
       → seen (λ c. c.number) (code_at (take (length info - r.at) (drop r.at info))) ≡ Ok (n, rest) → IsRest info rest
   code_before r read n rest got =
       let values = values_are k r read n rest got in
-      let at_is : info ≡ take k.entry.at info ++ (head_bytes k.entry.head ++ k.stands.after) =
-      sym (take-append-drop k.entry.at info) ∙ ap (λ (b : List ℕ). take k.entry.at info ++ b) k.stands.parts in
-      let front : List ℕ = take k.entry.at info in
-      let code : List ℕ = k.entry.head.code in
-      let own : List ℕ = flat_map attribute_bytes k.entry.head.attributes in
+      let at_is : info ≡ take (found_entry s id).at info ++ (head_bytes (found_entry s id).head ++ k.stands.after) =
+      sym (take-append-drop (found_entry s id).at info)
+      ∙ ap (λ (b : List ℕ). take (found_entry s id).at info ++ b) k.stands.parts in
+      let front : List ℕ = take (found_entry s id).at info in
+      let code : List ℕ = (found_entry s id).head.code in
+      let own : List ℕ = flat_map attribute_bytes (found_entry s id).head.attributes in
       let whole : info ≡ (front ++ code) ++ rest =
       at_is ∙ ap (λ (b : List ℕ). front ++ b) (append_assoc code own k.stands.after)
       ∙ sym (append_assoc front code (own ++ k.stands.after))

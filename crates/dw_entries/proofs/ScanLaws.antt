@@ -10,7 +10,7 @@ use Rattle.dw_forms.specs.Chains.{chain_in}
 use Rattle.dw_forms.specs.KeptDecls.{Tables, decl_number_in}
 use Rattle.dw_forms.specs.TableStarts.{Stay}
 use Rattle.dw_forms.proofs.StartLaws.{table_stays}
-use Rattle.dw_entries.specs.declared.fault.Broken.{Broken}
+use Rattle.dw_entries.specs.declared.fault.PlainFault.{PlainFault}
 use Rattle.dw_forms.specs.declared.fault.Stop.{Stop}
 use Rattle.dw_forms.specs.declared.fault.Stop.TheVariants.{Memory, Fault as Breaks}
 use Rattle.dw_forms.specs.Stops.{IfFault}
@@ -246,6 +246,6 @@ unit_within a info header old new len le t =
 pub rest_of : (n : ℕ) (s : List ℕ) → n ≤ length s → take (length s - n) (drop n s) ≡ drop n s
 rest_of n s le = take_all _ (drop n s) (omega (arith, length-drop n s))
 
-pub none_broken : (P : Broken → Type 0) (e : Stop Broken) (b : Broken) → e ≡ Breaks b → IfFault P e → P b
+pub none_broken : (P : PlainFault → Type 0) (e : Stop PlainFault) (b : PlainFault) → e ≡ Breaks b → IfFault P e → P b
 none_broken P Memory b e p = absurd cc
 none_broken P (Breaks a) b e p = let same : a ≡ b = cc in subst P same p

@@ -1,6 +1,6 @@
 -- Where a text is that is in the value of an attribute.
 use Rattle.std.proofs.Common.{rules, ◌≡◌, ◌≢◌, ℕ, suc, ◌+◌, ◌-◌, ◌<◌, ◌≤◌, List, [], ◌∷◌, ◌++◌, length, take, drop, map, All, true, false, Some, Result, Ok, refl, sym, ap, subst, ◌∙◌, append_assoc, length-append, length-drop, drop_at, drop-drop, take-append-drop, arith}
-use Rattle.std.specs.Prelude.{slice_get, IfSome}
+use Rattle.std.specs.Prelude.{slice_get}
 use Rattle.std.specs.List.{flat_map, list_any}
 use Rattle.std.proofs.Props.{props}
 use Rattle.std.proofs.lemmas.Bool.{ne_eqb, eq-eqb, eqb-true, eqb-false, or_parts}
@@ -14,13 +14,13 @@ use Rattle.dw_forms.specs.declared.value.ValueFault.{ValueFault}
 use Rattle.dw_forms.specs.Steps.{◌>>=◌}
 use Rattle.dw_forms.specs.AttributeLists.{has_this}
 use Rattle.dw_forms.specs.Chains.{Numbered, items_of}
-use Rattle.dw_forms.specs.Plans.{values_end}
+use Rattle.dw_forms.specs.KnownValues.{values_end}
 use Rattle.dw_forms.specs.Sizes.{rest_at}
 use Rattle.dw_forms.specs.Suffixes.{specs_in, Ends, IsFrom}
 use Rattle.dw_forms.specs.FormCodes.{form_of}
 use Rattle.dw_forms.specs.Value.{Datum, Val, layout_of, laid_out, text}
 use Rattle.dw_forms.specs.ValueLaws.{named_plain}
-use Rattle.dw_entries.specs.Asked.{value_of}
+use Rattle.dw_entries.specs.EntryRules.{value_of}
 use Rattle.dw_entries.specs.Grammar.{Context, Attribute, IsAttribute, AreAttributes, attribute_bytes, Head, head_bytes}
 use Rattle.dw_entries.specs.Header.{version_of}
 use Rattle.dw_entries.specs.Lookups.{IsTextAt, value_at_entry, value_in}
@@ -32,7 +32,7 @@ use Rattle.dw_entries.specs.declared.records.UnitRecord.{UnitRecord}
 use Rattle.dw_entries.specs.Entries.{entries_of}
 use Rattle.dw_entries.specs.Scanned.{found_units, Scanned}
 use Rattle.dw_forms.specs.KeptDecls.{Tables}
-use Rattle.dw_entries.proofs.KeptLaws.{KeptEntry, kept_entry, from_entry, of_entry, entry_parts, values_are, values_follow}
+use Rattle.dw_entries.proofs.KeptLaws.{KeptEntry, found_entry, found_unit, kept_entry, entry_parts, values_are, values_follow}
 use Rattle.dw_entries.proofs.LeftLaws.{are_here}
 use Rattle.dw_forms.proofs.PassSteps.{items_append}
 use Rattle.dw_forms.proofs.SuffixLaws.{specs_ends, ends_on, follow}
@@ -189,17 +189,15 @@ module _ {base : ℕ} {a info : List ℕ} {tables : Tables} {rs : List UnitRecor
     {s : Scanned base a info tables rs records} {id : ℕ} (k : KeptEntry a info tables rs records s id)
     (r : Record) (read : slice_get records id ≡ Some r) (header : UnitHeader) (version number : ℕ)
     (all found others : Attributes) (spec : AttributeSpec) (values after t : List ℕ) (attribute : ℕ)
-    (of_unit : IfSome (slice_get (entries_of (found_units s)) id)
-    (λ e. IfSome (slice_get (found_units s) e.unit) (λ u. header ≡ u.header)))
-    (of_specs : IfSome (slice_get (entries_of (found_units s)) id) (λ e. specs_in all ≡ e.head.decl.attributes))
+    (of_unit : header ≡ (found_unit s id).header) (of_specs : specs_in all ≡ (found_entry s id).head.decl.attributes)
     (version_is : version ≡ version_of header.kind)
     (got : seen (λ c. c.number) (code_at (take (length info - r.at) (drop r.at info))) ≡ Ok (number, values))
     (is : IsFrom (has_this attribute) all found)
     (first : Ends found others (record { number = found.first; item = spec } ∷ []))
-    (value : IfSome (slice_get (entries_of (found_units s)) id) (λ e. value_at_entry e attribute ≡ Some (text t)))
+    (value : value_at_entry (found_entry s id) attribute ≡ Some (text t))
     (ends : (before : List (Numbered AttributeSpec)) → Ends all others before
     → values_end version header.address_size (items_of before) values ≡ Ok after) where
-  text_here : HasText k.entry.head.attributes t k.stands.after after
+  text_here : HasText (found_entry s id).head.attributes t k.stands.after after
   text_here =
       let f = follow (has_this attribute) all found is in
       let n : Numbered AttributeSpec = record { number = found.first; item = spec } in
@@ -209,28 +207,26 @@ module _ {base : ℕ} {a info : List ℕ} {tables : Tables} {rs : List UnitRecor
       let parts : specs_in all ≡ items_of f.before ++ spec ∷ specs_in others =
       specs_ends all found f.before f.ends
       ∙ ap (λ (specs : List AttributeSpec). items_of f.before ++ specs) (specs_ends found others (n ∷ []) first) in
-      text_of_first x (items_of f.before) spec (specs_in others) k.entry.head.attributes k.stands.after values after
+      text_of_first x (items_of f.before) spec (specs_in others) (found_entry s id).head.attributes k.stands.after
+      values after
       attribute t
-      (subst (λ (specs : List AttributeSpec). AreAttributes x specs k.entry.head.attributes) parts are)
+      (subst (λ (specs : List AttributeSpec). AreAttributes x specs (found_entry s id).head.attributes) parts are)
       (values_are k r read number values got) f.none (f.passes spec others first)
-      (from_entry k (λ e. value_at_entry e attribute ≡ Some (text t)) value)
+      value
       (ap (λ (specs : List AttributeSpec). values_end version header.address_size specs values)
       (sym (items_append f.before (n ∷ [])))
       ∙ ends (f.before ++ n ∷ []) (ends_on all found others f.before (n ∷ []) f.ends first))
 
   pub room_here : length t + suc (length after) ≤ length (take (length info - r.at) (drop r.at info))
   room_here =
-      has_room k.entry.head t k.stands.after after text_here (take (length info - r.at) (drop r.at info))
+      has_room (found_entry s id).head t k.stands.after after text_here (take (length info - r.at) (drop r.at info))
       (entry_parts k r read)
 
-  pub starts_here : IfSome (slice_get (entries_of (found_units s)) id)
-      (λ e. IsTextAt (head_bytes e.head)
-      (length (take (length info - r.at) (drop r.at info)) - (length after + 1 + length t)) t)
+  pub starts_here : IsTextAt (head_bytes (found_entry s id).head)
+      (length (take (length info - r.at) (drop r.at info)) - (length after + 1 + length t)) t
   starts_here =
-      of_entry k (λ e. IsTextAt (head_bytes e.head)
-      (length (take (length info - r.at) (drop r.at info)) - (length after + 1 + length t)) t)
-      (text_in_head k.entry.head t k.stands.after after text_here (take (length info - r.at) (drop r.at info))
-      (entry_parts k r read))
+      text_in_head (found_entry s id).head t k.stands.after after text_here
+      (take (length info - r.at) (drop r.at info)) (entry_parts k r read)
 
 -- a text is before the end of the bytes
 pub text_within : (bytes : List ℕ) (n : ℕ) (t : List ℕ) → IsTextAt bytes n t → n + length t < length bytes
@@ -253,11 +249,9 @@ text_in_info info at h after n t parts is =
 -- so of an entry that is looked up
 pub text_at_entry : {base : ℕ} (a info : List ℕ) (tables : Tables) (rs : List UnitRecord) (records : List Record)
     (s : Scanned base a info tables rs records) (id : ℕ) → id < length (entries_of (found_units s))
-    → (at n : ℕ) (t : List ℕ) → IfSome (slice_get (entries_of (found_units s)) id) (λ e. at ≡ e.at)
-    → IfSome (slice_get (entries_of (found_units s)) id) (λ e. IsTextAt (head_bytes e.head) n t)
+    → (at n : ℕ) (t : List ℕ) → at ≡ (found_entry s id).at → IsTextAt (head_bytes (found_entry s id).head) n t
     → IsTextAt info (at + n) t
-text_at_entry a info tables rs records s id within at n t is_at is =
+text_at_entry a info tables rs records s id within at n t same is =
     let k = kept_entry a info tables rs records s id within in
-    let same : at ≡ k.entry.at = from_entry k (λ e. at ≡ e.at) is_at in
-    text_in_info info at k.entry.head k.stands.after n t (ap (λ (m : ℕ). drop m info) same ∙ k.stands.parts)
-    (from_entry k (λ e. IsTextAt (head_bytes e.head) n t) is)
+    text_in_info info at (found_entry s id).head k.stands.after n t
+    (ap (λ (m : ℕ). drop m info) same ∙ k.stands.parts) is

@@ -1,6 +1,6 @@
 -- Which entries are of a unit: those from its first one up to the first one of the next unit.
 use Rattle.std.proofs.Common.{rules, ◌≡◌, ℕ, zero, suc, ◌+◌, ◌-◌, ◌<◌, ◌≤◌, List, [], ◌∷◌, ◌++◌, length, get_or, Option, Some, None, refl, sym, ap, subst, ◌∙◌, inl, inr, arith, length-append}
-use Rattle.std.specs.Prelude.{slice_get, IfSome}
+use Rattle.std.specs.Prelude.{slice_get}
 use Rattle.std.specs.List.{AllByRecursion}
 use Rattle.std.specs.List.Sorted.{IsPartitionPoint, IsNonDecreasingBy}
 use Rattle.std.proofs.lemmas.Option.{slice_get_within, slice_get-get_or, slice_get_cases}
@@ -12,11 +12,12 @@ use Rattle.dw_entries.specs.Header.{header_size}
 use Rattle.dw_entries.specs.Tree.{Node, Nodes, leaf, parent, none, ◌then◌, node_bytes}
 use Rattle.dw_entries.specs.Units.{DebugUnit, unit_bytes}
 use Rattle.dw_entries.specs.Entries.{Entry, node_count, first_id, node_entries, nodes_entries, entries_from, entries_of, PlacedUnit, placed_from, placed}
+use Rattle.dw_entries.specs.ByNumber.{end_in}
 use Rattle.dw_entries.specs.Scanned.{found_units, Scanned}
 use Rattle.dw_entries.proofs.EntryFacts.{length-node_entries}
 use Rattle.dw_entries.proofs.FindLaws.{entries_counted}
 use Rattle.dw_entries.proofs.HeadLaws.{all-append, all_get}
-use Rattle.dw_entries.proofs.KeptLaws.{kept_entry, kept_unit, of_entry, one_some, units_counted}
+use Rattle.dw_entries.proofs.KeptLaws.{found_entry, found_place, kept_entry, kept_unit, one_some, units_counted}
 use Rattle.dw_entries.proofs.NumberOrder.{three_ways}
 use Rattle.dw_entries.proofs.ScanLaws.{few_units}
 
@@ -147,37 +148,41 @@ module _ {base : ℕ} (a info : List ℕ) (tables : Tables) (rs : List UnitRecor
     (s : Scanned base a info tables rs records) where
   -- what is kept of a unit says where its first entry is
   pub kept_first : (n : ℕ) (u : UnitRecord) → slice_get rs n ≡ Some u
-      → (p : PlacedUnit) × (slice_get (placed (found_units s)) n ≡ Some p) × (u.first ≡ p.first)
+      → (slice_get (placed (found_units s)) n ≡ Some (found_place s n)) × (u.first ≡ (found_place s n).first)
   kept_first n u is =
       let within = slice_get_within rs n u is in
       let k = kept_unit a info tables rs records s n (omega (arith, within, units_counted a info tables rs records s))
       in
       let same : k.unit_record ≡ u = one_some (slice_get rs n) k.unit_record u k.is_unit_record is in
-      (k.place, k.is_place, ap (λ (q : UnitRecord). q.first) (sym same) ∙ k.kept.first)
+      (k.is_place, ap (λ (q : UnitRecord). q.first) (sym same) ∙ k.kept.first)
 
   -- the entries of a unit that is kept, up to its end
   pub its_entries : (n end : ℕ) (u : UnitRecord) → slice_get rs n ≡ Some u
-      → IfSome (slice_get (placed (found_units s)) n) (λ p. end ≡ p.first + node_count p.unit.root)
-      → (id : ℕ) (e : Entry) → slice_get (entries_of (found_units s)) id ≡ Some e → u.first ≤ id → id < end → n ≡ e.unit
-  its_entries n end u is ends id e is_e low high = search (rules, kept_first, unit_in_range)
+      → end ≡ end_in (placed (found_units s)) n
+      → (id : ℕ) → id < length (entries_of (found_units s)) → u.first ≤ id → id < end → n ≡ (found_entry s id).unit
+  its_entries n end u is ends id within low high =
+      let (is_p, first) = kept_first n u is in
+      sym (unit_in_range (found_units s) n (found_place s n) id (found_entry s id) is_p
+      (kept_entry a info tables rs records s id within).is_entry (omega (arith, low, first))
+      (omega (arith, high, ends)))
 
   -- a unit ends where the next one begins
   pub ends_with_next : (n : ℕ) (next : UnitRecord) → slice_get rs (n + 1) ≡ Some next
-      → IfSome (slice_get (placed (found_units s)) n) (λ p. next.first ≡ p.first + node_count p.unit.root)
-  ends_with_next n next is = search (rules, kept_first, next_first)
+      → next.first ≡ end_in (placed (found_units s)) n
+  ends_with_next n next is =
+      let within = slice_get_within rs (n + 1) next is in
+      let k = kept_unit a info tables rs records s n (omega (arith, within, units_counted a info tables rs records s))
+      in
+      let is_place = k.is_place in
+      search (rules, kept_first, next_first)
 
   -- the last one ends with the last entry
   pub ends_with_all : (n : ℕ) → n < length (found_units s) → length rs ≤ n + 1
-      → IfSome (slice_get (placed (found_units s)) n) (λ p. length records ≡ p.first + node_count p.unit.root)
-  ends_with_all n within past = go (slice_get (placed (found_units s)) n) refl
-    where
-      last : suc n ≡ length (found_units s)
-      last = search (rules, units_counted)
-
-      go : (o : Option PlacedUnit) → slice_get (placed (found_units s)) n ≡ o
-          → IfSome o (λ p. length records ≡ p.first + node_count p.unit.root)
-      go None at = tt
-      go (Some p) at = entries_counted a info tables rs records s ∙ last_ends (found_units s) n p at last
+      → length records ≡ end_in (placed (found_units s)) n
+  ends_with_all n within past =
+      entries_counted a info tables rs records s
+      ∙ last_ends (found_units s) n (found_place s n) (kept_unit a info tables rs records s n within).is_place
+      (omega (arith, within, past, units_counted a info tables rs records s))
 
   pub units_rise : IsNonDecreasingBy (λ (u : UnitRecord). u.first) rs
   units_rise i j d le lt = search (rules, kept_first, slice_get-get_or, firsts_from)
@@ -198,7 +203,7 @@ module _ {base : ℕ} (a info : List ℕ) (tables : Tables) (rs : List UnitRecor
     pub some_unit : 0 < length rs
     some_unit =
         let k = kept_entry a info tables rs records s id within in
-        let w = slice_get_within rs k.entry.unit k.unit_record k.is_unit_record in omega (arith, w)
+        let w = slice_get_within rs (found_entry s id).unit k.unit_record k.is_unit_record in omega (arith, w)
 
     -- the first unit begins with the first entry
     pub some_before : 0 < n
@@ -207,8 +212,8 @@ module _ {base : ℕ} (a info : List ℕ) (tables : Tables) (rs : List UnitRecor
       | inl (inr same) ↦
           elim (slice_get_cases rs 0).1 [
             | inl it ↦
-                let (p, is_p, first) = kept_first 0 it.0 it.2 in
-                let begins = least p is_p in
+                let (is_p, first) = kept_first 0 it.0 it.2 in
+                let begins = least (found_place s 0) is_p in
                 let P : UnitRecord → Type 0 = λ u. id < u.first in
                 let above : id < it.0.first = subst P it.3 (point.1 0 it.0 (omega (arith, same)) it.1) in
                 absurd (omega (arith, first, begins, above))
@@ -231,15 +236,15 @@ module _ {base : ℕ} (a info : List ℕ) (tables : Tables) (rs : List UnitRecor
     point_within le = omega (arith, le, some_before)
 
     -- the last unit that begins with this entry or an earlier one has it
-    pub unit_found : n ≤ length rs → IfSome (slice_get (entries_of (found_units s)) id) (λ e. n - 1 ≡ e.unit)
+    pub unit_found : n ≤ length rs → n - 1 ≡ (found_entry s id).unit
     unit_found le =
         let k = kept_entry a info tables rs records s id within in
         let u = get_or rs (n - 1) k.unit_record in
-        let (p, is_p, first) = kept_first (n - 1) u (slice_get-get_or rs (n - 1) k.unit_record (point_within le)) in
+        let p = found_place s (n - 1) in
+        let (is_p, first) = kept_first (n - 1) u (slice_get-get_or rs (n - 1) k.unit_record (point_within le)) in
         let low : u.first ≤ id = point.0 (n - 1) k.unit_record (omega arith) (omega (arith, some_before)) in
-        of_entry k (λ e. n - 1 ≡ e.unit)
-        (sym (unit_in_range (found_units s) (n - 1) p id k.entry is_p k.is_entry (omega (arith, low, first))
-        (high p is_p)))
+        sym (unit_in_range (found_units s) (n - 1) p id (found_entry s id) is_p k.is_entry (omega (arith, low, first))
+        (high p is_p))
       where
         behind : n ≡ suc (n - 1)
         behind = omega (arith, some_before)
@@ -251,8 +256,8 @@ module _ {base : ℕ} (a info : List ℕ) (tables : Tables) (rs : List UnitRecor
               | inl it ↦
                   let Q : UnitRecord → Type 0 = λ v. id < v.first in
                   let above : id < it.0.first = subst Q it.3 (point.1 n it.0 (omega arith) it.1) in
-                  let (q, is_q, first) = kept_first n it.0 it.2 in
-                  let next = next_first (found_units s) (n - 1) p q is_p (rw (← behind) is_q) in
+                  let (is_q, first) = kept_first n it.0 it.2 in
+                  let next = next_first (found_units s) (n - 1) p (found_place s n) is_p (rw (← behind) is_q) in
                   omega (arith, above, next, first)
               | inr it ↦
                   let past = it.0 in

@@ -1,21 +1,21 @@
 -- One unit of those that are left.
 use Rattle.std.proofs.Common.{rules, ◌≡◌, ℕ, ◌+◌, ◌<◌, ◌≤◌, List, [], ◌∷◌, length, map, drop, ap, arith, length-drop, add-one, drop-cons}
-use Rattle.std.specs.Prelude.{slice_get, IfSome}
 use Rattle.std.proofs.lemmas.List.{nil_from_length}
-use Rattle.std.proofs.lemmas.Option.{slice_get_cases}
+use Rattle.std.proofs.lemmas.Option.{slice_get-get_or}
 use Rattle.dw_entries.specs.declared.units.UnitHead.{UnitHead}
 use Rattle.dw_entries.specs.Units.{DebugUnit}
 use Rattle.dw_entries.specs.Entries.{placed}
+use Rattle.dw_entries.specs.ByNumber.{placed_of}
 use Rattle.dw_entries.specs.Lookups.{unit_head}
 use Rattle.dw_entries.proofs.EntryFacts.{length-placed_from}
 
 pub unit_turn : (us : List DebugUnit) (n : ℕ) (h : UnitHead) → n < length us
-    → IfSome (slice_get (placed us) n) (λ p. h ≡ unit_head p)
+    → h ≡ unit_head (placed_of (placed us) n)
     → map unit_head (drop n (placed us)) ≡ h ∷ map unit_head (drop (n + 1) (placed us))
-unit_turn us n h within told = search (rules, slice_get_cases, length-placed_from, add-one, drop-cons)
+unit_turn us n h within told = search (rules, slice_get-get_or, length-placed_from, add-one, drop-cons)
 
 pub fewer_units : (us : List DebugUnit) (n : ℕ) (h : UnitHead) → n < length us
-    → IfSome (slice_get (placed us) n) (λ p. h ≡ unit_head p)
+    → h ≡ unit_head (placed_of (placed us) n)
     → length (map unit_head (drop (n + 1) (placed us))) < length (map unit_head (drop n (placed us)))
 fewer_units us n h within told = omega (arith, ap length (unit_turn us n h within told))
 

@@ -7,7 +7,7 @@ use Rattle.dw_forms.specs.Value.{Datum}
 use Rattle.dw_forms.specs.ValueReading.{value_at}
 use Rattle.dw_entries.specs.Grammar.{Context, Attribute, IsAttribute, AreAttributes, attribute_bytes}
 use Rattle.dw_entries.specs.ReadingLaws.{value_again, ok_pair}
-use Rattle.dw_entries.specs.Asked.{value_of}
+use Rattle.dw_entries.specs.EntryRules.{value_of}
 use Rattle.dw_entries.specs.Lookups.{declares, value_in}
 use Rattle.dw_entries.specs.Values.{Left}
 use Rattle.dw_entries.proofs.ScanLaws.{rest_of}

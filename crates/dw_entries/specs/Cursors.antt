@@ -1,8 +1,9 @@
 -- State: the entries of the unit that a cursor keeps at hand.
-use Rattle.std.specs.Prelude.{◌≡◌, ◌<◌, ◌≤◌, ℕ, List, Some, slice_get}
+use Rattle.std.specs.Prelude.{◌≡◌, ◌<◌, ◌≤◌, ℕ, List, length}
 use Rattle.dw_entries.specs.Entries.{Entry}
+use Rattle.dw_entries.specs.ByNumber.{entry_of}
 
 -- the entries from the first one on, and before the end, are of the unit of this number
 abbrev pub HasEntries : List Entry → (unit first end : ℕ) → Type 0
-HasEntries entries unit first end = (id : ℕ) (e : Entry) → slice_get entries id ≡ Some e → first ≤ id → id < end
-    → unit ≡ e.unit
+HasEntries entries unit first end = (id : ℕ) → id < length entries → first ≤ id → id < end
+    → unit ≡ (entry_of entries id).unit

@@ -2,7 +2,7 @@
 use Rattle.std.specs.Prelude.{◌≡◌, ℕ, ◌<◌, ◌⊎◌, [], Option, None, Some}
 use Rattle.dw_entries.specs.declared.rule.Rule.{Rule}
 use Rattle.dw_entries.specs.declared.fault.Section.TheVariants.{Info}
-use Rattle.dw_entries.specs.declared.fault.Broken.{Broken}
+use Rattle.dw_entries.specs.declared.fault.PlainFault.{PlainFault}
 use Rattle.dw_entries.specs.declared.fault.Fault.{Fault}
 use Rattle.dw_entries.specs.Rules.{number_of}
 use Rattle.dw_entries.specs.Places.{Place, offset_of, IsBefore}
@@ -18,7 +18,7 @@ abbrev pub Precedes : Failure → Failure → Type 0
 Precedes f g = IsBefore f.place g.place ⊎ ((f.place ≡ g.place) × (number_of f.rule < number_of g.rule))
 
 -- the rule, the section, the offset and the attribute are those of the failure
-pub record Names (broken : Broken) (f : Failure) : Type 0 where
+pub record Names (broken : PlainFault) (f : Failure) : Type 0 where
   pub rule : broken.rule ≡ f.rule
   pub section : broken.section ≡ Info
   pub at : broken.at ≡ offset_of f.place
@@ -29,7 +29,7 @@ abbrev pub HasNone : (Failure → Type 0) → Type 0
 HasNone Fails = (f : Failure) → Fails f → ⊥
 
 -- a failure of the group is named, and no other precedes it
-pub record IsFirst (Fails : Failure → Type 0) (broken : Broken) : Type 0 where
+pub record IsFirst (Fails : Failure → Type 0) (broken : PlainFault) : Type 0 where
   pub failure : Failure
   pub fails : Fails failure
   pub named : Names broken failure
@@ -41,10 +41,10 @@ IsLeast Fails None = (rule : Rule) → Fails rule → ⊥
 IsLeast Fails (Some least) = Fails least × ((rule : Rule) → Fails rule → number_of rule < number_of least → ⊥)
 
 -- a fault without its cycle
-abbrev pub broken_of : Fault → Broken
-broken_of f = record { rule = f.rule; section = f.section; at = f.at; attribute = f.attribute }
+abbrev pub plain_fault_of : Fault → PlainFault
+plain_fault_of f = record { rule = f.rule; section = f.section; at = f.at; attribute = f.attribute }
 
 -- a fault that has no cycle, of bytes and not of types, and this holds of it
-pub record IsPlainFault (P : Broken → Type 0) (f : Fault) : Type 0 where
-  pub holds : P (broken_of f)
+pub record IsPlainFault (P : PlainFault → Type 0) (f : Fault) : Type 0 where
+  pub holds : P (plain_fault_of f)
   pub cycle : f.cycle.items ≡ []

@@ -12,7 +12,7 @@ use Rattle.dw_entries.specs.declared.rule.Rule.TheVariants.{BadPair, UnknownForm
 use Rattle.dw_entries.specs.declared.rule.Rule.TheVariants.{LeftOver}
 use Rattle.dw_entries.specs.declared.fault.Section.TheVariants.{Abbrev, Info}
 use Rattle.dw_entries.specs.declared.fault.Failing.{Failing}
-use Rattle.dw_entries.specs.declared.fault.Broken.{Broken}
+use Rattle.dw_entries.specs.declared.fault.PlainFault.{PlainFault}
 use Rattle.dw_entries.specs.declared.header.HeaderKind.{HeaderKind}
 use Rattle.dw_entries.specs.declared.header.UnitHeader.{UnitHeader}
 use Rattle.dw_entries.specs.Grammar.{Context}
@@ -33,11 +33,11 @@ rule_of table.UnknownForm = UnknownForm
 rule_of table.AttributeTwice = AttributeTwice
 
 -- the fault of a table
-abbrev pub in_table : AbbrevFault → Broken
+abbrev pub in_table : AbbrevFault → PlainFault
 in_table f = record { rule = rule_of f.rule; section = Abbrev; at = f.at; attribute = f.attribute }
 
 -- the fault of a header at this offset
-abbrev pub in_header : Rule → ℕ → Broken
+abbrev pub in_header : Rule → ℕ → PlainFault
 in_header rule header = record { rule = rule; section = Info; at = header; attribute = 0 }
 
 -- a missing first entry is at the header, and any other item where it is
@@ -46,7 +46,7 @@ place_of NoUnitEntry header at = header
 place_of rule header at = at
 
 -- the fault of an item at this offset, in the unit of this header
-abbrev pub in_unit : Failing → ℕ → ℕ → Broken
+abbrev pub in_unit : Failing → ℕ → ℕ → PlainFault
 in_unit f header at = record { rule = f.rule; section = Info; at = place_of f.rule header at; attribute = f.attribute }
 
 -- ---- inside a unit
@@ -72,7 +72,7 @@ Stops x kind is rest zero f = (rest ≢ []) × (null_first (code_at rest) ≡ fa
 Stops x kind is rest (suc depth) f = next_at x kind is rest ≡ Err f
 
 -- some items begin the body of the unit, and it does not go on
-pub record BodyFails (x : Context) (kind : HeaderKind) (header : ℕ) (body : List ℕ) (broken : Broken) : Type 0 where
+pub record BodyFails (x : Context) (kind : HeaderKind) (header : ℕ) (body : List ℕ) (broken : PlainFault) : Type 0 where
   pub items : List Item
   pub rest : List ℕ
   pub depth : ℕ
@@ -84,21 +84,21 @@ pub record BodyFails (x : Context) (kind : HeaderKind) (header : ℕ) (body : Li
 -- ---- the checks of a unit in their order: its header, its table, its items
 
 -- the fault after a header at this offset, whose table reads so: an item of the body, or the table
-abbrev pub FailsBehind : ℕ → UnitHeader → List ℕ → Result (List Declaration) AbbrevFault → Broken → Type 0
+abbrev pub FailsBehind : ℕ → UnitHeader → List ℕ → Result (List Declaration) AbbrevFault → PlainFault → Type 0
 FailsBehind header h body (Ok table) broken = BodyFails (context_by h table) h.kind header body broken
 FailsBehind header h body (Err f) broken = broken ≡ in_table f
 
 -- the fault of a unit at this offset whose header reads so
-abbrev pub FailsAs : List ℕ → ℕ → Result (UnitHeader × List ℕ) Rule → Broken → Type 0
+abbrev pub FailsAs : List ℕ → ℕ → Result (UnitHeader × List ℕ) Rule → PlainFault → Type 0
 FailsAs «abbrev» header (Ok u) broken = FailsBehind header u.0 u.1 (table_at «abbrev» u.0.abbrev_offset) broken
 FailsAs «abbrev» header (Err rule) broken = broken ≡ in_header rule header
 
 -- these bytes, which are at this offset of .debug_info, begin with no unit, and this is why
-abbrev pub FailsHere : List ℕ → ℕ → List ℕ → Broken → Type 0
+abbrev pub FailsHere : List ℕ → ℕ → List ℕ → PlainFault → Type 0
 FailsHere «abbrev» header rest broken = FailsAs «abbrev» header (header_at (length «abbrev») rest) broken
 
 -- whole units, and then bytes that are none, by the first check that fails
-pub record Fails («abbrev» info : List ℕ) (broken : Broken) : Type 0 where
+pub record Fails («abbrev» info : List ℕ) (broken : PlainFault) : Type 0 where
   pub units : List DebugUnit
   pub rest : List ℕ
   pub are : AreUnits «abbrev» units

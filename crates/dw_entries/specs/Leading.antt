@@ -5,13 +5,13 @@ use Rattle.dw_forms.specs.declared.abbrev.AttributeSpec.{AttributeSpec}
 use Rattle.dw_forms.specs.declared.form.Form.{Form}
 use Rattle.dw_forms.specs.declared.attribute_lists.Lead.{Lead}
 use Rattle.dw_forms.specs.declared.attribute_lists.Lead.TheVariants as lead
-use Rattle.dw_forms.specs.Plans.{does_vary}
+use Rattle.dw_forms.specs.KnownValues.{does_vary}
 use Rattle.dw_forms.specs.Suffixes.{specs_in}
 use Rattle.dw_forms.specs.Value.{Datum}
 use Rattle.dw_forms.specs.ValueReading.{value_at}
-use Rattle.dw_forms.specs.Walks.{does_lead, lead_of}
+use Rattle.dw_forms.specs.LeadingWalks.{does_lead, lead_of}
 use Rattle.dw_entries.specs.declared.leads.Leading.{Leading}
-use Rattle.dw_entries.specs.Chosen.{IsPassed, IsNextOf}
+use Rattle.dw_entries.specs.PassedAttributes.{IsPassed, IsNextOf}
 use Rattle.dw_entries.specs.Values.{form_there}
 use Rattle.dw_entries.specs.ValuesLeft.{values_left}
 

@@ -4,7 +4,8 @@ pub mod Grammar
 pub mod Tree
 pub mod Units
 pub mod Entries
-pub mod Runs
+pub mod ByNumber
+pub mod EntriesAt
 pub mod Items
 pub mod Reading
 pub mod Faults
@@ -12,7 +13,7 @@ pub mod Rules
 pub mod RuleTexts
 pub mod Places
 pub mod Failures
-pub mod Asked
+pub mod EntryRules
 pub mod Lookups
 -- Laws.
 pub mod Choices
@@ -21,7 +22,7 @@ pub mod ReadingLaws
 pub mod HeaderLaws
 pub mod TreeLaws
 pub mod UnitLaws
-pub mod Props
+pub mod OneProof
 pub mod ValueLaws
 -- State.
 pub mod Scanned
@@ -33,9 +34,9 @@ pub mod Stopped
 pub mod OptionalIds
 pub mod Cursors
 pub mod UnitsLeft
-pub mod Chosen
+pub mod PassedAttributes
 pub mod Values
 pub mod ValuesLeft
-pub mod Leaving
+pub mod OwnBytes
 pub mod Placed
 pub mod Leading

@@ -14,7 +14,7 @@ use Rattle.dw_entries.specs.declared.units.UnitHead.{UnitHead}
 use Rattle.dw_entries.specs.Header.{type_of}
 use Rattle.dw_entries.specs.Units.{head_of}
 use Rattle.dw_entries.specs.Entries.{Entry, PlacedUnit}
-use Rattle.dw_entries.specs.Asked.{values_of}
+use Rattle.dw_entries.specs.EntryRules.{values_of}
 
 -- the declaration is one of these
 abbrev pub IsKeptIn : Decls → Declaration → Type 0

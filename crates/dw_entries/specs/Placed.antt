@@ -2,7 +2,7 @@
 use Rattle.std.specs.Prelude.{◌≡◌, ℕ, ◌+◌, List, ◌++◌, length}
 use Rattle.dw_forms.specs.Value.{Datum}
 use Rattle.dw_entries.specs.declared.placed.Placed.{Placed}
-use Rattle.dw_entries.specs.Leaving.{bytes_of}
+use Rattle.dw_entries.specs.OwnBytes.{bytes_of}
 use Rattle.dw_entries.specs.ValuesLeft.{values_left}
 
 -- the attributes that are left, each with its value

@@ -13,7 +13,7 @@ use Rattle.dw_forms.specs.KeptDecls.{decl_number_in}
 use Rattle.dw_forms.specs.TableStarts.{Stay}
 use Rattle.dw_entries.specs.Scanned.{IsKept}
 use Rattle.dw_entries.specs.Failures.{IsPlainFault}
-use Rattle.dw_entries.specs.declared.fault.Broken.{Broken}
+use Rattle.dw_entries.specs.declared.fault.PlainFault.{PlainFault}
 use Rattle.dw_entries.specs.declared.header.HeaderKind.{HeaderKind}
 use Rattle.dw_entries.specs.Grammar.{Context}
 use Rattle.dw_entries.specs.Header.{fits_tag, header_size}
@@ -50,16 +50,16 @@ pub record NullsThen (bytes left : List ℕ) : Type 0 where
   pub other : null_first (code_at left) ≡ false
 
 -- this holds of the fault, which has no cycle, unless memory ran out
-abbrev pub IfPlainFault : (Broken → Type 0) → Stop Fault → Type 0
+abbrev pub IfPlainFault : (PlainFault → Type 0) → Stop Fault → Type 0
 IfPlainFault P = IfFault (IsPlainFault P)
 
 -- what a table's fault is, in the words of all rules
-abbrev pub as_broken : Result (List Declaration) AbbrevFault → Result (List Declaration) Broken
+abbrev pub as_broken : Result (List Declaration) AbbrevFault → Result (List Declaration) PlainFault
 as_broken (Ok table) = Ok table
 as_broken (Err f) = Err (in_table f)
 
 -- reading the table gives this fault, unless memory ran out
-abbrev pub BreaksBy : Stop Broken → Result (List Declaration) AbbrevFault → Type 0
+abbrev pub BreaksBy : Stop PlainFault → Result (List Declaration) AbbrevFault → Type 0
 BreaksBy stops.Memory read = Unit {0}
 BreaksBy (stops.Fault b) read = as_broken read ≡ Err b
 

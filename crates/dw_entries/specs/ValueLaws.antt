@@ -6,7 +6,7 @@ use Rattle.dw_forms.specs.declared.abbrev.AttributeSpec.{AttributeSpec}
 use Rattle.dw_entries.specs.Grammar.{Context, Attribute, AreAttributes}
 use Rattle.dw_entries.specs.Reading.{attributes_at}
 use Rattle.dw_entries.specs.ReadingLaws.{attributes_again, ok_pair}
-use Rattle.dw_entries.specs.Props.{AreAttributes-prop}
+use Rattle.dw_entries.specs.OneProof.{AreAttributes-prop}
 use Rattle.dw_entries.specs.Values.{value_context, Begin, Left}
 
 Begin-prop : (x : Context) (specs : List AttributeSpec) (bytes : List ℕ) (found : List Attribute × List ℕ)

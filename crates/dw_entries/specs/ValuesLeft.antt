@@ -5,7 +5,7 @@ use Rattle.dw_forms.specs.declared.abbrev.AttributeSpec.{AttributeSpec}
 use Rattle.dw_forms.specs.Suffixes.{specs_in}
 use Rattle.dw_forms.specs.Value.{Datum, view}
 use Rattle.dw_entries.specs.declared.values.Values.{Values}
-use Rattle.dw_entries.specs.Asked.{value_of}
+use Rattle.dw_entries.specs.EntryRules.{value_of}
 
 -- an attribute and its value, without where the value's bytes lie in memory
 abbrev pub viewed : ℕ × Value → ℕ × Datum

@@ -1,6 +1,7 @@
 //! Look-ups of one entry after another, with the unit of the last at hand.
 
-ghost use Rattle.std.specs.Prelude.{length, slice_get, ◌<◌, ◌≡◌};
+ghost use Rattle.std.specs.Prelude.{length, ◌<◌, ◌≡◌};
+ghost use Rattle.dw_entries.specs.ByNumber.{entry_of};
 ghost use Rattle.dw_entries.specs.Cursors.{HasEntries};
 ghost use Rattle.dw_entries.specs.Views.{all_entries};
 
@@ -42,7 +43,7 @@ impl<'e, 'a> Cursor<'e, 'a> {
     pub fn at(&mut self, id: EntryId) -> EntryAt<'e, 'a>
         requires { id < length (all_entries self.old.entries.now) }
         ensures same { self.new.entries.now ≡ self.old.entries.now }
-        ensures found { result ≡ slice_get (all_entries self.old.entries.now) id }
+        ensures found { result ≡ entry_of (all_entries self.old.entries.now) id }
     {
         let number = id.number();
         if self.first <= number && number < self.end {

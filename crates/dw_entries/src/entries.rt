@@ -3,7 +3,7 @@
 ghost use Rattle.std.specs.Prelude.{◌<◌, ◌≤◌, length};
 ghost use Rattle.std.specs.List.Sorted.{IsNonDecreasingBy, IsPartitionPoint};
 ghost use Rattle.dw_entries.specs.Scanned.{tables_among, Scanned};
-ghost use Rattle.dw_entries.specs.Props.{scanned_unique};
+ghost use Rattle.dw_entries.specs.OneProof.{scanned_unique};
 
 use crate::id::{EntryId, id_of};
 use crate::records::{Record, UnitRecord};
@@ -34,9 +34,10 @@ fn first_from(records: &[Record], offset: u64) -> usize
 impl<'a> Entries<'a> {
     ghost use Rattle.std.specs.Prelude.{◌≡◌, ◌≢◌, ℕ, All, slice_get, IfSome, IfNone, Some};
     ghost use Rattle.dw_forms.specs.KeptDecls.{decl_view};
+    ghost use Rattle.dw_entries.specs.ByNumber.{entry_of};
     ghost use Rattle.dw_entries.specs.Entries.{Entry};
     ghost use Rattle.dw_entries.specs.Lookups.{IsKeptIn, HasSpecsIn, nth_of};
-    ghost use Rattle.dw_entries.specs.Runs.{IsEntryAt};
+    ghost use Rattle.dw_entries.specs.EntriesAt.{IsEntryAt};
     ghost use Rattle.dw_entries.specs.Views.{all_entries, sections_of};
 
     /// The sections that were scanned.
@@ -108,7 +109,7 @@ impl<'a> Entries<'a> {
 
     /// The entry whose first byte is at this offset of .debug_info.
     pub fn find(&self, offset: u32) -> Option<EntryId>
-        ensures found { IfSome result (λ id. IfSome (slice_get (all_entries self.now) id) (λ e. e.at ≡ offset)) }
+        ensures found { IfSome result (λ id. (entry_of (all_entries self.now) id).at ≡ offset) }
         ensures within { IfSome result (λ id. id < length (all_entries self.now)) }
         ensures none { IfNone result (All (λ e. e.at ≢ offset) (all_entries self.now)) }
     {
@@ -118,7 +119,7 @@ impl<'a> Entries<'a> {
     /// The declaration of an entry. Its unit is not looked up.
     pub fn decl(&self, id: EntryId) -> DeclAt<'_>
         requires { id < length (all_entries self.now) }
-        ensures { IfSome (slice_get (all_entries self.now) id) (λ e. decl_view result ≡ e.head.decl) }
+        ensures { decl_view result ≡ (entry_of (all_entries self.now) id).head.decl }
     {
         let kept = self.record(id);
         self.decls.decl(kept.decl)
@@ -127,7 +128,7 @@ impl<'a> Entries<'a> {
     /// The tag of an entry, as its declaration says it. Its unit is not looked up.
     pub fn tag(&self, id: EntryId) -> Tag
         requires { id < length (all_entries self.now) }
-        ensures { IfSome (slice_get (all_entries self.now) id) (λ e. result ≡ e.head.decl.tag) }
+        ensures { result ≡ (entry_of (all_entries self.now) id).head.decl.tag }
     {
         self.decl(id).tag()
     }
@@ -135,7 +136,7 @@ impl<'a> Entries<'a> {
     /// The offset of an entry in .debug_info, in bytes. Its unit is not looked up.
     pub fn offset(&self, id: EntryId) -> u32
         requires { id < length (all_entries self.now) }
-        ensures { IfSome (slice_get (all_entries self.now) id) (λ e. result ≡ e.at) }
+        ensures { result ≡ (entry_of (all_entries self.now) id).at }
     {
         self.record(id).at
     }
@@ -143,7 +144,7 @@ impl<'a> Entries<'a> {
     /// The parent of an entry. None at the first entry of a unit. Its unit is not looked up.
     pub fn parent(&self, id: EntryId) -> Option<EntryId>
         requires { id < length (all_entries self.now) }
-        ensures { IfSome (slice_get (all_entries self.now) id) (λ e. result ≡ e.parent) }
+        ensures { result ≡ (entry_of (all_entries self.now) id).parent }
     {
         id_of(self.record(id).parent)
     }
@@ -152,7 +153,7 @@ impl<'a> Entries<'a> {
     #[inline(always)]
     pub fn next_sibling(&self, id: EntryId) -> Option<EntryId>
         requires { id < length (all_entries self.now) }
-        ensures { IfSome (slice_get (all_entries self.now) id) (λ e. result ≡ e.next) }
+        ensures { result ≡ (entry_of (all_entries self.now) id).next }
     {
         id_of(self.record(id).next)
     }
@@ -160,7 +161,7 @@ impl<'a> Entries<'a> {
     /// How many entries are above an entry. Each of them is looked at, and no unit is.
     pub fn depth(&self, id: EntryId) -> usize
         requires { id < length (all_entries self.now) }
-        ensures { IfSome (slice_get (all_entries self.now) id) (λ e. result ≡ e.depth) }
+        ensures { result ≡ (entry_of (all_entries self.now) id).depth }
     {
         let mut depth = 0;
         let mut above = self.record(id).parent.get();

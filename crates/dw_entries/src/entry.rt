@@ -1,12 +1,13 @@
 //! One entry, whose declaration and unit are looked up once.
 
 ghost use Rattle.std.specs.List.{flat_map};
-ghost use Rattle.std.specs.Prelude.{IfSome, List, Option, Some, length, option_map, slice_get, ℕ, ◌++◌, ◌<◌, ◌≡◌};
+ghost use Rattle.std.specs.Prelude.{List, Some, length, option_map, slice_get, ℕ, ◌++◌, ◌<◌, ◌≡◌};
 ghost use Rattle.dw_forms.specs.Codes.{is_type_tag};
 ghost use Rattle.dw_forms.specs.KeptDecls.{decl_view};
 ghost use Rattle.dw_forms.specs.Suffixes.{numbered, specs_in};
 ghost use Rattle.dw_forms.specs.Value.{text, view};
-ghost use Rattle.dw_entries.specs.Asked.{values_of};
+ghost use Rattle.dw_entries.specs.EntryRules.{values_of};
+ghost use Rattle.dw_entries.specs.ByNumber.{entry_of, unit_of};
 ghost use Rattle.dw_entries.specs.Entries.{Entry};
 ghost use Rattle.dw_entries.specs.Grammar.{attribute_bytes, head_bytes};
 ghost use Rattle.dw_entries.specs.Leading.{leading_left};
@@ -64,17 +65,15 @@ pub struct EntryAt<'e, 'a> {
 }
 
 impl<'e, 'a> Model for EntryAt<'e, 'a> {
-    ghost Value = { Option Entry };
+    ghost Value = { Entry };
 
-    ghost view = { λ it. slice_get (all_entries it.entries.now) it.id };
+    ghost view = { λ it. entry_of (all_entries it.entries.now) it.id };
 
     ghost invariant = { λ it. (it.id < length (all_entries it.entries.now))
         × (slice_get it.entries.now.records.items it.id ≡ Some it.kept)
-        × IfSome (slice_get (all_entries it.entries.now) it.id)
-        (λ e. decl_view it.decl ≡ e.head.decl)
-        × IfSome (slice_get (all_entries it.entries.now) it.id)
-        (λ e. IfSome (slice_get (units_of it.entries.now) e.unit) (λ u. it.header ≡ u.header))
-        × IfSome (slice_get (all_entries it.entries.now) it.id) (λ e. it.unit ≡ e.unit) };
+        × (decl_view it.decl ≡ (entry_of (all_entries it.entries.now) it.id).head.decl)
+        × (it.header ≡ (unit_of (units_of it.entries.now) (entry_of (all_entries it.entries.now) it.id).unit).header)
+        × (it.unit ≡ (entry_of (all_entries it.entries.now) it.id).unit) };
 }
 
 impl<'a> Entries<'a> {
@@ -82,7 +81,7 @@ impl<'a> Entries<'a> {
     #[inline(always)]
     pub fn at(&self, id: EntryId) -> EntryAt<'_, 'a>
         requires { id < length (all_entries self.now) }
-        ensures { result ≡ slice_get (all_entries self.now) id }
+        ensures { result ≡ entry_of (all_entries self.now) id }
     {
         EntryAt::new(self, id, unit_number(self, id))
     }
@@ -91,10 +90,9 @@ impl<'a> Entries<'a> {
     #[inline(always)]
     pub fn at_with(&self, id: EntryId, unit: usize, header: UnitHeader) -> EntryAt<'_, 'a>
         requires id { id < length (all_entries self.now) }
-        requires unit { IfSome (slice_get (all_entries self.now) id) (λ e. unit ≡ e.unit) }
-        requires header { IfSome (slice_get (all_entries self.now) id)
-            (λ e. IfSome (slice_get (units_of self.now) e.unit) (λ u. header ≡ u.header)) }
-        ensures { result ≡ slice_get (all_entries self.now) id }
+        requires unit { unit ≡ (entry_of (all_entries self.now) id).unit }
+        requires header { header ≡ (unit_of (units_of self.now) (entry_of (all_entries self.now) id).unit).header }
+        ensures { result ≡ entry_of (all_entries self.now) id }
     {
         let kept = self.record(id);
         EntryAt {
@@ -110,7 +108,7 @@ impl<'a> Entries<'a> {
     /// What is told of an entry besides its attributes. Its depth is counted: each entry above it is looked at.
     pub fn head(&self, id: EntryId) -> Head
         requires { id < length (all_entries self.now) }
-        ensures { IfSome (slice_get (all_entries self.now) id) (λ e. result ≡ full_head e) }
+        ensures { result ≡ full_head (entry_of (all_entries self.now) id) }
     {
         let head = self.at(id).head();
         Head {
@@ -126,7 +124,7 @@ impl<'a> Entries<'a> {
     /// The attributes of an entry in their order, each value decoded on demand.
     pub fn values(&self, id: EntryId) -> Values<'_, 'a>
         requires { id < length (all_entries self.now) }
-        ensures { IfSome (slice_get (all_entries self.now) id) (λ e. values_left result ≡ values_of e.head) }
+        ensures { values_left result ≡ values_of (entry_of (all_entries self.now) id).head }
     {
         self.at(id).values()
     }
@@ -135,8 +133,7 @@ impl<'a> Entries<'a> {
     /// has the attribute.
     pub fn value(&self, id: EntryId, attribute: Attribute) -> Option<Value<'a>>
         requires { id < length (all_entries self.now) }
-        ensures { IfSome (slice_get (all_entries self.now) id)
-            (λ e. option_map view result ≡ value_at_entry e attribute) }
+        ensures { option_map view result ≡ value_at_entry (entry_of (all_entries self.now) id) attribute }
     {
         if self.decl(id).attributes().lacks(attribute) {
             return None;
@@ -147,8 +144,7 @@ impl<'a> Entries<'a> {
     /// Where the text of an entry's attribute starts in .debug_info. The text is in the value itself.
     pub fn text_start(&self, id: EntryId, attribute: Attribute, bytes: &[u8]) -> usize
         requires id { id < length (all_entries self.now) }
-        requires value { IfSome (slice_get (all_entries self.now) id)
-            (λ e. value_at_entry e attribute ≡ Some (text bytes.now)) }
+        requires value { value_at_entry (entry_of (all_entries self.now) id) attribute ≡ Some (text bytes.now) }
         ensures { IsTextAt (sections_of self.now).info.now result bytes.now }
     {
         let entry = self.at(id);
@@ -161,43 +157,43 @@ impl<'e, 'a> EntryAt<'e, 'a> {
     #[inline(always)]
     pub(crate) fn new(entries: &'e Entries<'a>, id: EntryId, unit: usize) -> EntryAt<'e, 'a>
         requires id { id < length (all_entries entries.now) }
-        requires unit { IfSome (slice_get (all_entries entries.now) id) (λ e. unit ≡ e.unit) }
-        ensures { result ≡ slice_get (all_entries entries.now) id }
+        requires unit { unit ≡ (entry_of (all_entries entries.now) id).unit }
+        ensures { result ≡ entry_of (all_entries entries.now) id }
     {
         entries.at_with(id, unit, entries.units[unit].header)
     }
 
     /// Its offset in .debug_info, in bytes.
     pub fn offset(&self) -> u32
-        ensures { IfSome self.now (λ e. result ≡ e.at) }
+        ensures { result ≡ self.now.at }
     {
         self.kept.at
     }
 
     /// Its tag, as its declaration says it.
     pub fn tag(&self) -> Tag
-        ensures { IfSome self.now (λ e. result ≡ e.head.decl.tag) }
+        ensures { result ≡ self.now.head.decl.tag }
     {
         self.decl.tag()
     }
 
     /// Whether it is a type, as `Tag::is_type` says.
     pub fn is_type(&self) -> bool
-        ensures { IfSome self.now (λ e. result ≡ is_type_tag e.head.decl.tag) }
+        ensures { result ≡ is_type_tag self.now.head.decl.tag }
     {
         self.decl.is_type()
     }
 
     /// The number of its unit. Units are numbered in rising offset, from 0.
     pub fn unit(&self) -> usize
-        ensures { IfSome self.now (λ e. result ≡ e.unit) }
+        ensures { result ≡ self.now.unit }
     {
         self.unit
     }
 
     /// Its parent. None at the first entry of a unit.
     pub fn parent(&self) -> Option<EntryId>
-        ensures { IfSome self.now (λ e. result ≡ e.parent) }
+        ensures { result ≡ self.now.parent }
     {
         id_of(self.kept.parent)
     }
@@ -205,7 +201,7 @@ impl<'e, 'a> EntryAt<'e, 'a> {
     /// What is told of the entry besides its attributes and its depth.
     #[inline(always)]
     pub fn head(&self) -> EntryHead
-        ensures { IfSome self.now (λ e. result ≡ entry_head e) }
+        ensures { result ≡ entry_head self.now }
     {
         EntryHead {
             offset: self.kept.at,
@@ -219,8 +215,7 @@ impl<'e, 'a> EntryAt<'e, 'a> {
     /// The bytes of its values, and those after them.
     #[inline(always)]
     fn value_bytes(&self) -> &'a [u8]
-        ensures { IfSome self.now
-            (λ e. (rest : List ℕ) × (result.now ≡ flat_map attribute_bytes e.head.attributes ++ rest)) }
+        ensures { (rest : List ℕ) × (result.now ≡ flat_map attribute_bytes self.now.head.attributes ++ rest) }
     {
         let entries = self.entries;
         match read_code(&entries.sections.info[self.kept.at as usize..]) {
@@ -232,8 +227,8 @@ impl<'e, 'a> EntryAt<'e, 'a> {
     /// These attributes, which are all that its declaration has.
     #[inline(always)]
     fn values_in(&self, attributes: Attributes<'e>) -> Values<'e, 'a>
-        requires { IfSome self.now (λ e. specs_in attributes ≡ e.head.decl.attributes) }
-        ensures left { IfSome self.now (λ e. values_left result ≡ values_of e.head) }
+        requires { specs_in attributes ≡ self.now.head.decl.attributes }
+        ensures left { values_left result ≡ values_of self.now.head }
         ensures attributes { numbered result.attributes ≡ numbered attributes.entry }
     {
         Values {
@@ -246,7 +241,7 @@ impl<'e, 'a> EntryAt<'e, 'a> {
 
     /// Its attributes in their order, each value decoded on demand.
     pub fn values(&self) -> Values<'e, 'a>
-        ensures { IfSome self.now (λ e. values_left result ≡ values_of e.head) }
+        ensures { values_left result ≡ values_of self.now.head }
     {
         self.values_in(self.decl.attributes())
     }
@@ -254,7 +249,7 @@ impl<'e, 'a> EntryAt<'e, 'a> {
     /// Its attributes whose values may lead elsewhere, in their order, each value decoded on demand.
     #[inline(always)]
     pub fn leading(&self) -> Leading<'e, 'a>
-        ensures { IfSome self.now (λ e. leading_left result ≡ values_of e.head) }
+        ensures { leading_left result ≡ values_of self.now.head }
     {
         Leading {
             values: self.values_in(self.decl.attributes()),
@@ -265,7 +260,7 @@ impl<'e, 'a> EntryAt<'e, 'a> {
     /// The value of its attribute, if it has that attribute.
     #[inline(always)]
     pub fn value(&self, attribute: Attribute) -> Option<Value<'a>>
-        ensures { IfSome self.now (λ e. option_map view result ≡ value_at_entry e attribute) }
+        ensures { option_map view result ≡ value_at_entry self.now attribute }
     {
         let attributes = self.decl.attributes();
         if attributes.lacks(attribute) {
@@ -277,7 +272,7 @@ impl<'e, 'a> EntryAt<'e, 'a> {
     /// The same, without asking first whether its declaration has the attribute.
     #[inline(always)]
     pub(crate) fn find_value(&self, attribute: Attribute) -> Option<Value<'a>>
-        ensures { IfSome self.now (λ e. option_map view result ≡ value_at_entry e attribute) }
+        ensures { option_map view result ≡ value_at_entry self.now attribute }
     {
         let version = self.header.kind.version();
         let size = self.header.address_size;
@@ -293,8 +288,8 @@ impl<'e, 'a> EntryAt<'e, 'a> {
     /// Where the text that is the value of its attribute starts, from the first byte of the entry. The text is in the
     /// value itself.
     pub(crate) fn text_start(&self, attribute: Attribute, bytes: &[u8]) -> usize
-        requires { IfSome self.now (λ e. value_at_entry e attribute ≡ Some (text bytes.now)) }
-        ensures { IfSome self.now (λ e. IsTextAt (head_bytes e.head) result bytes.now) }
+        requires { value_at_entry self.now attribute ≡ Some (text bytes.now) }
+        ensures { IsTextAt (head_bytes self.now.head) result bytes.now }
     {
         let entries = self.entries;
         let entry = &entries.sections.info[self.kept.at as usize..];

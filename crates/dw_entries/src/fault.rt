@@ -50,14 +50,14 @@ pub struct Failing {
 
 /// A broken rule, its place in the section, and the attribute (0 for none).
 #[derive(Clone, Copy, Debug, PartialEq, Eq)]
-pub struct Broken {
+pub struct PlainFault {
     pub rule: Rule,
     pub section: Section,
     pub at: u32,
     pub attribute: u16,
 }
 
-impl Broken {
+impl PlainFault {
     /// The fault that names this rule. It has no cycle.
     pub fn into_fault(self, alloc: Global) -> Fault
         ensures { IsPlainFault (λ broken. broken ≡ self) result }

@@ -2,7 +2,7 @@
 
 ghost use Rattle.std.specs.Prelude.{IfNone, Some, true, ◌≡◌};
 ghost use Rattle.dw_forms.specs.Suffixes.{numbered};
-ghost use Rattle.dw_forms.specs.Walks.{IsStep};
+ghost use Rattle.dw_forms.specs.LeadingWalks.{IsStep};
 
 use crate::values::Values;
 use dw_forms::{Attribute, Form, Lead, Step, Value};
@@ -18,7 +18,7 @@ pub struct Leading<'e, 'a> {
 }
 
 impl<'a> Leading<'_, 'a> {
-    ghost use Rattle.dw_entries.specs.Chosen.{ArePassed, IsNextOf};
+    ghost use Rattle.dw_entries.specs.PassedAttributes.{ArePassed, IsNextOf};
     ghost use Rattle.dw_forms.specs.Value.{view, str, str_index, ref_unit, addr_index};
     ghost use Rattle.dw_entries.specs.Leading.{next_form, next_lead, leading_left, leading_specs, DoesNotLead, LeadsIn};
     ghost use Rattle.dw_entries.specs.Leading.{IsTaken, IsPassedBy, IsMade, EndsAtNothing, is_reference_lead};

@@ -24,7 +24,7 @@ pub use dw_elf::Sections;
 pub use dw_forms::{Attribute, Stop, Tag, Value, constants};
 pub use entries::Entries;
 pub use entry::{EntryAt, EntryHead, Head};
-pub use fault::{Broken, Fault, Section};
+pub use fault::{Fault, PlainFault, Section};
 pub use header::{HeaderKind, UnitHeader, UnitType, read_header};
 pub use hints::Hints;
 pub use id::{EntryId, OptionalId};

@@ -1,9 +1,10 @@
 //! The attributes of an entry, with where the bytes of their values are in .debug_info.
 
-ghost use Rattle.std.specs.Prelude.{◌≡◌, ◌<◌, ◌∷◌, [], length, slice_get, IfSome, MatchOption};
+ghost use Rattle.std.specs.Prelude.{◌≡◌, ◌<◌, ◌∷◌, [], length, IfSome, MatchOption};
 ghost use Rattle.dw_forms.specs.Value.{view};
-ghost use Rattle.dw_entries.specs.Asked.{values_of};
-ghost use Rattle.dw_entries.specs.Leaving.{IsRest};
+ghost use Rattle.dw_entries.specs.EntryRules.{values_of};
+ghost use Rattle.dw_entries.specs.ByNumber.{entry_of};
+ghost use Rattle.dw_entries.specs.OwnBytes.{IsRest};
 ghost use Rattle.dw_entries.specs.Views.{all_entries, sections_of};
 
 use crate::entries::Entries;
@@ -46,8 +47,8 @@ impl<'a> Entries<'a> {
     /// The attributes of an entry of this unit, with where the bytes of their values are. The unit is not looked up.
     pub fn placed(&self, id: EntryId, unit: usize) -> Placed<'_, 'a>
         requires id { id < length (all_entries self.now) }
-        requires unit { IfSome (slice_get (all_entries self.now) id) (λ e. unit ≡ e.unit) }
-        ensures left { IfSome (slice_get (all_entries self.now) id) (λ e. placed_left result ≡ values_of e.head) }
+        requires unit { unit ≡ (entry_of (all_entries self.now) id).unit }
+        ensures left { placed_left result ≡ values_of (entry_of (all_entries self.now) id).head }
         ensures info { info_of result ≡ (sections_of self.now).info.now }
     {
         let kept = self.record(id);

@@ -13,7 +13,7 @@ ghost use Rattle.dw_entries.specs.Units.{DebugUnit, Spells, SpellsInfo};
 ghost use Rattle.dw_entries.specs.Views.{sections_of, units_of};
 
 use crate::entries::Entries;
-use crate::fault::{Broken, Fault, Section};
+use crate::fault::{Fault, PlainFault, Section};
 use crate::header::read_header;
 use crate::records::{Kept, UnitContext, UnitRecord};
 use crate::rule::Rule;
@@ -44,7 +44,7 @@ pub fn unit_table(
     tables: &mut AbbrevTables,
     section: &[u8],
     offset: u32,
-) -> Result<u32, Stop<Broken>>
+) -> Result<u32, Stop<PlainFault>>
     requires offset { offset ≤ length section.now }
     requires fits { length section.now ≤ SECTION_LIMIT }
     requires tables { AreTablesOf section.now tables.old }
@@ -55,7 +55,7 @@ pub fn unit_table(
     match tables.read(alloc, section, offset as usize) {
         Ok(table) => Ok(table),
         Err(Stop::Memory) => Err(Stop::Memory),
-        Err(Stop::Fault(broken)) => Err(Stop::Fault(Broken {
+        Err(Stop::Fault(broken)) => Err(Stop::Fault(PlainFault {
             rule: table_rule(broken.rule),
             section: Section::Abbrev,
             at: broken.at as u32,
@@ -71,7 +71,7 @@ pub fn take_unit(
     rest: &[u8],
     at: usize,
     kept: &mut Kept,
-) -> Result<usize, Stop<Broken>>
+) -> Result<usize, Stop<PlainFault>>
     requires fits { at + length rest.now ≤ SECTION_LIMIT }
     requires table_fits { length section.now ≤ SECTION_LIMIT }
     requires tables { AreTablesOf section.now kept.old.tables }
@@ -83,7 +83,7 @@ pub fn take_unit(
     let (header, body) = match read_header(section.len(), rest) {
         Ok(found) => found,
         Err(rule) => {
-            return Err(Stop::Fault(Broken {
+            return Err(Stop::Fault(PlainFault {
                 rule,
                 section: Section::Info,
                 at,
@@ -110,7 +110,7 @@ pub fn take_unit(
 }
 
 /// What is kept of the units that .debug_info is.
-fn scan_units(alloc: Global, section: &[u8], info: &[u8]) -> Result<Kept, Stop<Broken>>
+fn scan_units(alloc: Global, section: &[u8], info: &[u8]) -> Result<Kept, Stop<PlainFault>>
     requires abbrev_fits { length section.now ≤ SECTION_LIMIT }
     requires info_fits { length info.now ≤ SECTION_LIMIT }
     ensures all { IfOk result

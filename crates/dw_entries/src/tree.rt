@@ -12,7 +12,7 @@ ghost use Rattle.dw_entries.specs.Stopped.{AreAllNulls, NullsThen, TreeOf};
 ghost use Rattle.dw_entries.specs.Units.{context_in, numbers_in};
 ghost use Rattle.dw_entries.specs.Walk.{enter as entered, link, step, walk_of};
 
-use crate::fault::{Broken, Failing, Section};
+use crate::fault::{Failing, PlainFault, Section};
 use crate::id::OptionalId;
 use crate::item::{read_code, read_first, read_item};
 use crate::records::{Record, UnitContext, UnitRecord};
@@ -110,14 +110,14 @@ fn enter(
 }
 
 /// The fault of an item at this offset, in the unit of this header. A missing first entry is at the header.
-fn broken_at(failing: Failing, header: u32, at: u32) -> Broken
+fn plain_fault_at(failing: Failing, header: u32, at: u32) -> PlainFault
     ensures { result ≡ in_unit failing header at }
 {
     let at = match failing.rule {
         Rule::NoUnitEntry => header,
         _ => at,
     };
-    Broken {
+    PlainFault {
         rule: failing.rule,
         section: Section::Info,
         at,
@@ -160,7 +160,7 @@ fn walk_tree<'b>(
     start: u32,
     body: &'b [u8],
     records: &mut Vec<Record>,
-) -> Result<&'b [u8], Stop<Broken>>
+) -> Result<&'b [u8], Stop<PlainFault>>
     requires start { start ≡ unit.at + header_size unit.header.kind }
     requires fits { start + length body.now ≤ SECTION_LIMIT }
     requires few_entries { length records.old.items ≤ unit.at }
@@ -171,7 +171,7 @@ fn walk_tree<'b>(
 {
     let (declared, mut rest) = match read_first(context, unit.header.kind, body) {
         Ok(found) => found,
-        Err(failing) => return Err(Stop::Fault(broken_at(failing, unit.at, start))),
+        Err(failing) => return Err(Stop::Fault(plain_fault_at(failing, unit.at, start))),
     };
     let mut outer: Vec<Level> = Vec::new(alloc);
     let mut inner = enter_first(records, start, declared)?;
@@ -181,7 +181,7 @@ fn walk_tree<'b>(
             Ok(taken) => taken,
             Err(Stop::Memory) => return Err(Stop::Memory),
             Err(Stop::Fault(failing)) => {
-                return Err(Stop::Fault(broken_at(failing, unit.at, at)));
+                return Err(Stop::Fault(plain_fault_at(failing, unit.at, at)));
             }
         };
         inner = next;
@@ -223,7 +223,7 @@ pub fn walk_unit(
     unit: UnitRecord,
     body: &[u8],
     records: &mut Vec<Record>,
-) -> Result<(), Stop<Broken>>
+) -> Result<(), Stop<PlainFault>>
     requires fits { unit.at + header_size unit.header.kind + length body.now ≤ SECTION_LIMIT }
     requires few_entries { length records.old.items ≤ unit.at }
     ensures tree { OnOk result (TreeOf (context_in context.entry) (numbers_in context.entry) unit.header.kind body.now
@@ -234,7 +234,7 @@ pub fn walk_unit(
     let rest = walk_tree(alloc, context, unit, start, body, records)?;
     match behind_nulls(rest) {
         None => Ok(()),
-        Some(left) => Err(Stop::Fault(Broken {
+        Some(left) => Err(Stop::Fault(PlainFault {
             rule: Rule::LeftOver,
             section: Section::Info,
             at: start + (body.len() - left.len()) as u32,

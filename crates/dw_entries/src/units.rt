@@ -1,10 +1,10 @@
 //! The units of the entries.
 
 ghost use Rattle.std.specs.List.Sorted.{IsNonDecreasingBy, IsPartitionPoint};
-ghost use Rattle.std.specs.Prelude.{IfNone, IfSome, length, map, slice_get, ℕ, ◌+◌, ◌<◌, ◌≡◌, ◌≤◌};
-ghost use Rattle.dw_entries.specs.Entries.{node_count};
+ghost use Rattle.std.specs.Prelude.{IfNone, IfSome, length, map, ℕ, ◌<◌, ◌≡◌, ◌≤◌};
+ghost use Rattle.dw_entries.specs.ByNumber.{end_in, entry_of, placed_of};
 ghost use Rattle.dw_entries.specs.Lookups.{unit_head};
-ghost use Rattle.dw_entries.specs.Runs.{ReachesInUnit};
+ghost use Rattle.dw_entries.specs.EntriesAt.{ReachesInUnit};
 ghost use Rattle.dw_entries.specs.UnitsLeft.{units_left};
 ghost use Rattle.dw_entries.specs.Views.{all_entries, all_units, units_of};
 
@@ -37,7 +37,7 @@ fn units_up_to(units: &[UnitRecord], id: EntryId) -> usize
 pub fn unit_number(entries: &Entries<'_>, id: EntryId) -> usize
     requires { id < length (all_entries entries.now) }
     ensures within { result < length (units_of entries.now) }
-    ensures number { IfSome (slice_get (all_entries entries.now) id) (λ e. result ≡ e.unit) }
+    ensures number { result ≡ (entry_of (all_entries entries.now) id).unit }
 {
     units_up_to(&entries.units, id) - 1
 }
@@ -45,7 +45,7 @@ pub fn unit_number(entries: &Entries<'_>, id: EntryId) -> usize
 /// The number of the entry after the last one of a unit.
 pub fn end_of(entries: &Entries<'_>, number: usize) -> usize
     requires { number < length (units_of entries.now) }
-    ensures { IfSome (slice_get (all_units entries.now) number) (λ p. result ≡ p.first + node_count p.unit.root) }
+    ensures { result ≡ end_in (all_units entries.now) number }
 {
     let next = number + 1;
     if next < entries.units.len() {
@@ -66,7 +66,7 @@ impl<'a> Entries<'a> {
     /// The unit with this number. Units are numbered in rising offset, from 0.
     pub fn unit(&self, number: usize) -> UnitHead
         requires { number < length (units_of self.now) }
-        ensures { IfSome (slice_get (all_units self.now) number) (λ p. result ≡ unit_head p) }
+        ensures { result ≡ unit_head (placed_of (all_units self.now) number) }
     {
         let unit = self.units[number];
         let first = EntryId::new(unit.first);
@@ -81,7 +81,7 @@ impl<'a> Entries<'a> {
     /// The number of an entry's unit.
     pub fn unit_of(&self, id: EntryId) -> usize
         requires { id < length (all_entries self.now) }
-        ensures { IfSome (slice_get (all_entries self.now) id) (λ e. result ≡ e.unit) }
+        ensures { result ≡ (entry_of (all_entries self.now) id).unit }
     {
         unit_number(self, id)
     }
@@ -89,9 +89,8 @@ impl<'a> Entries<'a> {
     /// The number of the first entry of a unit, and the number after that of its last entry.
     pub fn range(&self, unit: usize) -> (usize, usize)
         requires { unit < length (units_of self.now) }
-        ensures first { IfSome (slice_get (all_units self.now) unit) (λ p. result.0 ≡ p.first) }
-        ensures end { IfSome (slice_get (all_units self.now) unit)
-            (λ p. result.1 ≡ p.first + node_count p.unit.root) }
+        ensures first { result.0 ≡ (placed_of (all_units self.now) unit).first }
+        ensures end { result.1 ≡ end_in (all_units self.now) unit }
     {
         (self.units[unit].first as usize, end_of(self, unit))
     }

@@ -4,7 +4,7 @@ ghost use Rattle.std.specs.Bool.{OnTrue};
 ghost use Rattle.std.specs.Prelude.{IfNone, IfSome, List, MatchOption, OnSome, Some, [], drop, length, ◌∷◌, ◌≡◌};
 ghost use Rattle.dw_forms.specs.Chains.{Numbered};
 ghost use Rattle.dw_forms.specs.Suffixes.{Ends, numbered, specs_in};
-ghost use Rattle.dw_forms.specs.Walks.{IsStep};
+ghost use Rattle.dw_forms.specs.LeadingWalks.{IsStep};
 ghost use Rattle.dw_forms.specs.declared.abbrev.AttributeSpec.{AttributeSpec as SpecData};
 ghost use Rattle.dw_entries.specs.Choices.{size_unique};
 ghost use Rattle.dw_entries.specs.Header.{IsSize};
@@ -42,8 +42,8 @@ impl<'e, 'a> Values<'e, 'a> {
     ghost use Rattle.dw_entries.specs.ValuesLeft.{viewed, values_left, specs_left};
     ghost use Rattle.dw_entries.specs.Leading.{DoesNotLead, LeadsIn, IsMade, IsPassedBy, lead_with};
     ghost use Rattle.dw_entries.specs.Values.{IsThere};
-    ghost use Rattle.dw_entries.specs.Leaving.{Leaves};
-    ghost use Rattle.dw_entries.specs.Chosen.{IsNotOpen, ArePassed, IsNextOf, TakesFirst};
+    ghost use Rattle.dw_entries.specs.OwnBytes.{Leaves};
+    ghost use Rattle.dw_entries.specs.PassedAttributes.{IsNotOpen, ArePassed, IsNextOf, TakesFirst};
 
     /// Passes the attributes up to these.
     fn pass(&mut self, to: Attributes<'e>)

@@ -1,9 +1,8 @@
-use Rattle.std.proofs.Common.{rules, arith, sym, ◌∙◌, ◌≡◌}
-use Rattle.std.proofs.lemmas.Option.{slice_get_within}
+use Rattle.std.proofs.Common.{arith, sym, ◌∙◌}
 use Rattle.dw_entries.specs.Entries.{entries_of, placed}
 use Rattle.dw_entries.specs.Views.{units_of}
 use Rattle.dw_entries.proofs.KeptLaws.{kept_is, kept_unit, units_counted}
-use Rattle.dw_entries.proofs.EntryFacts.{entries_rise}
+use Rattle.dw_entries.proofs.EntryFacts.{entries_rise, length-placed_from}
 use Rattle.dw_entries.proofs.RunLaws.{reaches, never_other, never_there, never_far}
 use Rattle.dw_entries.proofs.entries.Entries.find_in_unit.Goals as goal
 
@@ -23,26 +22,23 @@ returns-in_default-find_at-clause-none c =
     c.in-Some.ensures.1 c.in_default-find_at.ensures.none
 
 pub unit_of-requires : goal.unit_of-requires
-unit_of-requires c = search (rules, slice_get_within)
+unit_of-requires c = c.in-Some-find_at.ensures.found.within
 
 pub returns-then-unit_of-unit-clause-found : goal.returns-then-unit_of-unit-clause-found
 returns-then-unit_of-unit-clause-found c =
-    let found = c.in-Some-find_at.ensures.found in
     let kept = kept_unit _ _ _ _ _ c.args.self.now.scanned c.args.unit c.requires in
     let place = (kept_is kept c.index.result.now c.index.ensures).at in
-    let same : c.unit_of.result ≡ found.entry.unit = rw found.is_entry at c.unit_of.ensures in
     reaches (entries_of (units_of c.args.self.now)) (placed (units_of c.args.self.now)) c.args.unit c.args.offset
-    c.in-Some.at c.in-Some-find_at.id kept.place found.entry kept.is_place
-    (omega (arith, place, c.in-Some.ensures.1)) found found.is_entry (sym same ∙ c.if-unit_of-unit.true)
+    c.in-Some.at c.in-Some-find_at.id (omega (arith, c.requires, length-placed_from 0 0 (units_of c.args.self.now)))
+    (omega (arith, place, c.in-Some.ensures.1)) c.in-Some-find_at.ensures.found
+    (sym c.unit_of.ensures ∙ c.if-unit_of-unit.true)
 
 pub returns-else-unit_of-unit-clause-none : goal.returns-else-unit_of-unit-clause-none
 returns-else-unit_of-unit-clause-none c =
-    let found = c.in-Some-find_at.ensures.found in
     let kept = kept_unit _ _ _ _ _ c.args.self.now.scanned c.args.unit c.requires in
     let place = (kept_is kept c.index.result.now c.index.ensures).at in
-    let same : c.unit_of.result ≡ found.entry.unit = rw found.is_entry at c.unit_of.ensures in
     never_other (entries_of (units_of c.args.self.now)) (placed (units_of c.args.self.now)) c.args.unit c.args.offset
-    c.in-Some.at c.in-Some-find_at.id kept.place found.entry
-    (entries_rise _ (units_of c.args.self.now) c.args.self.now.scanned.1.spells.are) kept.is_place
-    (omega (arith, place, c.in-Some.ensures.1)) found found.is_entry
-    (λ here. c.if-unit_of-unit.false (same ∙ here))
+    c.in-Some.at c.in-Some-find_at.id
+    (entries_rise _ (units_of c.args.self.now) c.args.self.now.scanned.1.spells.are)
+    (omega (arith, place, c.in-Some.ensures.1)) c.in-Some-find_at.ensures.found
+    (λ here. c.if-unit_of-unit.false (c.unit_of.ensures ∙ here))

@@ -1,20 +1,20 @@
-use Rattle.std.proofs.Common.{◌≡◌, arith}
+use Rattle.std.proofs.Common.{ap, ◌∙◌, arith}
 use Rattle.std.proofs.lemmas.Option.{slice_get_within}
+use Rattle.dw_forms.specs.Abbrev.{Declaration}
 use Rattle.dw_forms.specs.KeptDecls.{decl_view}
 use Rattle.dw_forms.specs.Suffixes.{specs_in}
-use Rattle.dw_entries.proofs.KeptLaws.{kept_entry, at_within, decl_is, decl_kept, decl_numbered, from_entry, header_is, never_unread, values_follow}
-use Rattle.dw_entries.proofs.LeftLaws.{left_here, sized_here, specs_here, values_here}
+use Rattle.dw_entries.proofs.KeptLaws.{kept_entry, at_within, decl_is, decl_kept, decl_numbered, header_is, never_unread, values_follow}
+use Rattle.dw_entries.proofs.LeftLaws.{left_here, sized_here, values_here}
 use Rattle.dw_entries.proofs.PlacedLaws.{code_before}
 use Rattle.dw_entries.proofs.entries.Entries.placed.Goals as goal
 
 pub index-requires : goal.index-requires
 index-requires c =
     let kept = kept_entry _ _ _ _ _ c.args.self.now.scanned c.args.id c.requires.id in
-    let unit = from_entry kept (λ e. c.args.unit ≡ e.unit) c.requires.unit in
     omega (
       arith,
-      slice_get_within c.args.self.now.units.items kept.entry.unit kept.unit_record kept.is_unit_record,
-      unit,
+      slice_get_within c.args.self.now.units.items _ kept.unit_record kept.is_unit_record,
+      c.requires.unit,
     )
 
 pub slice_bounds-read_code-count : goal.slice_bounds-read_code-count
@@ -48,10 +48,8 @@ invariant_of-result c =
     let kept = kept_entry _ _ _ _ _ c.args.self.now.scanned c.args.id c.requires.id in
     let of_decl = decl_is c.args.self.now.decls kept c.record-kept.result c.record-kept.ensures
     (decl_view c.decl.result) c.decl.ensures in
-    let specs = specs_here kept (decl_view c.decl.result) (specs_in c.attributes.result) of_decl
-    c.attributes.ensures.specs in
-    let of_unit = header_is kept c.args.unit c.index.result.now
-    (from_entry kept (λ e. c.args.unit ≡ e.unit) c.requires.unit) c.index.ensures in
+    let specs = c.attributes.ensures.specs ∙ ap (λ (d : Declaration). d.attributes) of_decl in
+    let of_unit = header_is kept c.args.unit c.index.result.now c.requires.unit c.index.ensures in
     let behind = values_follow kept c.record-kept.result c.record-kept.ensures _ c.in-Ok.bytes.now c.in-Ok.ensures in
     record {
       sized =
@@ -77,10 +75,8 @@ returns-clause-left c =
     let kept = kept_entry _ _ _ _ _ c.args.self.now.scanned c.args.id c.requires.id in
     let of_decl = decl_is c.args.self.now.decls kept c.record-kept.result c.record-kept.ensures
     (decl_view c.decl.result) c.decl.ensures in
-    let specs = specs_here kept (decl_view c.decl.result) (specs_in c.attributes.result) of_decl
-    c.attributes.ensures.specs in
-    let of_unit = header_is kept c.args.unit c.index.result.now
-    (from_entry kept (λ e. c.args.unit ≡ e.unit) c.requires.unit) c.index.ensures in
+    let specs = c.attributes.ensures.specs ∙ ap (λ (d : Declaration). d.attributes) of_decl in
+    let of_unit = header_is kept c.args.unit c.index.result.now c.requires.unit c.index.ensures in
     let behind = values_follow kept c.record-kept.result c.record-kept.ensures _ c.in-Ok.bytes.now c.in-Ok.ensures in
     search (values_here kept c.index.result.now.header (specs_in c.attributes.result) c.in-Ok.bytes.now c.version.result
     of_unit specs behind c.version.ensures)

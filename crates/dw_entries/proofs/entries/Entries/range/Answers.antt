@@ -15,5 +15,4 @@ returns-clause-first c =
     let within : n < length it.units.items = omega (arith, c.requires, units_counted _ _ _ _ _ it.scanned) in
     let kept = slice_get-get_or it.units.items n c.index.result.now within
     ∙ ap (λ (u : UnitRecord). Some u) (sym c.index.ensures) in
-    let (p, is, first) = kept_first _ _ _ _ _ it.scanned n c.index.result.now kept in
-    rw is first
+    (kept_first _ _ _ _ _ it.scanned n c.index.result.now kept).1

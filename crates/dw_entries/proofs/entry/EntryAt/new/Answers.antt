@@ -1,20 +1,18 @@
-use Rattle.std.proofs.Common.{◌≡◌, arith}
+use Rattle.std.proofs.Common.{arith}
 use Rattle.std.proofs.lemmas.Option.{slice_get_within}
-use Rattle.dw_entries.proofs.KeptLaws.{kept_entry, header_is, from_entry}
+use Rattle.dw_entries.proofs.KeptLaws.{kept_entry, header_is}
 use Rattle.dw_entries.proofs.entry.EntryAt.new.Goals as goal
 
 pub index-requires : goal.index-requires
 index-requires c =
     let kept = kept_entry _ _ _ _ _ c.args.entries.now.scanned c.args.id c.requires.id in
-    let unit = from_entry kept (λ e. c.args.unit ≡ e.unit) c.requires.unit in
     omega (
       arith,
-      slice_get_within c.args.entries.now.units.items kept.entry.unit kept.unit_record kept.is_unit_record,
-      unit,
+      slice_get_within c.args.entries.now.units.items _ kept.unit_record kept.is_unit_record,
+      c.requires.unit,
     )
 
 pub at_with-requires-clause-header : goal.at_with-requires-clause-header
 at_with-requires-clause-header c =
     let kept = kept_entry _ _ _ _ _ c.args.entries.now.scanned c.args.id c.requires.id in
-    header_is kept c.args.unit c.index.result.now (from_entry kept (λ e. c.args.unit ≡ e.unit) c.requires.unit)
-    c.index.ensures
+    header_is kept c.args.unit c.index.result.now c.requires.unit c.index.ensures

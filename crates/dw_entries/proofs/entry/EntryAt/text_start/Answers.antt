@@ -1,15 +1,14 @@
-use Rattle.std.proofs.Common.{◌≡◌, ◌∙◌, [], ◌∷◌, ◌++◌, None, Some, arith}
-use Rattle.dw_forms.specs.KeptDecls.{decl_view}
+use Rattle.std.proofs.Common.{◌≡◌, ◌∙◌, [], ◌∷◌, ◌++◌, None, Some, ap, arith}
+use Rattle.dw_forms.specs.Abbrev.{Declaration}
 use Rattle.dw_forms.specs.AttributeLists.{has_this}
 use Rattle.dw_forms.specs.declared.abbrev.AttributeSpec.{AttributeSpec}
 use Rattle.dw_forms.specs.Chains.{Numbered, items_of}
 use Rattle.dw_forms.specs.Suffixes.{specs_in}
 use Rattle.dw_forms.specs.Value.{text}
 use Rattle.dw_forms.proofs.SuffixLaws.{follow, ends_on, specs_ends, none_has_it}
-use Rattle.dw_entries.specs.Lookups.{value_at_entry}
 use Rattle.dw_entries.specs.Values.{value_context}
-use Rattle.dw_entries.proofs.KeptLaws.{kept_entry, at_within, never_unread, values_follow, from_entry}
-use Rattle.dw_entries.proofs.LeftLaws.{declares_none, left_here, sized_here, specs_here, undeclared}
+use Rattle.dw_entries.proofs.KeptLaws.{kept_entry, at_within, never_unread, values_follow}
+use Rattle.dw_entries.proofs.LeftLaws.{declares_none, left_here, sized_here, undeclared}
 use Rattle.dw_entries.proofs.PassLaws.{never_cut}
 use Rattle.dw_entries.proofs.TextLaws.{room_here, starts_here}
 use Rattle.dw_entries.proofs.entry.EntryAt.text_start.Goals as goal
@@ -37,14 +36,11 @@ unreachable-requires-in_default-split_first c =
     let it = c.self.inside in
     let kept = kept_entry _ _ _ _ _ it.entries.now.scanned it.id c.self.invariant.0 in
     let all = c.attributes-attributes.result in
-    let specs = specs_here kept (decl_view it.decl) (specs_in all) c.self.invariant.2
-    c.attributes-attributes.ensures.specs in
-    let value = from_entry kept (λ e. value_at_entry e c.args.attribute ≡ Some (text c.args.bytes.now))
-    (rw (← c.self.view_is) at c.requires) in
+    let specs = c.attributes-attributes.ensures.specs ∙ ap (λ (d : Declaration). d.attributes) c.self.invariant.2 in
+    let value = rw (← c.self.view_is) at c.requires in
     let lacks = declares_none (specs_in all) c.args.attribute
     (none_has_it c.args.attribute all c.find.result c.find.ensures c.in_default-split_first.ensures) in
-    let none = from_entry kept (λ e. None ≡ value_at_entry e c.args.attribute)
-    (undeclared kept (specs_in all) c.args.attribute specs lacks) in
+    let none = undeclared kept (specs_in all) c.args.attribute specs lacks in
     let both : None ≡ Some (text c.args.bytes.now) = none ∙ value in
     cc
 
@@ -60,8 +56,7 @@ pass-requires-clause-size c =
     let it = c.self.inside in
     let kept = kept_entry _ _ _ _ _ it.entries.now.scanned it.id c.self.invariant.0 in
     let all = c.attributes-attributes.result in
-    let specs = specs_here kept (decl_view it.decl) (specs_in all) c.self.invariant.2
-    c.attributes-attributes.ensures.specs in
+    let specs = c.attributes-attributes.ensures.specs ∙ ap (λ (d : Declaration). d.attributes) c.self.invariant.2 in
     let behind = values_follow kept it.kept c.self.invariant.1 _ c.in-Ok.values.now c.in-Ok.ensures in
     sized_here kept it.header (specs_in all) c.in-Ok.values.now c.version-version.result c.self.invariant.3 specs behind
     c.version-version.ensures
@@ -70,8 +65,7 @@ pub overflow_sub-result : goal.overflow_sub-result
 overflow_sub-result c =
     let it = c.self.inside in
     let kept = kept_entry _ _ _ _ _ it.entries.now.scanned it.id c.self.invariant.0 in
-    let specs = specs_here kept (decl_view it.decl) (specs_in c.attributes-attributes.result) c.self.invariant.2
-    c.attributes-attributes.ensures.specs in
+    let specs = c.attributes-attributes.ensures.specs ∙ ap (λ (d : Declaration). d.attributes) c.self.invariant.2 in
     omega (
       arith,
       room_here kept it.kept c.self.invariant.1 it.header c.version-version.result _
@@ -85,8 +79,7 @@ unreachable-requires-in-Err c =
     let it = c.self.inside in
     let kept = kept_entry _ _ _ _ _ it.entries.now.scanned it.id c.self.invariant.0 in
     let all = c.attributes-attributes.result in
-    let specs = specs_here kept (decl_view it.decl) (specs_in all) c.self.invariant.2
-    c.attributes-attributes.ensures.specs in
+    let specs = c.attributes-attributes.ensures.specs ∙ ap (λ (d : Declaration). d.attributes) c.self.invariant.2 in
     let behind = values_follow kept it.kept c.self.invariant.1 _ c.in-Ok.values.now c.in-Ok.ensures in
     let f = follow (has_this c.args.attribute) all c.find.result c.find.ensures in
     let n : Numbered AttributeSpec = record { number = c.find.result.first; item = c.in-Some.field-0-0 } in
@@ -102,8 +95,7 @@ pub returns : goal.returns
 returns c =
     let it = c.self.inside in
     let kept = kept_entry _ _ _ _ _ it.entries.now.scanned it.id c.self.invariant.0 in
-    let specs = specs_here kept (decl_view it.decl) (specs_in c.attributes-attributes.result) c.self.invariant.2
-    c.attributes-attributes.ensures.specs in
+    let specs = c.attributes-attributes.ensures.specs ∙ ap (λ (d : Declaration). d.attributes) c.self.invariant.2 in
     rw (← c.self.view_is) (starts_here kept it.kept c.self.invariant.1 it.header c.version-version.result _
     c.attributes-attributes.result c.find.result c.in-Some.rest c.in-Some.field-0-0 c.in-Ok.values.now
     c.in-Ok-pass.after.now c.args.bytes.now c.args.attribute c.self.invariant.3 specs c.version-version.ensures

@@ -1,22 +1,20 @@
 -- Chapter: which entry is at an offset, of .debug_info or of a unit.
-use Rattle.std.specs.Prelude.{◌≡◌, ℕ, ◌+◌, List, Some, slice_get}
+use Rattle.std.specs.Prelude.{◌≡◌, ℕ, ◌+◌, ◌<◌, List, length}
 use Rattle.dw_entries.specs.Entries.{Entry, PlacedUnit}
+use Rattle.dw_entries.specs.ByNumber.{entry_of, placed_of}
 
 -- the entry with this number begins at the offset
 pub record IsEntryAt (entries : List Entry) (offset id : ℕ) : Type 0 where
-  pub entry : Entry
-  pub is_entry : slice_get entries id ≡ Some entry
-  pub begins : entry.at ≡ offset
+  pub within : id < length entries
+  pub begins : (entry_of entries id).at ≡ offset
 
 -- it does, and is one of this unit's
 pub record IsEntryIn (entries : List Entry) (unit offset id : ℕ) : Type 0 where
-  pub entry : Entry
-  pub is_entry : slice_get entries id ≡ Some entry
-  pub begins : entry.at ≡ offset
-  pub in_unit : entry.unit ≡ unit
+  pub within : id < length entries
+  pub begins : (entry_of entries id).at ≡ offset
+  pub in_unit : (entry_of entries id).unit ≡ unit
 
 -- so far after the first byte of its unit's header an entry of the unit begins
 pub record ReachesInUnit (entries : List Entry) (units : List PlacedUnit) (number offset id : ℕ) : Type 0 where
-  pub unit : PlacedUnit
-  pub is_unit : slice_get units number ≡ Some unit
-  pub target : IsEntryIn entries number (unit.at + offset) id
+  pub unit_within : number < length units
+  pub target : IsEntryIn entries number ((placed_of units number).at + offset) id

@@ -5,7 +5,7 @@ use Rattle.dw_forms.specs.declared.abbrev.AttributeSpec.{AttributeSpec}
 use Rattle.dw_forms.specs.Classes.{is_open}
 use Rattle.dw_forms.specs.Value.{Datum}
 use Rattle.dw_entries.specs.Grammar.{Context, Attribute, IsAttribute}
-use Rattle.dw_entries.specs.Asked.{value_of}
+use Rattle.dw_entries.specs.EntryRules.{value_of}
 
 -- the attribute is not open: each value that is declared so has one of its classes
 abbrev pub IsNotOpen : AttributeSpec → Type 0
