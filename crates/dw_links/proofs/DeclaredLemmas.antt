@@ -1,12 +1,12 @@
 -- What is kept of the entries that are declared and not defined.
 use Rattle.std.proofs.Common.{rules, ◌<◌, get_or, ◌≡◌, ℕ, zero, suc, Bool, List, [], ◌∷◌, Option, None, Some, refl, ap, length, set, replicate, inl, inr, ◌⊎◌, ◌++◌, ◌∙◌, sym, take, drop}
-use Rattle.std.specs.Prelude.{slice_get, IfSome}
+use Rattle.std.specs.Prelude.{slice_get}
 use Rattle.std.proofs.Math.Seq.{take-append_seam}
 use Rattle.std.proofs.lemmas.List.{length-set, length-replicate}
 use Rattle.std.proofs.lemmas.Option.{slice_get-get_or}
 use Rattle.dw_entries.specs.declared.entries.Entries.{Entries}
+use Rattle.dw_entries.specs.ByNumber.{entry_of}
 use Rattle.dw_entries.specs.Views.{all_entries}
-use Rattle.dw_links.proofs.Skips.{there}
 use Rattle.dw_links.specs.References.{is_declared}
 use Rattle.dw_links.specs.DeclaredEntries.{KeepsDeclared}
 
@@ -23,16 +23,27 @@ set_get (z ∷ xs) (suc i) (suc j) x y is =
 -- one entry more is known
 pub one_more_known : (entries : Entries) (kept new : List (Option Bool)) (id number : ℕ) (declared : Bool)
     → KeepsDeclared entries kept → id < length (all_entries entries) → number ≡ id
-    → IfSome (slice_get (all_entries entries) id) (λ e. declared ≡ is_declared e)
+    → declared ≡ is_declared (entry_of (all_entries entries) id)
     → new ≡ set kept number (Some declared) → KeepsDeclared entries new
-one_more_known entries kept new id number declared keeps below is read same = search (rules, length-set, set_get, there)
+one_more_known entries kept new id number declared keeps below is read same = record {
+  all = ap length same ∙ length-set kept number (Some declared) ∙ keeps.all;
+  right = λ j known at.
+      elim (set_get kept number j (Some declared) (Some known)
+      (ap (λ (xs : List (Option Bool)). slice_get xs j) (sym same) ∙ at)) [
+        | inl here ↦
+            let some : Some declared ≡ Some known = here.1 in
+            let known_is : known ≡ declared = cc in
+            known_is ∙ read ∙ ap (λ (n : ℕ). is_declared (entry_of (all_entries entries) n)) (sym is ∙ here.0)
+        | inr there ↦ keeps.right j known there
+      ];
+}
 
 -- what is known of an entry is true of it
 pub known_right : (entries : Entries) (kept : List (Option Bool)) (id number : ℕ) (declared : Bool)
     → KeepsDeclared entries kept → id < length (all_entries entries) → number ≡ id
     → get_or kept number None ≡ Some declared
-    → IfSome (slice_get (all_entries entries) id) (λ e. declared ≡ is_declared e)
-known_right entries kept id number declared keeps below is read = search (rules, there, slice_get-get_or)
+    → declared ≡ is_declared (entry_of (all_entries entries) id)
+known_right entries kept id number declared keeps below is read = search (rules, slice_get-get_or)
 
 -- none is known of any entry
 none_known : (n j : ℕ) (known : Bool) → slice_get (replicate n None) j ≡ Some (Some known) → ⊥

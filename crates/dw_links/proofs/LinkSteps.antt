@@ -5,17 +5,17 @@ use Rattle.std.specs.Prelude.{◌==◌, option_map}
 use Rattle.std.specs.Option.{unwrap_or, option_and_then}
 use Rattle.dw_forms.specs.Codes.{DW_AT_type}
 use Rattle.dw_forms.specs.Value.{Datum}
-use Rattle.dw_entries.specs.Asked.{values_of}
-use Rattle.dw_entries.specs.Chosen.{ArePassed, IsNextOf}
+use Rattle.dw_entries.specs.EntryRules.{values_of}
+use Rattle.dw_entries.specs.PassedAttributes.{ArePassed, IsNextOf}
 use Rattle.dw_entries.specs.Entries.{Entry}
 use Rattle.dw_entries.specs.declared.entries.Entries.{Entries}
-use Rattle.dw_entries.specs.declared.fault.Broken.{Broken}
+use Rattle.dw_entries.specs.declared.fault.PlainFault.{PlainFault}
 use Rattle.dw_entries.specs.Leading.{DoesNotLead}
 use Rattle.dw_entries.specs.Lookups.{entry_head, value_in}
-use Rattle.dw_links.specs.Linking.{kept_after, LinksNext, HasFailedNext, IsLinked, HasFailed}
-use Rattle.dw_links.specs.Linkable.{FailsByText, FailsByTarget, target_by}
+use Rattle.dw_links.specs.EntryLinks.{kept_after, LinksNext, HasFailedNext, IsEntryLinked, IsFirstAtEntry}
+use Rattle.dw_links.specs.UnitAtHand.{FailsByText, FailsByTarget, target_by}
 use Rattle.dw_links.specs.Targets.{target_of}
-use Rattle.dw_links.proofs.ClassLaws.{leads, passes_texts, passes_targets}
+use Rattle.dw_links.proofs.ClassLemmas.{leads, passes_texts, passes_targets}
 use Rattle.dw_links.proofs.RuleSteps.{Checked, none_checked, checked_more, checked_fails, checked_all}
 
 -- ---- the first type
@@ -101,7 +101,7 @@ module _ (entries : Entries) (e : Entry) (left : List (ℕ × Datum)) where
 
   -- at the end
   pub linked_at_end : (kept : Option (Option ℕ)) (target : Option ℕ) → target ≡ unwrap_or kept None
-      → SoFar entries e left kept → ArePassed DoesNotLead left → IsLinked entries e target
+      → SoFar entries e left kept → ArePassed DoesNotLead left → IsEntryLinked entries e target
   unfolding target_of
   linked_at_end kept target is s passed = record {
     strings = checked_all (FailsByText entries) DoesNotLead (passes_texts entries) e left s.strings passed;
@@ -126,7 +126,8 @@ module _ (entries : Entries) (e : Entry) (left : List (ℕ × Datum)) where
     }
 
     -- where a rule fails, that is the first failure of its group
-    pub fails_so_far : (broken : Broken) → HasFailedNext entries left broken (entry_head e) → HasFailed entries e broken
+    pub fails_so_far : (broken : PlainFault) → HasFailedNext entries left broken (entry_head e)
+        → IsFirstAtEntry entries e broken
     fails_so_far broken n =
         elim n.fails [
           | inl f ↦ inl (checked_fails (FailsByText entries) DoesNotLead (passes_texts entries) e left n.behind

@@ -1,6 +1,7 @@
 -- Where no rule on strings, addresses and references fails, values lead somewhere.
-use Rattle.std.proofs.Common.{rules, arith, ◌≡◌, ℕ, List, Option, Some, None, IsSome, refl, sym, ◌+◌, Bool, true, false, ap, ◌∙◌, inl, inr}
+use Rattle.std.proofs.Common.{rules, arith, ◌≡◌, ℕ, List, Option, Some, None, IsSome, refl, sym, ◌+◌, Bool, true, false, ap, ◌∙◌, inl, inr, subst}
 use Rattle.std.specs.Prelude.{slice_get}
+use Rattle.std.proofs.lemmas.Option.{slice_get_within, slice_get-get_or, get_or_from_slice_get}
 use Rattle.dw_elf.specs.declared.sections.Sections.{Sections}
 use Rattle.dw_forms.specs.Codes.{DW_AT_str_offsets_base, DW_AT_addr_base, is_type_tag}
 use Rattle.dw_forms.specs.Value.{Datum, str_index, ref_info, ref_unit, ref_sig, addr_index}
@@ -8,27 +9,28 @@ use Rattle.dw_entries.specs.declared.rule.Rule.TheVariants.{BadStrBase, BadAddrB
 use Rattle.dw_entries.specs.declared.header.UnitHeader.{UnitHeader}
 use Rattle.dw_entries.specs.Units.{DebugUnit, Spells}
 use Rattle.dw_entries.specs.Entries.{Entry, PlacedUnit, entries_of, placed}
+use Rattle.dw_entries.specs.ByNumber.{no_entry, no_placed, entry_of}
+use Rattle.dw_entries.specs.EntriesAt.{IsEntryIn}
 use Rattle.dw_entries.specs.Failures.{HasNone}
 use Rattle.dw_entries.specs.Lookups.{value_at_entry, entry_head}
 use Rattle.dw_entries.specs.declared.rule.Rule.{Rule}
 use Rattle.dw_entries.specs.Places.{at_header, at_attribute}
-use Rattle.dw_entries.specs.Asked.{OffsetsRise, values_of}
+use Rattle.dw_entries.specs.EntryRules.{OffsetsRise, values_of}
 use Rattle.dw_entries.proofs.EntryFacts.{entries_rise}
 use Rattle.dw_forms.specs.declared.class.Class.TheVariants.{Address, String, Reference}
 use Rattle.dw_links.specs.Classes.{class_of}
 use Rattle.dw_links.specs.Bases.{base_in}
 use Rattle.dw_links.specs.Strings.{StringIndexFails, AddressIndexFails, StringFailures}
-use Rattle.dw_links.specs.ValueTexts.{text_of, address_of, indexed_text, indexed_address}
+use Rattle.dw_links.specs.ValueTexts.{text_of_value, address_of, indexed_text, indexed_address}
 use Rattle.dw_links.specs.AttributeTexts.{text_at, address_at}
 use Rattle.dw_links.specs.LinkLaws.{HaveTexts, HaveAddresses, HaveTargets, HaveTypes}
-use Rattle.dw_links.proofs.TableLaws.{unit_of_entry}
-use Rattle.dw_links.proofs.SlotLaws.{passes_string, found_value}
+use Rattle.dw_links.proofs.TableLemmas.{unit_of_entry}
+use Rattle.dw_links.proofs.SlotLemmas.{passes_string, found_value}
 use Rattle.dw_links.specs.References.{permits, permits_form, IsOtherThan, is_reference_value, ReferenceFailsBy, TypeUnitFails, ReferenceFailures}
-use Rattle.dw_links.specs.Signatures.{type_in, HasSignature, first_signed}
+use Rattle.dw_links.specs.Signatures.{type_unit_of, HasSignature, first_signed}
 use Rattle.dw_links.specs.Targets.{reach_in_info, reach_in_unit, reach_of, target_of}
-use Rattle.dw_links.proofs.HeaderLaws.{distinct_from, typed, not_typed}
-use Rattle.dw_links.proofs.Reached.{in_place}
-use Rattle.dw_links.proofs.TargetLaws.{reach_in_unit_is, at_reach_in_unit, at_first_signed, none_signed, type_of_unit_is, reached_entry}
+use Rattle.dw_links.proofs.HeaderLemmas.{distinct_from, not_typed}
+use Rattle.dw_links.proofs.TargetLemmas.{reach_in_unit_is, at_reach_in_unit, at_first_signed, none_signed, type_of_unit_is, reached_within}
 
 is_told : (o : Option ℕ) → (o ≡ None → ⊥) → (n : ℕ) × (o ≡ Some n)
 is_told None never = absurd (never refl)
@@ -50,7 +52,7 @@ has_text : (sections : Sections) (us : List DebugUnit) (id : ℕ) (e : Entry) (p
     → HasNone (StringFailures sections us) → slice_get (entries_of us) id ≡ Some e
     → slice_get (placed us) e.unit ≡ Some p
     → value_at_entry e attribute ≡ Some v → class_of v ≡ String
-    → IsSome (text_of sections (base_in (entries_of us) p DW_AT_str_offsets_base) v)
+    → IsSome (text_of_value sections (base_in (entries_of us) p DW_AT_str_offsets_base) v)
 has_text sections us id e p attribute (str_index index) none is is_unit value class =
     told_text sections (base_in (entries_of us) p DW_AT_str_offsets_base) index
     (passes_string sections us id e p attribute (str_index index) none is is_unit value BadStrBase)
@@ -104,7 +106,7 @@ passes_reference us id e attribute v none is value reference rule fails =
 -- nor at the header of a type unit
 passes_header : (us : List DebugUnit) (number signature type_offset : ℕ) (p : PlacedUnit)
     → HasNone (ReferenceFailures us) → slice_get (placed us) number ≡ Some p
-    → type_in p.unit.header.kind ≡ Some (signature, type_offset)
+    → type_unit_of p.unit.header.kind ≡ Some (signature, type_offset)
     → (rule : Rule) → TypeUnitFails (entries_of us) (placed us) number p.at signature type_offset rule → ⊥
 passes_header us number signature type_offset p none is kind rule fails =
     none (record { rule = rule; place = at_header p.at; attribute = 0 })
@@ -121,7 +123,7 @@ no_answer o k none some = let both : ◌≡◌ {A = Option ℕ} None (Some k) = 
 -- the type of a type unit
 type_reached : (us : List DebugUnit) (number signature type_offset : ℕ) (p : PlacedUnit) → OffsetsRise (entries_of us)
     → HasNone (ReferenceFailures us) → slice_get (placed us) number ≡ Some p
-    → type_in p.unit.header.kind ≡ Some (signature, type_offset)
+    → type_unit_of p.unit.header.kind ≡ Some (signature, type_offset)
     → (id : ℕ) × (reach_in_unit (entries_of us) (placed us) number type_offset ≡ Some id)
 type_reached us number signature type_offset p rise none is kind =
     is_told (reach_in_unit (entries_of us) (placed us) number type_offset)
@@ -129,7 +131,12 @@ type_reached us number signature type_offset p rise none is kind =
       refl,
       λ has. no_answer (reach_in_unit (entries_of us) (placed us) number type_offset) has.id nowhere
           (reach_in_unit_is (entries_of us) (placed us) number type_offset has.id rise
-          (record { unit = p; is_unit = is; target = has.is_type })),
+          (record {
+            unit_within = slice_get_within (placed us) number p is;
+            target =
+                subst (λ (u : PlacedUnit). IsEntryIn (entries_of us) number (u.at + type_offset) has.id)
+                (sym (get_or_from_slice_get (placed us) number p no_placed is)) has.is_type;
+          })),
     )))
 
 -- ---- each reference reaches an entry
@@ -184,7 +191,9 @@ have_targets «abbrev» info us spells none id e is attribute v value class =
     let reference = reference_value v class in
     let passes = passes_reference us id e attribute v none is value reference in
     let (t, reaches) = reached us id e attribute v rise none is value class in
-    let (target, is_target) = reached_entry (entries_of us) (placed us) e.unit v t reaches in
+    let target = entry_of (entries_of us) t in
+    let is_target = slice_get-get_or (entries_of us) t no_entry
+    (reached_within (entries_of us) (placed us) e.unit v t reaches) in
     record {
       id = t;
       target = target;
@@ -208,14 +217,15 @@ have_types «abbrev» info us spells none = record {
   types = λ number signature type_offset p is kind.
       let rise = entries_rise «abbrev» us spells.are in
       let (id, gives) = type_reached us number signature type_offset p rise none is kind in
-      let found = in_place (entries_of us) (placed us) number type_offset p id is
-      (at_reach_in_unit (entries_of us) (placed us) number type_offset id gives) in
-      typed (entries_of us) number (p.at + type_offset) id found.entry found found.is_entry
-      (true_unless (is_type_tag found.entry.head.decl.tag)
-      (λ other. passes_header us number signature type_offset p none is kind BadTypeOffset
-      (inr (
-        refl,
-        not_typed (entries_of us) number (p.at + type_offset) id found.entry rise found found.is_entry
-            other,
-      ))));
+      let found = subst (λ (u : PlacedUnit). IsEntryIn (entries_of us) number (u.at + type_offset) id)
+      (get_or_from_slice_get (placed us) number p no_placed is)
+      (at_reach_in_unit (entries_of us) (placed us) number type_offset id gives).target in
+      record {
+        id = id;
+        is_type = found;
+        tag =
+            true_unless (is_type_tag (entry_of (entries_of us) id).head.decl.tag)
+            (λ other. passes_header us number signature type_offset p none is kind BadTypeOffset
+            (inr (refl, not_typed (entries_of us) number (p.at + type_offset) id rise found other)));
+      };
 }

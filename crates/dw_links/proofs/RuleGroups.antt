@@ -4,13 +4,13 @@ use Rattle.std.proofs.lemmas.Bool.{eqb-true}
 use Rattle.dw_elf.specs.declared.sections.Sections.{Sections}
 use Rattle.dw_forms.specs.Value.{Datum, str}
 use Rattle.dw_entries.specs.declared.header.UnitHeader.{UnitHeader}
-use Rattle.dw_entries.specs.declared.fault.Broken.{Broken}
+use Rattle.dw_entries.specs.declared.fault.PlainFault.{PlainFault}
 use Rattle.dw_entries.specs.declared.rule.Rule.{Rule}
 use Rattle.dw_entries.specs.declared.entry.EntryHead.{EntryHead}
 use Rattle.dw_entries.specs.Units.{DebugUnit}
 use Rattle.dw_entries.specs.Rules.{group_of}
 use Rattle.dw_entries.specs.Failures.{Failure, IsFirst}
-use Rattle.dw_links.specs.Linking.{IsFirstOfGroup}
+use Rattle.dw_links.specs.EntryLinks.{IsFirstOfGroup}
 use Rattle.dw_links.specs.Strings.{StringFailsIn, StringFailures}
 use Rattle.dw_links.specs.References.{ReferenceFailures}
 
@@ -27,7 +27,7 @@ reference_failures us f fails = search rules
 
 -- ---- the first of its group, by its rule
 
-pub string_first : (s : Sections) (us : List DebugUnit) (broken : Broken) → IsFirstOfGroup s us broken
+pub string_first : (s : Sections) (us : List DebugUnit) (broken : PlainFault) → IsFirstOfGroup s us broken
     → (group_of broken.rule == 3) ≡ true → IsFirst (StringFailures s us) broken
 string_first s us broken (inl first) is = first
 string_first s us broken (inr first) is =
@@ -39,7 +39,7 @@ string_first s us broken (inr first) is =
           first.failure first.fails,
     ))
 
-pub reference_first : (s : Sections) (us : List DebugUnit) (broken : Broken) → IsFirstOfGroup s us broken
+pub reference_first : (s : Sections) (us : List DebugUnit) (broken : PlainFault) → IsFirstOfGroup s us broken
     → (group_of broken.rule == 3) ≡ false → IsFirst (ReferenceFailures us) broken
 reference_first s us broken (inl first) is =
     absurd (let both : true ≡ false = sym

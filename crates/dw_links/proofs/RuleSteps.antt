@@ -5,15 +5,15 @@ use Rattle.dw_forms.specs.declared.abbrev.AttributeSpec.{AttributeSpec}
 use Rattle.dw_forms.specs.Value.{Datum}
 use Rattle.dw_entries.specs.declared.entry.EntryHead.{EntryHead}
 use Rattle.dw_entries.specs.declared.rule.Rule.{Rule}
-use Rattle.dw_entries.specs.declared.fault.Broken.{Broken}
+use Rattle.dw_entries.specs.declared.fault.PlainFault.{PlainFault}
 use Rattle.dw_entries.specs.declared.fault.Section.TheVariants.{Info}
-use Rattle.dw_entries.specs.Asked.{values_of}
-use Rattle.dw_entries.specs.Chosen.{ArePassed, IsNextOf}
+use Rattle.dw_entries.specs.EntryRules.{values_of}
+use Rattle.dw_entries.specs.PassedAttributes.{ArePassed, IsNextOf}
 use Rattle.dw_entries.specs.Entries.{Entry}
 use Rattle.dw_entries.specs.Failures.{HasNone, IsFirst, IsLeast}
 use Rattle.dw_entries.specs.Lookups.{entry_head}
 use Rattle.dw_entries.proofs.Firsts.{first_of_attributes, none_of_attributes}
-use Rattle.dw_links.specs.Concerns.{Rules, AtHead, Passes}
+use Rattle.dw_links.specs.RulesOfAttributes.{Rules, AtHead, NeverFailsAt}
 
 -- ---- lists
 
@@ -68,7 +68,8 @@ pub fewer : (Pass : AttributeSpec → Type 0) (left : List (ℕ × Datum)) (x : 
 fewer Pass left x behind n = omega (arith, ap length n.parts, length-append n.passed (x ∷ behind))
 
 -- of attributes that are passed none fails
-module _ (Fails : Rules) (Pass : AttributeSpec → Type 0) (over : (spec : AttributeSpec) → Pass spec → Passes Fails spec)
+module _ (Fails : Rules) (Pass : AttributeSpec → Type 0)
+    (over : (spec : AttributeSpec) → Pass spec → NeverFailsAt Fails spec)
   where
     passed_none : (head : EntryHead) (items : List (ℕ × Datum)) → ArePassed Pass items → NoneFails Fails head items
     passed_none head items passed k item is r fails =
@@ -98,7 +99,7 @@ module _ (Fails : Rules) (Pass : AttributeSpec → Type 0) (over : (spec : Attri
           none_both Fails (entry_head e) l.done n.passed l.none (passed_none (entry_head e) n.passed n.are_passed)
 
       -- where a rule fails, that is the first failure
-      pub checked_fails : (rule : Rule) (broken : Broken) → IsLeast (Fails head a v) (Some rule)
+      pub checked_fails : (rule : Rule) (broken : PlainFault) → IsLeast (Fails head a v) (Some rule)
           → broken ≡ record { rule = rule; section = Info; at = head.offset; attribute = a }
           → IsFirst (AtHead Fails e) broken
       checked_fails rule broken least is =
@@ -111,10 +112,10 @@ module _ (Fails : Rules) (Pass : AttributeSpec → Type 0) (over : (spec : Attri
           (front_get (l.done ++ n.passed) ((a, v) ∷ behind) j (b, w) lt
           (ap (λ (xs : List (ℕ × Datum)). slice_get xs j) (sym joined) ∙ has))) (subst P same least)
           (record {
-            rule = ap (λ (b : Broken). b.rule) is;
-            section = ap (λ (b : Broken). b.section) is;
-            at = ap (λ (b : Broken). b.at) is ∙ ap (λ (h : EntryHead). h.offset) same;
-            attribute = ap (λ (b : Broken). b.attribute) is;
+            rule = ap (λ (b : PlainFault). b.rule) is;
+            section = ap (λ (b : PlainFault). b.section) is;
+            at = ap (λ (b : PlainFault). b.at) is ∙ ap (λ (h : EntryHead). h.offset) same;
+            attribute = ap (λ (b : PlainFault). b.attribute) is;
           })
 
       -- one attribute more, where no rule fails

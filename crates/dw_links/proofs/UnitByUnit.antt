@@ -1,5 +1,5 @@
 -- The entries of one unit after another, from the first entry to the last.
-use Rattle.std.proofs.Common.{◌≡◌, ℕ, zero, suc, ◌+◌, ◌<◌, ◌≤◌, List, [], ◌∷◌, ◌++◌, length, length-append, map, take, set, refl, subst, Option, Some, None, sym, ap, ◌∙◌, arith}
+use Rattle.std.proofs.Common.{◌≡◌, ℕ, zero, suc, ◌+◌, ◌≤◌, List, [], ◌∷◌, ◌++◌, length, length-append, map, take, set, refl, subst, Option, Some, None, sym, ap, ◌∙◌, arith}
 use Rattle.std.specs.Prelude.{slice_get}
 use Rattle.std.proofs.lemmas.List.{take_more_set}
 use Rattle.std.proofs.lemmas.Option.{slice_get_within}
@@ -12,20 +12,17 @@ use Rattle.dw_entries.proofs.EntryFacts.{length-placed_from, length-node_entries
 use Rattle.dw_entries.proofs.UnitRanges.{next_first, last_ends}
 use Rattle.dw_forms.specs.Codes.{DW_AT_str_offsets_base, DW_AT_addr_base}
 use Rattle.dw_links.specs.Bases.{base_in}
-use Rattle.dw_links.specs.Linkable.{FailsByText, FailsByTarget}
+use Rattle.dw_links.specs.Constants.{language_of}
+use Rattle.dw_links.specs.declared.constant.Constant.{Constant}
+use Rattle.dw_links.specs.UnitAtHand.{FailsByText, FailsByTarget}
 use Rattle.dw_links.specs.Tables.{type_target}
-use Rattle.dw_links.proofs.Skips.{there}
-use Rattle.dw_links.proofs.TableLaws.{map_one_more}
-use Rattle.dw_links.proofs.Transfers.{NoneBelow}
+use Rattle.dw_links.proofs.TableLemmas.{map_one_more}
+use Rattle.dw_links.proofs.UnitToAll.{NoneBelow}
 
 -- the entries before this number are those of the units before this one
 pub record StartsAt (us : List DebugUnit) (unit number : ℕ) : Type 0 where
   pub begins : (p : PlacedUnit) → slice_get (placed us) unit ≡ Some p → number ≡ p.first
   pub ends : length us ≤ unit → length (entries_of us) ≤ number
-
-pub unit_there : (us : List DebugUnit) (unit : ℕ) → unit < length us
-    → (p : PlacedUnit) × (slice_get (placed us) unit ≡ Some p)
-unit_there us unit below = there (placed us) unit (omega (arith, below, length-placed_from 0 0 us))
 
 -- a unit ends with one of the entries
 ends_from : (unit id at : ℕ) (us : List DebugUnit) (n : ℕ) (p : PlacedUnit)
@@ -86,12 +83,14 @@ pub record LinkedBelow (entries : Entries) (types : List (Option ℕ)) (number :
   pub types_are : take number types
       ≡ map (type_target (all_entries entries) (all_units entries)) (take number (all_entries entries))
 
--- of the units before this one, these are the bases
-pub record BasesBelow (entries : Entries) (str_bases addr_bases : List (Option ℕ)) (number : ℕ) : Type 0 where
+-- of the units before this one, these are the bases and the languages
+pub record ReadBelow (entries : Entries) (str_bases addr_bases : List (Option ℕ)) (languages : List Constant)
+    (number : ℕ) : Type 0 where
   pub str : str_bases ≡ map (λ unit. base_in (all_entries entries) unit DW_AT_str_offsets_base)
       (take number (all_units entries))
   pub addr : addr_bases ≡ map (λ unit. base_in (all_entries entries) unit DW_AT_addr_base)
       (take number (all_units entries))
+  pub language : languages ≡ map language_of (take number (all_units entries))
 
 pub none_below : (entries : Entries) (types : List (Option ℕ)) → length types ≡ length (all_entries entries)
     → LinkedBelow entries types 0

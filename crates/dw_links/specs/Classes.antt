@@ -9,8 +9,8 @@ use Rattle.dw_entries.specs.declared.entry.EntryHead.{EntryHead}
 use Rattle.dw_entries.specs.Units.{DebugUnit}
 use Rattle.dw_entries.specs.Entries.{entries_of, PlacedUnit, placed}
 use Rattle.dw_entries.specs.Failures.{Failure}
-use Rattle.dw_entries.specs.Asked.{AtEntries}
-use Rattle.dw_links.specs.Concerns.{AtHead}
+use Rattle.dw_entries.specs.EntryRules.{AtEntries}
+use Rattle.dw_links.specs.RulesOfAttributes.{AtHead}
 
 -- WrongClass: the value has none of the classes that the attribute may have
 pub record ClassFails (units : List PlacedUnit) (head : EntryHead) (attribute : ℕ) (v : Datum) (rule : Rule) :

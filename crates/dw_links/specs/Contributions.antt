@@ -1,8 +1,8 @@
 -- Chapter: contributions to .debug_str_offsets and .debug_addr (DWARF 5, 7.26 and 7.27), and strings at offsets.
-use Rattle.std.specs.Prelude.{◌≡◌, ℕ, ◌+◌, ◌-◌, ◌*◌, ◌/◌, ◌%◌, ◌<◌, ◌≤◌, List, length, drop, slice_index, Option, None}
-use Rattle.std.specs.Prelude.{Some, ◌==◌}
-use Rattle.std.specs.List.{before_first}
+use Rattle.std.specs.Prelude.{◌≡◌, ℕ, ◌+◌, ◌-◌, ◌*◌, ◌/◌, ◌%◌, ◌<◌, ◌≤◌, List, length, slice_index, Option, None}
+use Rattle.std.specs.Prelude.{Some}
 use Rattle.dw_elf.specs.Elf.{number_at}
+pub use Rattle.dw_elf.specs.Elf.{string_at}
 
 -- the length in the header before a base, which counts all bytes after itself
 abbrev pub length_before : List ℕ → ℕ → ℕ
@@ -36,7 +36,7 @@ IsCount section slot mark base (Some count) = IsContribution section slot mark b
     × (count ≡ slot_count section slot base)
 
 -- a string begins at the offset: a zero byte is there or after it
-pub record Ends (section : List ℕ) (offset : ℕ) : Type 0 where
+pub record HasZeroFrom (section : List ℕ) (offset : ℕ) : Type 0 where
   pub last : ℕ
   pub behind : offset ≤ last
   pub within : last < length section
@@ -44,9 +44,5 @@ pub record Ends (section : List ℕ) (offset : ℕ) : Type 0 where
 
 -- strings begin below this offset and nowhere else
 pub record IsEndOfStrings (section : List ℕ) (end : ℕ) : Type 0 where
-  pub below : (offset : ℕ) → offset < end → Ends section offset
-  pub above : (offset : ℕ) → end ≤ offset → Ends section offset → ⊥
-
--- the string at an offset: the bytes before the first zero byte
-abbrev pub string_at : List ℕ → ℕ → List ℕ
-string_at section offset = before_first (λ byte. byte == 0) (drop offset section)
+  pub below : (offset : ℕ) → offset < end → HasZeroFrom section offset
+  pub above : (offset : ℕ) → end ≤ offset → HasZeroFrom section offset → ⊥

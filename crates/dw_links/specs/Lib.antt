@@ -1,8 +1,9 @@
 -- Chapters, in reading order.
-pub mod Concerns
+pub mod RulesOfAttributes
 pub mod Classes
 pub mod Contributions
 pub mod Bases
+pub mod Constants
 pub mod Strings
 pub mod ValueTexts
 pub mod AttributeTexts
@@ -12,10 +13,10 @@ pub mod References
 pub mod LinkFaults
 pub mod LinkLaws
 -- State.
-pub mod Ready
+pub mod UnitContributions
 pub mod Slots
 pub mod SignedTypes
-pub mod Linkable
+pub mod UnitAtHand
 pub mod DeclaredEntries
 pub mod Tables
-pub mod Linking
+pub mod EntryLinks

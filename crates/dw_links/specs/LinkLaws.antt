@@ -1,33 +1,33 @@
 -- Chapter: what each value has if no rule on strings, addresses and references fails: a target, a text, an address. The
 -- functions of `laws.rt` have the proofs.
-use Rattle.std.specs.Prelude.{◌≡◌, ℕ, ◌+◌, true, List, Some, slice_get, IsSome}
+use Rattle.std.specs.Prelude.{◌≡◌, ℕ, ◌+◌, ◌<◌, true, List, Some, length, slice_get, IsSome}
 use Rattle.dw_elf.specs.declared.sections.Sections.{Sections}
 use Rattle.dw_forms.specs.Codes.{DW_AT_sibling}
 use Rattle.dw_forms.specs.Value.{Datum}
 use Rattle.dw_entries.specs.Units.{DebugUnit}
 use Rattle.dw_entries.specs.Entries.{Entry, PlacedUnit, entries_of, placed}
-use Rattle.dw_entries.specs.Asked.{EachEntry}
+use Rattle.dw_entries.specs.ByNumber.{entry_of}
+use Rattle.dw_entries.specs.EntryRules.{EachEntry}
 use Rattle.dw_entries.specs.Lookups.{entry_head, value_at_entry}
-use Rattle.dw_entries.specs.Runs.{IsEntryIn}
+use Rattle.dw_entries.specs.EntriesAt.{IsEntryIn}
 use Rattle.dw_forms.specs.declared.class.Class.{Class}
 use Rattle.dw_forms.specs.declared.class.Class.TheVariants.{Address, Reference, String}
 use Rattle.dw_links.specs.Classes.{class_of}
 use Rattle.dw_links.specs.References.{permits, permits_form, HasType}
-use Rattle.dw_links.specs.Signatures.{type_in, HasSignature, AreDistinct}
+use Rattle.dw_links.specs.Signatures.{type_unit_of, HasSignature, AreDistinct}
 use Rattle.dw_links.specs.Targets.{reach_of, target_of}
 use Rattle.dw_links.specs.AttributeTexts.{text_at, address_at}
 
 -- a fact of each attribute that has a value of a class
-abbrev pub EachValue : Class → (Entry → ℕ → Datum → Type 0) → List Entry → Type 0
-EachValue class P entries =
+abbrev pub EachValueOf : Class → (Entry → ℕ → Datum → Type 0) → List Entry → Type 0
+EachValueOf class P entries =
     EachEntry (λ e. (attribute : ℕ) (v : Datum) → value_at_entry e attribute ≡ Some v → class_of v ≡ class
     → P e attribute v) entries
 
 -- the entry with this number begins so far after the start of .debug_info, in which the first unit begins at a base
 pub record IsEntryPast (entries : List Entry) (base offset id : ℕ) : Type 0 where
-  pub entry : Entry
-  pub is_entry : slice_get entries id ≡ Some entry
-  pub begins : base + entry.at ≡ offset
+  pub within : id < length entries
+  pub begins : base + (entry_of entries id).at ≡ offset
 
 -- an entry begins so far after the start of .debug_info, by the base of the unit that the reference is in
 pub record ReachesInInfo (entries : List Entry) (units : List PlacedUnit) (number offset id : ℕ) : Type 0 where
@@ -56,23 +56,23 @@ pub record HasTarget (entries : List Entry) (units : List PlacedUnit) (e : Entry
 
 -- each value of class reference has a target
 abbrev pub HaveTargets : List DebugUnit → Type 0
-HaveTargets units = EachValue Reference (HasTarget (entries_of units) (placed units)) (entries_of units)
+HaveTargets units = EachValueOf Reference (HasTarget (entries_of units) (placed units)) (entries_of units)
 
 -- no two type units have one signature, and a type begins at the type offset of each
 pub record HaveTypes (units : List DebugUnit) : Type 0 where
   pub distinct : AreDistinct (placed units)
   pub types : (number signature type_offset : ℕ) (p : PlacedUnit) → slice_get (placed units) number ≡ Some p
-      → type_in p.unit.header.kind ≡ Some (signature, type_offset)
+      → type_unit_of p.unit.header.kind ≡ Some (signature, type_offset)
       → HasType (entries_of units) number (p.at + type_offset)
 
 -- each value of class string has a text
 abbrev pub HaveTexts : Sections → List DebugUnit → Type 0
 HaveTexts sections units =
-    EachValue String (λ e attribute v. IsSome (text_at sections (entries_of units) (placed units) e attribute))
+    EachValueOf String (λ e attribute v. IsSome (text_at sections (entries_of units) (placed units) e attribute))
     (entries_of units)
 
 -- each value of class address is an address
 abbrev pub HaveAddresses : Sections → List DebugUnit → Type 0
 HaveAddresses sections units =
-    EachValue Address (λ e attribute v. IsSome (address_at sections (entries_of units) (placed units) e attribute))
+    EachValueOf Address (λ e attribute v. IsSome (address_at sections (entries_of units) (placed units) e attribute))
     (entries_of units)

@@ -9,17 +9,18 @@ use Rattle.dw_entries.specs.declared.entry.EntryHead.{EntryHead}
 use Rattle.dw_entries.specs.Lookups.{value_at_entry}
 use Rattle.dw_entries.specs.Units.{DebugUnit}
 use Rattle.dw_entries.specs.Entries.{Entry, entries_of}
-use Rattle.dw_entries.specs.Runs.{IsEntryIn}
+use Rattle.dw_entries.specs.ByNumber.{entry_of}
+use Rattle.dw_entries.specs.EntriesAt.{IsEntryIn}
 use Rattle.dw_entries.specs.Places.{at_header}
 use Rattle.dw_entries.specs.Failures.{Failure}
-use Rattle.dw_entries.specs.Asked.{AtPlace, AtEntries, InList}
+use Rattle.dw_entries.specs.EntryRules.{AtPlace, AtEntries, InList}
 use Rattle.dw_forms.specs.Codes.{DW_AT_sibling, DW_AT_import, DW_AT_specification, DW_AT_type, DW_AT_signature}
 use Rattle.dw_forms.specs.Codes.{DW_AT_declaration, DW_TAG_imported_unit, DW_TAG_structure_type, DW_TAG_union_type}
 use Rattle.dw_forms.specs.Codes.{DW_TAG_enumeration_type, DW_TAG_compile_unit, DW_TAG_partial_unit, is_type_tag}
 use Rattle.dw_entries.specs.Entries.{PlacedUnit, placed}
 use Rattle.dw_links.specs.Classes.{is_one_of}
-use Rattle.dw_links.specs.Concerns.{AtHead}
-use Rattle.dw_links.specs.Signatures.{type_in, HasSignature}
+use Rattle.dw_links.specs.RulesOfAttributes.{AtHead}
+use Rattle.dw_links.specs.Signatures.{type_unit_of, HasSignature}
 use Rattle.dw_links.specs.Targets.{reach_of}
 
 -- a flag that is there and true
@@ -117,7 +118,7 @@ pub record IsSignedBefore (units : List PlacedUnit) (number signature : ℕ) : T
 pub record HasType (entries : List Entry) (number offset : ℕ) : Type 0 where
   pub id : ℕ
   pub is_type : IsEntryIn entries number offset id
-  pub tag : is_type_tag is_type.entry.head.decl.tag ≡ true
+  pub tag : is_type_tag (entry_of entries id).head.decl.tag ≡ true
 
 -- the rules at the header of a type unit: SignatureTwice, as above, and
 -- BadTypeOffset: no type of the type unit starts at its type offset
@@ -135,7 +136,7 @@ HeaderFails entries units number at (Some (signature, type_offset)) rule =
 -- the failures at the header of a unit
 abbrev pub AtHeader : List Entry → List PlacedUnit → ℕ → PlacedUnit → Failure → Type 0
 AtHeader entries units number unit =
-    AtPlace (at_header unit.at) (HeaderFails entries units number unit.at (type_in unit.unit.header.kind))
+    AtPlace (at_header unit.at) (HeaderFails entries units number unit.at (type_unit_of unit.unit.header.kind))
 
 -- the failures at the headers of units
 abbrev pub HeaderFailures : List Entry → List PlacedUnit → Failure → Type 0

@@ -6,16 +6,16 @@ use Rattle.dw_entries.specs.declared.header.HeaderKind.TheVariants.{TypeUnit}
 use Rattle.dw_entries.specs.Entries.{PlacedUnit}
 
 -- the signature of a type unit, and how far after its header's first byte its type begins
-abbrev pub type_in : HeaderKind → Option (ℕ × ℕ)
-type_in (TypeUnit signature type_offset) = Some (signature, type_offset)
-type_in _ = None
+abbrev pub type_unit_of : HeaderKind → Option (ℕ × ℕ)
+type_unit_of (TypeUnit signature type_offset) = Some (signature, type_offset)
+type_unit_of _ = None
 
 -- the type unit with this number has the signature
 pub record HasSignature (units : List PlacedUnit) (signature number : ℕ) : Type 0 where
   pub unit : PlacedUnit
   pub is_unit : slice_get units number ≡ Some unit
   pub type_offset : ℕ
-  pub signed : type_in unit.unit.header.kind ≡ Some (signature, type_offset)
+  pub signed : type_unit_of unit.unit.header.kind ≡ Some (signature, type_offset)
 
 -- no two type units have one signature
 abbrev pub AreDistinct : List PlacedUnit → Type 0
@@ -29,4 +29,4 @@ is_signature_of signature (Some (other, type_offset)) = other == signature
 -- the number of the first type unit that has the signature
 unfoldable pub first_signed : List PlacedUnit → ℕ → Option ℕ
 first_signed units signature =
-    position_from (λ (u : PlacedUnit). is_signature_of signature (type_in u.unit.header.kind)) 0 units
+    position_from (λ (u : PlacedUnit). is_signature_of signature (type_unit_of u.unit.header.kind)) 0 units

@@ -6,31 +6,31 @@ use Rattle.dw_entries.specs.declared.header.UnitHeader.{UnitHeader}
 use Rattle.dw_entries.specs.Header.{IsSize}
 use Rattle.dw_links.specs.declared.texts.TextPlace.{TextPlace}
 use Rattle.dw_links.specs.declared.texts.TextPlace.TheVariants.{Info, Str, LineStr}
-use Rattle.dw_links.specs.Contributions.{slot_at, Ends}
+use Rattle.dw_links.specs.Contributions.{slot_at, HasZeroFrom}
 
 -- the slot of an index is within .debug_str_offsets, and a string of .debug_str begins at the offset that is there
 pub record IsTextSlot (sections : Sections) (index base : ℕ) : Type 0 where
   pub within : base + 4 * index + 4 ≤ length sections.str_offsets.now
-  pub leads : Ends sections.str.now (slot_at sections.str_offsets.now 4 base index)
+  pub leads : HasZeroFrom sections.str.now (slot_at sections.str_offsets.now 4 base index)
 
 -- a string begins where a value says, in a unit that has this base
 abbrev pub TextLies : Sections → (base : Option ℕ) → Datum → Type 0
-TextLies sections base (str offset) = Ends sections.str.now offset
-TextLies sections base (line_str offset) = Ends sections.line_str.now offset
+TextLies sections base (str offset) = HasZeroFrom sections.str.now offset
+TextLies sections base (line_str offset) = HasZeroFrom sections.line_str.now offset
 TextLies sections base (str_index index) = IfSome base (IsTextSlot sections index)
 TextLies sections base _ = Unit {0}
 
 -- a place is within its section
-abbrev pub IsPlace : Sections → TextPlace → Type 0
-IsPlace sections (Info offset) = offset ≤ length sections.info.now
-IsPlace sections (Str offset) = offset ≤ length sections.str.now
-IsPlace sections (LineStr offset) = offset ≤ length sections.line_str.now
+abbrev pub IsTextPlace : Sections → TextPlace → Type 0
+IsTextPlace sections (Info offset) = offset ≤ length sections.info.now
+IsTextPlace sections (Str offset) = offset ≤ length sections.str.now
+IsTextPlace sections (LineStr offset) = offset ≤ length sections.line_str.now
 
 -- a string begins at a place
 abbrev pub BeginsString : Sections → TextPlace → Type 0
-BeginsString sections (Info offset) = Ends sections.info.now offset
-BeginsString sections (Str offset) = Ends sections.str.now offset
-BeginsString sections (LineStr offset) = Ends sections.line_str.now offset
+BeginsString sections (Info offset) = HasZeroFrom sections.info.now offset
+BeginsString sections (Str offset) = HasZeroFrom sections.str.now offset
+BeginsString sections (LineStr offset) = HasZeroFrom sections.line_str.now offset
 
 -- the slot of an index lies within .debug_addr
 pub record IsAddressSlot (sections : Sections) (header : UnitHeader) (index base : ℕ) : Type 0 where

@@ -10,11 +10,11 @@ use Rattle.dw_entries.specs.Header.{version_of}
 use Rattle.dw_entries.specs.Units.{DebugUnit}
 use Rattle.dw_entries.specs.Entries.{Entry, entries_of}
 use Rattle.dw_entries.specs.Failures.{Failure}
-use Rattle.dw_entries.specs.Asked.{AtEntries}
-use Rattle.dw_links.specs.Concerns.{AtHead}
+use Rattle.dw_entries.specs.EntryRules.{AtEntries}
+use Rattle.dw_links.specs.RulesOfAttributes.{AtHead}
 use Rattle.dw_forms.specs.Codes.{DW_AT_str_offsets_base, DW_AT_addr_base}
 use Rattle.dw_entries.specs.Entries.{PlacedUnit, placed}
-use Rattle.dw_links.specs.Contributions.{IsContribution, slot_count, slot_at, Ends}
+use Rattle.dw_links.specs.Contributions.{IsContribution, slot_count, slot_at, HasZeroFrom}
 use Rattle.dw_links.specs.Bases.{base_in}
 
 -- the header of a string contribution ends with two zero bytes, and a slot has 4 bytes
@@ -40,7 +40,7 @@ StringIndexFails sections (Some base) index StrIndex = IsStringContribution sect
     × (slot_count sections.str_offsets.now 4 base ≤ index)
 StringIndexFails sections (Some base) index StringEnd =
     IsStringContribution sections base × (index < slot_count sections.str_offsets.now 4 base)
-    × (Ends sections.str.now (slot_at sections.str_offsets.now 4 base index) → ⊥)
+    × (HasZeroFrom sections.str.now (slot_at sections.str_offsets.now 4 base index) → ⊥)
 StringIndexFails sections base index _ = ⊥
 
 -- at an indexed address: the unit names no contribution, or it has no such index
@@ -52,7 +52,7 @@ AddressIndexFails sections header base index _ = ⊥
 
 -- at an offset into a section of strings: no string begins there
 abbrev pub OffsetFails : List ℕ → ℕ → Rule → Type 0
-OffsetFails section offset StringEnd = Ends section offset → ⊥
+OffsetFails section offset StringEnd = HasZeroFrom section offset → ⊥
 OffsetFails section offset _ = ⊥
 
 -- the rules at an attribute of a unit that has this header and these bases

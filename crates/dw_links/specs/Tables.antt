@@ -6,6 +6,7 @@ use Rattle.dw_entries.specs.Entries.{Entry, PlacedUnit}
 use Rattle.dw_entries.specs.Views.{all_entries, all_units}
 use Rattle.dw_links.specs.declared.tables.LinkTables.{LinkTables}
 use Rattle.dw_links.specs.Bases.{bases_in}
+use Rattle.dw_links.specs.Constants.{language_of}
 use Rattle.dw_links.specs.SignedTypes.{HasSignedTypes}
 use Rattle.dw_links.specs.Targets.{target_of}
 
@@ -13,12 +14,14 @@ use Rattle.dw_links.specs.Targets.{target_of}
 abbrev pub type_target : List Entry → List PlacedUnit → Entry → Option ℕ
 type_target entries units e = target_of entries units e DW_AT_type
 
--- the tables of these entries: the type of each signature, the bases of each unit, and the target of each entry's type
+-- the tables of these entries: the type of each signature, the bases and the language of each unit, and the target of
+-- each entry's type
 pub record AreTables (entries : Entries) (tables : LinkTables) : Type 0 where
   pub signatures : HasSignedTypes entries tables.signatures
   pub str_bases : tables.str_bases.items
       ≡ bases_in (all_entries entries) (all_units entries) DW_AT_str_offsets_base
   pub addr_bases : tables.addr_bases.items
       ≡ bases_in (all_entries entries) (all_units entries) DW_AT_addr_base
+  pub languages : tables.languages.items ≡ map language_of (all_units entries)
   pub types : tables.types.items ≡ map (type_target (all_entries entries) (all_units entries))
       (all_entries entries)

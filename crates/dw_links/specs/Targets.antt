@@ -4,7 +4,7 @@ use Rattle.std.specs.List.{position_from}
 use Rattle.dw_forms.specs.Value.{Datum, ref_info, ref_unit, ref_sig}
 use Rattle.dw_entries.specs.Lookups.{value_at_entry}
 use Rattle.dw_entries.specs.Entries.{Entry, PlacedUnit}
-use Rattle.dw_links.specs.Signatures.{type_in, first_signed}
+use Rattle.dw_links.specs.Signatures.{type_unit_of, first_signed}
 
 -- the number of the entry that begins so far after the start of .debug_info, in which the first unit begins at a base
 unfoldable pub entry_past : List Entry → (base offset : ℕ) → Option ℕ
@@ -28,7 +28,8 @@ reach_in_unit entries units unit offset =
 abbrev pub type_of_unit : List Entry → List PlacedUnit → (unit : ℕ) → Option ℕ
 type_of_unit entries units unit =
     option_and_then (λ (u : PlacedUnit). option_and_then
-    (λ (type : ℕ × ℕ). reach_in_unit entries units unit type.1) (type_in u.unit.header.kind)) (slice_get units unit)
+    (λ (type : ℕ × ℕ). reach_in_unit entries units unit type.1) (type_unit_of u.unit.header.kind))
+    (slice_get units unit)
 
 -- the type of the first type unit that has the signature
 abbrev pub signed_type : List Entry → List PlacedUnit → (signature : ℕ) → Option ℕ

@@ -14,12 +14,12 @@ indexed_text sections (Some base) index =
     Some (string_at sections.str.now (slot_at sections.str_offsets.now 4 base index))
 
 -- the text of a value of class string, in a unit that has this base
-abbrev pub text_of : Sections → (base : Option ℕ) → Datum → Option (List ℕ)
-text_of sections base (text bytes) = Some bytes
-text_of sections base (str offset) = Some (string_at sections.str.now offset)
-text_of sections base (line_str offset) = Some (string_at sections.line_str.now offset)
-text_of sections base (str_index index) = indexed_text sections base index
-text_of sections base _ = None
+abbrev pub text_of_value : Sections → (base : Option ℕ) → Datum → Option (List ℕ)
+text_of_value sections base (text bytes) = Some bytes
+text_of_value sections base (str offset) = Some (string_at sections.str.now offset)
+text_of_value sections base (line_str offset) = Some (string_at sections.line_str.now offset)
+text_of_value sections base (str_index index) = indexed_text sections base index
+text_of_value sections base _ = None
 
 -- the text at a place
 abbrev pub text_there : Sections → TextPlace → List ℕ

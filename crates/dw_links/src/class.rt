@@ -1,24 +1,25 @@
 //! The rule on classes (DWARF 5, 7.5.4 and 7.5.5): by declarations, and where one of these leaves a class open,
 //! by values.
 
-ghost use Rattle.std.specs.Prelude.{◌≡◌, ◌<◌, length, slice_get, OnOk, IfErr};
+ghost use Rattle.std.specs.Prelude.{◌≡◌, ◌<◌, length, OnOk, IfErr};
 ghost use Rattle.std.specs.Bool.{OnFalse};
 ghost use Rattle.dw_forms.specs.Value.{view};
 ghost use Rattle.dw_entries.specs.declared.fault.Section.TheVariants.{Info};
+ghost use Rattle.dw_entries.specs.ByNumber.{entry_of};
 ghost use Rattle.dw_entries.specs.Views.{all_entries, all_units, units_of};
 ghost use Rattle.dw_entries.specs.Failures.{HasNone, IsFirst, IsLeast, IsPlainFault};
 ghost use Rattle.dw_links.specs.Classes.{ClassFails, ClassFailures};
-ghost use Rattle.dw_links.specs.Concerns.{AtHead, PassesAt, FailsAt};
+ghost use Rattle.dw_links.specs.RulesOfAttributes.{AtHead};
 
-use dw_entries::{Broken, Entries, EntryHead, EntryId, Fault, Rule, Section};
+use dw_entries::{Entries, EntryHead, EntryId, Fault, PlainFault, Rule, Section};
 use dw_forms::{Attribute, Value, class_of_value, is_allowed_in, is_open};
 use std::alloc::Global;
 
 /// A rule that fails at an attribute of an entry.
-pub fn broken_at(head: &EntryHead, attribute: Attribute, rule: Rule) -> Broken
+pub fn plain_fault_at(head: &EntryHead, attribute: Attribute, rule: Rule) -> PlainFault
     ensures { result ≡ record { rule = rule; section = Info; at = head.now.offset; attribute = attribute } }
 {
-    Broken {
+    PlainFault {
         rule,
         section: Section::Info,
         at: head.offset,
@@ -58,19 +59,19 @@ fn ask_class(
 }
 
 /// The first attribute of an entry whose value has none of its classes. Only open attributes are looked at.
-fn check_entry(entries: &Entries<'_>, id: EntryId) -> Result<(), Broken>
+fn check_entry(entries: &Entries<'_>, id: EntryId) -> Result<(), PlainFault>
     requires { id < length (all_entries entries.now) }
-    ensures ok { OnOk result (PassesAt (slice_get (all_entries entries.now) id)
-        (AtHead (ClassFails (all_units entries.now)))) }
-    ensures err { IfErr result (FailsAt (slice_get (all_entries entries.now) id)
-        (AtHead (ClassFails (all_units entries.now)))) }
+    ensures ok { OnOk result (HasNone
+        (AtHead (ClassFails (all_units entries.now)) (entry_of (all_entries entries.now) id))) }
+    ensures err { IfErr result (IsFirst
+        (AtHead (ClassFails (all_units entries.now)) (entry_of (all_entries entries.now) id))) }
 {
     let entry = entries.at(id);
     let head = entry.head();
     let mut values = entry.values();
     while let Some(item) = values.next_open() {
         if let Some(rule) = ask_class(entries, &head, item.0, &item.1) {
-            return Err(broken_at(&head, item.0, rule));
+            return Err(plain_fault_at(&head, item.0, rule));
         }
     }
     Ok(())

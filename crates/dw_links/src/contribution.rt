@@ -1,8 +1,8 @@
 //! The contributions of units to .debug_str_offsets and .debug_addr (DWARF 5, sections 7.26 and 7.27).
 
-ghost use Rattle.std.specs.Prelude.{◌≡◌, ◌+◌, ◌<◌, ◌≤◌, length, Some, slice_get, IfSome};
+ghost use Rattle.std.specs.Prelude.{◌≡◌, ◌+◌, ◌<◌, ◌≤◌, length, Some, IfSome};
 ghost use Rattle.dw_elf.specs.Elf.{number_at};
-ghost use Rattle.dw_entries.specs.Entries.{PlacedUnit};
+ghost use Rattle.dw_entries.specs.ByNumber.{placed_of};
 ghost use Rattle.dw_entries.specs.Views.{all_entries, all_units, units_of};
 ghost use Rattle.dw_links.specs.Bases.{base_in};
 ghost use Rattle.dw_links.specs.Contributions.{IsCount, IsEndOfStrings};
@@ -15,8 +15,7 @@ use memchr::memrchr;
 /// The base that a unit's first entry gives to its contribution: the offset of the first slot in its section.
 pub fn base_in_unit(entries: &Entries<'_>, number: usize, attribute: Attribute) -> Option<u32>
     requires { number < length (units_of entries.now) }
-    ensures { (p : PlacedUnit) → slice_get (all_units entries.now) number ≡ Some p
-        → result ≡ base_in (all_entries entries.now) p attribute }
+    ensures { result ≡ base_in (all_entries entries.now) (placed_of (all_units entries.now) number) attribute }
 {
     let unit = entries.unit(number);
     if unit.header.kind.version() == 4 {

@@ -3,40 +3,40 @@
 ghost use Rattle.std.specs.Prelude.{IfOk, IfErr};
 ghost use Rattle.dw_forms.specs.Value.{view};
 ghost use Rattle.dw_links.specs.DeclaredEntries.{KeepsDeclared};
-ghost use Rattle.dw_links.specs.Linking.{Reaches, HasFailedAs, ReachesAt, HasFailedAt, KeepsAt};
-ghost use Rattle.dw_links.specs.Linkable.{entries_in, MayAsk, MayLink};
+ghost use Rattle.dw_links.specs.EntryLinks.{Reaches, HasFailedAs, ReachesAt, HasFailedAt, KeepsAt};
+ghost use Rattle.dw_links.specs.UnitAtHand.{entries_followed, MayAsk, MayLink};
 
-use crate::class::broken_at;
+use crate::class::plain_fault_at;
 use crate::linking::{keep, number_of};
-use crate::references::References;
-use dw_entries::{Broken, EntryHead, EntryId, OptionalId};
+use crate::references::UnitLinks;
+use dw_entries::{EntryHead, EntryId, OptionalId, PlainFault};
 use dw_forms::{Attribute, Value};
 
-impl References<'_, '_, '_> {
+impl UnitLinks<'_, '_, '_> {
     /// The target of a value, or the first rule that fails there.
     #[inline(always)]
     fn judge_by(
         &self,
-        declared: &mut [Option<bool>],
+        known: &mut [Option<bool>],
         head: &EntryHead,
         attribute: Attribute,
         value: &Value<'_>,
-    ) -> Result<OptionalId, Broken>
+    ) -> Result<OptionalId, PlainFault>
         requires may { MayAsk self.now head.now }
-        requires kept { KeepsDeclared (entries_in self.now) declared.old }
-        ensures kept { KeepsDeclared (entries_in self.now) declared.new }
+        requires kept { KeepsDeclared (entries_followed self.now) known.old }
+        ensures kept { KeepsDeclared (entries_followed self.now) known.new }
         ensures ok { IfOk result
-            (λ reached. Reaches (entries_in self.now) attribute (view value.now) reached head.now) }
-        ensures err { IfErr result (HasFailedAs (entries_in self.now) head.now attribute (view value.now)) }
+            (λ reached. Reaches (entries_followed self.now) attribute (view value.now) reached head.now) }
+        ensures err { IfErr result (HasFailedAs (entries_followed self.now) head.now attribute (view value.now)) }
     {
         if let Some(rule) = self.texts.ask(head, attribute, value) {
-            return Err(broken_at(head, attribute, rule));
+            return Err(plain_fault_at(head, attribute, rule));
         }
         let reached = self.reach(head, value);
         let target = number_of(self.entries, &reached);
-        match self.ask(declared, head, attribute, value, reached) {
+        match self.ask(known, head, attribute, value, reached) {
             None => Ok(target),
-            Some(rule) => Err(broken_at(head, attribute, rule)),
+            Some(rule) => Err(plain_fault_at(head, attribute, rule)),
         }
     }
 
@@ -46,39 +46,39 @@ impl References<'_, '_, '_> {
     #[inline(never)]
     fn judge(
         &self,
-        declared: &mut [Option<bool>],
+        known: &mut [Option<bool>],
         id: EntryId,
         attribute: Attribute,
         value: &Value<'_>,
-    ) -> Result<OptionalId, Broken>
+    ) -> Result<OptionalId, PlainFault>
         requires may { MayLink self.now id }
-        requires kept { KeepsDeclared (entries_in self.now) declared.old }
-        ensures kept { KeepsDeclared (entries_in self.now) declared.new }
+        requires kept { KeepsDeclared (entries_followed self.now) known.old }
+        ensures kept { KeepsDeclared (entries_followed self.now) known.new }
         ensures ok { IfOk result (ReachesAt self.now id attribute (view value.now)) }
         ensures err { IfErr result (HasFailedAt self.now id attribute (view value.now)) }
     {
         let head = self.entry(id, self.texts.head.header).head();
-        self.judge_by(declared, &head, attribute, value)
+        self.judge_by(known, &head, attribute, value)
     }
 
     /// What is kept of an entry's type after a value, or the rule that fails there.
     #[inline(always)]
     pub(crate) fn judge_next(
         &self,
-        declared: &mut [Option<bool>],
+        known: &mut [Option<bool>],
         id: EntryId,
         kept: Option<OptionalId>,
         attribute: Attribute,
         value: Value<'_>,
-    ) -> Result<Option<OptionalId>, Broken>
+    ) -> Result<Option<OptionalId>, PlainFault>
         requires may { MayLink self.now id }
-        requires kept { KeepsDeclared (entries_in self.now) declared.old }
-        ensures kept { KeepsDeclared (entries_in self.now) declared.new }
+        requires kept { KeepsDeclared (entries_followed self.now) known.old }
+        ensures kept { KeepsDeclared (entries_followed self.now) known.new }
         ensures ok { IfOk result (KeepsAt self.now id attribute (view value.entry) kept) }
         ensures err { IfErr result (HasFailedAt self.now id attribute (view value.entry)) }
     {
         let given = value;
-        match self.judge(declared, id, attribute, &given) {
+        match self.judge(known, id, attribute, &given) {
             Ok(reached) => Ok(keep(kept, attribute, reached)),
             Err(broken) => Err(broken),
         }

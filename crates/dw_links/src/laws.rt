@@ -6,7 +6,7 @@ ghost use Rattle.dw_forms.specs.Value.{ref_info, ref_unit, ref_sig};
 ghost use Rattle.dw_entries.specs.Units.{DebugUnit, Spells};
 ghost use Rattle.dw_entries.specs.Entries.{entries_of, placed};
 ghost use Rattle.dw_entries.specs.Failures.{HasNone};
-ghost use Rattle.dw_entries.specs.Runs.{ReachesInUnit};
+ghost use Rattle.dw_entries.specs.EntriesAt.{ReachesInUnit};
 ghost use Rattle.dw_links.specs.References.{ReferenceFailures};
 ghost use Rattle.dw_links.specs.Signatures.{AreDistinct};
 ghost use Rattle.dw_links.specs.Strings.{StringFailures};

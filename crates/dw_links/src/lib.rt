@@ -2,13 +2,13 @@
 #![tactic(auto)]
 
 mod class;
+mod constant;
 mod contribution;
+mod following;
 mod judging;
 mod laws;
-mod leads;
 mod linking;
 mod links;
-mod reaching;
 mod references;
 mod strings;
 mod tables;
@@ -16,6 +16,7 @@ mod targets;
 mod texts;
 
 pub use class::check_classes;
+pub use constant::Constant;
 pub use contribution::{base_in_unit, number};
 pub use dw_forms::{Class, class_of_value};
 pub use laws::{one_entry_is_reached, references_have_targets, strings_have_texts};

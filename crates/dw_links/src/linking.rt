@@ -1,26 +1,26 @@
 //! The rules on strings, addresses and references, checked in one pass over the values of all entries, and what is kept
-//! of it: the bases of units, and the targets of types.
+//! of it: the bases and languages of units, and the targets of types.
 
 ghost use Rattle.std.specs.Prelude.{◌≡◌, ◌==◌, ◌<◌, length, Some, IfSome, IfOk, IfErr};
-ghost use Rattle.dw_entries.specs.Entries.{Entry};
 ghost use Rattle.dw_entries.specs.Views.{sections_of, all_entries, all_units, units_of};
 ghost use Rattle.dw_entries.specs.Failures.{HasNone, IsFirst};
 ghost use Rattle.dw_entries.specs.Rules.{group_of};
 ghost use Rattle.dw_entries.specs.Stopped.{IfPlainFault};
 ghost use Rattle.dw_links.specs.DeclaredEntries.{KeepsDeclared};
-ghost use Rattle.dw_links.specs.Linking.{kept_after, IsLinked, HasFailed, IsFirstOfGroup};
-ghost use Rattle.dw_links.specs.Linking.{AreLinked};
-ghost use Rattle.dw_links.specs.Linkable.{entries_in, entry_with, MayLink};
+ghost use Rattle.dw_links.specs.EntryLinks.{kept_after, IsEntryLinked, IsFirstAtEntry, IsFirstOfGroup};
+ghost use Rattle.dw_links.specs.EntryLinks.{AreLinked};
+ghost use Rattle.dw_links.specs.UnitAtHand.{entries_followed, entry_with, MayLink};
 ghost use Rattle.dw_links.specs.LinkFaults.{IsFirstOfTargets};
 ghost use Rattle.dw_links.specs.References.{HeaderFailures, ReferenceFailures};
 ghost use Rattle.dw_links.specs.SignedTypes.{HasSignedTypes, AreTyped};
 
+use crate::constant::language_in_unit;
 use crate::contribution::end_of_strings;
-use crate::references::References;
+use crate::references::UnitLinks;
 use crate::strings::check_strings;
 use crate::tables::LinkTables;
 use dw_entries::constants::*;
-use dw_entries::{Broken, Entries, EntryId, Fault, Hints, OptionalId, Rule, Stop, UnitHeader};
+use dw_entries::{Entries, EntryId, Fault, Hints, OptionalId, PlainFault, Rule, Stop, UnitHeader};
 use dw_forms::{Attribute, Lead};
 use std::alloc::Global;
 use std::collections::BTreeMap;
@@ -52,23 +52,21 @@ pub(crate) fn keep(
     }
 }
 
-impl References<'_, '_, '_> {
+impl UnitLinks<'_, '_, '_> {
     /// The target of an entry's type, or the first failure at the entry. Each value is decoded once.
     #[inline(always)]
     fn link_entry(
         &self,
-        declared: &mut [Option<bool>],
+        known: &mut [Option<bool>],
         id: EntryId,
         header: UnitHeader,
-    ) -> Result<OptionalId, Broken>
+    ) -> Result<OptionalId, PlainFault>
         requires may { MayLink self.now id }
         requires header { header ≡ self.now.texts.head.header }
-        requires kept { KeepsDeclared (entries_in self.now) declared.old }
-        ensures kept { KeepsDeclared (entries_in self.now) declared.new }
-        ensures ok { IfOk result
-            (λ target. (e : Entry) → entry_with self.now id ≡ Some e → IsLinked (entries_in self.now) e target) }
-        ensures err { IfErr result
-            (λ broken. (e : Entry) → entry_with self.now id ≡ Some e → HasFailed (entries_in self.now) e broken) }
+        requires kept { KeepsDeclared (entries_followed self.now) known.old }
+        ensures kept { KeepsDeclared (entries_followed self.now) known.new }
+        ensures ok { IfOk result (IsEntryLinked (entries_followed self.now) (entry_with self.now id)) }
+        ensures err { IfErr result (IsFirstAtEntry (entries_followed self.now) (entry_with self.now id)) }
     {
         let entry = self.entry(id, header);
         let mut leading = entry.leading();
@@ -77,7 +75,7 @@ impl References<'_, '_, '_> {
             match leading.lead() {
                 Lead::Nothing => return Ok(kept.unwrap_or(OptionalId::none())),
                 _ => {
-                    let after = self.link_next(declared, id, &mut leading, kept)?;
+                    let after = self.link_next(known, id, &mut leading, kept)?;
                     kept = after;
                 }
             }
@@ -112,7 +110,7 @@ fn is_string_rule(rule: Rule) -> bool
 }
 
 /// The fault of a failure, if it is the first of its group.
-fn stop_of(alloc: Global, entries: &Entries<'_>, broken: Broken) -> Stop<Fault>
+fn stop_of(alloc: Global, entries: &Entries<'_>, broken: PlainFault) -> Stop<Fault>
     requires { IsFirstOfGroup (sections_of entries.now) (units_of entries.now) broken }
     ensures { IfPlainFault (IsFirstOfTargets (sections_of entries.now) (units_of entries.now)) result }
 {
@@ -144,17 +142,19 @@ pub(crate) fn link_entries(
     );
     let mut str_bases = Vec::with_capacity(alloc, entries.unit_count())?;
     let mut addr_bases = Vec::with_capacity(alloc, entries.unit_count())?;
+    let mut languages = Vec::with_capacity(alloc, entries.unit_count())?;
     let mut types = vec![in alloc; OptionalId::none(); entries.count()]?;
-    let mut declared = vec![in alloc; None; entries.count()]?;
+    let mut known = vec![in alloc; None; entries.count()]?;
     for unit in 0..entries.unit_count() {
-        let references = References::of_unit(entries, ends, unit, &signatures, hints);
+        let references = UnitLinks::of_unit(entries, ends, unit, &signatures, hints);
         str_bases.push(references.texts.str_base)?;
         addr_bases.push(references.texts.addr_base)?;
+        languages.push(language_in_unit(entries, unit))?;
         let header = references.texts.head.header;
         let range = references.range;
         for number in range.0..range.1 {
             let id = entries.id(number);
-            match references.link_entry(declared.as_mut_slice(), id, header) {
+            match references.link_entry(known.as_mut_slice(), id, header) {
                 Ok(target) => types[number] = target,
                 Err(broken) => return Err(stop_of(alloc, entries, broken)),
             }
@@ -164,6 +164,7 @@ pub(crate) fn link_entries(
         signatures,
         str_bases,
         addr_bases,
+        languages,
         types,
     })
 }

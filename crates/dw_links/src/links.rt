@@ -1,6 +1,7 @@
 //! Entries whose references all have a target, and what the attributes of entries refer to.
 
-ghost use Rattle.std.specs.Prelude.{◌≡◌, ◌<◌, length, slice_get, IfSome, IfOk, option_copied, OnOk, IfErr};
+ghost use Rattle.std.specs.Prelude.{◌≡◌, ◌<◌, length, IfSome, IfOk, option_copied, OnOk, IfErr};
+ghost use Rattle.dw_entries.specs.ByNumber.{entry_of};
 ghost use Rattle.dw_entries.specs.Views.{sections_of, all_entries, all_units, units_of};
 ghost use Rattle.dw_entries.specs.Stopped.{IfPlainFault};
 ghost use Rattle.dw_entries.specs.Failures.{HasNone};
@@ -53,9 +54,8 @@ impl<'a> Links<'_, 'a> {
     /// The target of an entry's attribute. None if the attribute is absent or no reference.
     pub fn target(&self, id: EntryId, attribute: Attribute) -> Option<EntryId>
         requires { id < length (all_entries self.now.entries.now) }
-        ensures exact { IfSome (slice_get (all_entries self.now.entries.now) id)
-            (λ e. result ≡ target_of (all_entries self.now.entries.now) (all_units self.now.entries.now)
-            e attribute) }
+        ensures exact { result ≡ target_of (all_entries self.now.entries.now) (all_units self.now.entries.now)
+            (entry_of (all_entries self.now.entries.now) id) attribute }
         ensures within { IfSome result (λ t. t < length (all_entries self.now.entries.now)) }
     {
         self.tables.target(self.entries, id, attribute)
@@ -64,9 +64,9 @@ impl<'a> Links<'_, 'a> {
     /// The text of an entry's attribute. None if the attribute is absent or no string.
     pub fn text(&self, id: EntryId, attribute: Attribute) -> Option<&'a [u8]>
         requires { id < length (all_entries self.now.entries.now) }
-        ensures { IfSome (slice_get (all_entries self.now.entries.now) id)
-            (λ e. option_copied result ≡ text_at (sections_of self.now.entries.now)
-            (all_entries self.now.entries.now) (all_units self.now.entries.now) e attribute) }
+        ensures { option_copied result ≡ text_at (sections_of self.now.entries.now)
+            (all_entries self.now.entries.now) (all_units self.now.entries.now)
+            (entry_of (all_entries self.now.entries.now) id) attribute }
     {
         self.tables.text(self.entries, id, attribute)
     }
@@ -74,11 +74,18 @@ impl<'a> Links<'_, 'a> {
     /// The address of an entry's attribute. None if the attribute is absent or no address.
     pub fn address(&self, id: EntryId, attribute: Attribute) -> Option<u64>
         requires { id < length (all_entries self.now.entries.now) }
-        ensures { IfSome (slice_get (all_entries self.now.entries.now) id)
-            (λ e. result ≡ address_at (sections_of self.now.entries.now) (all_entries self.now.entries.now)
-            (all_units self.now.entries.now) e attribute) }
+        ensures { result ≡ address_at (sections_of self.now.entries.now)
+            (all_entries self.now.entries.now) (all_units self.now.entries.now)
+            (entry_of (all_entries self.now.entries.now) id) attribute }
     {
         self.tables.address(self.entries, id, attribute)
+    }
+
+    /// The tables, which are those of the entries.
+    pub fn tables(&self) -> &LinkTables
+        ensures { AreTables self.now.entries.now result.now }
+    {
+        &self.tables
     }
 
     /// The tables alone, for a caller who keeps them beside the entries.

@@ -1,33 +1,34 @@
 //! The rules at the headers of type units, and the rules on references (DWARF 5, section 7.5.5).
 
-ghost use Rattle.std.specs.Prelude.{true, ◌≡◌, None, Some, IfSome, ℕ, ◌+◌, ◌<◌, length, slice_get, IfNone, IfOk};
+ghost use Rattle.std.specs.Prelude.{true, ◌≡◌, None, Some, IfSome, ◌+◌, ◌<◌, length, IfNone, IfOk};
 ghost use Rattle.std.specs.Prelude.{OnOk, IfErr};
 ghost use Rattle.std.specs.Bool.{OnTrue, OnFalse};
 ghost use Rattle.dw_forms.specs.Value.{view};
 ghost use Rattle.dw_entries.specs.Failures.{IsLeast, HasNone, IsFirst};
 ghost use Rattle.dw_links.specs.Contributions.{IsEndOfStrings};
 ghost use Rattle.dw_links.specs.DeclaredEntries.{KeepsDeclared};
-ghost use Rattle.dw_links.specs.Linkable.{entries_in, entry_with, entry_after, FailsByTarget, target_by, IsLinkable};
-ghost use Rattle.dw_links.specs.Linkable.{MayAsk, MayLink};
+ghost use Rattle.dw_links.specs.UnitAtHand.{entries_followed, entry_with, entry_after, FailsByTarget, target_by};
+ghost use Rattle.dw_links.specs.UnitAtHand.{IsLinkable};
+ghost use Rattle.dw_links.specs.UnitAtHand.{MayAsk, MayLink};
 ghost use Rattle.dw_links.specs.LinkLaws.{IsEntryPast};
 ghost use Rattle.dw_links.specs.Targets.{entry_past};
 ghost use Rattle.dw_links.specs.References.{is_reference_value, HasType, TypeUnitFails, AtHeader, HeaderFailures};
-ghost use Rattle.dw_entries.specs.Entries.{PlacedUnit, node_count};
+ghost use Rattle.dw_entries.specs.ByNumber.{end_in, placed_of};
 ghost use Rattle.dw_entries.specs.Views.{sections_of, all_entries, all_units, units_of};
-ghost use Rattle.dw_entries.specs.Runs.{ReachesInUnit};
+ghost use Rattle.dw_entries.specs.EntriesAt.{ReachesInUnit};
 ghost use Rattle.dw_entries.specs.Stopped.{IfPlainFault};
 ghost use Rattle.dw_links.specs.Signatures.{HasSignature};
 ghost use Rattle.dw_links.specs.SignedTypes.{AreSignedBelow, HasSignedTypes, AreTyped};
 
-use crate::strings::{UnitTexts, read_texts};
+use crate::strings::{UnitContributions, read_texts};
 use crate::targets::{
     entry_from_header, entry_from_start, is_permitted, is_permitted_form, is_reference, is_sig8,
     reach,
 };
 use dw_entries::constants::*;
 use dw_entries::{
-    Broken, Entries, EntryAt, EntryHead, EntryId, Fault, HeaderKind, Hints, Rule, Section, Stop,
-    UnitHeader,
+    Entries, EntryAt, EntryHead, EntryId, Fault, HeaderKind, Hints, PlainFault, Rule, Section,
+    Stop, UnitHeader,
 };
 use dw_forms::{Attribute, Value};
 use std::alloc::Global;
@@ -37,10 +38,10 @@ use std::collections::BTreeMap;
 fn find_type(entries: &Entries<'_>, number: usize, type_offset: u32) -> Option<EntryId>
     requires { number < length (units_of entries.now) }
     ensures found { IfSome result (ReachesInUnit (all_entries entries.now) (all_units entries.now) number type_offset) }
-    ensures some { IfSome result (λ _. (p : PlacedUnit) → slice_get (all_units entries.now) number ≡ Some p
-        → HasType (all_entries entries.now) number (p.at + type_offset)) }
-    ensures none { IfNone result ((p : PlacedUnit) → slice_get (all_units entries.now) number ≡ Some p
-        → HasType (all_entries entries.now) number (p.at + type_offset) → ⊥) }
+    ensures some { IfSome result (λ _. HasType (all_entries entries.now) number
+        ((placed_of (all_units entries.now) number).at + type_offset)) }
+    ensures none { IfNone result (HasType (all_entries entries.now) number
+        ((placed_of (all_units entries.now) number).at + type_offset) → ⊥) }
 {
     let Some(id) = entries.find_in_unit(number, type_offset as u64) else {
         return None;
@@ -63,12 +64,10 @@ fn check_type(
     requires has { HasSignature (all_units entries.now) signature number }
     requires before { AreSignedBelow (all_entries entries.now) (all_units entries.now) number signatures.now }
     ensures found { IfOk result (ReachesInUnit (all_entries entries.now) (all_units entries.now) number type_offset) }
-    ensures ok { OnOk result ((p : PlacedUnit) → slice_get (all_units entries.now) number ≡ Some p
-        → IsLeast (TypeUnitFails (all_entries entries.now) (all_units entries.now) number p.at signature
-        type_offset) None) }
-    ensures err { IfErr result (λ rule. (p : PlacedUnit) → slice_get (all_units entries.now) number ≡ Some p
-        → IsLeast (TypeUnitFails (all_entries entries.now) (all_units entries.now) number p.at signature
-        type_offset) (Some rule)) }
+    ensures ok { OnOk result (IsLeast (TypeUnitFails (all_entries entries.now) (all_units entries.now) number
+        (placed_of (all_units entries.now) number).at signature type_offset) None) }
+    ensures err { IfErr result (λ rule. IsLeast (TypeUnitFails (all_entries entries.now) (all_units entries.now)
+        number (placed_of (all_units entries.now) number).at signature type_offset) (Some rule)) }
 {
     if signatures.contains_key(&signature) {
         return Err(Rule::SignatureTwice);
@@ -90,11 +89,10 @@ fn add_type(
     requires before { AreSignedBelow (all_entries entries.now) (all_units entries.now) number signatures.old }
     ensures added { OnOk result (AreSignedBelow (all_entries entries.now) (all_units entries.now)
         (number + 1) signatures.new) }
-    ensures ok { OnOk result ((p : PlacedUnit) → slice_get (all_units entries.now) number ≡ Some p
-        → HasNone (AtHeader (all_entries entries.now) (all_units entries.now) number p)) }
-    ensures fault { IfErr result (IfPlainFault
-        (λ broken. (p : PlacedUnit) → slice_get (all_units entries.now) number ≡ Some p
-        → IsFirst (AtHeader (all_entries entries.now) (all_units entries.now) number p) broken)) }
+    ensures ok { OnOk result (HasNone (AtHeader (all_entries entries.now) (all_units entries.now) number
+        (placed_of (all_units entries.now) number))) }
+    ensures fault { IfErr result (IfPlainFault (IsFirst (AtHeader (all_entries entries.now)
+        (all_units entries.now) number (placed_of (all_units entries.now) number)))) }
 {
     let unit = entries.unit(number);
     let HeaderKind::TypeUnit {
@@ -110,7 +108,7 @@ fn add_type(
             Ok(())
         }
         Err(rule) => {
-            let broken = Broken {
+            let broken = PlainFault {
                 rule,
                 section: Section::Info,
                 at: unit.offset,
@@ -141,10 +139,10 @@ pub fn read_signatures(
 
 /// What the values of one unit after another are followed and checked with.
 #[derive(Drop)]
-pub struct References<'e, 'd, 't> {
+pub struct UnitLinks<'e, 'd, 't> {
     pub entries: &'e Entries<'d>,
     /// What is read once of the unit at hand.
-    pub texts: UnitTexts<'d>,
+    pub texts: UnitContributions<'d>,
     /// The number of the first entry of the unit at hand, and the number after that of its last entry.
     pub range: (usize, usize),
     /// The type of each signature.
@@ -153,7 +151,7 @@ pub struct References<'e, 'd, 't> {
     pub hints: &'t Hints,
 }
 
-impl<'e, 'd, 't> References<'e, 'd, 't> {
+impl<'e, 'd, 't> UnitLinks<'e, 'd, 't> {
     /// What the values of a unit are followed and checked with, if the strings of .debug_str and .debug_line_str end at
     /// these offsets.
     pub(crate) fn of_unit(
@@ -162,20 +160,19 @@ impl<'e, 'd, 't> References<'e, 'd, 't> {
         unit: usize,
         signatures: &'t BTreeMap<u64, EntryId>,
         hints: &'t Hints,
-    ) -> References<'e, 'd, 't>
+    ) -> UnitLinks<'e, 'd, 't>
         requires str_end { IsEndOfStrings (sections_of entries.now).str.now ends.0 }
         requires line_str_end { IsEndOfStrings (sections_of entries.now).line_str.now ends.1 }
         requires unit { unit < length (units_of entries.now) }
         requires types { HasSignedTypes entries.now signatures.now }
         requires typed { AreTyped entries.now }
         ensures linkable { IsLinkable result }
-        ensures entries { entries_in result ≡ entries.now }
+        ensures entries { entries_followed result ≡ entries.now }
         ensures unit { result.texts.unit ≡ unit }
-        ensures first { IfSome (slice_get (all_units entries.now) unit) (λ p. result.range.0 ≡ p.first) }
-        ensures end { IfSome (slice_get (all_units entries.now) unit)
-            (λ p. result.range.1 ≡ p.first + node_count p.unit.root) }
+        ensures first { result.range.0 ≡ (placed_of (all_units entries.now) unit).first }
+        ensures end { result.range.1 ≡ end_in (all_units entries.now) unit }
     {
-        References {
+        UnitLinks {
             entries,
             texts: read_texts(entries, ends.0, ends.1, unit),
             range: entries.range(unit),
@@ -235,8 +232,8 @@ impl<'e, 'd, 't> References<'e, 'd, 't> {
 
     /// The entry that starts so far after the start of .debug_info, if a guess finds it.
     fn guess(&self, offset: u32) -> Option<EntryId>
-        ensures { IfSome result (IsEntryPast (all_entries (entries_in self.now))
-            (sections_of (entries_in self.now)).base offset) }
+        ensures { IfSome result (IsEntryPast (all_entries (entries_followed self.now))
+            (sections_of (entries_followed self.now)).base offset) }
     {
         let at = u64::from(offset.checked_sub(self.entries.sections().base)?);
         let number = self.hints.guess(at)?;
@@ -249,7 +246,8 @@ impl<'e, 'd, 't> References<'e, 'd, 't> {
 
     /// The entry that starts so far after the start of .debug_info.
     fn find(&self, offset: u32) -> Option<EntryId>
-        ensures { result ≡ entry_past (all_entries (entries_in self.now)) (sections_of (entries_in self.now)).base
+        ensures { result ≡ entry_past (all_entries (entries_followed self.now))
+            (sections_of (entries_followed self.now)).base
             offset }
     {
         match self.guess(offset) {
@@ -261,7 +259,7 @@ impl<'e, 'd, 't> References<'e, 'd, 't> {
     /// The target of a value of an entry.
     pub fn reach(&self, head: &EntryHead, value: &Value<'_>) -> Option<EntryId>
         requires { MayAsk self.now head.now }
-        ensures { result ≡ target_by (entries_in self.now) head.now (view value.now) }
+        ensures { result ≡ target_by (entries_followed self.now) head.now (view value.now) }
     {
         match *value {
             Value::RefUnit(offset) => self.find_in_unit(offset),
@@ -271,7 +269,7 @@ impl<'e, 'd, 't> References<'e, 'd, 't> {
     }
 
     /// The rule at a reference that has no target.
-    #[tactic(auto, using(crate::proofs::Asked::no_signature))]
+    #[tactic(auto, using(crate::proofs::LeastRules::no_signature))]
     fn ask_unreached(
         &self,
         head: &EntryHead,
@@ -280,8 +278,8 @@ impl<'e, 'd, 't> References<'e, 'd, 't> {
     ) -> Option<Rule>
         requires may { MayAsk self.now head.now }
         requires reference { is_reference_value (view value.now) ≡ true }
-        requires none { target_by (entries_in self.now) head.now (view value.now) ≡ None }
-        ensures { IsLeast (FailsByTarget (entries_in self.now) head.now attribute (view value.now)) result }
+        requires none { target_by (entries_followed self.now) head.now (view value.now) ≡ None }
+        ensures { IsLeast (FailsByTarget (entries_followed self.now) head.now attribute (view value.now)) result }
     {
         if !is_sig8(value) {
             return Some(Rule::NoEntry);
@@ -295,7 +293,7 @@ impl<'e, 'd, 't> References<'e, 'd, 't> {
     /// The rule at a reference that has a target.
     fn ask_reached(
         &self,
-        declared: &mut [Option<bool>],
+        known: &mut [Option<bool>],
         head: &EntryHead,
         attribute: Attribute,
         value: &Value<'_>,
@@ -303,15 +301,15 @@ impl<'e, 'd, 't> References<'e, 'd, 't> {
     ) -> Option<Rule>
         requires may { MayAsk self.now head.now }
         requires reference { is_reference_value (view value.now) ≡ true }
-        requires reaches { target_by (entries_in self.now) head.now (view value.now) ≡ Some id }
-        requires kept { KeepsDeclared (entries_in self.now) declared.old }
-        ensures kept { KeepsDeclared (entries_in self.now) declared.new }
-        ensures rule { IsLeast (FailsByTarget (entries_in self.now) head.now attribute (view value.now)) result }
+        requires reaches { target_by (entries_followed self.now) head.now (view value.now) ≡ Some id }
+        requires kept { KeepsDeclared (entries_followed self.now) known.old }
+        ensures kept { KeepsDeclared (entries_followed self.now) known.new }
+        ensures rule { IsLeast (FailsByTarget (entries_followed self.now) head.now attribute (view value.now)) result }
     {
         if !is_permitted_form(head, attribute, value) {
             return Some(Rule::WrongKind);
         }
-        if !is_permitted(self.entries, declared, head, attribute, id) {
+        if !is_permitted(self.entries, known, head, attribute, id) {
             return Some(Rule::WrongKind);
         }
         if attribute != DW_AT_sibling {
@@ -326,23 +324,23 @@ impl<'e, 'd, 't> References<'e, 'd, 't> {
     /// The rule at an attribute, if this is the target of its value.
     pub fn ask(
         &self,
-        declared: &mut [Option<bool>],
+        known: &mut [Option<bool>],
         head: &EntryHead,
         attribute: Attribute,
         value: &Value<'_>,
         reached: Option<EntryId>,
     ) -> Option<Rule>
         requires may { MayAsk self.now head.now }
-        requires reached { reached ≡ target_by (entries_in self.now) head.now (view value.now) }
-        requires kept { KeepsDeclared (entries_in self.now) declared.old }
-        ensures kept { KeepsDeclared (entries_in self.now) declared.new }
-        ensures rule { IsLeast (FailsByTarget (entries_in self.now) head.now attribute (view value.now)) result }
+        requires reached { reached ≡ target_by (entries_followed self.now) head.now (view value.now) }
+        requires kept { KeepsDeclared (entries_followed self.now) known.old }
+        ensures kept { KeepsDeclared (entries_followed self.now) known.new }
+        ensures rule { IsLeast (FailsByTarget (entries_followed self.now) head.now attribute (view value.now)) result }
     {
         if !is_reference(value) {
             return None;
         }
         match reached {
-            Some(id) => self.ask_reached(declared, head, attribute, value, id),
+            Some(id) => self.ask_reached(known, head, attribute, value, id),
             None => self.ask_unreached(head, attribute, value),
         }
     }

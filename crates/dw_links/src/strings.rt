@@ -8,15 +8,15 @@ ghost use Rattle.dw_entries.specs.Views.{sections_of, units_of};
 ghost use Rattle.dw_entries.specs.declared.entries.Entries.{Entries};
 ghost use Rattle.dw_links.specs.Contributions.{IsEndOfStrings};
 ghost use Rattle.dw_links.specs.Strings.{OffsetFails, BaseFails, StringIndexFails, AddressIndexFails, StringFailures};
-ghost use Rattle.dw_links.specs.Linkable.{FailsByText};
-ghost use Rattle.dw_links.specs.Ready.{AreTexts, AreTextsAt, IsReady, FailsByTexts};
-ghost use Rattle.dw_links.specs.Concerns.{AtHead, PassesAt, FailsAt};
+ghost use Rattle.dw_links.specs.UnitAtHand.{FailsByText};
+ghost use Rattle.dw_links.specs.UnitContributions.{AreContributions, AreContributionsAt, IsReady, FailsByTexts};
+ghost use Rattle.dw_links.specs.RulesOfAttributes.{AtHead};
 
-use crate::class::broken_at;
+use crate::class::plain_fault_at;
 use crate::contribution::{base_in_unit, count_named, count_slots, end_of_strings, number};
 use dw_elf::Sections;
 use dw_entries::constants::*;
-use dw_entries::{Broken, Entries, EntryAt, EntryHead, Fault, Rule, UnitHead};
+use dw_entries::{Entries, EntryAt, EntryHead, Fault, PlainFault, Rule, UnitHead};
 use dw_forms::{Attribute, Value};
 use std::alloc::Global;
 
@@ -34,7 +34,7 @@ fn ask_offset(section: &[u8], end: usize, offset: u32) -> Option<Rule>
 
 /// What is read once of a unit to check the rules on its strings and addresses.
 #[derive(Clone, Copy)]
-pub struct UnitTexts<'a> {
+pub struct UnitContributions<'a> {
     /// The number of the unit.
     pub unit: usize,
     pub head: UnitHead,
@@ -53,7 +53,7 @@ pub struct UnitTexts<'a> {
     pub line_str_end: usize,
 }
 
-impl UnitTexts<'_> {
+impl UnitContributions<'_> {
     /// The rule at a base on the unit's first entry.
     #[inline(never)]
     fn ask_base(&self, attribute: Attribute, base: u32) -> Option<Rule>
@@ -149,11 +149,11 @@ pub fn read_texts<'a>(
     str_end: usize,
     line_str_end: usize,
     number: usize,
-) -> UnitTexts<'a>
+) -> UnitContributions<'a>
     requires str_end { IsEndOfStrings (sections_of entries.now).str.now str_end }
     requires line_str_end { IsEndOfStrings (sections_of entries.now).line_str.now line_str_end }
     requires number { number < length (units_of entries.now) }
-    ensures texts { AreTexts entries.now result }
+    ensures texts { AreContributions entries.now result }
     ensures unit { result.unit ≡ number }
 {
     let sections = *entries.sections();
@@ -161,7 +161,7 @@ pub fn read_texts<'a>(
     let size = head.header.address_size;
     let str_base = base_in_unit(entries, number, DW_AT_str_offsets_base);
     let addr_base = base_in_unit(entries, number, DW_AT_addr_base);
-    UnitTexts {
+    UnitContributions {
         unit: number,
         head,
         str_base,
@@ -175,10 +175,10 @@ pub fn read_texts<'a>(
 }
 
 /// Keeps what was read of a unit, or reads it of the next, if that is another.
-pub fn keep_texts<'a>(texts: &mut UnitTexts<'a>, entries: &Entries<'a>, next: usize)
+pub fn keep_texts<'a>(texts: &mut UnitContributions<'a>, entries: &Entries<'a>, next: usize)
     requires next { next < length (units_of entries.now) }
-    requires texts { AreTexts entries.now texts.old }
-    ensures texts { AreTexts entries.now texts.new }
+    requires texts { AreContributions entries.now texts.old }
+    ensures texts { AreContributions entries.now texts.new }
     ensures unit { texts.new.unit ≡ next }
 {
     if next != texts.unit {
@@ -187,19 +187,19 @@ pub fn keep_texts<'a>(texts: &mut UnitTexts<'a>, entries: &Entries<'a>, next: us
 }
 
 /// The first failure of the rules on strings and addresses at an entry.
-fn check_entry(texts: &UnitTexts<'_>, entry: &EntryAt<'_, '_>) -> Result<(), Broken>
+fn check_entry(texts: &UnitContributions<'_>, entry: &EntryAt<'_, '_>) -> Result<(), PlainFault>
     requires { IsReady texts.now }
-    ensures ok { OnOk result ((entries : Entries) → AreTextsAt entries texts.now entry.now
-        → PassesAt entry.now (AtHead (FailsByText entries))) }
-    ensures err { IfErr result (λ broken. (entries : Entries) → AreTextsAt entries texts.now entry.now
-        → FailsAt entry.now (AtHead (FailsByText entries)) broken) }
+    ensures ok { OnOk result ((entries : Entries) → AreContributionsAt entries texts.now entry.now
+        → HasNone (AtHead (FailsByText entries) entry.now)) }
+    ensures err { IfErr result (λ broken. (entries : Entries) → AreContributionsAt entries texts.now entry.now
+        → IsFirst (AtHead (FailsByText entries) entry.now) broken) }
 {
     let head = entry.head();
     let mut leading = entry.leading();
     while let Some(form) = leading.form() {
         let item = leading.next_in(form);
         if let Some(rule) = texts.ask(&head, item.0, &item.1) {
-            return Err(broken_at(&head, item.0, rule));
+            return Err(plain_fault_at(&head, item.0, rule));
         }
     }
     Ok(())

@@ -1,10 +1,10 @@
 //! The targets of references (DWARF 5, sections 2.3 and 7.5.5): the entry that a value refers to, and which entries an
 //! attribute may refer to.
 
-ghost use Rattle.std.specs.Prelude.{◌≡◌, ◌<◌, length, slice_get, IfSome, Some};
+ghost use Rattle.std.specs.Prelude.{◌≡◌, ◌<◌, length, IfSome, Some};
 ghost use Rattle.dw_forms.specs.Value.{view};
 ghost use Rattle.dw_entries.specs.Views.{sections_of, all_entries, all_units, units_of};
-ghost use Rattle.dw_entries.specs.Entries.{Entry};
+ghost use Rattle.dw_entries.specs.ByNumber.{entry_of};
 ghost use Rattle.dw_links.specs.References.{is_declared, is_signed, is_signature, is_reference_value, permits};
 ghost use Rattle.dw_links.specs.References.{permits_form};
 ghost use Rattle.dw_links.specs.DeclaredEntries.{KeepsDeclared};
@@ -74,8 +74,8 @@ pub(crate) fn find_target(
 ) -> Option<EntryId>
     requires id { id < length (all_entries entries.now) }
     requires signatures { HasSignedTypes entries.now signatures.now }
-    ensures exact { IfSome (slice_get (all_entries entries.now) id)
-        (λ e. result ≡ target_of (all_entries entries.now) (all_units entries.now) e attribute) }
+    ensures exact { result ≡ target_of (all_entries entries.now) (all_units entries.now)
+        (entry_of (all_entries entries.now) id) attribute }
     ensures within { IfSome result (λ t. t < length (all_entries entries.now)) }
 {
     let value = entries.value(id, attribute)?;
@@ -85,7 +85,7 @@ pub(crate) fn find_target(
 /// Whether DW_AT_declaration of an entry is true.
 fn read_declared(entries: &Entries<'_>, id: EntryId) -> bool
     requires { id < length (all_entries entries.now) }
-    ensures { IfSome (slice_get (all_entries entries.now) id) (λ e. result ≡ is_declared e) }
+    ensures { result ≡ is_declared (entry_of (all_entries entries.now) id) }
 {
     matches!(
         entries.value(id, DW_AT_declaration),
@@ -93,19 +93,19 @@ fn read_declared(entries: &Entries<'_>, id: EntryId) -> bool
     )
 }
 
-/// Whether an entry is declared and not defined. `declared` has this of each entry that was read before, and None of
+/// Whether an entry is declared and not defined. `known` has this of each entry that was read before, and None of
 /// the others: an entry is read when this is first needed, and the result is kept.
-fn is_declaration(entries: &Entries<'_>, declared: &mut [Option<bool>], id: EntryId) -> bool
+fn is_declaration(entries: &Entries<'_>, known: &mut [Option<bool>], id: EntryId) -> bool
     requires id { id < length (all_entries entries.now) }
-    requires kept { KeepsDeclared entries.now declared.old }
-    ensures exact { IfSome (slice_get (all_entries entries.now) id) (λ e. result ≡ is_declared e) }
-    ensures kept { KeepsDeclared entries.now declared.new }
+    requires kept { KeepsDeclared entries.now known.old }
+    ensures exact { result ≡ is_declared (entry_of (all_entries entries.now) id) }
+    ensures kept { KeepsDeclared entries.now known.new }
 {
-    match declared[id.number()] {
-        Some(known) => known,
+    match known[id.number()] {
+        Some(declared) => declared,
         None => {
             let read = read_declared(entries, id);
-            declared[id.number()] = Some(read);
+            known[id.number()] = Some(read);
             read
         }
     }
@@ -151,23 +151,22 @@ pub fn is_permitted_form(head: &EntryHead, attribute: Attribute, value: &Value<'
 /// target's unit is not looked up.
 pub fn is_permitted(
     entries: &Entries<'_>,
-    declared: &mut [Option<bool>],
+    known: &mut [Option<bool>],
     head: &EntryHead,
     attribute: Attribute,
     id: EntryId,
 ) -> bool
     requires id { id < length (all_entries entries.now) }
-    requires kept { KeepsDeclared entries.now declared.old }
-    ensures kept { KeepsDeclared entries.now declared.new }
-    ensures exact { (target : Entry) → slice_get (all_entries entries.now) id ≡ Some target
-        → result ≡ permits head.now attribute target }
+    requires kept { KeepsDeclared entries.now known.old }
+    ensures kept { KeepsDeclared entries.now known.new }
+    ensures exact { result ≡ permits head.now attribute (entry_of (all_entries entries.now) id) }
 {
     let target = entries.decl(id);
     if attribute == DW_AT_type {
         return target.is_type();
     }
     if attribute == DW_AT_specification {
-        return entries.offset(id) != head.offset && is_declaration(entries, declared, id);
+        return entries.offset(id) != head.offset && is_declaration(entries, known, id);
     }
     if is_signed_by(head, attribute) {
         return target.tag() == head.tag;

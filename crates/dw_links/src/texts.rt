@@ -3,12 +3,13 @@
 ghost use Rattle.std.specs.Prelude.{◌≡◌, ◌+◌, ◌*◌, ◌<◌, ◌≤◌, length, slice_get, Some, IfSome, option_copied};
 ghost use Rattle.std.specs.Prelude.{option_map, option_and_then};
 ghost use Rattle.dw_forms.specs.Value.{view};
+ghost use Rattle.dw_entries.specs.ByNumber.{entry_of};
 ghost use Rattle.dw_entries.specs.Lookups.{value_at_entry};
 ghost use Rattle.dw_entries.specs.Views.{sections_of, all_entries, all_units, units_of};
 ghost use Rattle.dw_entries.specs.Failures.{HasNone};
 ghost use Rattle.dw_links.specs.Contributions.{string_at, slot_at};
-ghost use Rattle.dw_links.specs.Slots.{IsPlace, BeginsString, AddressLies, TextLies};
-ghost use Rattle.dw_links.specs.ValueTexts.{text_there, text_of, address_of};
+ghost use Rattle.dw_links.specs.Slots.{IsTextPlace, BeginsString, AddressLies, TextLies};
+ghost use Rattle.dw_links.specs.ValueTexts.{text_there, text_of_value, address_of};
 ghost use Rattle.dw_links.specs.Strings.{StringFailures};
 ghost use Rattle.dw_links.specs.Tables.{AreTables};
 ghost use Rattle.dw_links.specs.AttributeTexts.{text_at, address_at};
@@ -46,7 +47,7 @@ pub fn string_from(section: &[u8], offset: usize) -> &[u8]
 impl TextPlace {
     /// The text at a place. It is read to its end.
     pub fn text<'a>(self, sections: &Sections<'a>) -> &'a [u8]
-        requires { IsPlace sections.now self }
+        requires { IsTextPlace sections.now self }
         ensures { result.now ≡ text_there sections.now self }
     {
         match self {
@@ -77,11 +78,10 @@ fn place_of_value(
     value: Value<'_>,
 ) -> Option<TextPlace>
     requires id { id < length (all_entries entries.now) }
-    requires value { IfSome (slice_get (all_entries entries.now) id)
-        (λ e. value_at_entry e attribute ≡ Some (view value)) }
+    requires value { value_at_entry (entry_of (all_entries entries.now) id) attribute ≡ Some (view value) }
     requires lies { TextLies (sections_of entries.now) base (view value) }
     ensures text { option_map (text_there (sections_of entries.now)) result
-        ≡ text_of (sections_of entries.now) base (view value.entry) }
+        ≡ text_of_value (sections_of entries.now) base (view value.entry) }
     ensures begins { IfSome result (BeginsString (sections_of entries.now)) }
 {
     match value {
@@ -119,8 +119,8 @@ fn address_of_value(
 /// The base of an entry's unit, among those of all units.
 fn base_of(bases: &[Option<u32>], entries: &Entries<'_>, id: EntryId) -> Option<u32>
     requires { id < length (all_entries entries.now) }
-    ensures { IfSome (slice_get (all_entries entries.now) id)
-        (λ e. result ≡ option_and_then (λ base. base) (slice_get bases.now e.unit)) }
+    ensures { result ≡ option_and_then (λ base. base)
+        (slice_get bases.now (entry_of (all_entries entries.now) id).unit) }
 {
     *bases.get(entries.unit_of(id))?
 }
@@ -136,10 +136,9 @@ impl LinkTables {
         requires id { id < length (all_entries entries.now) }
         requires tables { AreTables entries.now self.now }
         requires strings { HasNone (StringFailures (sections_of entries.now) (units_of entries.now)) }
-        ensures text { IfSome (slice_get (all_entries entries.now) id)
-            (λ e. option_map (text_there (sections_of entries.now)) result ≡ text_at (sections_of entries.now)
-            (all_entries entries.now) (all_units entries.now) e attribute) }
-        ensures within { IfSome result (IsPlace (sections_of entries.now)) }
+        ensures text { option_map (text_there (sections_of entries.now)) result ≡ text_at (sections_of entries.now)
+            (all_entries entries.now) (all_units entries.now) (entry_of (all_entries entries.now) id) attribute }
+        ensures within { IfSome result (IsTextPlace (sections_of entries.now)) }
         ensures begins { IfSome result (BeginsString (sections_of entries.now)) }
     {
         let value = entries.value(id, attribute)?;
@@ -157,9 +156,8 @@ impl LinkTables {
         requires id { id < length (all_entries entries.now) }
         requires tables { AreTables entries.now self.now }
         requires strings { HasNone (StringFailures (sections_of entries.now) (units_of entries.now)) }
-        ensures { IfSome (slice_get (all_entries entries.now) id)
-            (λ e. option_copied result ≡ text_at (sections_of entries.now) (all_entries entries.now)
-            (all_units entries.now) e attribute) }
+        ensures { option_copied result ≡ text_at (sections_of entries.now) (all_entries entries.now)
+            (all_units entries.now) (entry_of (all_entries entries.now) id) attribute }
     {
         let place = self.text_place(entries, id, attribute)?;
         Some(place.text(entries.sections()))
@@ -170,9 +168,8 @@ impl LinkTables {
         requires id { id < length (all_entries entries.now) }
         requires tables { AreTables entries.now self.now }
         requires strings { HasNone (StringFailures (sections_of entries.now) (units_of entries.now)) }
-        ensures { IfSome (slice_get (all_entries entries.now) id)
-            (λ e. result ≡ address_at (sections_of entries.now) (all_entries entries.now)
-            (all_units entries.now) e attribute) }
+        ensures { result ≡ address_at (sections_of entries.now) (all_entries entries.now)
+            (all_units entries.now) (entry_of (all_entries entries.now) id) attribute }
     {
         let value = entries.value(id, attribute)?;
         let header = entries.unit(entries.unit_of(id)).header;

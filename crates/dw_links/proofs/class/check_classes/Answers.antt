@@ -1,13 +1,13 @@
 use Rattle.std.proofs.Common.{arith}
 use Rattle.dw_entries.specs.Views.{all_units}
 use Rattle.dw_links.specs.Classes.{ClassFails}
-use Rattle.dw_links.proofs.Transfers.{more_below, first_failure, none_fails}
+use Rattle.dw_links.proofs.UnitToAll.{more_below, first_here, none_fails}
 use Rattle.dw_links.proofs.class.check_classes.Goals as goal
 
 pub returns-in-Err-clause-fault : goal.returns-in-Err-clause-fault
 returns-in-Err-clause-fault c = record {
   holds =
-      rw c.into_fault.ensures.holds (first_failure c.args.entries.now (ClassFails (all_units c.args.entries.now))
+      rw c.into_fault.ensures.holds (first_here c.args.entries.now (ClassFails (all_units c.args.entries.now))
       c.loop-number.number c.id.result c.id.ensures c.loop-number.invariant c.in-Err.broken (omega arith)
       c.in-Err.ensures.err);
   cycle = c.into_fault.ensures.cycle;

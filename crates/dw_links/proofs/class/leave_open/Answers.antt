@@ -6,14 +6,14 @@ use Rattle.dw_forms.specs.AttributeLists.{spec_of}
 use Rattle.dw_entries.specs.Entries.{PlacedUnit, placed}
 use Rattle.dw_entries.specs.Views.{units_of}
 use Rattle.dw_links.specs.Classes.{ClassFails}
-use Rattle.dw_links.specs.Concerns.{Passes}
-use Rattle.dw_links.proofs.ClassLaws.{others_pass}
-use Rattle.dw_links.proofs.Skips.{none_concerned, one_more}
+use Rattle.dw_links.specs.RulesOfAttributes.{NeverFailsAt}
+use Rattle.dw_links.proofs.ClassLemmas.{others_pass}
+use Rattle.dw_links.proofs.ListLookups.{none_concerned, one_more}
 use Rattle.dw_links.proofs.class.leave_open.Goals as goal
 
 pub loop-number-preserved : goal.loop-number-preserved
 loop-number-preserved c =
-    let P : AttributeSpec → Type 0 = λ s. (units : List PlacedUnit) → Passes (ClassFails units) s in
+    let P : AttributeSpec → Type 0 = λ s. (units : List PlacedUnit) → NeverFailsAt (ClassFails units) s in
     one_more (map spec_of c.decls-decls.result.now.lists.nodes.items) P c.loop-number.number c.spec.result
     c.spec.ensures c.loop-number.invariant (others_pass c.spec.result (sym c.if-is_open.ensures))
 

@@ -1,52 +1,55 @@
 use Rattle.std.proofs.Common.{rules, ◌≡◌, ◌<◌, ◌≤◌, ◌∙◌, ℕ, Some, length, take, arith, sym, subst}
 use Rattle.std.specs.Prelude.{slice_get}
 use Rattle.std.proofs.lemmas.List.{length-set, take_all}
+use Rattle.std.proofs.lemmas.Option.{slice_get-get_or}
 use Rattle.dw_entries.specs.declared.entries.Entries.{Entries}
-use Rattle.dw_entries.specs.Entries.{Entry}
+use Rattle.dw_entries.specs.Entries.{placed}
+use Rattle.dw_entries.specs.ByNumber.{no_entry, entry_of, placed_of}
 use Rattle.dw_entries.specs.Views.{all_entries, all_units, units_of}
 use Rattle.dw_entries.proofs.FirstPlaces.{none_by_both}
 use Rattle.dw_entries.proofs.EntryFacts.{length-placed_from}
 use Rattle.dw_forms.specs.Codes.{DW_AT_str_offsets_base, DW_AT_addr_base}
 use Rattle.dw_links.specs.Bases.{base_in}
-use Rattle.dw_links.specs.Linkable.{FailsByText, FailsByTarget}
-use Rattle.dw_links.specs.Linking.{IsLinked, HasFailed}
+use Rattle.dw_links.specs.Constants.{language_of}
+use Rattle.dw_links.specs.UnitAtHand.{FailsByText, FailsByTarget}
+use Rattle.dw_links.specs.EntryLinks.{IsEntryLinked, IsFirstAtEntry}
 use Rattle.dw_links.specs.References.{HeaderFailures, AttributeFailures}
 use Rattle.dw_links.specs.Tables.{type_target}
 use Rattle.dw_links.proofs.DeclaredLemmas.{keeps_none, keeps_whole, only_none}
-use Rattle.dw_links.proofs.Skips.{there}
-use Rattle.dw_links.proofs.TableLaws.{map_one_more, map_all}
-use Rattle.dw_links.proofs.Transfers.{more_below, none_fails, failed_first}
-use Rattle.dw_links.proofs.UnitByUnit.{LinkedBelow, starts_first, starts_next, unit_there, none_below, types_more, ends_within}
+use Rattle.dw_links.proofs.ClassLemmas.{unit_there}
+use Rattle.dw_links.proofs.TableLemmas.{map_one_more, map_all}
+use Rattle.dw_links.proofs.UnitToAll.{more_below, none_fails, failed_first}
+use Rattle.dw_links.proofs.UnitByUnit.{LinkedBelow, starts_first, starts_next, none_below, types_more, ends_within}
 use Rattle.dw_links.proofs.linking.link_entries.Goals as goal
 
 pub loop-unit-init : goal.loop-unit-init
 loop-unit-init c =
     let entries = c.args.entries.now in
     let kept = keeps_none entries _ c.count-2.result c.count-2.ensures
-    (c.in_ok-declared.ensures.items_if_clones_equal (only_none _ (λ known p. p))) in
+    (c.in_ok-known.ensures.items_if_clones_equal (only_none _ (λ known p. p))) in
     record {
       kept = kept;
-      bases = record { str = search rules; addr = search rules };
+      read = record { str = search rules; addr = search rules; language = search rules };
       linked = (0, starts_first (units_of entries), none_below entries c.in_ok-types.types.items (search rules));
     }
 
 pub loop-number-init : goal.loop-number-init
 loop-number-init c =
     let entries = c.args.entries.now in
-    let (p, is) = unit_there (units_of entries) c.loop-unit.unit (omega arith) in
-    let first : c.of_unit-references.result.range.0 ≡ p.first = rw is at c.of_unit-references.ensures.first in
+    let us = units_of entries in
+    let is = unit_there us c.loop-unit.unit (omega arith) in
     let (number, starts, linked) = c.loop-unit.invariant.linked in
     record {
       kept = c.loop-unit.invariant.kept;
-      linked = subst (LinkedBelow entries c.loop-unit.types.items) (starts.begins p is ∙ sym first) linked;
+      linked = subst (LinkedBelow entries c.loop-unit.types.items)
+          (starts.begins (placed_of (placed us) c.loop-unit.unit) is ∙ sym c.of_unit-references.ensures.first) linked;
     }
 
 pub id-id-requires : goal.id-id-requires
 id-id-requires c =
     let us = units_of c.args.entries.now in
-    let (p, is) = unit_there us c.loop-unit.unit (omega arith) in
-    let end = rw is at c.of_unit-references.ensures.end in
-    omega (arith, end, ends_within us c.loop-unit.unit p is)
+    let is = unit_there us c.loop-unit.unit (omega arith) in
+    omega (arith, c.of_unit-references.ensures.end, ends_within us c.loop-unit.unit _ is)
 
 pub link_entry-requires-clause-may : goal.link_entry-requires-clause-may
 link_entry-requires-clause-may c =
@@ -56,8 +59,8 @@ link_entry-requires-clause-may c =
       within = omega (arith, below, it.within);
       linkable = it;
       in_unit =
-          λ e here. sym (it.range c.id-id.result e here (omega (arith, c.id-id.ensures, c.loop-number.auto.number))
-          below);
+          sym (it.range c.id-id.result (omega (arith, below, it.within))
+          (omega (arith, c.id-id.ensures, c.loop-number.auto.number)) below);
     }
 
 pub link_entry-requires-clause-kept : goal.link_entry-requires-clause-kept
@@ -68,45 +71,43 @@ stop_of-requires c =
     let entries = c.args.entries.now in
     let i = c.loop-number.invariant in
     let us = units_of entries in
-    let (p, is_p) = unit_there us c.loop-unit.unit (omega arith) in
-    let end = rw is_p at c.of_unit-references.ensures.end in
-    let (e, is) = there (all_entries entries) c.id-id.result
-    (omega (arith, end, c.id-id.ensures, ends_within us c.loop-unit.unit p is_p)) in
-    let P : Entries → Type 0 = λ x. (d : Entry) → slice_get (all_entries x) c.id-id.result ≡ Some d
-    → HasFailed x d c.in-Err.broken in
+    let is = unit_there us c.loop-unit.unit (omega arith) in
+    let end = c.of_unit-references.ensures.end in
+    let P : Entries → Type 0 = λ x. IsFirstAtEntry x (entry_of (all_entries x) c.id-id.result) c.in-Err.broken in
     failed_first entries c.loop-number.number c.id-id.result c.id-id.ensures c.in-Err.broken i.linked.strings
-    i.linked.references c.requires.headers e is
-    (subst P c.of_unit-references.ensures.entries c.in-Err.ensures.err e is)
+    i.linked.references c.requires.headers
+    (omega (arith, end, c.id-id.ensures, ends_within us c.loop-unit.unit _ is))
+    (subst P c.of_unit-references.ensures.entries c.in-Err.ensures.err)
 
 pub loop-number-preserved : goal.loop-number-preserved
 loop-number-preserved c =
     let entries = c.args.entries.now in
     let i = c.loop-number.invariant in
     let same = c.of_unit-references.ensures.entries in
-    let P : Entries → Type 0 = λ x. (d : Entry) → slice_get (all_entries x) c.id-id.result ≡ Some d
-    → IsLinked x d c.in-Ok.target in
-    let linked = subst P same c.in-Ok.ensures.ok in
+    let e = entry_of (all_entries entries) c.id-id.result in
+    let P : Entries → Type 0 = λ x. IsEntryLinked x (entry_of (all_entries x) c.id-id.result) c.in-Ok.target in
+    let linked : IsEntryLinked entries e c.in-Ok.target = subst P same c.in-Ok.ensures.ok in
     let us = units_of entries in
-    let (p, is_p) = unit_there us c.loop-unit.unit (omega arith) in
-    let end = rw is_p at c.of_unit-references.ensures.end in
-    let (e, is) = there (all_entries entries) c.id-id.result
-    (omega (arith, end, c.id-id.ensures, ends_within us c.loop-unit.unit p is_p)) in
+    let is_p = unit_there us c.loop-unit.unit (omega arith) in
+    let end = c.of_unit-references.ensures.end in
+    let is = slice_get-get_or (all_entries entries) c.id-id.result no_entry
+    (omega (arith, end, c.id-id.ensures, ends_within us c.loop-unit.unit _ is_p)) in
     record {
       kept =
-          keeps_whole entries c.loop-number.declared.items c.link_entry.new.declared c.loop-number.declared.len
-          c.loop-number.declared.ok.0 i.kept (rw same at c.in-Ok.ensures.kept);
+          keeps_whole entries c.loop-number.known.items c.link_entry.new.known c.loop-number.known.len
+          c.loop-number.known.ok.0 i.kept (rw same at c.in-Ok.ensures.kept);
       linked = record {
         strings =
             more_below entries (FailsByText entries) c.loop-number.number c.id-id.result c.id-id.ensures
-            i.linked.strings (λ d at. (linked d at).strings);
+            i.linked.strings linked.strings;
         references =
             more_below entries (FailsByTarget entries) c.loop-number.number c.id-id.result c.id-id.ensures
-            i.linked.references (λ d at. (linked d at).references);
+            i.linked.references linked.references;
         long = length-set c.loop-number.types.items c.loop-number.number c.in-Ok.target ∙ i.linked.long;
         types_are =
             types_more entries c.loop-number.types.items c.loop-number.number e c.in-Ok.target
             (let P : ℕ → Type 0 = λ n. slice_get (all_entries entries) n ≡ Some e in subst P c.id-id.ensures is)
-            i.linked.long i.linked.types_are (linked e is).is_target;
+            i.linked.long i.linked.types_are linked.is_target;
       };
     }
 
@@ -114,23 +115,28 @@ pub loop-unit-preserved : goal.loop-unit-preserved
 loop-unit-preserved c =
     let entries = c.args.entries.now in
     let us = units_of entries in
-    let (p, is) = unit_there us c.loop-unit.unit (omega arith) in
-    let first : c.of_unit-references.result.range.0 ≡ p.first = rw is at c.of_unit-references.ensures.first in
-    let end = rw is at c.of_unit-references.ensures.end in
-    let bases = c.loop-unit.invariant.bases in
+    let p = placed_of (placed us) c.loop-unit.unit in
+    let is = unit_there us c.loop-unit.unit (omega arith) in
+    let first = c.of_unit-references.ensures.first in
+    let end = c.of_unit-references.ensures.end in
+    let read = c.loop-unit.invariant.read in
     let texts = c.of_unit-references.ensures.linkable.texts in
     record {
       kept = c.loop-number.invariant.kept;
-      bases = record {
+      read = record {
         str =
             rw c.in_ok-push.ensures.items (map_one_more (λ u. base_in (all_entries entries) u DW_AT_str_offsets_base)
             (all_units entries) c.loop-unit.str_bases.items c.loop-unit.unit p
-            c.of_unit-references.result.texts.str_base is bases.str (search rules));
+            c.of_unit-references.result.texts.str_base is read.str (search rules));
         addr =
             rw c.in_ok-push-2.ensures.items
             (map_one_more (λ u. base_in (all_entries entries) u DW_AT_addr_base) (all_units entries)
-            c.loop-unit.addr_bases.items c.loop-unit.unit p c.of_unit-references.result.texts.addr_base is bases.addr
+            c.loop-unit.addr_bases.items c.loop-unit.unit p c.of_unit-references.result.texts.addr_base is read.addr
             (search rules));
+        language =
+            rw c.in_ok-push-3.ensures.items
+            (map_one_more language_of (all_units entries) c.loop-unit.languages.items c.loop-unit.unit p
+            c.language_in_unit.result is read.language c.language_in_unit.ensures);
       };
       linked = (
         c.loop-number.number,
@@ -147,7 +153,7 @@ returns-clause-ok c =
     let all = starts.ends (omega arith) in
     let units : length (all_units entries)
     ≤ c.loop-unit.unit = omega (arith, length-placed_from 0 0 (units_of entries)) in
-    let bases = c.loop-unit.invariant.bases in
+    let read = c.loop-unit.invariant.read in
     record {
       strings = none_fails entries (FailsByText entries) number all linked.strings;
       references =
@@ -158,10 +164,12 @@ returns-clause-ok c =
         signatures = c.requires.types;
         str_bases =
             map_all (λ u. base_in (all_entries entries) u DW_AT_str_offsets_base) (all_units entries)
-            c.loop-unit.str_bases.items c.loop-unit.unit units bases.str;
+            c.loop-unit.str_bases.items c.loop-unit.unit units read.str;
         addr_bases =
             map_all (λ u. base_in (all_entries entries) u DW_AT_addr_base) (all_units entries)
-            c.loop-unit.addr_bases.items c.loop-unit.unit units bases.addr;
+            c.loop-unit.addr_bases.items c.loop-unit.unit units read.addr;
+        languages = map_all language_of (all_units entries) c.loop-unit.languages.items c.loop-unit.unit units
+            read.language;
         types =
             sym (take_all number c.loop-unit.types.items (omega (arith, all, linked.long)))
             ∙ map_all (type_target (all_entries entries) (all_units entries)) (all_entries entries)

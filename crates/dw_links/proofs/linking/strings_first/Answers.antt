@@ -1,5 +1,5 @@
 use Rattle.std.proofs.Common.{inl, inr}
-use Rattle.dw_links.proofs.Transfers.{if_fault}
+use Rattle.dw_links.proofs.UnitToAll.{if_fault}
 use Rattle.dw_links.proofs.linking.strings_first.Goals as goal
 
 pub returns-in-Ok : goal.returns-in-Ok

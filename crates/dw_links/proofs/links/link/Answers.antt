@@ -2,8 +2,8 @@ use Rattle.std.proofs.Common.{rules, inr}
 use Rattle.std.proofs.lemmas.Result.{err_from_is_err_and}
 use Rattle.dw_entries.specs.Entries.{entries_of, placed}
 use Rattle.dw_entries.specs.Views.{units_of}
-use Rattle.dw_links.proofs.HeaderLaws.{first_by_header}
-use Rattle.dw_links.proofs.Transfers.{if_fault}
+use Rattle.dw_links.proofs.HeaderLemmas.{first_by_header}
+use Rattle.dw_links.proofs.UnitToAll.{if_fault}
 use Rattle.dw_links.proofs.links.link.Goals as goal
 
 pub returns-in_err-check_classes-clause-fault : goal.returns-in_err-check_classes-clause-fault

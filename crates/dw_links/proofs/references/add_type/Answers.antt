@@ -1,45 +1,51 @@
-use Rattle.std.proofs.Common.{inl, refl, sym, ap, ◌∙◌, ◌≡◌, subst}
+use Rattle.std.proofs.Common.{inl, refl, sym, ap, ◌∙◌, subst}
 use Rattle.dw_entries.specs.declared.rule.Rule.TheVariants.{SignatureTwice}
 use Rattle.dw_entries.specs.declared.units.UnitHead.{UnitHead}
 use Rattle.dw_entries.specs.Entries.{entries_of, placed}
+use Rattle.dw_entries.specs.ByNumber.{placed_of}
 use Rattle.dw_entries.specs.Failures.{IsFirst}
 use Rattle.dw_entries.specs.Views.{units_of}
-use Rattle.dw_entries.specs.Lookups.{unit_head}
 use Rattle.dw_entries.proofs.EntryFacts.{entries_rise}
 use Rattle.dw_links.specs.References.{AtHeader}
-use Rattle.dw_links.specs.Signatures.{type_in}
-use Rattle.dw_links.proofs.ClassLaws.{unit_there}
-use Rattle.dw_links.proofs.HeaderLaws.{no_type, header_fails, header_passes, other_unit, new_signature}
-use Rattle.dw_links.proofs.TargetLaws.{type_of_unit_is, reach_in_unit_is}
+use Rattle.dw_links.specs.Signatures.{type_unit_of}
+use Rattle.dw_links.proofs.ClassLemmas.{unit_there}
+use Rattle.dw_links.proofs.HeaderLemmas.{no_type, header_fails, header_passes, other_unit, new_signature}
+use Rattle.dw_links.proofs.TargetLemmas.{type_of_unit_is, reach_in_unit_is}
 use Rattle.dw_links.proofs.references.add_type.Goals as goal
 
 pub returns-in_default-clause-added : goal.returns-in_default-clause-added
 returns-in_default-clause-added c =
     let us = units_of c.args.entries.now in
-    let (p, is, told) = unit_there us c.args.number c.unit-unit.result c.requires.within c.unit-unit.ensures in
+    let p = placed_of (placed us) c.args.number in
+    let is = unit_there us c.args.number c.requires.within in
     other_unit (entries_of us) (placed us) c.args.number p c.args.signatures.now is
-    (sym (ap (λ (x : UnitHead). type_in x.header.kind) told) ∙ no_type _ c.in_default.not-TypeUnit)
+    (sym (ap (λ (x : UnitHead). type_unit_of x.header.kind) c.unit-unit.ensures) ∙ no_type _ c.in_default.not-TypeUnit)
     c.requires.before
 
 pub check_type-requires-clause-has : goal.check_type-requires-clause-has
 check_type-requires-clause-has c =
     let us = units_of c.args.entries.now in
-    let (p, is, told) = unit_there us c.args.number c.unit-unit.result c.requires.within c.unit-unit.ensures in
+    let p = placed_of (placed us) c.args.number in
+    let is = unit_there us c.args.number c.requires.within in
     record {
       unit = p;
       is_unit = is;
       type_offset = c.in-TypeUnit.type_offset;
-      signed = sym (ap (λ (x : UnitHead). type_in x.header.kind) told) ∙ ap type_in c.in-TypeUnit.is;
+      signed =
+          sym (ap (λ (x : UnitHead). type_unit_of x.header.kind) c.unit-unit.ensures)
+          ∙ ap type_unit_of c.in-TypeUnit.is;
     }
 
 pub returns-in_ok-insert-in-Ok-clause-added : goal.returns-in_ok-insert-in-Ok-clause-added
 returns-in_ok-insert-in-Ok-clause-added c =
     let us = units_of c.args.entries.now in
-    let (p, is, told) = unit_there us c.args.number c.unit-unit.result c.requires.within c.unit-unit.ensures in
-    let kind = sym (ap (λ (x : UnitHead). type_in x.header.kind) told) ∙ ap type_in c.in-TypeUnit.is in
+    let p = placed_of (placed us) c.args.number in
+    let is = unit_there us c.args.number c.requires.within in
+    let kind = sym (ap (λ (x : UnitHead). type_unit_of x.header.kind) c.unit-unit.ensures)
+    ∙ ap type_unit_of c.in-TypeUnit.is in
     new_signature (entries_of us) (placed us) c.args.number c.in-TypeUnit.signature c.in-TypeUnit.type_offset c.in-Ok.id
     p c.args.signatures.now c.insert.new.self is kind
-    (λ before. c.in-Ok.ensures.ok p is SignatureTwice (inl (refl, before))) c.in_ok-insert-in-Ok.ensures.updates.0
+    (λ before. c.in-Ok.ensures.ok SignatureTwice (inl (refl, before))) c.in_ok-insert-in-Ok.ensures.updates.0
     (type_of_unit_is (entries_of us) (placed us) c.args.number c.in-TypeUnit.signature c.in-TypeUnit.type_offset p _ is
     kind
     (reach_in_unit_is (entries_of us) (placed us) c.args.number c.in-TypeUnit.type_offset c.in-Ok.id
@@ -47,23 +53,29 @@ returns-in_ok-insert-in-Ok-clause-added c =
     c.requires.before
 
 pub returns-in_ok-insert-in-Ok-clause-ok : goal.returns-in_ok-insert-in-Ok-clause-ok
-returns-in_ok-insert-in-Ok-clause-ok c = λ p is.
+returns-in_ok-insert-in-Ok-clause-ok c =
     let us = units_of c.args.entries.now in
-    let told : c.unit-unit.result ≡ unit_head p = rw is at c.unit-unit.ensures in
+    let p = placed_of (placed us) c.args.number in
     header_passes (entries_of us) (placed us) c.args.number p.at c.in-TypeUnit.signature c.in-TypeUnit.type_offset
-    (type_in p.unit.header.kind)
-    (sym (ap (λ (x : UnitHead). type_in x.header.kind) told) ∙ ap type_in c.in-TypeUnit.is) (c.in-Ok.ensures.ok p is)
+    (type_unit_of p.unit.header.kind)
+    (sym (ap (λ (x : UnitHead). type_unit_of x.header.kind) c.unit-unit.ensures) ∙ ap type_unit_of c.in-TypeUnit.is)
+    c.in-Ok.ensures.ok
 
 pub returns-in-Err-clause-fault : goal.returns-in-Err-clause-fault
 returns-in-Err-clause-fault c = record {
-  holds = λ p is.
+  holds =
       let us = units_of c.args.entries.now in
-      let told : c.unit-unit.result ≡ unit_head p = rw is at c.unit-unit.ensures in
+      let p = placed_of (placed us) c.args.number in
       subst (IsFirst (AtHeader (entries_of us) (placed us) c.args.number p)) (sym c.into_fault.ensures.holds)
       (header_fails (entries_of us) (placed us) c.args.number p.at c.in-TypeUnit.signature c.in-TypeUnit.type_offset
-      (type_in p.unit.header.kind) c.in-Err.rule _
-      (sym (ap (λ (x : UnitHead). type_in x.header.kind) told) ∙ ap type_in c.in-TypeUnit.is)
-      (c.in-Err.ensures.err p is)
-      (record { rule = refl; section = refl; at = ap (λ (x : UnitHead). x.offset) told; attribute = refl }));
+      (type_unit_of p.unit.header.kind) c.in-Err.rule _
+      (sym (ap (λ (x : UnitHead). type_unit_of x.header.kind) c.unit-unit.ensures) ∙ ap type_unit_of c.in-TypeUnit.is)
+      c.in-Err.ensures.err
+      (record {
+        rule = refl;
+        section = refl;
+        at = ap (λ (x : UnitHead). x.offset) c.unit-unit.ensures;
+        attribute = refl;
+      }));
   cycle = c.into_fault.ensures.cycle;
 }

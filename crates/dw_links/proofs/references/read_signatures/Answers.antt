@@ -1,15 +1,16 @@
 use Rattle.std.proofs.Common.{ℕ, arith, ◌≡◌, length, subst}
 use Rattle.std.proofs.lemmas.Result.{err_from_is_err_and}
 use Rattle.dw_entries.specs.Entries.{entries_of, placed}
+use Rattle.dw_entries.specs.ByNumber.{placed_of}
 use Rattle.dw_entries.specs.Views.{units_of}
 use Rattle.dw_entries.proofs.Firsts.{more_of_list, none_of_list}
 use Rattle.dw_links.specs.References.{AtHeader}
 use Rattle.dw_entries.proofs.EntryFacts.{length-placed_from}
 use Rattle.dw_links.specs.SignedTypes.{AreSignedBelow}
-use Rattle.dw_links.proofs.Skips.{there}
-use Rattle.dw_links.proofs.Transfers.{if_fault}
-use Rattle.dw_links.proofs.TargetLaws.{signed_type_is, signed_some}
-use Rattle.dw_links.proofs.HeaderLaws.{first_header, placed_rise}
+use Rattle.dw_links.proofs.ClassLemmas.{unit_there}
+use Rattle.dw_links.proofs.UnitToAll.{if_fault}
+use Rattle.dw_links.proofs.TargetLemmas.{signed_type_is, signed_some}
+use Rattle.dw_links.proofs.HeaderLemmas.{first_header, placed_rise}
 use Rattle.dw_links.proofs.references.read_signatures.Goals as goal
 
 pub returns-clause-ok : goal.returns-clause-ok
@@ -53,20 +54,22 @@ pub returns-in_err-add_type-clause-fault : goal.returns-in_err-add_type-clause-f
 returns-in_err-add_type-clause-fault c =
     let us = units_of c.args.entries.now in
     let p = err_from_is_err_and c.from_residual.result c.from_residual.ensures.1 in
-    let (u, is) = there (placed us) c.loop-number.number
-    (omega (arith, c.loop-number-test.true, c.unit_count-number-end.ensures, length-placed_from 0 0 us)) in
+    let u = placed_of (placed us) c.loop-number.number in
+    let is = unit_there us c.loop-number.number
+    (omega (arith, c.loop-number-test.true, c.unit_count-number-end.ensures)) in
     rw (p.1, p.2) (if_fault (λ broken first. first_header (entries_of us) (placed us) c.loop-number.number u broken
-    (placed_rise _ us c.args.entries.now.scanned.1.spells.are) is c.loop-number.invariant.none (first u is)) _
+    (placed_rise _ us c.args.entries.now.scanned.1.spells.are) is c.loop-number.invariant.none first) _
     c.in_err-add_type.ensures.fault)
 
 pub loop-number-preserved : goal.loop-number-preserved
 loop-number-preserved c =
     let us = units_of c.args.entries.now in
-    let (u, is) = there (placed us) c.loop-number.number
-    (omega (arith, c.loop-number-test.true, c.unit_count-number-end.ensures, length-placed_from 0 0 us)) in
+    let u = placed_of (placed us) c.loop-number.number in
+    let is = unit_there us c.loop-number.number
+    (omega (arith, c.loop-number-test.true, c.unit_count-number-end.ensures)) in
     record {
       none =
           more_of_list (placed us) (AtHeader (entries_of us) (placed us)) c.loop-number.number u is
-          c.loop-number.invariant.none (c.in_ok-add_type.ensures.ok u is);
+          c.loop-number.invariant.none c.in_ok-add_type.ensures.ok;
       types = c.in_ok-add_type.ensures.added;
     }

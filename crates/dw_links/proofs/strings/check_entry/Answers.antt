@@ -1,38 +1,34 @@
-use Rattle.std.proofs.Common.{◌≡◌, None, Some, ap, sym, ◌∙◌}
+use Rattle.std.proofs.Common.{None, Some, ap, sym, ◌∙◌}
 use Rattle.dw_forms.specs.Value.{view}
 use Rattle.dw_entries.specs.declared.entry.EntryHead.{EntryHead}
-use Rattle.dw_entries.specs.Asked.{values_of}
+use Rattle.dw_entries.specs.EntryRules.{values_of}
 use Rattle.dw_entries.specs.Leading.{DoesNotLead, leading_left}
 use Rattle.dw_entries.specs.Lookups.{entry_head}
-use Rattle.dw_links.specs.Linkable.{FailsByText}
-use Rattle.dw_links.proofs.ClassLaws.{passes_texts}
+use Rattle.dw_links.specs.UnitAtHand.{FailsByText}
+use Rattle.dw_links.proofs.ClassLemmas.{passes_texts}
 use Rattle.dw_links.proofs.RuleSteps.{none_checked, checked_fails, checked_more, checked_all, fewer}
-use Rattle.dw_links.proofs.Transfers.{least_by_texts}
+use Rattle.dw_links.proofs.UnitToAll.{least_by_texts}
 use Rattle.dw_links.proofs.strings.check_entry.Goals as goal
 
 pub loop-form-init : goal.loop-form-init
 loop-form-init c =
-    λ entries texts e is. none_checked (FailsByText entries) (entry_head e) (values_of e.head)
-    (leading_left c.leading-leading.result) (rw is at c.leading-leading.ensures)
+    λ entries texts. none_checked (FailsByText entries) (entry_head c.args.entry.now) (values_of c.args.entry.now.head)
+    (leading_left c.leading-leading.result) c.leading-leading.ensures
 
 pub returns-in-Some-ask-clause-err : goal.returns-in-Some-ask-clause-err
-returns-in-Some-ask-clause-err c = λ entries texts e is.
-    let head : c.head-head.result ≡ entry_head e = rw is at c.head-head.ensures in
-    let unit : c.args.texts.now.unit ≡ e.unit = rw is at texts.1 in
-    let same = ap (λ (h : EntryHead). h.unit) head ∙ sym unit in
-    checked_fails (FailsByText entries) DoesNotLead (passes_texts entries) e _ _ _ _
-    (c.loop-form.invariant entries texts e is) c.next_in-item.ensures.found c.head-head.result head
-    c.in-Some-ask.rule c.broken_at.result
+returns-in-Some-ask-clause-err c = λ entries texts.
+    let same = ap (λ (h : EntryHead). h.unit) c.head-head.ensures ∙ sym texts.1 in
+    checked_fails (FailsByText entries) DoesNotLead (passes_texts entries) c.args.entry.now _ _ _ _
+    (c.loop-form.invariant entries texts) c.next_in-item.ensures.found c.head-head.result c.head-head.ensures
+    c.in-Some-ask.rule c.plain_fault_at.result
     (least_by_texts entries c.args.texts.now c.head-head.result texts.0 same c.next_in-item.result.0
-    (view c.next_in-item.result.1) (Some c.in-Some-ask.rule) c.in-Some-ask.ensures) c.broken_at.ensures
+    (view c.next_in-item.result.1) (Some c.in-Some-ask.rule) c.in-Some-ask.ensures) c.plain_fault_at.ensures
 
 pub loop-form-preserved : goal.loop-form-preserved
-loop-form-preserved c = λ entries texts e is.
-    let head : c.head-head.result ≡ entry_head e = rw is at c.head-head.ensures in
-    let unit : c.args.texts.now.unit ≡ e.unit = rw is at texts.1 in
-    let same = ap (λ (h : EntryHead). h.unit) head ∙ sym unit in
-    checked_more (FailsByText entries) DoesNotLead (passes_texts entries) e _ _ _ _
-    (c.loop-form.invariant entries texts e is) c.next_in-item.ensures.found c.head-head.result head
+loop-form-preserved c = λ entries texts.
+    let same = ap (λ (h : EntryHead). h.unit) c.head-head.ensures ∙ sym texts.1 in
+    checked_more (FailsByText entries) DoesNotLead (passes_texts entries) c.args.entry.now _ _ _ _
+    (c.loop-form.invariant entries texts) c.next_in-item.ensures.found c.head-head.result c.head-head.ensures
     (least_by_texts entries c.args.texts.now c.head-head.result texts.0 same c.next_in-item.result.0
     (view c.next_in-item.result.1) None c.in_default-ask.ensures)
 
@@ -43,5 +39,5 @@ loop-form-smaller c =
 
 pub returns-clause-ok : goal.returns-clause-ok
 returns-clause-ok c =
-    λ entries texts e is. checked_all (FailsByText entries) DoesNotLead (passes_texts entries) e
-    (leading_left c.loop-form.leading) (c.loop-form.invariant entries texts e is) c.in_default.ensures.none
+    λ entries texts. checked_all (FailsByText entries) DoesNotLead (passes_texts entries) c.args.entry.now
+    (leading_left c.loop-form.leading) (c.loop-form.invariant entries texts) c.in_default.ensures.none

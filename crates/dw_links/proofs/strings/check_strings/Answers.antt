@@ -1,17 +1,18 @@
-use Rattle.std.proofs.Common.{arith}
-use Rattle.dw_links.specs.Linkable.{FailsByText}
-use Rattle.dw_links.proofs.Transfers.{more_below, first_failure, none_fails, unit_below}
+use Rattle.std.proofs.Common.{ap, ◌∙◌, arith}
+use Rattle.dw_entries.specs.Entries.{Entry}
+use Rattle.dw_links.specs.UnitAtHand.{FailsByText}
+use Rattle.dw_links.proofs.UnitToAll.{more_below, first_here, none_fails, unit_below}
 use Rattle.dw_links.proofs.strings.check_strings.Goals as goal
 
 pub keep_texts-requires-clause-next : goal.keep_texts-requires-clause-next
 keep_texts-requires-clause-next c =
-    unit_below c.args.entries.now c.id.result c.unit.result c.at-entry.result (omega arith) c.at-entry.ensures
-    c.unit.ensures
+    unit_below c.args.entries.now c.id.result c.unit.result (omega arith)
+    (c.unit.ensures ∙ ap (λ (e : Entry). e.unit) c.at-entry.ensures)
 
 pub returns-in-Err-clause-fault : goal.returns-in-Err-clause-fault
 returns-in-Err-clause-fault c = record {
   holds =
-      rw c.into_fault.ensures.holds (first_failure c.args.entries.now (FailsByText c.args.entries.now)
+      rw c.into_fault.ensures.holds (first_here c.args.entries.now (FailsByText c.args.entries.now)
       c.loop-number.number c.id.result c.id.ensures c.loop-number.invariant.passed c.in-Err.broken (omega arith)
       (rw (← c.at-entry.ensures) (c.in-Err.ensures.err c.args.entries.now
       (c.keep_texts.ensures.texts, rw c.keep_texts.ensures.unit c.unit.ensures))));

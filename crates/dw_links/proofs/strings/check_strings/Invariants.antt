@@ -1,10 +1,10 @@
-use Rattle.dw_links.specs.Linkable.{FailsByText}
-use Rattle.dw_links.specs.Ready.{AreTexts}
-use Rattle.dw_links.proofs.Transfers.{NoneBelow}
+use Rattle.dw_links.specs.UnitAtHand.{FailsByText}
+use Rattle.dw_links.specs.UnitContributions.{AreContributions}
+use Rattle.dw_links.proofs.UnitToAll.{NoneBelow}
 use Rattle.dw_links.proofs.strings.check_strings.Given as goal
 
 abbrev pub invariant-loop-number : goal.invariant-loop-number
 invariant-loop-number l = record {
-  texts : AreTexts l.entries l.texts;
+  texts : AreContributions l.entries l.texts;
   passed : NoneBelow l.entries (FailsByText l.entries) l.number;
 }

@@ -1,16 +1,19 @@
 use Rattle.std.proofs.Common.{ap, sym, subst, arith}
 use Rattle.dw_entries.specs.declared.units.UnitHead.{UnitHead}
 use Rattle.dw_entries.specs.Header.{IsSize}
+use Rattle.dw_entries.specs.Entries.{placed}
+use Rattle.dw_entries.specs.ByNumber.{placed_of}
 use Rattle.dw_entries.specs.Views.{units_of}
-use Rattle.dw_links.proofs.ClassLaws.{unit_there}
-use Rattle.dw_links.proofs.TableLaws.{sized, size_above}
+use Rattle.dw_links.proofs.ClassLemmas.{unit_there}
+use Rattle.dw_links.proofs.TableLemmas.{sized, size_above}
 use Rattle.dw_links.proofs.strings.read_texts.Goals as goal
 
 pub count_named-requires-2 : goal.count_named-requires-2
 count_named-requires-2 c =
     let us = units_of c.args.entries.now in
-    let (p, is, told) = unit_there us c.args.number c.unit-head.result c.requires.number c.unit-head.ensures in
-    let same = ap (λ (x : UnitHead). x.header.address_size) told in
+    let p = placed_of (placed us) c.args.number in
+    let is = unit_there us c.args.number c.requires.number in
+    let same = ap (λ (x : UnitHead). x.header.address_size) c.unit-head.ensures in
     omega (
       arith,
       same,
@@ -21,8 +24,9 @@ count_named-requires-2 c =
 pub returns-clause-texts : goal.returns-clause-texts
 returns-clause-texts c =
     let us = units_of c.args.entries.now in
-    let (p, is, told) = unit_there us c.args.number c.unit-head.result c.requires.number c.unit-head.ensures in
-    let same = ap (λ (x : UnitHead). x.header.address_size) told in
+    let p = placed_of (placed us) c.args.number in
+    let is = unit_there us c.args.number c.requires.number in
+    let same = ap (λ (x : UnitHead). x.header.address_size) c.unit-head.ensures in
     record {
       ready = record {
         address_size =
@@ -34,9 +38,8 @@ returns-clause-texts c =
         line_str_end = rw c.sections-sections.ensures c.requires.line_str_end;
       };
       same_sections = c.sections-sections.ensures;
-      place = p;
-      in_unit = is;
-      head = told;
-      str_base = c.base_in_unit-str_base.ensures p is;
-      addr_base = c.base_in_unit-addr_base.ensures p is;
+      within = c.requires.number;
+      head = c.unit-head.ensures;
+      str_base = c.base_in_unit-str_base.ensures;
+      addr_base = c.base_in_unit-addr_base.ensures;
     }

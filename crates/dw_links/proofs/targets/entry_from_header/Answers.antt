@@ -1,7 +1,7 @@
 use Rattle.dw_entries.specs.Entries.{entries_of, placed}
 use Rattle.dw_entries.specs.Views.{units_of}
 use Rattle.dw_entries.proofs.EntryFacts.{entries_rise}
-use Rattle.dw_links.proofs.TargetLaws.{reach_in_unit_answer}
+use Rattle.dw_links.proofs.TargetLemmas.{reach_in_unit_answer}
 use Rattle.dw_links.proofs.targets.entry_from_header.Goals as goal
 
 pub returns : goal.returns

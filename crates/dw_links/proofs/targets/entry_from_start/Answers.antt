@@ -2,7 +2,7 @@ use Rattle.std.proofs.Common.{ap, ◌∙◌, arith}
 use Rattle.dw_elf.specs.declared.sections.Sections.{Sections}
 use Rattle.dw_entries.specs.Views.{sections_of, all_entries, units_of}
 use Rattle.dw_entries.proofs.EntryFacts.{entries_rise}
-use Rattle.dw_links.proofs.TargetLaws.{entry_found, none_before_base}
+use Rattle.dw_links.proofs.TargetLemmas.{entry_found, none_before_base}
 use Rattle.dw_links.proofs.targets.entry_from_start.Goals as goal
 
 pub returns-in_err-checked_sub : goal.returns-in_err-checked_sub

@@ -1,5 +1,5 @@
 use Rattle.std.proofs.Common.{◌∙◌}
-use Rattle.dw_links.proofs.TableLaws.{reached_in_info}
+use Rattle.dw_links.proofs.TableLemmas.{reached_in_info}
 use Rattle.dw_links.proofs.targets.reach.Goals as goal
 
 pub returns-in-RefInfo : goal.returns-in-RefInfo

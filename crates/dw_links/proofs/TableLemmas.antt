@@ -1,0 +1,195 @@
+-- What is read of units, one after the other, and the targets of types, which are kept of each entry.
+use Rattle.std.proofs.Common.{rules, ◌≡◌, ℕ, ◌<◌, List, length, map, get_or, Option, Some, option_map, ap, ◌∙◌, ◌+◌, ◌≤◌, [], ◌∷◌, ◌++◌, take, refl, arith, ◌==◌, false, sym, subst, inl, inr}
+use Rattle.std.specs.Prelude.{slice_get}
+use Rattle.std.proofs.lemmas.Option.{slice_get_within, slice_get-get_or, slice_get-map, get_or_from_slice_get, option_and_then_some}
+use Rattle.std.proofs.lemmas.List.{map_more, take_all}
+use Rattle.std.specs.Option.{option_and_then}
+use Rattle.std.proofs.lemmas.Bool.Decides.{nat_tests}
+use Rattle.dw_forms.specs.declared.value.Value.{Value}
+use Rattle.dw_forms.specs.Value.{view}
+use Rattle.dw_entries.specs.declared.entries.Entries.{Entries}
+use Rattle.dw_entries.specs.Entries.{Entry, PlacedUnit, entries_of, placed}
+use Rattle.dw_entries.specs.ByNumber.{no_entry, no_placed, no_unit, entry_of, placed_of, unit_of}
+use Rattle.dw_entries.specs.Views.{sections_of, all_entries, all_units, units_of}
+use Rattle.dw_entries.specs.Lookups.{value_at_entry, value_in, unit_head}
+use Rattle.dw_entries.specs.Units.{DebugUnit, Spells, HaveBase}
+use Rattle.dw_entries.specs.UnitLaws.{unit_sized}
+use Rattle.dw_entries.proofs.EntryFacts.{length-placed_from, placed_get, HasFirst, first_entry}
+use Rattle.dw_entries.specs.declared.units.UnitHead.{UnitHead}
+use Rattle.dw_entries.specs.Header.{IsSize, version_of}
+use Rattle.dw_entries.proofs.Firsts.{same_some}
+use Rattle.dw_entries.proofs.HeadLaws.{all_get}
+use Rattle.dw_entries.specs.EntryRules.{values_of}
+use Rattle.dw_entries.specs.Grammar.{Head}
+use Rattle.dw_forms.specs.Codes.{DW_AT_language}
+use Rattle.dw_links.specs.Bases.{section_offset_in, base_in, bases_in}
+use Rattle.dw_links.specs.Constants.{constant_of, language_of}
+use Rattle.dw_links.specs.declared.constant.Constant.{Constant}
+use Rattle.dw_links.specs.Tables.{type_target, AreTables}
+use Rattle.dw_links.specs.Targets.{entry_past, reach_in_info, target_of}
+use Rattle.dw_links.proofs.TargetLemmas.{reached_within}
+use Rattle.dw_links.specs.declared.tables.LinkTables.{LinkTables}
+use Rattle.dw_links.proofs.ListLookups.{there}
+use Rattle.dw_links.proofs.ClassLemmas.{in_units, unit_there}
+
+-- ---- what is kept of an entry
+
+-- a target is an entry
+pub target_within : (entries : List Entry) (units : List PlacedUnit) (e : Entry) (attribute t : ℕ)
+    → target_of entries units e attribute ≡ Some t → t < length entries
+unfolding target_of
+target_within entries units e attribute t is = search (rules, option_and_then_some, reached_within)
+
+-- what was read of a list that is the map of another
+pub mapped : {X Y : Type 0} (f : X → Y) (xs : List X) (items : List Y) (i : ℕ) (x : X) (found : Y) → items ≡ map f xs
+    → slice_get xs i ≡ Some x → found ≡ get_or items i found → found ≡ f x
+mapped {X} {Y} f xs items i x found all is read =
+    let kept : slice_get items i ≡ Some (f x) = ap (λ (ys : List Y). slice_get ys i) all ∙ slice_get-map f xs i
+    ∙ ap (option_map f) is in
+    read ∙ get_or_from_slice_get items i (f x) found kept
+
+-- the target that is kept of an entry's type
+pub kept_target : (entries : Entries) (tables : LinkTables) (id number : ℕ) (found : Option ℕ)
+    → AreTables entries tables → id < length (all_entries entries) → number ≡ id
+    → found ≡ get_or tables.types.items number found
+    → found ≡ type_target (all_entries entries) (all_units entries) (entry_of (all_entries entries) id)
+kept_target entries tables id number found are below same read =
+    mapped (type_target (all_entries entries) (all_units entries)) (all_entries entries) tables.types.items id
+    (entry_of (all_entries entries) id) found are.types (slice_get-get_or (all_entries entries) id no_entry below)
+    (read ∙ ap (λ (n : ℕ). get_or tables.types.items n found) same)
+
+-- the base that is kept of a unit
+pub kept_base : (entries : List Entry) (units : List PlacedUnit) (attribute : ℕ) (bases : List (Option ℕ)) (number : ℕ)
+    (p : PlacedUnit) (found : Option ℕ) → bases ≡ bases_in entries units attribute → slice_get units number ≡ Some p
+    → found ≡ option_and_then (λ base. base) (slice_get bases number)
+    → found ≡ base_in entries p attribute
+kept_base entries units attribute bases number p found all is read = search (rules, slice_get-map)
+
+-- one item more
+pub map_one_more : {X Y : Type 0} (f : X → Y) (xs : List X) (ys : List Y) (i : ℕ) (x : X) (y : Y)
+    → slice_get xs i ≡ Some x → ys ≡ map f (take i xs) → y ≡ f x → ys ++ y ∷ [] ≡ map f (take (i + 1) xs)
+map_one_more {X} {Y} f xs ys i x y is before here =
+    let below = slice_get_within xs i x is in
+    let same : get_or xs i x ≡ x = get_or_from_slice_get xs i x x is in
+    rw (map_more f xs i x below, same, before, here) refl
+
+-- all items
+pub map_all : {X Y : Type 0} (f : X → Y) (xs : List X) (ys : List Y) (i : ℕ) → length xs ≤ i → ys ≡ map f (take i xs)
+    → ys ≡ map f xs
+map_all f xs ys i all before = before ∙ ap (map f) (take_all i xs all)
+
+-- ---- what is kept of an entry's unit
+
+-- the unit of an entry
+pub unit_of_entry : («abbrev» info : List ℕ) (us : List DebugUnit) (id : ℕ) (e : Entry) → Spells «abbrev» us info
+    → slice_get (entries_of us) id ≡ Some e → (p : PlacedUnit) × (slice_get (placed us) e.unit ≡ Some p)
+unit_of_entry «abbrev» info us id e spells is =
+    there (placed us) e.unit (omega (arith, in_units «abbrev» info us id e spells is, length-placed_from 0 0 us))
+
+-- the unit of the entry with a number
+pub entry_unit : (entries : Entries) (id : ℕ) → id < length (all_entries entries)
+    → slice_get (all_units entries) (entry_of (all_entries entries) id).unit
+    ≡ Some (placed_of (all_units entries) (entry_of (all_entries entries) id).unit)
+entry_unit entries id below =
+    let e = entry_of (all_entries entries) id in
+    unit_there (units_of entries) e.unit
+    (in_units _ _ (units_of entries) id e entries.scanned.1.spells
+    (slice_get-get_or (all_entries entries) id no_entry below))
+
+-- the size of an address in a unit
+pub sized : («abbrev» info : List ℕ) (us : List DebugUnit) (number : ℕ) (p : PlacedUnit) → Spells «abbrev» us info
+    → number < length us → slice_get (placed us) number ≡ Some p → IsSize p.unit.header.address_size
+sized «abbrev» info us number p spells below is =
+    let (u, is_u) = there us number below in
+    let (q, is_q, same) = placed_get 0 0 us number u is_u in
+    let one : q ≡ p = same_some (slice_get (placed us) number) q p is_q is in
+    let unit : u ≡ p.unit = sym same ∙ ap (λ (x : PlacedUnit). x.unit) one in
+    let P : DebugUnit → Type 0 = λ x. IsSize x.header.address_size in
+    subst P unit (unit_sized «abbrev» u (all_get _ us number u spells.are is_u)).size
+
+pub size_above : (size : ℕ) → IsSize size → 0 < size
+size_above size is = elim is [ inl four ↦ omega (arith, four) | inr eight ↦ omega (arith, eight) ]
+
+-- a unit with a number is one of the units
+pub number_within : (us : List DebugUnit) (number : ℕ) (p : PlacedUnit) → slice_get (placed us) number ≡ Some p
+    → number < length us
+number_within us number p is = omega (arith, slice_get_within (placed us) number p is, length-placed_from 0 0 us)
+
+-- its base is that of all
+based : (base : ℕ) (us : List DebugUnit) (number : ℕ) (p : PlacedUnit) → HaveBase base us
+    → slice_get (placed us) number ≡ Some p → p.unit.base ≡ base
+based base us number p have is =
+    let (u, is_u) = there us number (number_within us number p is) in
+    let (q, is_q, same) = placed_get 0 0 us number u is_u in
+    ap (λ (x : PlacedUnit). x.unit.base) (same_some (slice_get (placed us) number) p q is is_q)
+    ∙ ap (λ (x : DebugUnit). x.base) same ∙ all_get _ us number u have is_u
+
+-- so a reference from the start of .debug_info reaches the same in each unit
+pub reached_in_info : (entries : Entries) (unit offset : ℕ) → unit < length (units_of entries)
+    → entry_past (all_entries entries) (sections_of entries).base offset
+    ≡ reach_in_info (all_entries entries) (all_units entries) unit offset
+reached_in_info entries unit offset within =
+    let us = units_of entries in
+    let (p, is) = there (placed us) unit (omega (arith, within, length-placed_from 0 0 us)) in
+    rw is (ap (λ (base : ℕ). entry_past (all_entries entries) base offset)
+    (sym (based (sections_of entries).base us unit p entries.scanned.1.based is)))
+
+-- its header is that of the unit
+pub unit_header : (us : List DebugUnit) (number : ℕ) → number < length us
+    → (placed_of (placed us) number).unit.header ≡ (unit_of us number).header
+unit_header us number below =
+    let (q, is_q, same) = placed_get 0 0 us number (unit_of us number) (slice_get-get_or us number no_unit below) in
+    ap (λ (x : PlacedUnit). x.unit.header) (get_or_from_slice_get (placed us) number q no_placed is_q)
+    ∙ ap (λ (x : DebugUnit). x.header) same
+
+-- a unit's first entry
+pub first_within : (us : List DebugUnit) (number : ℕ) (told : UnitHead) → number < length us
+    → told ≡ unit_head (placed_of (placed us) number) → told.first < length (entries_of us)
+first_within us number told below tells =
+    let p = placed_of (placed us) number in
+    let has = first_entry us number p (unit_there us number below) in
+    let first : told.first ≡ p.first = ap (λ (x : UnitHead). x.first) tells in
+    let within = slice_get_within (entries_of us) p.first has.entry has.is_entry in
+    omega (arith, first, within)
+
+-- it is the one that was told
+first_told : (us : List DebugUnit) (number : ℕ) (told : UnitHead) → number < length us
+    → told ≡ unit_head (placed_of (placed us) number)
+    → (has : HasFirst (entries_of us) (placed_of (placed us) number).first number (placed_of (placed us) number))
+    × (entry_of (entries_of us) told.first ≡ has.entry)
+first_told us number told below tells =
+    let p = placed_of (placed us) number in
+    let has = first_entry us number p (unit_there us number below) in (
+      has,
+      ap (entry_of (entries_of us)) (ap (λ (x : UnitHead). x.first) tells)
+          ∙ get_or_from_slice_get (entries_of us) p.first has.entry no_entry has.is_entry,
+    )
+
+not_same : (n m : ℕ) → (n ≡ m → ⊥) → (n == m) ≡ false
+not_same n m other = grind (arith, nat_tests, other)
+
+-- the base that was read
+pub base_read : (us : List DebugUnit) (number attribute : ℕ) (told : UnitHead) (v : Option Value) → number < length us
+    → told ≡ unit_head (placed_of (placed us) number) → (version_of told.header.kind ≡ 4 → ⊥)
+    → option_map view v ≡ value_at_entry (entry_of (entries_of us) told.first) attribute
+    → option_and_then section_offset_in (option_map view v)
+    ≡ base_in (entries_of us) (placed_of (placed us) number) attribute
+base_read us number attribute told v below tells not_4 read =
+    let p = placed_of (placed us) number in
+    let (has, same) = first_told us number told below tells in
+    let value : option_map view v ≡ value_at_entry has.entry attribute =
+    read ∙ ap (λ (e : Entry). value_at_entry e attribute) same in
+    let version : version_of p.unit.header.kind ≡ 4
+    → ⊥ = λ four. not_4 (ap (λ (x : UnitHead). version_of x.header.kind) tells ∙ four) in
+    ap (option_and_then section_offset_in) value
+    ∙ (rw (not_same (version_of p.unit.header.kind) 4 version, has.is_entry) refl)
+
+-- the language that was read
+pub language_read : (us : List DebugUnit) (number : ℕ) (told : UnitHead) (v : Option Value) (language : Constant)
+    → number < length us → told ≡ unit_head (placed_of (placed us) number)
+    → option_map view v ≡ value_at_entry (entry_of (entries_of us) told.first) DW_AT_language
+    → language ≡ constant_of (option_map view v) → language ≡ language_of (placed_of (placed us) number)
+language_read us number told v language below tells read is =
+    let (has, same) = first_told us number told below tells in
+    is ∙ ap constant_of (read ∙ ap (λ (e : Entry). value_at_entry e DW_AT_language) same)
+    ∙ ap (λ (h : Head). constant_of (value_in (values_of h) DW_AT_language)) has.is_first.head

@@ -1,0 +1,361 @@
+-- The first item of a list that passes a test, and the entry that a value reaches.
+use Rattle.std.proofs.Common.{rules, ltb, get_or, ◌≤◌, ◌≡◌, ℕ, ◌+◌, ◌<◌, Bool, true, false, cond, List, Option, Some, None, IfSome, IfNone, refl, sym, ap, ◌∙◌, arith, ◌==◌, ◌&&◌, length, IsSome, option_and_then, subst, eq-eqb, ne_eqb}
+use Rattle.std.specs.Prelude.{slice_get, All, ◌≢◌}
+use Rattle.std.proofs.Math.Bool.{and-false}
+use Rattle.std.specs.List.{position_from, position_or_len}
+use Rattle.std.proofs.lemmas.Option.{slice_get_within, slice_get-get_or, get_or_from_slice_get, option_and_then_some}
+use Rattle.std.proofs.lemmas.Bool.{eqb-true, ltb-true, ltb-false, lt-ltb}
+use Rattle.std.proofs.lemmas.Iterator.Adapters.{position_from-zero}
+use Rattle.std.proofs.lemmas.List.Sums.{position_or_len_is, passes_at_first, fails_before_first}
+use Rattle.dw_forms.specs.Value.{Datum, ref_info, ref_unit, ref_sig}
+use Rattle.dw_entries.specs.EntryRules.{OffsetsRise}
+use Rattle.dw_entries.specs.Entries.{Entry, PlacedUnit}
+use Rattle.dw_entries.specs.ByNumber.{no_entry, no_placed, entry_of, placed_of}
+use Rattle.dw_entries.specs.EntriesAt.{IsEntryIn, ReachesInUnit}
+use Rattle.dw_links.proofs.TypeUnitLemmas.{none_there}
+use Rattle.dw_links.proofs.ListLookups.{there}
+use Rattle.dw_links.specs.LinkLaws.{IsEntryPast, ReachesInInfo, ReachesBySignature}
+use Rattle.dw_links.specs.Signatures.{type_unit_of, HasSignature, is_signature_of, first_signed, AreDistinct}
+use Rattle.dw_links.specs.SignedTypes.{IsFirstSigned, IsSignedType}
+use Rattle.dw_links.specs.Targets.{entry_past, entry_in, reach_in_info, reach_in_unit, type_of_unit, signed_type}
+use Rattle.dw_links.specs.Targets.{reach_of}
+
+-- no item before a place passes the test
+abbrev pub NoneBefore : {X : Type 0} → (X → Bool) → List X → ℕ → Type 0
+NoneBefore {X} test xs i = (j : ℕ) (y : X) → j < i → slice_get xs j ≡ Some y → test y ≡ false
+
+-- the item at a place passes the test, and none before it does
+pub record IsFirstAt {X : Type 0} (test : X → Bool) (xs : List X) (i : ℕ) : Type 0 where
+  pub item : X
+  pub is_item : slice_get xs i ≡ Some item
+  pub passes : test item ≡ true
+  pub before : NoneBefore test xs i
+
+below : (b : Bool) (p n k : ℕ) → ltb p n ≡ b → cond b (Some p) None ≡ Some k → (p ≡ k) × (p < n)
+below true p n k q e = (cc, ltb-true p n q)
+below false p n k q e = absurd cc
+
+past : (b : Bool) (p n : ℕ) → ltb p n ≡ b → cond b (Some p) None ≡ None → n ≤ p
+past true p n q e = absurd cc
+past false p n q e = ltb-false p n q
+
+-- the place of the first such item is the position
+pub position_is : {X : Type 0} (test : X → Bool) (xs : List X) (i : ℕ) → IsFirstAt test xs i
+    → position_from test 0 xs ≡ Some i
+position_is test xs i first =
+    let within = slice_get_within xs i first.item first.is_item in
+    let is_i : position_or_len test xs ≡ i = position_or_len_is test xs i first.item (omega (arith, within))
+    (λ k lt. first.before k (get_or xs k first.item) lt (slice_get-get_or xs k first.item (omega (arith, within, lt))))
+    (λ _. ap test (get_or_from_slice_get xs i first.item first.item first.is_item) ∙ first.passes) in
+    sym (position_from-zero test xs) ∙ rw (is_i, lt-ltb i (length xs) within) refl
+
+-- at the position is such an item
+pub place_is : {X : Type 0} (test : X → Bool) (xs : List X) (k : ℕ) → position_from test 0 xs ≡ Some k
+    → IsFirstAt test xs k
+place_is test xs k is =
+    let (same, within) = below (ltb (position_or_len test xs) (length xs)) (position_or_len test xs) (length xs) k refl
+    (position_from-zero test xs ∙ is) in
+    let (x, is_x) = there xs k (omega (arith, same, within)) in
+    record {
+      item = x;
+      is_item = is_x;
+      passes =
+          ap test (sym (get_or_from_slice_get xs k x x is_x) ∙ ap (λ (n : ℕ). get_or xs n x) (sym same))
+          ∙ passes_at_first test xs x within;
+      before =
+          λ j y lt at. ap test (sym (get_or_from_slice_get xs j y y at))
+          ∙ fails_before_first test xs j y (omega (arith, lt, same));
+    }
+
+-- where there is no position, no item passes
+pub none_passes : {X : Type 0} (test : X → Bool) (xs : List X) → position_from test 0 xs ≡ None → (j : ℕ) (y : X)
+    → slice_get xs j ≡ Some y → test y ≡ false
+none_passes test xs none j y at =
+    let all = past (ltb (position_or_len test xs) (length xs)) (position_or_len test xs) (length xs) refl
+    (position_from-zero test xs ∙ none) in
+    ap test (sym (get_or_from_slice_get xs j y y at))
+    ∙ fails_before_first test xs j y (omega (arith, all, slice_get_within xs j y at))
+
+-- an answer that is exact both ways is the one that a function gives
+pub answer_is : (Is : ℕ → Type 0) (given answer : Option ℕ) → ((i : ℕ) → given ≡ Some i → Is i)
+    → ((i : ℕ) → Is i → given ≡ Some i) → IfSome answer Is → IfNone answer ((i : ℕ) → Is i → ⊥) → answer ≡ given
+answer_is Is given (Some i) back over some none = sym (over i some)
+answer_is Is None None back over some none = refl
+answer_is Is (Some k) None back over some none = absurd (none k (back k refl))
+
+-- ---- entries by their offsets
+
+pub entry_past_is : (entries : List Entry) (base offset id : ℕ) → OffsetsRise entries
+    → IsEntryPast entries base offset id → entry_past entries base offset ≡ Some id
+unfolding entry_past
+entry_past_is entries base offset id rise found =
+    let e = entry_of entries id in
+    let is = slice_get-get_or entries id no_entry found.within in
+    let begins = found.begins in
+    position_is (λ (e : Entry). base + e.at == offset) entries id
+    (record {
+      item = e;
+      is_item = is;
+      passes = eq-eqb (base + e.at) offset begins;
+      before = λ j d lt at. ne_eqb (base + d.at) offset (λ same. omega (arith, rise j id d e lt at is, same, begins));
+    })
+
+at_entry_past : (entries : List Entry) (base offset id : ℕ) → entry_past entries base offset ≡ Some id
+    → IsEntryPast entries base offset id
+unfolding entry_past
+at_entry_past entries base offset id is =
+    let first = place_is (λ (e : Entry). base + e.at == offset) entries id is in
+    let same = get_or_from_slice_get entries id first.item no_entry first.is_item in
+    record {
+      within = slice_get_within entries id first.item first.is_item;
+      begins = ap (λ (e : Entry). base + e.at) same ∙ eqb-true (base + first.item.at) offset first.passes;
+    }
+
+each_true : (a b : Bool) → (a && b) ≡ true → (a ≡ true) × (b ≡ true)
+each_true true b is = (refl, is)
+each_true false b is = absurd cc
+
+pub entry_in_is : (entries : List Entry) (unit offset id : ℕ) → OffsetsRise entries → IsEntryIn entries unit offset id
+    → entry_in entries unit offset ≡ Some id
+unfolding entry_in
+entry_in_is entries unit offset id rise found =
+    let e = entry_of entries id in
+    let is = slice_get-get_or entries id no_entry found.within in
+    let begins = found.begins in
+    position_is (λ (e : Entry). e.unit == unit && e.at == offset) entries id
+    (record {
+      item = e;
+      is_item = is;
+      passes = rw (eq-eqb e.unit unit found.in_unit, eq-eqb e.at offset begins) refl;
+      before =
+          λ j d lt at. rw (ne_eqb d.at offset (λ same. omega (arith, rise j id d e lt at is, same, begins)))
+          (and-false (d.unit == unit));
+    })
+
+pub at_entry_in : (entries : List Entry) (unit offset id : ℕ) → entry_in entries unit offset ≡ Some id
+    → IsEntryIn entries unit offset id
+unfolding entry_in
+at_entry_in entries unit offset id is =
+    let first = place_is (λ (e : Entry). e.unit == unit && e.at == offset) entries id is in
+    let both = each_true (first.item.unit == unit) (first.item.at == offset) first.passes in
+    let same = get_or_from_slice_get entries id first.item no_entry first.is_item in
+    record {
+      within = slice_get_within entries id first.item first.is_item;
+      begins = ap (λ (e : Entry). e.at) same ∙ eqb-true first.item.at offset both.1;
+      in_unit = ap (λ (e : Entry). e.unit) same ∙ eqb-true first.item.unit unit both.0;
+    }
+
+-- what a search by offset answers
+entry_past_answer : (entries : List Entry) (base offset : ℕ) (answer : Option ℕ) → OffsetsRise entries
+    → IfSome answer (IsEntryPast entries base offset)
+    → IfNone answer ((id : ℕ) → IsEntryPast entries base offset id → ⊥) → answer ≡ entry_past entries base offset
+entry_past_answer entries base offset answer rise =
+    answer_is (IsEntryPast entries base offset) (entry_past entries base offset) answer
+    (at_entry_past entries base offset) (λ id. entry_past_is entries base offset id rise)
+
+-- no entry begins before the base
+pub none_before_base : (entries : List Entry) (base offset : ℕ) → OffsetsRise entries → offset < base
+    → None ≡ entry_past entries base offset
+none_before_base entries base offset rise less =
+    entry_past_answer entries base offset None rise tt (λ id found. omega (arith, found.begins, less))
+
+pub entry_found : (entries : List Entry) (base at offset : ℕ) (answer : Option ℕ) → base + at ≡ offset
+    → OffsetsRise entries → IfSome answer (λ id. (entry_of entries id).at ≡ at)
+    → IfSome answer (λ id. id < length entries)
+    → IfNone answer (All (λ e. e.at ≢ at) entries) → answer ≡ entry_past entries base offset
+entry_found entries base at offset None sum rise found within none =
+    entry_past_answer entries base offset None rise tt
+    (λ id past. let begins = past.begins in
+    none_there entries at none id (record { within = past.within; begins = omega (arith, sum, begins) }))
+entry_found entries base at offset (Some id) sum rise found within none =
+    entry_past_answer entries base offset (Some id) rise
+    (record { within = within; begins = omega (arith, sum, found) }) tt
+
+-- ---- entries by their offsets, as a unit counts them
+
+pub reach_in_info_is : (entries : List Entry) (units : List PlacedUnit) (unit offset id : ℕ) → OffsetsRise entries
+    → ReachesInInfo entries units unit offset id → reach_in_info entries units unit offset ≡ Some id
+reach_in_info_is entries units unit offset id rise reached =
+    rw reached.is_unit (entry_past_is entries reached.unit.unit.base offset id rise reached.target)
+
+pub at_reach_in_info : (entries : List Entry) (units : List PlacedUnit) (unit offset id : ℕ)
+    → reach_in_info entries units unit offset ≡ Some id → ReachesInInfo entries units unit offset id
+at_reach_in_info entries units unit offset id is =
+    option_and_then_some (λ (u : PlacedUnit). entry_past entries u.unit.base offset) (slice_get units unit) id is
+    (λ u is_u found. record { unit = u; is_unit = is_u; target = at_entry_past entries u.unit.base offset id found })
+
+-- ---- entries by their offsets from a header
+
+pub reach_in_unit_is : (entries : List Entry) (units : List PlacedUnit) (unit offset id : ℕ) → OffsetsRise entries
+    → ReachesInUnit entries units unit offset id → reach_in_unit entries units unit offset ≡ Some id
+reach_in_unit_is entries units unit offset id rise reached =
+    rw (slice_get-get_or units unit no_placed reached.unit_within)
+    (entry_in_is entries unit ((placed_of units unit).at + offset) id rise reached.target)
+
+pub at_reach_in_unit : (entries : List Entry) (units : List PlacedUnit) (unit offset id : ℕ)
+    → reach_in_unit entries units unit offset ≡ Some id → ReachesInUnit entries units unit offset id
+at_reach_in_unit entries units unit offset id is =
+    option_and_then_some (λ (u : PlacedUnit). entry_in entries unit (u.at + offset)) (slice_get units unit) id is
+    (λ u is_u found.
+    let same = get_or_from_slice_get units unit u no_placed is_u in
+    record {
+      unit_within = slice_get_within units unit u is_u;
+      target =
+          at_entry_in entries unit ((placed_of units unit).at + offset) id
+          (ap (λ (x : PlacedUnit). entry_in entries unit (x.at + offset)) same ∙ found);
+    })
+
+pub reach_in_unit_answer : (entries : List Entry) (units : List PlacedUnit) (unit offset : ℕ) (answer : Option ℕ)
+    → OffsetsRise entries → IfSome answer (ReachesInUnit entries units unit offset)
+    → IfNone answer ((id : ℕ) → ReachesInUnit entries units unit offset id → ⊥)
+    → answer ≡ reach_in_unit entries units unit offset
+reach_in_unit_answer entries units unit offset answer rise =
+    search (rules, answer_is, at_reach_in_unit, reach_in_unit_is)
+
+-- ---- type units by their signatures
+
+is_signed : (signature type_offset : ℕ) (o : Option (ℕ × ℕ)) → o ≡ Some (signature, type_offset)
+    → is_signature_of signature o ≡ true
+is_signed signature type_offset o is = rw is (eq-eqb signature signature refl)
+
+signed_with : (signature : ℕ) (o : Option (ℕ × ℕ)) → is_signature_of signature o ≡ true
+    → (type_offset : ℕ) × (o ≡ Some (signature, type_offset))
+signed_with signature None is = absurd cc
+signed_with signature (Some (other, type_offset)) is =
+    let same : other ≡ signature = eqb-true other signature is in (type_offset, rw same refl)
+
+abbrev signs : ℕ → PlacedUnit → Bool
+signs signature u = is_signature_of signature (type_unit_of u.unit.header.kind)
+
+signature_here : (units : List PlacedUnit) (signature number : ℕ) (u : PlacedUnit) → slice_get units number ≡ Some u
+    → signs signature u ≡ true → HasSignature units signature number
+signature_here units signature number u is passes = search (rules, signed_with)
+
+-- the first unit that is found has the signature, and none before it
+pub at_first_signed : (units : List PlacedUnit) (signature number : ℕ) → first_signed units signature ≡ Some number
+    → IsFirstSigned units signature (length units) (Some number)
+unfolding first_signed
+at_first_signed units signature number is =
+    let first = place_is (signs signature) units number is in (
+      slice_get_within units number first.item first.is_item,
+      signature_here units signature number first.item
+          first.is_item first.passes,
+      λ j less has. none_before j first less has,
+    )
+  where
+    none_before : (j : ℕ) → IsFirstAt (signs signature) units number → j < number → HasSignature units signature j → ⊥
+    none_before j first less has =
+        let both : true ≡ false = sym (is_signed signature has.type_offset (type_unit_of has.unit.unit.header.kind)
+        has.signed) ∙ first.before j has.unit less has.is_unit in cc
+
+false_unless : (b : Bool) → (b ≡ true → ⊥) → b ≡ false
+false_unless true never = absurd (never refl)
+false_unless false never = refl
+
+pub first_signed_is : (units : List PlacedUnit) (signature below number : ℕ)
+    → IsFirstSigned units signature below (Some number) → first_signed units signature ≡ Some number
+unfolding first_signed
+first_signed_is units signature below number (within, has, none) =
+    search (rules, position_is, is_signed, false_unless, signature_here)
+
+-- the first unit of those that have a signature, of all units
+first_signed_answer : (units : List PlacedUnit) (signature below : ℕ) (answer : Option ℕ) → below ≡ length units
+    → IsFirstSigned units signature below answer → answer ≡ first_signed units signature
+first_signed_answer units signature below (Some number) all is = sym (first_signed_is units signature below number is)
+first_signed_answer units signature below None all none = go (first_signed units signature) refl
+  where
+    go : (o : Option ℕ) → first_signed units signature ≡ o → None ≡ first_signed units signature
+    go None is = sym is
+    go (Some number) is =
+        let found = at_first_signed units signature number is in
+        absurd (none number (omega (arith, found.0, all)) found.1)
+
+-- where none is found, none has the signature
+pub none_signed : (units : List PlacedUnit) (signature : ℕ) → first_signed units signature ≡ None → (number : ℕ)
+    → HasSignature units signature number → ⊥
+unfolding first_signed
+none_signed units signature none number has = search (rules, is_signed, none_passes)
+
+-- ---- types by signatures
+
+pub type_of_unit_is : (entries : List Entry) (units : List PlacedUnit) (unit signature type_offset : ℕ) (u : PlacedUnit)
+    (target : Option ℕ) → slice_get units unit ≡ Some u
+    → type_unit_of u.unit.header.kind ≡ Some (signature, type_offset)
+    → reach_in_unit entries units unit type_offset ≡ target → type_of_unit entries units unit ≡ target
+type_of_unit_is entries units unit signature type_offset u target is kind reached = search (rules)
+
+-- at the type offset of the first type unit that has the signature
+pub at_type : (entries : List Entry) (units : List PlacedUnit) (signature id : ℕ)
+    → option_and_then (type_of_unit entries units) (first_signed units signature) ≡ Some id
+    → ReachesBySignature entries units signature id
+at_type entries units signature id is =
+    option_and_then_some (type_of_unit entries units) (first_signed units signature) id is
+    (λ number found typed.
+    let has = (at_first_signed units signature number found).1 in
+    let reached = at_reach_in_unit entries units number has.type_offset id
+    (sym (type_of_unit_is entries units number signature has.type_offset has.unit
+    (reach_in_unit entries units number has.type_offset) has.is_unit has.signed refl) ∙ typed) in
+    let same = get_or_from_slice_get units number has.unit no_placed has.is_unit in
+    record {
+      number = number;
+      has = has;
+      target = subst (λ (u : PlacedUnit). IsEntryIn entries number (u.at + has.type_offset) id) same reached.target;
+    })
+
+pub type_is : (entries : List Entry) (units : List PlacedUnit) (signature id : ℕ) → OffsetsRise entries
+    → AreDistinct units → ReachesBySignature entries units signature id
+    → option_and_then (type_of_unit entries units) (first_signed units signature) ≡ Some id
+type_is entries units signature id rise distinct reached =
+    let within = slice_get_within units reached.number reached.has.unit reached.has.is_unit in
+    let same = get_or_from_slice_get units reached.number reached.has.unit no_placed reached.has.is_unit in
+    let first : IsFirstSigned units signature (length units) (Some reached.number) = (
+      within,
+      reached.has,
+      λ j less has. let same = distinct signature j reached.number has reached.has in omega (arith, same, less),
+    ) in
+    rw (first_signed_is units signature (length units) reached.number first)
+    (type_of_unit_is entries units reached.number signature reached.has.type_offset reached.has.unit (Some id)
+    reached.has.is_unit reached.has.signed
+    (reach_in_unit_is entries units reached.number reached.has.type_offset id rise
+    (record {
+      unit_within = within;
+      target =
+          subst (λ (u : PlacedUnit). IsEntryIn entries reached.number (u.at + reached.has.type_offset) id) (sym same)
+          reached.target;
+    })))
+
+-- what is read of all units is the type of a signature
+pub signed_type_is : (entries : List Entry) (units : List PlacedUnit) (signature : ℕ) (o : Option ℕ)
+    → IsSignedType entries units signature (length units) o → o ≡ signed_type entries units signature
+signed_type_is entries units signature None none =
+    ap (option_and_then (type_of_unit entries units))
+    (first_signed_answer units signature (length units) None refl none)
+signed_type_is entries units signature (Some id) found =
+    sym (rw (first_signed_is units signature (length units) found.0 found.1) found.2)
+
+-- each signature has a type
+pub signed_some : (entries : List Entry) (units : List PlacedUnit) (signature number : ℕ) (o : Option ℕ)
+    → IsSignedType entries units signature (length units) o → HasSignature units signature number
+    → IsSome (signed_type entries units signature)
+signed_some entries units signature number None none has =
+    absurd (none number (slice_get_within units number has.unit has.is_unit) has)
+signed_some entries units signature number (Some id) found has =
+    subst (λ (o : Option ℕ). IsSome o) (signed_type_is entries units signature (Some id) found) refl
+
+-- ---- what a value reaches
+
+-- what is reached is an entry
+pub reached_within : (entries : List Entry) (units : List PlacedUnit) (unit : ℕ) (v : Datum) (id : ℕ)
+    → reach_of entries units unit v ≡ Some id → id < length entries
+reached_within entries units unit (ref_info offset) id is =
+    (at_reach_in_info entries units unit offset id is).target.within
+reached_within entries units unit (ref_unit offset) id is =
+    (at_reach_in_unit entries units unit offset id is).target.within
+reached_within entries units unit (ref_sig signature) id is = (at_type entries units signature id is).target.within
+reached_within entries units unit _ id is = absurd cc
+
+-- so its number is below their count
+pub reach_within : (entries : List Entry) (units : List PlacedUnit) (unit : ℕ) (v : Datum) (answer : Option ℕ)
+    → answer ≡ reach_of entries units unit v → IfSome answer (λ t. t < length entries)
+reach_within entries units unit v None is = tt
+reach_within entries units unit v (Some t) is = search (rules, reached_within)

@@ -1,0 +1,31 @@
+use Rattle.std.proofs.Common.{◌∙◌, refl}
+use Rattle.dw_forms.specs.Value.{addr_index}
+use Rattle.dw_forms.specs.declared.attribute_lists.Lead.TheVariants as lead
+use Rattle.dw_forms.proofs.LeadLaws.{lead_says}
+use Rattle.dw_links.proofs.LeadSteps.{links, linked, failed, text_keeps}
+use Rattle.dw_entries.specs.Leading.{leading_left}
+use Rattle.dw_links.proofs.references.UnitLinks.link_address.Goals as goal
+
+pub returns-in-None-clause-ok : goal.returns-in-None-clause-ok
+returns-in-None-clause-ok c =
+    let it = c.args.self.now in
+    let item = c.take_address-item.result in
+    links it c.args.id item.0 (addr_index item.1) (leading_left c.args.leading.now)
+    (leading_left c.take_address-item.new.self) c.take_address-item.ensures.next c.args.kept c.args.kept
+    (text_keeps it c.args.id c.requires.may c.args.kept item.0 (addr_index item.1) (λ head. c.in-None.ensures) refl
+    (lead_says (record { attribute = item.0; form = c.take_address-item.ensures.form }) lead.Address
+    (c.take_address-item.ensures.has_lead ∙ c.requires.lead)).1)
+
+pub returns-in-Some-clause-ok : goal.returns-in-Some-clause-ok
+returns-in-Some-clause-ok c =
+    let item = c.take_address-item.result in
+    linked c.args.self.now c.args.id item.0 (addr_index item.1) (leading_left c.args.leading.now)
+    (leading_left c.take_address-item.new.self) c.take_address-item.ensures.next c.args.kept c.judge_next.result
+    c.judge_next.ensures.ok
+
+pub returns-in-Some-clause-err : goal.returns-in-Some-clause-err
+returns-in-Some-clause-err c =
+    let item = c.take_address-item.result in
+    failed c.args.self.now c.args.id item.0 (addr_index item.1) (leading_left c.args.leading.now)
+    (leading_left c.take_address-item.new.self) c.take_address-item.ensures.next c.judge_next.result
+    c.judge_next.ensures.err

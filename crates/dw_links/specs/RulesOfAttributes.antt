@@ -1,0 +1,28 @@
+-- Chapter: rules on the attributes of entries, and the declarations at which none of them can fail.
+use Rattle.std.specs.Prelude.{◌≡◌, ℕ, List, Some, slice_get}
+use Rattle.dw_forms.specs.Value.{Datum}
+use Rattle.dw_forms.specs.declared.abbrev.AttributeSpec.{AttributeSpec}
+use Rattle.dw_entries.specs.declared.rule.Rule.{Rule}
+use Rattle.dw_entries.specs.declared.entry.EntryHead.{EntryHead}
+use Rattle.dw_entries.specs.Grammar.{Context, Attribute, IsAttribute}
+use Rattle.dw_entries.specs.Entries.{Entry}
+use Rattle.dw_entries.specs.Failures.{Failure}
+use Rattle.dw_entries.specs.EntryRules.{AtAttributes}
+use Rattle.dw_entries.specs.Lookups.{entry_head}
+
+-- which rules fail at an attribute with a value, by what is told of its entry
+abbrev pub Rules : Type 1
+Rules = EntryHead → ℕ → Datum → Rule → Type 0
+
+-- the failures of the rules at the attributes of an entry
+abbrev pub AtHead : Rules → Entry → Failure → Type 0
+AtHead Fails = AtAttributes (λ e. Fails (entry_head e))
+
+-- no rule fails at an attribute that is declared so
+abbrev pub NeverFailsAt : Rules → AttributeSpec → Type 0
+NeverFailsAt Fails spec = (x : Context) (a : Attribute) → IsAttribute x spec a → (head : EntryHead) (rule : Rule)
+    → Fails head a.code a.value rule → ⊥
+
+-- nor at any of a declaration
+abbrev pub AllPass : Rules → List AttributeSpec → Type 0
+AllPass Fails specs = (k : ℕ) (spec : AttributeSpec) → slice_get specs k ≡ Some spec → NeverFailsAt Fails spec

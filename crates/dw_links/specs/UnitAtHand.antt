@@ -1,0 +1,97 @@
+-- State: the rules among all entries, and what must be known of the unit at hand while values are followed.
+use Rattle.std.specs.Prelude.{◌≡◌, ◌≢◌, ◌<◌, ◌≤◌, ℕ, Bool, true, false, Option, Some, length}
+use Rattle.dw_forms.specs.Codes.{is_type_tag}
+use Rattle.dw_forms.specs.declared.attribute_lists.Lead.{Lead}
+use Rattle.dw_forms.specs.declared.attribute_lists.Lead.TheVariants as lead
+use Rattle.dw_forms.specs.Value.{Datum}
+use Rattle.dw_entries.specs.declared.entries.Entries.{Entries}
+use Rattle.dw_entries.specs.declared.entry.EntryHead.{EntryHead}
+use Rattle.dw_entries.specs.Cursors.{HasEntries}
+use Rattle.dw_entries.specs.Entries.{Entry}
+use Rattle.dw_entries.specs.ByNumber.{entry_of}
+use Rattle.dw_entries.specs.Views.{sections_of, all_entries, all_units}
+use Rattle.dw_links.specs.declared.references.UnitLinks.{UnitLinks}
+use Rattle.dw_links.specs.RulesOfAttributes.{Rules}
+use Rattle.dw_links.specs.UnitContributions.{AreContributions}
+use Rattle.dw_links.specs.References.{ReferenceFails, is_declared}
+use Rattle.dw_links.specs.SignedTypes.{HasSignedTypes, AreTyped}
+use Rattle.dw_links.specs.Strings.{StringFails}
+use Rattle.dw_links.specs.Targets.{reach_in_unit, reach_of}
+
+-- the rules on strings and addresses
+abbrev pub FailsByText : Entries → Rules
+FailsByText entries = StringFails (sections_of entries) (all_entries entries) (all_units entries)
+
+-- the rules on references
+abbrev pub FailsByTarget : Entries → Rules
+FailsByTarget entries = ReferenceFails (all_entries entries) (all_units entries)
+
+-- the target of a value of an entry
+abbrev pub target_by : Entries → EntryHead → Datum → Option ℕ
+target_by entries head v = reach_of (all_entries entries) (all_units entries) head.unit v
+
+-- the entries whose values are followed
+abbrev pub entries_followed : UnitLinks → Entries
+entries_followed it = it.entries.now
+
+-- the entry with this number
+abbrev pub entry_with : UnitLinks → (id : ℕ) → Entry
+entry_with it id = entry_of (all_entries (entries_followed it)) id
+
+-- the entry of the unit at hand that starts so many bytes after the unit's header
+abbrev pub entry_after : UnitLinks → (offset : ℕ) → Option ℕ
+entry_after it offset =
+    reach_in_unit (all_entries (entries_followed it)) (all_units (entries_followed it)) it.texts.unit offset
+
+-- the table has the type of each signature, each signature of a type unit has one, what was read of the unit at hand
+-- is right, and the entries of this range are its entries
+pub record IsLinkable (it : UnitLinks) : Type 0 where
+  pub types : HasSignedTypes (entries_followed it) it.signatures.now
+  pub typed : AreTyped (entries_followed it)
+  pub texts : AreContributions (entries_followed it) it.texts
+  pub range : HasEntries (all_entries (entries_followed it)) it.texts.unit it.range.0 it.range.1
+  pub within : it.range.1 ≤ length (all_entries (entries_followed it))
+
+-- the same, and the entry is in the unit at hand
+pub record MayAsk (it : UnitLinks) (head : EntryHead) : Type 0 where
+  pub linkable : IsLinkable it
+  pub in_unit : head.unit ≡ it.texts.unit
+
+-- the same, of an entry by its number
+pub record MayLink (it : UnitLinks) (id : ℕ) : Type 0 where
+  pub within : id < length (all_entries (entries_followed it))
+  pub linkable : IsLinkable it
+  pub in_unit : (entry_with it id).unit ≡ it.texts.unit
+
+-- the lead is that of a string by its index, of one byte or of two
+abbrev pub is_index_lead : Lead → Bool
+is_index_lead lead.Index1 = true
+is_index_lead lead.Index2 = true
+is_index_lead _ = false
+
+-- ---- the entry of the unit at hand that starts so many bytes after the unit's header
+
+-- it is this type
+pub record IsTypeAfter (it : UnitLinks) (offset target : ℕ) : Type 0 where
+  pub reaches : entry_after it offset ≡ Some target
+  pub is_type : is_type_tag (entry_with it target).head.decl.tag ≡ true
+
+-- it is the next sibling of an entry
+pub record IsSiblingAfter (it : UnitLinks) (id offset : ℕ) : Type 0 where
+  pub target : ℕ
+  pub reaches : entry_after it offset ≡ Some target
+  pub is_next : (entry_with it id).next ≡ Some target
+
+-- it is another entry than this one, and it is a declaration
+pub record IsDeclaredAfter (it : UnitLinks) (id offset : ℕ) : Type 0 where
+  pub target : ℕ
+  pub reaches : entry_after it offset ≡ Some target
+  pub other : target ≢ id
+  pub declared : is_declared (entry_with it target) ≡ true
+
+-- no rule fails at the reference to it, if that has this lead
+abbrev pub LeadsWell : UnitLinks → (id offset : ℕ) → Lead → Type 0
+LeadsWell it id offset lead.Sibling = IsSiblingAfter it id offset
+LeadsWell it id offset lead.Specification = IsDeclaredAfter it id offset
+LeadsWell it id offset lead.Entry = (target : ℕ) × (entry_after it offset ≡ Some target)
+LeadsWell it id offset _ = ⊥
