@@ -1,9 +1,6 @@
 pub mod ListLemmas
 pub mod ChildLemmas
-pub mod FactsLemmas
-pub mod ChildSteps
-pub mod UnitLemmas
-pub mod CountLemmas
+pub mod SiblingLemmas
 pub mod RankLemmas
 pub mod WalkLemmas
 pub mod CycleLemmas
@@ -13,10 +10,11 @@ pub mod LongestLemmas
 pub mod PackingLemmas
 pub mod StepLemmas
 pub mod RoleLemmas
+pub mod MemberLemmas
 pub mod FirstLemmas
 pub mod ElementCountLemmas
 pub mod TableLemmas
 pub mod SizeLineLemmas
 pub mod SizeRankLemmas
+pub mod SizeRuleLemmas
 pub mod SizeFaultLemmas
-pub mod PartStepLemmas

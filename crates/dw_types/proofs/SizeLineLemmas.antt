@@ -1,32 +1,40 @@
 -- The size lines read a table at steps by value alone, and may take capped sizes.
-use Rattle.std.proofs.Common.{rules, ◌≡◌, ℕ, ◌*◌, ◌^◌, ◌<◌, min, Bool, true, false, if◌then◌else◌, List, Option, Some, None, length, arith, refl, sym, ap, ◌∙◌}
-use Rattle.dw_types.specs.declared.count.Constant.{Constant}
-use Rattle.dw_types.specs.declared.count.Constant.TheVariants.{Absent, NotNumber, Unsigned, Signed}
+use Rattle.std.proofs.Common.{rules, ◌≡◌, ℕ, ◌*◌, ◌^◌, min, Bool, true, false, if◌then◌else◌, ◌&&◌, List, Option, Some, None, arith, refl, sym, ap, ◌∙◌}
+use Rattle.dw_entries.specs.Entries.{Entry}
+use Rattle.dw_entries.specs.Units.{DebugUnit}
+use Rattle.dw_links.specs.declared.constant.Constant.{Constant}
+use Rattle.dw_links.specs.declared.constant.Constant.TheVariants.{Absent, NotNumber, Unsigned, Signed}
 use Rattle.dw_types.specs.declared.kind.Kind.{Kind}
 use Rattle.dw_types.specs.declared.kind.Kind.TheVariants.{Declared, OwnSized, Pointer, Alias, Enumeration, Array, Subroutine, NoType}
-use Rattle.dw_types.specs.Entries.{entry_of, TargetsAreEntries, Facts, byte_size, constant}
+use Rattle.dw_types.specs.Entries.{byte_size, entry_in, signature_target, type_target}
 use Rattle.dw_types.specs.Graphs.{IsStep}
 use Rattle.dw_forms.specs.Codes.{DW_AT_bit_stride, DW_AT_byte_stride}
-use Rattle.dw_types.specs.Constants.{is_present}
-use Rattle.dw_types.specs.Kinds.{passes_type_on, is_declared_type, kind_of}
+use Rattle.dw_links.specs.Constants.{constant_at, is_present}
+use Rattle.dw_links.specs.Classes.{is_one_of}
+use Rattle.dw_links.specs.References.{is_declared}
+use Rattle.dw_types.specs.Kinds.{declarable_tags, passes_type_on, kind_by, kind_of}
 use Rattle.dw_types.specs.SizeTables.{Size, cap_size}
-use Rattle.dw_types.specs.Sizes.{size_of_kind, size_line, size_to, constant_or, times, element_count, parts_of}
+use Rattle.dw_types.specs.Sizes.{size_of_kind, size_line, size_to, constant_or, times, element_count}
 use Rattle.dw_types.specs.Steps.{by_value, by_type, by_signature}
-use Rattle.dw_types.proofs.ElementCountLemmas.{cap-product}
+use Rattle.dw_types.proofs.ElementCountLemmas.{cap-product, cap-twice}
 use Rattle.dw_types.proofs.StepLemmas.{step-from_by_value}
 use Rattle.dw_types.proofs.TableLemmas.{IsLocal, Lines, SameAtSteps}
 
-alias-passes : (entry : Facts) → kind_of entry ≡ Alias → passes_type_on entry ≡ true
-alias-passes entry is = grind arith
+alias-passes : (entry : Entry) (declared : Bool) → kind_by entry.head.decl.tag declared ≡ Alias
+    → passes_type_on entry ≡ true
+alias-passes entry declared is = grind arith
 
-enumeration-passes : (entry : Facts) → kind_of entry ≡ Enumeration → passes_type_on entry ≡ true
-enumeration-passes entry is = grind arith
+enumeration-passes : (entry : Entry) (declared : Bool) → kind_by entry.head.decl.tag declared ≡ Enumeration
+    → passes_type_on entry ≡ true
+enumeration-passes entry declared is = grind arith
 
-array-passes : (entry : Facts) → kind_of entry ≡ Array → passes_type_on entry ≡ true
-array-passes entry is = grind arith
+array-passes : (entry : Entry) (declared : Bool) → kind_by entry.head.decl.tag declared ≡ Array
+    → passes_type_on entry ≡ true
+array-passes entry declared is = grind arith
 
-pub declared-is : (entry : Facts) → kind_of entry ≡ Declared → is_declared_type entry ≡ true
-declared-is entry is = search (rules)
+declared-by : (tag : ℕ) (declared : Bool) → kind_by tag declared ≡ Declared
+    → (is_one_of declarable_tags tag && declared) ≡ true
+declared-by tag declared is = search (rules)
 
 -- the sizes at a target are the same, where a target that there is is a step
 pub to-same : (table other : ℕ → Size) (target : Option ℕ) → ((to : ℕ) → target ≡ Some to → table to ≡ other to)
@@ -34,49 +42,49 @@ pub to-same : (table other : ℕ → Size) (target : Option ℕ) → ((to : ℕ)
 to-same table other None same = refl
 to-same table other (Some to) same = same to refl
 
-module _ (entries : List Facts) where
-  at-step : (table other : ℕ → Size) (node to : ℕ) → SameAtSteps (by_value entries) table other node
-      → IsStep (by_value entries) node to → table to ≡ other to
+module _ (us : List DebugUnit) where
+  at-step : (table other : ℕ → Size) (node to : ℕ) → SameAtSteps (by_value us) table other node
+      → IsStep (by_value us) node to → table to ≡ other to
   at-step table other node to same (k, below, is) = rw is at (same k below)
 
-  by-kind : (table other : ℕ → Size) (node : ℕ) (kind : Kind) → kind_of (entry_of entries node) ≡ kind
-      → SameAtSteps (by_value entries) table other node
-      → size_of_kind kind entries table node ≡ size_of_kind kind entries other node
+  by-kind : (table other : ℕ → Size) (node : ℕ) (kind : Kind) → kind_of (entry_in us node) ≡ kind
+      → SameAtSteps (by_value us) table other node
+      → size_of_kind kind us table node ≡ size_of_kind kind us other node
   by-kind table other node Declared is same =
-      to-same table other (entry_of entries node).signature_target
+      to-same table other (signature_target us node)
       (λ to target. at-step table other node to same
-      (step-from_by_value entries node to (by_signature (declared-is (entry_of entries node) is) target)))
+      (step-from_by_value us node to
+      (by_signature (declared-by (entry_in us node).head.decl.tag (is_declared (entry_in us node)) is) target)))
   by-kind table other node OwnSized is same = refl
   by-kind table other node Pointer is same = refl
   by-kind table other node Alias is same =
-      to-same table other (entry_of entries node).type_target
+      to-same table other (type_target us node)
       (λ to target. at-step table other node to same
-      (step-from_by_value entries node to (by_type (alias-passes (entry_of entries node) is) target)))
+      (step-from_by_value us node to
+      (by_type (alias-passes (entry_in us node) (is_declared (entry_in us node)) is) target)))
   by-kind table other node Enumeration is same =
-      ap (constant_or (byte_size (entry_of entries node)))
-      (to-same table other (entry_of entries node).type_target
+      ap (constant_or (byte_size (entry_in us node)))
+      (to-same table other (type_target us node)
       (λ to target. at-step table other node to same
-      (step-from_by_value entries node to (by_type (enumeration-passes (entry_of entries node) is) target))))
+      (step-from_by_value us node to
+      (by_type (enumeration-passes (entry_in us node) (is_declared (entry_in us node)) is) target))))
   by-kind table other node Array is same =
-      let e = to-same table other (entry_of entries node).type_target
+      let e = to-same table other (type_target us node)
       (λ to target. at-step table other node to same
-      (step-from_by_value entries node to (by_type (array-passes (entry_of entries node) is) target))) in
-      ap (λ (size : Size). constant_or (byte_size (entry_of entries node))
-      (if is_present (constant (entry_of entries node) DW_AT_bit_stride) then None else times
-      (constant_or (constant (entry_of entries node) DW_AT_byte_stride) size)
-      (element_count (parts_of entries node)))) e
+      (step-from_by_value us node to
+      (by_type (array-passes (entry_in us node) (is_declared (entry_in us node)) is) target))) in
+      ap (λ (size : Size). constant_or (byte_size (entry_in us node))
+      (if is_present (constant_at (entry_in us node) DW_AT_bit_stride) then None else times
+      (constant_or (constant_at (entry_in us node) DW_AT_byte_stride) size)
+      (element_count us node))) e
   by-kind table other node Subroutine is same = refl
   by-kind table other node NoType is same = refl
 
   -- the size lines read a table at steps by value alone
-  pub size_line-local : IsLocal (by_value entries) (size_line entries)
-  size_line-local table other node in_graph same = by-kind table other node (kind_of (entry_of entries node)) refl same
+  pub size_line-local : IsLocal (by_value us) (size_line us)
+  size_line-local table other node in_graph same = by-kind table other node (kind_of (entry_in us node)) refl same
 
 -- capped sizes
-
-cap-twice : (limit : ℕ) (size : Size) → cap_size limit (cap_size limit size) ≡ cap_size limit size
-cap-twice limit None = refl
-cap-twice limit (Some n) = ap Some (omega arith)
 
 cap-to : (limit : ℕ) (table : ℕ → Size) (target : Option ℕ)
     → cap_size limit (size_to table target) ≡ cap_size limit (size_to (λ n. cap_size limit (table n)) target)
@@ -108,38 +116,29 @@ cap-if : (limit : ℕ) (test : Bool) (a b : Size) → cap_size limit a ≡ cap_s
 cap-if limit true a b same = refl
 cap-if limit false a b same = same
 
-cap-kind : (limit : ℕ) (entries : List Facts) (table : ℕ → Size) (node : ℕ) (kind : Kind)
-    → cap_size limit (size_of_kind kind entries table node)
-    ≡ cap_size limit (size_of_kind kind entries (λ n. cap_size limit (table n)) node)
-cap-kind limit entries table node Declared = cap-to limit table (entry_of entries node).signature_target
-cap-kind limit entries table node OwnSized = refl
-cap-kind limit entries table node Pointer = refl
-cap-kind limit entries table node Alias = cap-to limit table (entry_of entries node).type_target
-cap-kind limit entries table node Enumeration =
-    cap-constant limit (byte_size (entry_of entries node)) _ _ (cap-to limit table (entry_of entries node).type_target)
-cap-kind limit entries table node Array = search (rules, cap-constant, cap-if, cap-times, cap-to)
-cap-kind limit entries table node Subroutine = refl
-cap-kind limit entries table node NoType = refl
+cap-kind : (limit : ℕ) (us : List DebugUnit) (table : ℕ → Size) (node : ℕ) (kind : Kind)
+    → cap_size limit (size_of_kind kind us table node)
+    ≡ cap_size limit (size_of_kind kind us (λ n. cap_size limit (table n)) node)
+cap-kind limit us table node Declared = cap-to limit table (signature_target us node)
+cap-kind limit us table node OwnSized = refl
+cap-kind limit us table node Pointer = refl
+cap-kind limit us table node Alias = cap-to limit table (type_target us node)
+cap-kind limit us table node Enumeration =
+    cap-constant limit (byte_size (entry_in us node)) _ _ (cap-to limit table (type_target us node))
+cap-kind limit us table node Array = search (rules, cap-constant, cap-if, cap-times, cap-to)
+cap-kind limit us table node Subroutine = refl
+cap-kind limit us table node NoType = refl
 
 -- a capped line may take capped sizes
-pub size_line-caps : (limit : ℕ) (entries : List Facts) (table : ℕ → Size) (node : ℕ)
-    → cap_size limit (size_line entries table node)
-    ≡ cap_size limit (size_line entries (λ n. cap_size limit (table n)) node)
-size_line-caps limit entries table node = cap-kind limit entries table node (kind_of (entry_of entries node))
-
--- a target is a place of a table of all entries
-pub type-in : (entries : List Facts) (sizes : List Size) (node : ℕ) → TargetsAreEntries entries
-    → length sizes ≡ length entries → (to : ℕ) → (entry_of entries node).type_target ≡ Some to → to < length sizes
-type-in entries sizes node targets long to is = let below = (targets node to).0 is in omega arith
-
-pub signature-in : (entries : List Facts) (sizes : List Size) (node : ℕ) → TargetsAreEntries entries
-    → length sizes ≡ length entries → (to : ℕ) → (entry_of entries node).signature_target ≡ Some to → to < length sizes
-signature-in entries sizes node targets long to is = let below = (targets node to).1 is in omega arith
+pub size_line-caps : (limit : ℕ) (us : List DebugUnit) (table : ℕ → Size) (node : ℕ)
+    → cap_size limit (size_line us table node)
+    ≡ cap_size limit (size_line us (λ n. cap_size limit (table n)) node)
+size_line-caps limit us table node = cap-kind limit us table node (kind_of (entry_in us node))
 
 -- the capped lines
-abbrev pub capped_line : List Facts → Lines
-capped_line entries table node = cap_size (2 ^ 63) (size_line entries table node)
+abbrev pub capped_line : List DebugUnit → Lines
+capped_line us table node = cap_size (2 ^ 63) (size_line us table node)
 
-pub capped_line-local : (entries : List Facts) → IsLocal (by_value entries) (capped_line entries)
-capped_line-local entries table other node in_graph same =
-    ap (cap_size (2 ^ 63)) (size_line-local entries table other node in_graph same)
+pub capped_line-local : (us : List DebugUnit) → IsLocal (by_value us) (capped_line us)
+capped_line-local us table other node in_graph same =
+    ap (cap_size (2 ^ 63)) (size_line-local us table other node in_graph same)

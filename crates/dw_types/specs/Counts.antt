@@ -1,28 +1,21 @@
 -- Chapter: the count of a dimension (DWARF 5, 5.13).
 use Rattle.std.specs.Prelude.{ℕ, ◌^◌, ◌-◌, ℤ, pos, negsuc, ◌+ℤ◌, ◌-ℤ◌, Bool, false, ◌&&◌, ◌||◌, not, List, [], ◌∷◌}
 use Rattle.std.specs.Prelude.{Option, Some, None, if◌then◌else◌, nat_eq}
-use Rattle.dw_types.specs.declared.count.Constant.{Constant}
-use Rattle.dw_types.specs.declared.count.Constant.TheVariants.{Absent, NotNumber, Unsigned, Signed}
-use Rattle.dw_forms.specs.Codes.{DW_AT_count, DW_AT_lower_bound, DW_AT_upper_bound, DW_TAG_array_type}
-use Rattle.dw_forms.specs.Codes.{DW_TAG_subrange_type, DW_LANG_C89, DW_LANG_C, DW_LANG_C_plus_plus}
+use Rattle.dw_entries.specs.Units.{DebugUnit}
+use Rattle.dw_links.specs.declared.constant.Constant.{Constant}
+use Rattle.dw_links.specs.declared.constant.Constant.TheVariants.{Absent, NotNumber, Unsigned, Signed}
+use Rattle.dw_forms.specs.Codes.{DW_AT_count, DW_AT_lower_bound, DW_AT_upper_bound}
+use Rattle.dw_forms.specs.Codes.{DW_LANG_C89, DW_LANG_C, DW_LANG_C_plus_plus}
 use Rattle.dw_forms.specs.Codes.{DW_LANG_C99, DW_LANG_C_plus_plus_11, DW_LANG_Rust, DW_LANG_C11, DW_LANG_C_plus_plus_14}
-use Rattle.dw_types.specs.Constants.{is_present, natural, natural_of, number_in}
-use Rattle.dw_types.specs.Entries.{entry_of, Facts, constant}
-use Rattle.dw_types.specs.Kinds.{is_dimensions, parent_role, Role}
+use Rattle.dw_links.specs.Constants.{constant_at, is_present, natural, natural_of, number_in}
+use Rattle.dw_types.specs.Entries.{entry_in, language}
+use Rattle.dw_types.specs.Kinds.{is_array, is_subrange, parent_is}
 use Rattle.dw_links.specs.Classes.{is_one_of}
 use Rattle.dw_types.specs.SizeTables.{Size}
 
--- the tag of arrays
-abbrev pub is_array_tag : ℕ → Bool
-is_array_tag tag = nat_eq tag DW_TAG_array_type
-
--- the tag of subranges
-abbrev pub is_subrange_tag : ℕ → Bool
-is_subrange_tag tag = nat_eq tag DW_TAG_subrange_type
-
--- a child with tag subrange of an array
-abbrev pub is_dimension : Role → Facts → Bool
-is_dimension parent entry = is_subrange_tag entry.tag && is_dimensions parent
+-- a subrange that is a child of an array
+abbrev pub is_dimension : List DebugUnit → ℕ → Bool
+is_dimension us node = is_subrange (entry_in us node) && parent_is is_array us node
 
 -- the languages whose bounds are read: their default lower bound is 0 (DWARF 5, 7.12)
 abbrev pub counted_languages : List ℕ
@@ -67,10 +60,10 @@ count_from count language upper lower =
     else None
 
 -- the count of a dimension, none if it is unknown
-abbrev pub count_of : Facts → Option ℤ
-count_of entry =
-    count_from (constant entry DW_AT_count) entry.language (constant entry DW_AT_upper_bound)
-    (constant entry DW_AT_lower_bound)
+abbrev pub count_of : List DebugUnit → ℕ → Option ℤ
+count_of us node =
+    count_from (constant_at (entry_in us node) DW_AT_count) (language us node)
+    (constant_at (entry_in us node) DW_AT_upper_bound) (constant_at (entry_in us node) DW_AT_lower_bound)
 
 -- a known count of 0 or more
 abbrev pub known_natural : Option ℤ → Size
@@ -78,7 +71,5 @@ known_natural None = None
 known_natural (Some n) = natural n
 
 -- the known count of a dimension, and none for any other entry
-abbrev pub count_at : List Facts → ℕ → Option ℕ
-count_at entries node =
-    if is_dimension (parent_role entries node) (entry_of entries node)
-    then known_natural (count_of (entry_of entries node)) else None
+abbrev pub count_at : List DebugUnit → ℕ → Option ℕ
+count_at us node = if is_dimension us node then known_natural (count_of us node) else None

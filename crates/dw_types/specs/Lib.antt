@@ -1,8 +1,6 @@
 -- Chapters, in reading order.
-pub mod Constants
 pub mod Entries
 pub mod Children
-pub mod FactsOf
 pub mod Kinds
 pub mod SizeTables
 pub mod Counts
@@ -20,6 +18,7 @@ pub mod SizeFaults
 -- Laws.
 pub mod PackingLaws
 -- State.
+pub mod ChildrenLeft
 pub mod Held
 pub mod Packing
 pub mod WalkStates

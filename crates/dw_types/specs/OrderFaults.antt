@@ -4,6 +4,6 @@ use Rattle.dw_types.specs.declared.ordering.OrderFault.TheVariants.{Cycle, Memor
 use Rattle.dw_types.specs.Graphs.{Graph, IsCycle}
 
 -- a fault that names a cycle names one of the graph
-abbrev pub IsFaultOf : Graph → OrderFault → Type 0
-IsFaultOf graph (Cycle nodes) = IsCycle graph nodes.items
-IsFaultOf graph Memory = Unit {0}
+abbrev pub IsOrderFault : Graph → OrderFault → Type 0
+IsOrderFault graph (Cycle nodes) = IsCycle graph nodes.items
+IsOrderFault graph Memory = Unit {0}

@@ -1,7 +1,9 @@
 -- Chapter: tables with a size or none for each entry.
 use Rattle.std.specs.Prelude.{◌≡◌, ℕ, ◌<◌, false, List, length, Option, None, Some, min, slice_index_or}
 use Rattle.dw_forms.specs.Codes.{is_type_tag}
-use Rattle.dw_types.specs.Entries.{entry_of, Facts, TargetsAreEntries}
+use Rattle.dw_entries.specs.Entries.{entries_of}
+use Rattle.dw_entries.specs.Units.{DebugUnit}
+use Rattle.dw_types.specs.Entries.{entry_in}
 
 -- a size or none
 abbrev pub Size : Type 0
@@ -17,11 +19,10 @@ cap_size limit None = None
 cap_size limit (Some size) = Some (min limit size)
 
 -- an entry that is no type has no size
-abbrev pub OnlyTypesAreSized : List Facts → (ℕ → Size) → Type 0
-OnlyTypesAreSized entries table = (node : ℕ) → is_type_tag (entry_of entries node).tag ≡ false → table node ≡ None
+abbrev pub OnlyTypesAreSized : List DebugUnit → (ℕ → Size) → Type 0
+OnlyTypesAreSized us table = (node : ℕ) → is_type_tag (entry_in us node).head.decl.tag ≡ false → table node ≡ None
 
--- one of the entries; a table has a place for each of them, and so for each target
-pub record HasSizePlaces (entries : List Facts) (sizes : List Size) (node : ℕ) : Type 0 where
-  pub node_in : node < length entries
-  pub long : length sizes ≡ length entries
-  pub targets : TargetsAreEntries entries
+-- one of the entries; a table has a place for each of them
+pub record HasSizePlaces (us : List DebugUnit) (sizes : List Size) (node : ℕ) : Type 0 where
+  pub node_in : node < length (entries_of us)
+  pub long : length sizes ≡ length (entries_of us)

@@ -1,60 +1,70 @@
 //! The graph of steps by value: what an entry holds, and so may not hold itself (DWARF 5, chapter 5).
 
-ghost use Rattle.std.specs.Prelude.{◌≡◌, ◌++◌, ◌+◌, ℕ, ◌^◌, ◌<◌, ◌↔◌, true, false, Some, length, IfOk, IfErr, OnOk};
+ghost use Rattle.std.specs.Prelude.{◌≡◌, ◌++◌, ℕ, ◌<◌, ◌↔◌, true, length, IfOk, IfErr, OnOk};
 ghost use Rattle.std.specs.List.{flat_map};
 ghost use Rattle.std.specs.Option.{option_to_list};
 ghost use Rattle.dw_entries.specs.Failures.{HasNone, IsFirst};
 ghost use Rattle.dw_entries.specs.Stopped.{IfPlainFault};
-ghost use Rattle.dw_types.specs.Shapes.{ShapeFailures};
-ghost use Rattle.dw_types.specs.Entries.{children};
+ghost use Rattle.dw_entries.specs.Views.{all_entries, units_of};
+ghost use Rattle.dw_types.specs.Children.{children_of};
+ghost use Rattle.dw_types.specs.Entries.{entry_in, signature_target, type_target};
 ghost use Rattle.dw_types.specs.Graphs.{IsStep};
-ghost use Rattle.dw_types.specs.Held.{all_facts};
-ghost use Rattle.dw_types.specs.Kinds.{is_declared_type, passes_type_on, type_count};
-ghost use Rattle.dw_types.specs.Steps.{by_value, part_step, steps_by_value, targets_if, IsStepByValue};
+ghost use Rattle.dw_types.specs.Held.{entries_held, units_held};
+ghost use Rattle.dw_types.specs.Kinds.{has_members, is_declared_type, passes_type_on, count_of_types};
+ghost use Rattle.dw_types.specs.Shapes.{ShapeFailures};
+ghost use Rattle.dw_types.specs.Steps.{by_value, member_step, steps_by_value, targets_if, IsStepByValue};
 
-use crate::facts::{FactsAt, FactsList, languages_of};
 use crate::graph::{Packed, StepGraph};
+use crate::kind::{has_members, is_declared_type, passes_type_on};
+use crate::linked::LinkedEntries;
 use crate::numbers::Numbers;
-use crate::shape_rules::broken_shape;
-use dw_entries::{Entries, Fault, Stop};
+use crate::shape_rules::{broken_shape, is_defined_member};
+use dw_entries::{Entries, EntryAt, EntryId, Fault, Stop};
 use dw_links::Links;
 use std::alloc::{AllocError, Global};
 
-impl FactsAt<'_, '_> {
-    /// The step that the entry makes to its type.
-    #[inline(always)]
-    fn type_step(&self) -> Option<usize>
-        ensures step { option_to_list result ≡ targets_if (passes_type_on self.now) self.now.type_target }
-        ensures named { (to : ℕ) → result ≡ Some to → self.now.type_target ≡ Some to }
-    {
-        if self.passes_type_on() {
-            self.type_target()
-        } else {
-            None
-        }
+/// The step of an entry to its type.
+#[inline(always)]
+fn type_step(
+    entries: &LinkedEntries<'_, '_>,
+    id: EntryId,
+    entry: &EntryAt<'_, '_>,
+) -> Option<EntryId>
+    requires { id < length (entries_held entries.now) }
+    ensures { option_to_list result ≡ targets_if (passes_type_on entry.now) (type_target (units_held entries.now) id) }
+{
+    if passes_type_on(entry) {
+        entries.type_target(id)
+    } else {
+        None
     }
+}
 
-    /// The step that the entry makes by its signature.
-    #[inline(always)]
-    fn signature_step(&self) -> Option<usize>
-        ensures step { option_to_list result ≡ targets_if (is_declared_type self.now) self.now.signature_target }
-        ensures named { (to : ℕ) → result ≡ Some to → self.now.signature_target ≡ Some to }
-    {
-        if self.is_declared_type() {
-            self.signature_target()
-        } else {
-            None
-        }
+/// The step of an entry by its signature.
+#[inline(always)]
+fn signature_step(
+    entries: &LinkedEntries<'_, '_>,
+    id: EntryId,
+    entry: &EntryAt<'_, '_>,
+) -> Option<EntryId>
+    requires { id < length (entries_held entries.now) }
+    ensures { option_to_list result
+        ≡ targets_if (is_declared_type entry.now) (signature_target (units_held entries.now) id) }
+{
+    if is_declared_type(entry) {
+        entries.signature_target(id)
+    } else {
+        None
     }
 }
 
 /// Adds the step to an entry, if one is named.
 #[inline(always)]
-fn push_to(steps: &mut Numbers, to: Option<usize>) -> Result<(), AllocError>
+fn push_to(steps: &mut Numbers, to: Option<EntryId>) -> Result<(), AllocError>
     ensures { OnOk result (steps.new ≡ steps.old ++ option_to_list to) }
 {
     match to {
-        Some(to) => steps.push(to)?,
+        Some(to) => steps.push(to.number())?,
         None => {}
     }
     Ok(())
@@ -62,21 +72,20 @@ fn push_to(steps: &mut Numbers, to: Option<usize>) -> Result<(), AllocError>
 
 /// Adds the steps of a structure or union that is not declared.
 fn push_members(
-    entries: &mut FactsList<'_, '_>,
+    entries: &mut LinkedEntries<'_, '_>,
     steps: &mut Numbers,
-    node: usize,
+    id: EntryId,
 ) -> Result<(), AllocError>
-    requires node { node < length entries.old }
-    ensures same { OnOk result (entries.new ≡ entries.old) }
-    ensures steps { OnOk result
-        (steps.new ≡ steps.old ++ flat_map (part_step entries.old) (children entries.old node)) }
+    requires id { id < length (entries_held entries.old) }
+    requires members { has_members (entry_in (units_held entries.old) id) ≡ true }
+    ensures same { OnOk result (units_held entries.new ≡ units_held entries.old) }
+    ensures steps { OnOk result (steps.new
+        ≡ steps.old ++ flat_map (member_step (units_held entries.old)) (children_of (entries_held entries.old) id)) }
 {
-    let mut next = entries.first_child(node);
-    while let Some(child) = next {
-        if entries.may_be_plain(child) {
+    for child in entries.children(id) {
+        if is_defined_member(entries, child) {
             push_to(steps, entries.type_target(child))?;
         }
-        next = entries.next_sibling(child);
     }
     Ok(())
 }
@@ -84,20 +93,20 @@ fn push_members(
 /// Adds the steps of an entry.
 #[inline(always)]
 fn push_row(
-    entries: &mut FactsList<'_, '_>,
+    entries: &mut LinkedEntries<'_, '_>,
     steps: &mut Numbers,
-    node: usize,
+    id: EntryId,
 ) -> Result<(), AllocError>
-    requires node { node < length entries.old }
-    ensures same { OnOk result (entries.new ≡ entries.old) }
-    ensures steps { OnOk result (steps.new ≡ steps.old ++ steps_by_value entries.old node) }
+    requires { id < length (entries_held entries.old) }
+    ensures same { OnOk result (units_held entries.new ≡ units_held entries.old) }
+    ensures steps { OnOk result (steps.new ≡ steps.old ++ steps_by_value (units_held entries.old) id) }
 {
-    let entry = entries.at(node);
-    if entry.has_members() {
-        return push_members(entries, steps, node);
+    let entry = entries.at(id);
+    if has_members(&entry) {
+        return push_members(entries, steps, id);
     }
-    push_to(steps, entry.type_step())?;
-    push_to(steps, entry.signature_step())
+    push_to(steps, type_step(entries, id, &entry))?;
+    push_to(steps, signature_step(entries, id, &entry))
 }
 
 /// The steps by value of each entry, and how many entries are types.
@@ -116,27 +125,28 @@ impl ByValue {
         links: &Links<'_, '_>,
     ) -> Result<Self, Stop<Fault>>
         requires entries { links.now.entries.now ≡ entries.now }
-        ensures graph { IfOk result (λ it. ⟦<ByValue as StepGraph>⟧.graph it ≡ by_value (all_facts links.now)) }
-        ensures steps { IfOk result (λ it. (from to : ℕ)
-            → IsStep (⟦<ByValue as StepGraph>⟧.graph it) from to ↔ IsStepByValue (all_facts links.now) from to) }
-        ensures types { IfOk result (λ it. it.types ≡ type_count (all_facts links.now)) }
-        ensures sound { OnOk result (HasNone (ShapeFailures (all_facts links.now))) }
-        ensures fault { IfErr result (IfPlainFault (IsFirst (ShapeFailures (all_facts links.now)))) }
+        ensures graph { IfOk result (λ it. ⟦<ByValue as StepGraph>⟧.graph it
+            ≡ by_value (units_of links.now.entries.now)) }
+        ensures steps { IfOk result (λ it. (from to : ℕ) → IsStep (⟦<ByValue as StepGraph>⟧.graph it) from to
+            ↔ IsStepByValue (units_of links.now.entries.now) from to) }
+        ensures types { IfOk result (λ it. it.types ≡ count_of_types (all_entries links.now.entries.now)) }
+        ensures sound { OnOk result (HasNone (ShapeFailures (units_of links.now.entries.now))) }
+        ensures fault { IfErr result (IfPlainFault (IsFirst (ShapeFailures (units_of links.now.entries.now)))) }
     {
-        let languages = languages_of(alloc, entries)?;
-        let mut facts = FactsList::new(links, &languages);
-        let count = facts.count();
+        let mut linked = LinkedEntries::new(entries, links.tables());
+        let count = linked.count();
         let mut steps = Numbers::with_room(alloc, count / 2)?;
         let mut ends = Numbers::with_room(alloc, count)?;
         let mut types = 0;
         for node in 0..count {
-            let decl = facts.decl(node);
-            if let Some(rule) = broken_shape(&mut facts, node, decl.tag()) {
-                return Err(facts.fault(alloc, node, rule));
+            let id = linked.id(node);
+            let decl = linked.decl(id);
+            if let Some(rule) = broken_shape(&mut linked, id, decl.tag()) {
+                return Err(linked.fault(alloc, id, rule));
             }
             if decl.is_type() {
                 types += 1;
-                push_row(&mut facts, &mut steps, node)?;
+                push_row(&mut linked, &mut steps, id)?;
             }
             ends.push(steps.len())?;
         }

@@ -1,148 +1,77 @@
-//! The numbers under attributes (DWARF 5, 2.19 and 7.5.5), the count of a dimension, and how many elements an array
-//! has: the product of the counts of its dimensions (5.5 and 5.13).
+//! The count of a dimension, and how many elements an array has: the product of the counts of its dimensions (DWARF 5,
+//! 5.5 and 5.13).
 
-ghost use Rattle.std.specs.Prelude.{◌≡◌, ◌≤◌, ◌^◌, ◌<◌, length, option_map, slice_get, IfSome};
-ghost use Rattle.dw_forms.specs.Value.{view};
+ghost use Rattle.std.specs.Prelude.{◌≡◌, ◌≤◌, ◌^◌, ◌<◌, length, IfSome};
 ghost use Rattle.dw_entries.specs.Views.{all_entries, units_of};
-ghost use Rattle.dw_types.specs.Entries.{entry_of};
-ghost use Rattle.dw_types.specs.Counts.{count_at, count_from, count_of, is_array_tag, is_dimension, is_subrange_tag};
+ghost use Rattle.dw_links.specs.Constants.{IsOf64Bits};
+ghost use Rattle.dw_links.specs.Tables.{AreTables};
+ghost use Rattle.dw_types.specs.Counts.{count_at, count_from, count_of};
 ghost use Rattle.dw_types.specs.Counts.{known_natural, lower_of, reads_bounds, upper_of};
-ghost use Rattle.dw_types.specs.Constants.{IsOf64Bits, constant_of, is_negative, is_present, natural_of, number_in};
-ghost use Rattle.dw_types.specs.FactsOf.{constant_at, facts_in, languages_in};
-ghost use Rattle.dw_types.specs.Kinds.{is_dimensions, parent_role, role_in};
+ghost use Rattle.dw_types.specs.Entries.{entry_in};
+ghost use Rattle.dw_types.specs.Held.{entries_held, units_held};
 ghost use Rattle.dw_types.specs.SizeTables.{cap_size};
-ghost use Rattle.dw_types.specs.Sizes.{constant_or, element_count, factor_of, parts_of, times};
+ghost use Rattle.dw_types.specs.Sizes.{constant_or, element_count, factor_of, times};
 
-use crate::facts::{FactsAt, FactsList, language_at};
+use crate::kind::is_subrange;
+use crate::linked::LinkedEntries;
 use dw_entries::constants::*;
-use dw_entries::{Attribute, Entries, EntryAt, EntryId, Value};
+use dw_entries::{Entries, EntryAt, EntryId};
+use dw_links::{Constant, LinkTables};
 
-/// What an entry has under an attribute, where values of class constant are numbers (DWARF 5, 7.5.5).
-/// This project's choice: the form data16 gives no number.
-#[derive(Clone, Copy, Debug, PartialEq, Eq)]
-pub enum Constant {
-    /// The entry doesn't have the attribute.
-    Absent,
-    /// A value that is no number.
-    NotNumber,
-    Unsigned(u64),
-    Signed(i64),
+/// A number of 0 or more, or another size where the attribute is absent.
+pub(crate) fn natural_or(constant: Constant, other: Option<u64>) -> Option<u64>
+    ensures { result ≡ constant_or constant other }
+{
+    match constant {
+        Constant::Absent => other,
+        _ => constant.natural(),
+    }
 }
 
-impl Constant {
-    /// Whether the entry has the attribute.
-    pub fn is_present(&self) -> bool
-        ensures { result ≡ is_present self.now }
-    {
-        !matches!(self, Constant::Absent)
+/// Whether bounds are read in a unit of this language. This project's choice: they are where no
+/// language is named, or one whose default lower bound is 0 and which the list has (DWARF 5, 7.12).
+fn reads_bounds(language: Constant) -> bool
+    ensures { result ≡ reads_bounds language }
+{
+    if !language.is_present() {
+        return true;
     }
-
-    /// The number, if it is one.
-    pub fn number(&self) -> Option<i128>
-        ensures value { result ≡ number_in self.now }
-        ensures range { IfSome result IsOf64Bits }
-    {
-        match self {
-            Constant::Unsigned(n) => Some(i128::from(*n)),
-            Constant::Signed(n) => Some(i128::from(*n)),
-            _ => None,
-        }
+    match language.natural() {
+        Some(code) => code <= 0xffff
+            && matches!(
+                Language(code as u16),
+                DW_LANG_C89
+                    | DW_LANG_C
+                    | DW_LANG_C_plus_plus
+                    | DW_LANG_C99
+                    | DW_LANG_C_plus_plus_11
+                    | DW_LANG_Rust
+                    | DW_LANG_C11
+                    | DW_LANG_C_plus_plus_14
+            ),
+        None => false,
     }
+}
 
-    /// The number, if it is one of 0 or more.
-    pub fn natural(&self) -> Option<u64>
-        ensures { result ≡ natural_of self.now }
-    {
-        match self {
-            Constant::Unsigned(n) => Some(*n),
-            Constant::Signed(n) => if *n < 0 { None } else { Some(*n as u64) },
-            _ => None,
-        }
+/// The upper bound. This project's choice: the greatest number of 64 bits is read as -1.
+fn upper_bound(bound: Constant) -> Option<i128>
+    ensures value { result ≡ upper_of bound }
+    ensures range { IfSome result IsOf64Bits }
+{
+    match bound {
+        Constant::Unsigned(u64::MAX) => Some(-1),
+        _ => bound.number(),
     }
+}
 
-    /// The number of 0 or more, or another size where the attribute is absent.
-    pub(crate) fn natural_or(&self, other: Option<u64>) -> Option<u64>
-        ensures { result ≡ constant_or self.now other }
-    {
-        match self {
-            Constant::Absent => other,
-            _ => self.natural(),
-        }
-    }
-
-    /// Whether it is a number below 0.
-    pub fn is_negative(&self) -> bool
-        ensures { result ≡ is_negative self.now }
-    {
-        matches!(self, Constant::Signed(n) if *n < 0)
-    }
-
-    /// Whether bounds are read in a unit of this language. This project's choice: they are where no
-    /// language is named, or one whose default lower bound is 0 and which the list has (DWARF 5, 7.12).
-    pub(crate) fn reads_bounds(&self) -> bool
-        ensures { result ≡ reads_bounds self.now }
-    {
-        if !self.is_present() {
-            return true;
-        }
-        match self.natural() {
-            Some(code) => code <= 0xffff
-                && matches!(
-                    Language(code as u16),
-                    DW_LANG_C89
-                        | DW_LANG_C
-                        | DW_LANG_C_plus_plus
-                        | DW_LANG_C99
-                        | DW_LANG_C_plus_plus_11
-                        | DW_LANG_Rust
-                        | DW_LANG_C11
-                        | DW_LANG_C_plus_plus_14
-                ),
-            None => false,
-        }
-    }
-
-    /// The upper bound. This project's choice: the greatest number of 64 bits is read as -1.
-    pub(crate) fn upper(&self) -> Option<i128>
-        ensures value { result ≡ upper_of self.now }
-        ensures range { IfSome result IsOf64Bits }
-    {
-        match self {
-            Constant::Unsigned(u64::MAX) => Some(-1),
-            _ => self.number(),
-        }
-    }
-
-    /// The lower bound, 0 where it is absent.
-    pub(crate) fn lower(&self) -> Option<i128>
-        ensures value { result ≡ lower_of self.now }
-        ensures range { IfSome result IsOf64Bits }
-    {
-        match self {
-            Constant::Absent => Some(0),
-            _ => self.number(),
-        }
-    }
-
-    /// What is under an attribute that has this value, if it is there.
-    #[inline(always)]
-    fn of_value(value: Option<Value<'_>>) -> Constant
-        ensures { result ≡ constant_of (option_map view value.entry) }
-    {
-        match value {
-            None => Constant::Absent,
-            Some(Value::Unsigned(n)) => Constant::Unsigned(n),
-            Some(Value::Signed(n)) => Constant::Signed(n),
-            Some(_) => Constant::NotNumber,
-        }
-    }
-
-    /// What is under an attribute of an entry.
-    #[inline(always)]
-    pub(crate) fn read(entry: &EntryAt<'_, '_>, attribute: Attribute) -> Constant
-        ensures { IfSome entry.now (λ e. result ≡ constant_at e attribute) }
-    {
-        Constant::of_value(entry.value(attribute))
+/// The lower bound, 0 where it is absent.
+fn lower_bound(bound: Constant) -> Option<i128>
+    ensures value { result ≡ lower_of bound }
+    ensures range { IfSome result IsOf64Bits }
+{
+    match bound {
+        Constant::Absent => Some(0),
+        _ => bound.number(),
     }
 }
 
@@ -153,10 +82,10 @@ fn count_from(count: Constant, language: Constant, upper: Constant, lower: Const
     if count.is_present() {
         return count.number();
     }
-    if !language.reads_bounds() {
+    if !reads_bounds(language) {
         return None;
     }
-    let (upper, lower) = (upper.upper()?, lower.lower()?);
+    let (upper, lower) = (upper_bound(upper)?, lower_bound(lower)?);
     Some(upper - lower + 1)
 }
 
@@ -170,83 +99,66 @@ fn known_natural(count: Option<i128>) -> Option<u128>
     }
 }
 
-impl FactsAt<'_, '_> {
-    /// The count of a dimension. It may be below 0.
-    #[inline(always)]
-    pub(crate) fn known_count(&self) -> Option<i128>
-        ensures { result ≡ count_of self.now }
-    {
-        let count = self.constant(DW_AT_count);
-        if count.is_present() {
-            return count.number();
-        }
-        count_from(
-            count,
-            self.language(),
-            self.constant(DW_AT_upper_bound),
-            self.constant(DW_AT_lower_bound),
-        )
-    }
-
-    /// By how much the entry, a child of an array, multiplies the number of elements. An index of another kind, and a
-    /// stride on a dimension, leave it unknown. 2^63 represents each factor that is no smaller.
-    #[inline(always)]
-    fn capped_factor(&self) -> Option<u64>
-        ensures { result ≡ cap_size (2 ^ 63) (factor_of self.now) }
-    {
-        match self.tag() {
-            DW_TAG_enumeration_type | DW_TAG_generic_subrange => None,
-            DW_TAG_subrange_type => {
-                if self.constant(DW_AT_bit_stride).is_present()
-                    || self.constant(DW_AT_byte_stride).is_present()
-                {
-                    return None;
-                }
-                let count = known_natural(self.known_count())?;
-                Some(count.min(1 << 63) as u64)
-            }
-            _ => Some(1),
-        }
-    }
-}
-
-/// Whether the parent of an entry, if it has one, is an array.
-fn is_in_array(entries: &Entries<'_>, parent: Option<EntryId>) -> bool
-    requires { IfSome parent (λ node. node < length (all_entries entries.now)) }
-    ensures { result ≡ is_dimensions (role_in (facts_in (units_of entries.now)) parent) }
+/// The count of a dimension. It may be below 0.
+#[inline(always)]
+pub(crate) fn count_of(
+    entries: &LinkedEntries<'_, '_>,
+    id: EntryId,
+    entry: &EntryAt<'_, '_>,
+) -> Option<i128>
+    requires { entry.now ≡ entry_in (units_held entries.now) id }
+    ensures { result ≡ count_of (units_held entries.now) id }
 {
-    match parent {
-        Some(id) => entries.tag(id) == DW_TAG_array_type,
-        None => false,
+    let count = Constant::read(entry, DW_AT_count);
+    if count.is_present() {
+        return count.number();
     }
+    count_from(
+        count,
+        entries.language(entry),
+        Constant::read(entry, DW_AT_upper_bound),
+        Constant::read(entry, DW_AT_lower_bound),
+    )
 }
 
-/// Whether an entry is a dimension: a subrange that is a child of an array.
-fn is_dimension(entries: &Entries<'_>, id: EntryId, entry: &EntryAt<'_, '_>) -> bool
+/// The known count of a dimension, and none for any other entry.
+pub fn count_at(entries: &Entries<'_>, tables: &LinkTables, id: EntryId) -> Option<u128>
     requires id { id < length (all_entries entries.now) }
-    requires entry { entry.now ≡ slice_get (all_entries entries.now) id }
-    ensures { result ≡ is_dimension (parent_role (facts_in (units_of entries.now)) id)
-        (entry_of (facts_in (units_of entries.now)) id) }
+    requires tables { AreTables entries.now tables.now }
+    ensures { result ≡ count_at (units_of entries.now) id }
 {
-    entry.tag() == DW_TAG_subrange_type && is_in_array(entries, entry.parent())
-}
-
-/// The known count of a dimension, by the languages of the units, and none for any other entry.
-pub fn count_at(entries: &Entries<'_>, languages: &[Constant], id: EntryId) -> Option<u128>
-    requires id { id < length (all_entries entries.now) }
-    requires languages { languages.now ≡ languages_in (units_of entries.now) }
-    ensures { result ≡ count_at (facts_in (units_of entries.now)) id }
-{
-    let entry = entries.at(id);
-    if !is_dimension(entries, id, &entry) {
+    let mut linked = LinkedEntries::new(entries, tables);
+    let entry = linked.at(id);
+    if !is_subrange(&entry) || !linked.is_in_array(id) {
         return None;
     }
-    known_natural(count_from(
-        Constant::read(&entry, DW_AT_count),
-        language_at(languages, entry.unit()),
-        Constant::read(&entry, DW_AT_upper_bound),
-        Constant::read(&entry, DW_AT_lower_bound),
-    ))
+    known_natural(count_of(&linked, id, &entry))
+}
+
+/// By how much an entry, a child of an array, multiplies the number of elements. An index of another kind, and a
+/// stride on a dimension, leave it unknown. 2^63 represents each factor that is no smaller.
+#[inline(always)]
+fn capped_factor(
+    entries: &LinkedEntries<'_, '_>,
+    id: EntryId,
+    entry: &EntryAt<'_, '_>,
+) -> Option<u64>
+    requires { entry.now ≡ entry_in (units_held entries.now) id }
+    ensures { result ≡ cap_size (2 ^ 63) (factor_of (units_held entries.now) id) }
+{
+    match entry.tag() {
+        DW_TAG_enumeration_type | DW_TAG_generic_subrange => None,
+        DW_TAG_subrange_type => {
+            if Constant::read(entry, DW_AT_bit_stride).is_present()
+                || Constant::read(entry, DW_AT_byte_stride).is_present()
+            {
+                return None;
+            }
+            let count = known_natural(count_of(entries, id, entry))?;
+            Some(count.min(1 << 63) as u64)
+        }
+        _ => Some(1),
+    }
 }
 
 /// The product where both are known. 2^63 represents each product that is no smaller.
@@ -259,19 +171,17 @@ pub(crate) fn capped_times(a: Option<u64>, b: Option<u64>) -> Option<u64>
 }
 
 /// How many elements the children of an entry give, were it an array, if it is known.
-pub(crate) fn count_elements(entries: &mut FactsList<'_, '_>, node: usize) -> Option<u64>
-    requires { node < length entries.old }
-    ensures same { entries.new ≡ entries.old }
-    ensures counted { result ≡ cap_size (2 ^ 63) (element_count (parts_of entries.old node)) }
+pub(crate) fn count_elements(entries: &mut LinkedEntries<'_, '_>, id: EntryId) -> Option<u64>
+    requires { id < length (entries_held entries.old) }
+    ensures same { units_held entries.new ≡ units_held entries.old }
+    ensures counted { result ≡ cap_size (2 ^ 63) (element_count (units_held entries.old) id) }
 {
     let mut product = Some(1);
     let mut has_dimension = false;
-    let mut next = entries.first_child(node);
-    while let Some(child) = next {
+    for child in entries.children(id) {
         let entry = entries.at(child);
-        product = capped_times(product, entry.capped_factor());
-        has_dimension |= entry.is_subrange();
-        next = entries.next_sibling(child);
+        product = capped_times(product, capped_factor(entries, child, &entry));
+        has_dimension |= is_subrange(&entry);
     }
     if has_dimension { product } else { None }
 }

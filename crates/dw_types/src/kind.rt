@@ -1,12 +1,12 @@
 //! The kinds of entries that types, counts and sizes tell apart (DWARF 5, chapter 5).
 
 ghost use Rattle.std.specs.Prelude.{◌≡◌};
-ghost use Rattle.dw_types.specs.Counts.{is_subrange_tag};
-ghost use Rattle.dw_types.specs.Kinds.{has_members, is_array, is_declared_type, is_enumeration};
+ghost use Rattle.dw_links.specs.References.{is_declared};
+ghost use Rattle.dw_types.specs.Kinds.{has_members, is_array, is_declared_type, is_enumeration, is_subrange};
 ghost use Rattle.dw_types.specs.Kinds.{kind_of, passes_type_on};
 
-use crate::facts::FactsAt;
 use dw_entries::constants::*;
+use dw_entries::{EntryAt, Value};
 
 /// The kinds of type entries that the size table tells apart.
 #[derive(Clone, Copy, Debug, PartialEq, Eq)]
@@ -25,85 +25,94 @@ pub enum Kind {
     NoType,
 }
 
-impl FactsAt<'_, '_> {
-    /// The kind of the entry.
-    #[inline(always)]
-    pub(crate) fn kind(&self) -> Kind
-        ensures { result ≡ kind_of self.now }
-    {
-        if self.is_declared_type() {
-            return Kind::Declared;
-        }
-        match self.tag() {
-            DW_TAG_pointer_type => Kind::Pointer,
-            DW_TAG_typedef
+/// Whether DW_AT_declaration is true.
+#[inline(always)]
+pub(crate) fn is_declared(entry: &EntryAt<'_, '_>) -> bool
+    ensures { result ≡ is_declared entry.now }
+{
+    match entry.value(DW_AT_declaration) {
+        Some(Value::Flag(flag)) => flag,
+        _ => false,
+    }
+}
+
+/// The kind of an entry.
+#[inline(always)]
+pub(crate) fn kind_of(entry: &EntryAt<'_, '_>) -> Kind
+    ensures { result ≡ kind_of entry.now }
+{
+    if is_declared_type(entry) {
+        return Kind::Declared;
+    }
+    match entry.tag() {
+        DW_TAG_pointer_type => Kind::Pointer,
+        DW_TAG_typedef
+        | DW_TAG_const_type
+        | DW_TAG_volatile_type
+        | DW_TAG_restrict_type
+        | DW_TAG_atomic_type => Kind::Alias,
+        DW_TAG_enumeration_type => Kind::Enumeration,
+        DW_TAG_array_type => Kind::Array,
+        DW_TAG_subroutine_type => Kind::Subroutine,
+        _ if entry.is_type() => Kind::OwnSized,
+        _ => Kind::NoType,
+    }
+}
+
+/// Whether an entry is a typedef, const, volatile, restrict, atomic, array or enumeration.
+#[inline(always)]
+pub(crate) fn passes_type_on(entry: &EntryAt<'_, '_>) -> bool
+    ensures { result ≡ passes_type_on entry.now }
+{
+    matches!(
+        entry.tag(),
+        DW_TAG_typedef
             | DW_TAG_const_type
             | DW_TAG_volatile_type
             | DW_TAG_restrict_type
-            | DW_TAG_atomic_type => Kind::Alias,
-            DW_TAG_enumeration_type => Kind::Enumeration,
-            DW_TAG_array_type => Kind::Array,
-            DW_TAG_subroutine_type => Kind::Subroutine,
-            _ if self.is_type() => Kind::OwnSized,
-            _ => Kind::NoType,
-        }
-    }
+            | DW_TAG_atomic_type
+            | DW_TAG_array_type
+            | DW_TAG_enumeration_type
+    )
+}
 
-    /// Whether it is a typedef, const, volatile, restrict, atomic, array or enumeration.
-    #[inline(always)]
-    pub(crate) fn passes_type_on(&self) -> bool
-        ensures { result ≡ passes_type_on self.now }
-    {
-        matches!(
-            self.tag(),
-            DW_TAG_typedef
-                | DW_TAG_const_type
-                | DW_TAG_volatile_type
-                | DW_TAG_restrict_type
-                | DW_TAG_atomic_type
-                | DW_TAG_array_type
-                | DW_TAG_enumeration_type
-        )
-    }
+/// Whether it is a structure or union that is not declared.
+#[inline(always)]
+pub(crate) fn has_members(entry: &EntryAt<'_, '_>) -> bool
+    ensures { result ≡ has_members entry.now }
+{
+    matches!(entry.tag(), DW_TAG_structure_type | DW_TAG_union_type) && !is_declared(entry)
+}
 
-    /// Whether it is a structure or union that is not declared.
-    #[inline(always)]
-    pub(crate) fn has_members(&self) -> bool
-        ensures { result ≡ has_members self.now }
-    {
-        matches!(self.tag(), DW_TAG_structure_type | DW_TAG_union_type) && !self.declared()
-    }
+/// Whether it is a declared structure, union or enumeration.
+#[inline(always)]
+pub(crate) fn is_declared_type(entry: &EntryAt<'_, '_>) -> bool
+    ensures { result ≡ is_declared_type entry.now }
+{
+    matches!(
+        entry.tag(),
+        DW_TAG_structure_type | DW_TAG_union_type | DW_TAG_enumeration_type
+    ) && is_declared(entry)
+}
 
-    /// Whether it is a declared structure, union or enumeration.
-    #[inline(always)]
-    pub(crate) fn is_declared_type(&self) -> bool
-        ensures { result ≡ is_declared_type self.now }
-    {
-        matches!(
-            self.tag(),
-            DW_TAG_structure_type | DW_TAG_union_type | DW_TAG_enumeration_type
-        ) && self.declared()
-    }
+/// Whether it is an array.
+pub(crate) fn is_array(entry: &EntryAt<'_, '_>) -> bool
+    ensures { result ≡ is_array entry.now }
+{
+    matches!(entry.tag(), DW_TAG_array_type)
+}
 
-    /// Whether it is an array.
-    pub(crate) fn is_array(&self) -> bool
-        ensures { result ≡ is_array self.now }
-    {
-        matches!(self.tag(), DW_TAG_array_type)
-    }
+/// Whether it is a subrange.
+pub(crate) fn is_subrange(entry: &EntryAt<'_, '_>) -> bool
+    ensures { result ≡ is_subrange entry.now }
+{
+    matches!(entry.tag(), DW_TAG_subrange_type)
+}
 
-    /// Whether it is a subrange.
-    pub(crate) fn is_subrange(&self) -> bool
-        ensures { result ≡ is_subrange_tag self.now.tag }
-    {
-        matches!(self.tag(), DW_TAG_subrange_type)
-    }
-
-    /// Whether it is an enumeration that is not declared.
-    #[inline(always)]
-    pub(crate) fn is_enumeration(&self) -> bool
-        ensures { result ≡ is_enumeration self.now }
-    {
-        matches!(self.tag(), DW_TAG_enumeration_type) && !self.declared()
-    }
+/// Whether it is an enumeration that is not declared.
+#[inline(always)]
+pub(crate) fn is_enumeration(entry: &EntryAt<'_, '_>) -> bool
+    ensures { result ≡ is_enumeration entry.now }
+{
+    matches!(entry.tag(), DW_TAG_enumeration_type) && !is_declared(entry)
 }

@@ -2,10 +2,11 @@
 #![tactic(auto)]
 
 mod by_value;
+mod children;
 mod count;
-mod facts;
 mod graph;
 mod kind;
+mod linked;
 mod numbers;
 mod ordering;
 mod shape_rules;
@@ -14,9 +15,10 @@ mod size_table;
 mod walk;
 
 pub use by_value::ByValue;
-pub use count::{Constant, count_at};
+pub use children::Children;
+pub use count::count_at;
 pub use dw_entries::constants;
-pub use facts::{first_child, languages_of};
+pub use dw_links::Constant;
 pub use graph::{Order, Packed, StepGraph};
 pub use numbers::{NoMemory, Numbers};
 pub use ordering::{OrderFault, clear_nodes, longest_at, longest_rows, order};

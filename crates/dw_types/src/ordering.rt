@@ -5,7 +5,7 @@ ghost use Rattle.std.specs.Prelude.{slice_index, Contains, IfErr, IfOk, OnOk};
 ghost use Rattle.dw_types.specs.Cycles.{AreClear};
 ghost use Rattle.dw_types.specs.Graphs.{steps_of, step_at, FollowsSteps, IsStep, IsCycle, HasNoCycle};
 ghost use Rattle.dw_types.specs.LongestRows.{AreLongest, IsOneMore};
-ghost use Rattle.dw_types.specs.OrderFaults.{IsFaultOf};
+ghost use Rattle.dw_types.specs.OrderFaults.{IsOrderFault};
 ghost use Rattle.dw_types.specs.Orders.{IsOrderOf};
 ghost use Rattle.dw_types.specs.Walks.{HasWalked, IsKept, LooksOn};
 ghost use Rattle.dw_types.specs.WalkStates.{mark_in, opened, with_hand};
@@ -40,7 +40,7 @@ impl From<AllocError> for OrderFault {
 pub fn order<G: StepGraph>(alloc: Global, graph: &G) -> Result<Order, OrderFault>
     ensures ok { IfOk result (IsOrderOf (G.graph graph.now)) }
     ensures no_cycle { OnOk result (HasNoCycle (G.graph graph.now)) }
-    ensures err { IfErr result (IsFaultOf (G.graph graph.now)) }
+    ensures err { IfErr result (IsOrderFault (G.graph graph.now)) }
 {
     let nodes = graph.nodes();
     let mut walk = Walk::new(alloc, nodes)?;

@@ -2,88 +2,92 @@
 
 ghost use Rattle.std.specs.Prelude.{◌≡◌, ◌<◌, true, length};
 ghost use Rattle.dw_entries.specs.Failures.{IsLeast};
-ghost use Rattle.dw_types.specs.Entries.{entry_of};
-ghost use Rattle.dw_types.specs.Kinds.{parent_role, Members};
-ghost use Rattle.dw_types.specs.Shapes.{fails_shape, has_bad_count, is_plain, misses_type, stands_alone};
+ghost use Rattle.dw_types.specs.Entries.{entry_in};
+ghost use Rattle.dw_types.specs.Held.{entries_held, units_held};
+ghost use Rattle.dw_types.specs.Shapes.{fails_shape, has_bad_count, is_defined_member, is_plain, misses_type};
+ghost use Rattle.dw_types.specs.Shapes.{stands_alone};
 
-use crate::facts::{FactsAt, FactsList};
-use dw_entries::Rule;
+use crate::count::count_of;
+use crate::kind::{is_array, is_declared};
+use crate::linked::LinkedEntries;
 use dw_entries::constants::*;
+use dw_entries::{EntryAt, EntryId, Rule};
+use dw_links::Constant;
 
-impl FactsAt<'_, '_> {
-    /// Whether the entry takes nothing over from another one.
-    #[inline(always)]
-    pub(crate) fn stands_alone(&self) -> bool
-        ensures { result ≡ stands_alone self.now }
-    {
-        !self.constant(DW_AT_specification).is_present()
-            && !self.constant(DW_AT_abstract_origin).is_present()
-    }
+/// Whether an entry takes nothing over from another one.
+#[inline(always)]
+pub(crate) fn stands_alone(entry: &EntryAt<'_, '_>) -> bool
+    ensures { result ≡ stands_alone entry.now }
+{
+    !Constant::read(entry, DW_AT_specification).is_present()
+        && !Constant::read(entry, DW_AT_abstract_origin).is_present()
 }
 
-impl FactsList<'_, '_> {
-    /// Whether the entry with a number is a plain member, if its parent is a structure or union that is not declared.
-    #[inline(always)]
-    pub(crate) fn may_be_plain(&mut self, node: usize) -> bool
-        requires { node < length self.old }
-        ensures same { self.new ≡ self.old }
-        ensures plain { result ≡ is_plain Members (entry_of self.old node) }
-    {
-        matches!(self.decl(node).tag(), DW_TAG_member) && !self.at(node).declared()
-    }
+/// Whether an entry is a member that is not declared.
+#[inline(always)]
+pub(crate) fn is_defined_member(entries: &mut LinkedEntries<'_, '_>, id: EntryId) -> bool
+    requires { id < length (entries_held entries.old) }
+    ensures same { units_held entries.new ≡ units_held entries.old }
+    ensures member { result ≡ is_defined_member (entry_in (units_held entries.old) id) }
+{
+    matches!(entries.decl(id).tag(), DW_TAG_member) && !is_declared(&entries.at(id))
+}
 
-    /// Whether the entry with a number is a plain member.
-    pub(crate) fn is_plain(&mut self, node: usize) -> bool
-        requires { node < length self.old }
-        ensures same { self.new ≡ self.old }
-        ensures plain { result ≡ is_plain (parent_role self.old node) (entry_of self.old node) }
-    {
-        self.may_be_plain(node) && self.is_in_members(node)
-    }
+/// Whether an entry is a plain member.
+pub(crate) fn is_plain(entries: &mut LinkedEntries<'_, '_>, id: EntryId) -> bool
+    requires { id < length (entries_held entries.old) }
+    ensures same { units_held entries.new ≡ units_held entries.old }
+    ensures plain { result ≡ is_plain (units_held entries.old) id }
+{
+    is_defined_member(entries, id) && entries.is_in_members(id)
 }
 
 /// Whether an entry with this tag is an array or a plain member with no type, and takes none over.
 #[inline(always)]
-fn misses_type(entries: &mut FactsList<'_, '_>, node: usize, tag: Tag) -> bool
-    requires node { node < length entries.old }
-    requires tag { tag ≡ (entry_of entries.old node).tag }
-    ensures same { entries.new ≡ entries.old }
-    ensures misses { result ≡ misses_type (parent_role entries.old node) (entry_of entries.old node) }
+fn misses_type(entries: &mut LinkedEntries<'_, '_>, id: EntryId, tag: Tag) -> bool
+    requires id { id < length (entries_held entries.old) }
+    requires tag { tag ≡ (entry_in (units_held entries.old) id).head.decl.tag }
+    ensures same { units_held entries.new ≡ units_held entries.old }
+    ensures misses { result ≡ misses_type (units_held entries.old) id }
 {
-    if !matches!(tag, DW_TAG_array_type | DW_TAG_member) || entries.type_target(node).is_some() {
+    if !matches!(tag, DW_TAG_array_type | DW_TAG_member) || entries.type_target(id).is_some() {
         return false;
     }
-    let entry = entries.at(node);
-    entry.stands_alone() && (entry.is_array() || entries.is_plain(node))
+    let entry = entries.at(id);
+    stands_alone(&entry) && (is_array(&entry) || is_plain(entries, id))
 }
 
 /// Whether an entry with this tag is a dimension with a known count below 0.
 #[inline(always)]
-fn has_bad_count(entries: &mut FactsList<'_, '_>, node: usize, tag: Tag) -> bool
-    requires node { node < length entries.old }
-    requires tag { tag ≡ (entry_of entries.old node).tag }
-    ensures same { entries.new ≡ entries.old }
-    ensures bad { result ≡ has_bad_count (parent_role entries.old node) (entry_of entries.old node) }
+fn has_bad_count(entries: &mut LinkedEntries<'_, '_>, id: EntryId, tag: Tag) -> bool
+    requires id { id < length (entries_held entries.old) }
+    requires tag { tag ≡ (entry_in (units_held entries.old) id).head.decl.tag }
+    ensures same { units_held entries.new ≡ units_held entries.old }
+    ensures bad { result ≡ has_bad_count (units_held entries.old) id }
 {
     if !matches!(tag, DW_TAG_subrange_type) {
         return false;
     }
-    let count = entries.at(node).known_count();
-    matches!(count, Some(n) if n < 0) && entries.is_in_array(node)
+    let entry = entries.at(id);
+    matches!(count_of(entries, id, &entry), Some(n) if n < 0) && entries.is_in_array(id)
 }
 
 /// The rule on shapes that an entry with this tag violates: the one with the least number.
 #[inline(always)]
-pub(crate) fn broken_shape(entries: &mut FactsList<'_, '_>, node: usize, tag: Tag) -> Option<Rule>
-    requires node { node < length entries.old }
-    requires tag { tag ≡ (entry_of entries.old node).tag }
-    ensures same { entries.new ≡ entries.old }
-    ensures least { IsLeast (λ rule. fails_shape entries.old node rule ≡ true) result }
+pub(crate) fn broken_shape(
+    entries: &mut LinkedEntries<'_, '_>,
+    id: EntryId,
+    tag: Tag,
+) -> Option<Rule>
+    requires id { id < length (entries_held entries.old) }
+    requires tag { tag ≡ (entry_in (units_held entries.old) id).head.decl.tag }
+    ensures same { units_held entries.new ≡ units_held entries.old }
+    ensures least { IsLeast (λ rule. fails_shape (units_held entries.old) id rule ≡ true) result }
 {
-    if misses_type(entries, node, tag) {
+    if misses_type(entries, id, tag) {
         return Some(Rule::MissingType);
     }
-    if has_bad_count(entries, node, tag) {
+    if has_bad_count(entries, id, tag) {
         return Some(Rule::BadCount);
     }
     None

@@ -1,26 +1,33 @@
 //! The rules on sizes: which are wrong, and whether a plain member ends inside its container (DWARF 5, 5.1, 5.5, 5.7
 //! and 5.8).
 
-ghost use Rattle.std.specs.Prelude.{◌≡◌, ◌^◌, ◌<◌, ◌≤◌, ◌≤ℤ◌, ℕ, pos, List, None, Some, false, true, length, IfSome};
+ghost use Rattle.std.specs.Prelude.{◌≡◌, ◌^◌, ◌<◌, ◌≤◌, ◌≤ℤ◌, ℕ, pos, List, false, true, length, IfSome};
+ghost use Rattle.dw_forms.specs.Codes.{is_type_tag};
 ghost use Rattle.dw_forms.specs.KeptDecls.{decl_view};
+ghost use Rattle.dw_entries.specs.Entries.{entries_of};
 ghost use Rattle.dw_entries.specs.Failures.{IsLeast};
-ghost use Rattle.dw_types.specs.SizeFaults.{breaks_size, differ, fails_size, has_no_size, has_wrong_size, is_asked};
+ghost use Rattle.dw_entries.specs.Units.{DebugUnit};
+ghost use Rattle.dw_links.specs.Constants.{natural_of};
+ghost use Rattle.dw_types.specs.SizeFaults.{differ, fails_size, has_no_size, has_wrong_size, is_asked};
+ghost use Rattle.dw_types.specs.SizeFaults.{is_too_great};
 ghost use Rattle.dw_types.specs.SizeFaults.{reads_own, wants_own};
-ghost use Rattle.dw_types.specs.Sizes.{size_to, ObeysSizeLines};
+ghost use Rattle.dw_types.specs.Sizes.{ObeysSizeLines};
 ghost use Rattle.dw_types.specs.SizeTables.{size_at, HasSizePlaces, Size};
 ghost use Rattle.dw_types.specs.StoredSizes.{ObeysCappedLines};
 ghost use Rattle.dw_types.specs.Extents.{bits_end_past, end_past, ends_past, is_outside, start_of};
-ghost use Rattle.dw_types.specs.Constants.{natural_of};
-ghost use Rattle.dw_types.specs.Entries.{Facts, byte_size, entry_of, TargetsAreEntries};
+ghost use Rattle.dw_types.specs.Entries.{byte_size, entry_in};
+ghost use Rattle.dw_types.specs.Held.{entries_held, units_held};
 ghost use Rattle.dw_types.specs.TypeFailures.{IsFirstFound};
-ghost use Rattle.dw_types.specs.Kinds.{has_members, kind_of, parent_role, Other};
+ghost use Rattle.dw_types.specs.Kinds.{has_members, kind_of};
 
-use crate::facts::{FactsAt, FactsList};
-use crate::kind::Kind;
+use crate::kind::{Kind, is_enumeration, kind_of};
+use crate::linked::LinkedEntries;
+use crate::shape_rules::{is_plain, stands_alone};
 use crate::size_table::SizeTable;
-use dw_entries::Rule;
 use dw_entries::constants::*;
+use dw_entries::{EntryAt, EntryId, Rule};
 use dw_forms::DeclAt;
+use dw_links::Constant;
 
 /// Whether so many bits from a bit on end past some bytes, or one of the numbers is negative.
 fn bits_end_past(bytes: u64, size: Option<u64>, start: Option<u64>) -> bool
@@ -65,144 +72,171 @@ fn differ(a: Option<u64>, b: Option<u64>) -> bool
     }
 }
 
-impl FactsAt<'_, '_> {
-    /// The bit at which a member starts, if it is known.
-    #[inline(always)]
-    fn start(&self) -> Option<i128>
-        ensures value { result ≡ start_of self.now }
-        ensures small { IfSome result (λ n. n ≤ℤ pos (2 ^ 70)) }
-    {
-        let location = self.constant(DW_AT_data_member_location);
-        if location.is_present() {
-            let bytes = location.number()?;
-            return Some(bytes * 8);
-        }
-        let offset = self.constant(DW_AT_data_bit_offset);
-        if offset.is_present() {
-            return offset.number();
-        }
-        Some(0)
+/// The bit at which a member starts, if it is known.
+#[inline(always)]
+fn start_of(member: &EntryAt<'_, '_>) -> Option<i128>
+    ensures value { result ≡ start_of member.now }
+    ensures small { IfSome result (λ n. n ≤ℤ pos (2 ^ 70)) }
+{
+    let location = Constant::read(member, DW_AT_data_member_location);
+    if location.is_present() {
+        let bytes = location.number()?;
+        return Some(bytes * 8);
     }
+    let offset = Constant::read(member, DW_AT_data_bit_offset);
+    if offset.is_present() {
+        return offset.number();
+    }
+    Some(0)
+}
 
-    /// Whether a member, whose type has a size, ends past the bytes of its container.
-    #[inline(always)]
-    fn ends_past(&self, bytes: u64, size: Option<u64>) -> bool
-        ensures { result ≡ ends_past bytes self.now size }
-    {
-        let bit_size = self.constant(DW_AT_bit_size);
-        if bit_size.is_present() {
-            let offset = self.constant(DW_AT_data_bit_offset);
-            return bit_size.number().is_some()
-                && offset.number().is_some()
-                && bits_end_past(bytes, bit_size.natural(), offset.natural());
-        }
-        match (self.start(), size) {
-            (Some(start), Some(size)) => end_past(bytes, start, size),
-            _ => false,
-        }
+/// Whether a member, whose type has a size, ends past the bytes of its container.
+#[inline(always)]
+fn ends_past(member: &EntryAt<'_, '_>, bytes: u64, size: Option<u64>) -> bool
+    ensures { result ≡ ends_past bytes member.now size }
+{
+    let bit_size = Constant::read(member, DW_AT_bit_size);
+    if bit_size.is_present() {
+        let offset = Constant::read(member, DW_AT_data_bit_offset);
+        return bit_size.number().is_some()
+            && offset.number().is_some()
+            && bits_end_past(bytes, bit_size.natural(), offset.natural());
     }
+    match (start_of(member), size) {
+        (Some(start), Some(size)) => end_past(bytes, start, size),
+        _ => false,
+    }
+}
 
-    /// Whether something is wrong where the byte size of an entry of this kind is absent.
-    #[inline(always)]
-    fn wants_own(&self, kind: Kind) -> bool
-        requires { kind ≡ kind_of self.now }
-        ensures { result ≡ wants_own self.now }
-    {
-        match self.tag() {
-            DW_TAG_base_type => !self.constant(DW_AT_bit_size).is_present(),
-            DW_TAG_structure_type | DW_TAG_union_type => !matches!(kind, Kind::Declared)
-                && self.stands_alone(),
-            DW_TAG_array_type => self.constant(DW_AT_byte_stride).is_negative(),
-            _ => false,
-        }
+/// Whether something is wrong where the byte size of an entry of this kind is absent.
+#[inline(always)]
+fn wants_own(entry: &EntryAt<'_, '_>, kind: Kind) -> bool
+    requires { kind ≡ kind_of entry.now }
+    ensures { result ≡ wants_own entry.now }
+{
+    match entry.tag() {
+        DW_TAG_base_type => !Constant::read(entry, DW_AT_bit_size).is_present(),
+        DW_TAG_structure_type | DW_TAG_union_type => !matches!(kind, Kind::Declared)
+            && stands_alone(entry),
+        DW_TAG_array_type => Constant::read(entry, DW_AT_byte_stride).is_negative(),
+        _ => false,
     }
+}
 
-    /// Whether the byte size is negative where it is read, or none is there where one is wanted.
-    #[inline(always)]
-    fn has_no_size(&self) -> bool
-        ensures { result ≡ has_no_size self.now }
-    {
-        let kind = self.kind();
-        let size = self.constant(DW_AT_byte_size);
-        (kind.reads_own() && size.is_negative()) || (!size.is_present() && self.wants_own(kind))
-    }
+/// Whether the byte size is negative where it is read, or none is there where one is wanted.
+#[inline(always)]
+fn has_no_size(entry: &EntryAt<'_, '_>) -> bool
+    ensures { result ≡ has_no_size entry.now }
+{
+    let kind = kind_of(entry);
+    let size = Constant::read(entry, DW_AT_byte_size);
+    (kind.reads_own() && size.is_negative()) || (!size.is_present() && wants_own(entry, kind))
+}
 
-    /// Whether it is an enumeration with neither a byte size nor a type, or with one that is not its type's.
-    #[inline(always)]
-    fn has_wrong_size(&self, sizes: &SizeTable) -> bool
-        requires { (node : ℕ) → self.now.type_target ≡ Some node → node < length sizes.now }
-        ensures { result ≡ has_wrong_size self.now (size_to (size_at sizes.now) self.now.type_target) }
-    {
-        if !self.is_enumeration() {
-            return false;
-        }
-        let own = self.constant(DW_AT_byte_size);
-        if !own.is_present() {
-            return self.type_target().is_none() && self.stands_alone();
-        }
-        differ(own.natural(), sizes.get_to(self.type_target()))
-    }
+/// The same of an entry that has this size or none. Where it has a size, its byte size is not read again.
+#[inline(always)]
+fn lacks_size(entry: &EntryAt<'_, '_>, size: Option<u64>) -> bool
+    requires { IfSome size (λ _. has_no_size entry.now ≡ false) }
+    ensures { result ≡ has_no_size entry.now }
+{
+    size.is_none() && has_no_size(entry)
+}
 
-    /// The rule on sizes that a type of this size violates: the one with the least number. Where it has a size, its
-    /// byte size is not read again.
-    #[inline(always)]
-    fn broken_size(&self, size: Option<u64>, sizes: &SizeTable) -> Option<Rule>
-        requires own { IfSome size (λ _. has_no_size self.now ≡ false) }
-        requires type_in { (node : ℕ) → self.now.type_target ≡ Some node → node < length sizes.now }
-        ensures { IsLeast (λ rule. breaks_size Other self.now size None
-            (size_to (size_at sizes.now) self.now.type_target) rule ≡ true) result }
-    {
-        if size.is_none() && self.has_no_size() {
-            return Some(Rule::NoSize);
-        }
-        if matches!(size, Some(size) if size >= 1 << 63) {
-            return Some(Rule::SizeTooGreat);
-        }
-        if self.has_wrong_size(sizes) {
-            return Some(Rule::EnumSize);
-        }
-        None
+/// Whether an entry, which is at hand, is an enumeration with neither a byte size nor a type, or with one that is not
+/// its type's.
+#[inline(always)]
+fn has_wrong_size(
+    entries: &LinkedEntries<'_, '_>,
+    sizes: &SizeTable,
+    id: EntryId,
+    entry: &EntryAt<'_, '_>,
+) -> bool
+    requires places { HasSizePlaces (units_held entries.now) sizes.now id }
+    requires entry { entry.now ≡ entry_in (units_held entries.now) id }
+    ensures { result ≡ has_wrong_size (units_held entries.now) (size_at sizes.now) id }
+{
+    if !is_enumeration(entry) {
+        return false;
     }
+    let own = Constant::read(entry, DW_AT_byte_size);
+    if !own.is_present() {
+        return entries.type_target(id).is_none() && stands_alone(entry);
+    }
+    differ(own.natural(), sizes.get_to(entries.type_target(id)))
+}
+
+/// Whether a size is 2^63 or more.
+#[inline(always)]
+fn is_too_great(size: Option<u64>) -> bool
+    ensures { result ≡ is_too_great size }
+{
+    matches!(size, Some(size) if size >= 1 << 63)
+}
+
+/// The rule on sizes that a type, which is at hand, violates: the one with the least number.
+#[inline(always)]
+fn broken_type(
+    entries: &LinkedEntries<'_, '_>,
+    sizes: &SizeTable,
+    id: EntryId,
+    entry: &EntryAt<'_, '_>,
+) -> Option<Rule>
+    requires places { HasSizePlaces (units_held entries.now) sizes.now id }
+    requires lines { ObeysCappedLines (units_held entries.now) (size_at sizes.now) }
+    requires entry { entry.now ≡ entry_in (units_held entries.now) id }
+    requires typed { is_type_tag entry.now.head.decl.tag ≡ true }
+    ensures { IsLeast (λ rule. fails_size (units_held entries.now) (size_at sizes.now) id rule ≡ true) result }
+{
+    let size = sizes.get(id);
+    if lacks_size(entry, size) {
+        return Some(Rule::NoSize);
+    }
+    if is_too_great(size) {
+        return Some(Rule::SizeTooGreat);
+    }
+    if has_wrong_size(entries, sizes, id, entry) {
+        return Some(Rule::EnumSize);
+    }
+    None
 }
 
 /// Whether an entry, which is at hand, is a plain member that ends outside its container. What its parent is, is looked
 /// up only if it does.
 #[inline(always)]
 fn is_outside(
-    entries: &mut FactsList<'_, '_>,
+    entries: &mut LinkedEntries<'_, '_>,
     sizes: &SizeTable,
-    node: usize,
-    member: &FactsAt<'_, '_>,
+    id: EntryId,
+    member: &EntryAt<'_, '_>,
 ) -> bool
-    requires places { HasSizePlaces entries.old sizes.now node }
-    requires member { member.now ≡ entry_of entries.old node }
-    ensures same { entries.new ≡ entries.old }
-    ensures outside { result ≡ is_outside (parent_role entries.old node) member.now
-        (size_to (size_at sizes.now) member.now.parent) (size_to (size_at sizes.now) member.now.type_target) }
+    requires places { HasSizePlaces (units_held entries.old) sizes.now id }
+    requires member { member.now ≡ entry_in (units_held entries.old) id }
+    ensures same { units_held entries.new ≡ units_held entries.old }
+    ensures outside { result ≡ is_outside (units_held entries.old) (size_at sizes.now) id }
 {
     if !matches!(member.tag(), DW_TAG_member) {
         return false;
     }
-    let Some(bytes) = sizes.get_to(entries.parent(node)) else {
+    let Some(bytes) = sizes.get_to(entries.parent(id)) else {
         return false;
     };
-    let size = sizes.get_to(member.type_target());
-    member.ends_past(bytes, size) && entries.is_plain(node)
+    let size = sizes.get_to(entries.type_target(id));
+    ends_past(member, bytes, size) && is_plain(entries, id)
 }
 
 /// The rule on sizes that an entry violates, by the sizes of all: the one with the least number.
 #[inline(always)]
-fn broken_size(entries: &mut FactsList<'_, '_>, sizes: &SizeTable, node: usize) -> Option<Rule>
-    requires places { HasSizePlaces entries.old sizes.now node }
-    requires lines { ObeysCappedLines entries.old (size_at sizes.now) }
-    ensures same { entries.new ≡ entries.old }
-    ensures least { IsLeast (λ rule. fails_size entries.old (size_at sizes.now) node rule ≡ true) result }
+fn broken_size(entries: &mut LinkedEntries<'_, '_>, sizes: &SizeTable, id: EntryId) -> Option<Rule>
+    requires places { HasSizePlaces (units_held entries.old) sizes.now id }
+    requires lines { ObeysCappedLines (units_held entries.old) (size_at sizes.now) }
+    ensures same { units_held entries.new ≡ units_held entries.old }
+    ensures least { IsLeast (λ rule. fails_size (units_held entries.old) (size_at sizes.now) id rule ≡ true) result }
 {
-    let entry = entries.at(node);
+    let entry = entries.at(id);
     if entry.is_type() {
-        return entry.broken_size(sizes.at(node), sizes);
+        return broken_type(entries, sizes, id, &entry);
     }
-    if is_outside(entries, sizes, node, &entry) {
+    if is_outside(entries, sizes, id, &entry) {
         return Some(Rule::MemberOutside);
     }
     None
@@ -211,12 +245,12 @@ fn broken_size(entries: &mut FactsList<'_, '_>, sizes: &SizeTable, node: usize) 
 /// Whether a rule on sizes may fail at an entry, which has this declaration: at a type with no size or one that is too
 /// great, at an enumeration, or at a member.
 #[inline(always)]
-fn is_asked(sizes: &SizeTable, node: usize, decl: DeclAt<'_>) -> bool
-    requires { node < length sizes.now }
-    ensures { result ≡ is_asked (decl_view decl.entry).tag (size_at sizes.now node) }
+fn is_asked(sizes: &SizeTable, id: EntryId, decl: DeclAt<'_>) -> bool
+    requires { id < length sizes.now }
+    ensures { result ≡ is_asked (decl_view decl.entry).tag (size_at sizes.now id) }
 {
     if decl.is_type() {
-        !matches!(sizes.at(node), Some(size) if size < 1 << 63)
+        !matches!(sizes.get(id), Some(size) if size < 1 << 63)
             || matches!(decl.tag(), DW_TAG_enumeration_type)
     } else {
         matches!(decl.tag(), DW_TAG_member)
@@ -224,16 +258,17 @@ fn is_asked(sizes: &SizeTable, node: usize, decl: DeclAt<'_>) -> bool
 }
 
 /// The first entry from one on at which a rule on sizes may fail, or how many entries there are.
-fn next_asked(entries: &FactsList<'_, '_>, sizes: &SizeTable, from: usize) -> usize
-    requires from { from ≤ length entries.now }
-    requires long { length sizes.now ≡ length entries.now }
-    ensures within { (from ≤ result) × (result ≤ length entries.now) }
+fn next_asked(entries: &LinkedEntries<'_, '_>, sizes: &SizeTable, from: usize) -> usize
+    requires from { from ≤ length (entries_held entries.now) }
+    requires long { length sizes.now ≡ length (entries_held entries.now) }
+    ensures within { (from ≤ result) × (result ≤ length (entries_held entries.now)) }
     ensures none { (k : ℕ) → from ≤ k → k < result
-        → is_asked (entry_of entries.now k).tag (size_at sizes.now k) ≡ false }
+        → is_asked (entry_in (units_held entries.now) k).head.decl.tag (size_at sizes.now k) ≡ false }
 {
     let count = entries.count();
     for node in from..count {
-        if is_asked(sizes, node, entries.decl(node)) {
+        let id = entries.id(node);
+        if is_asked(sizes, id, entries.decl(id)) {
             return node;
         }
     }
@@ -242,20 +277,21 @@ fn next_asked(entries: &FactsList<'_, '_>, sizes: &SizeTable, from: usize) -> us
 
 /// The first entry that violates a rule on sizes, by the sizes of all, and its least rule.
 pub(crate) fn first_broken(
-    entries: &mut FactsList<'_, '_>,
+    entries: &mut LinkedEntries<'_, '_>,
     sizes: &SizeTable,
-) -> Option<(usize, Rule)>
-    requires targets { TargetsAreEntries entries.old }
-    requires long { length sizes.now ≡ length entries.old }
-    requires lines { ObeysCappedLines entries.old (size_at sizes.now) }
-    ensures same { entries.new ≡ entries.old }
-    ensures first { IsFirstFound entries.old (fails_size entries.old (size_at sizes.now)) result }
+) -> Option<(EntryId, Rule)>
+    requires long { length sizes.now ≡ length (entries_held entries.old) }
+    requires lines { ObeysCappedLines (units_held entries.old) (size_at sizes.now) }
+    ensures same { units_held entries.new ≡ units_held entries.old }
+    ensures first { IsFirstFound (entries_held entries.old)
+        (fails_size (units_held entries.old) (size_at sizes.now)) result }
 {
     let count = entries.count();
     let mut node = next_asked(entries, sizes, 0);
     while node < count {
-        if let Some(rule) = broken_size(entries, sizes, node) {
-            return Some((node, rule));
+        let id = entries.id(node);
+        if let Some(rule) = broken_size(entries, sizes, id) {
+            return Some((id, rule));
         }
         let next = next_asked(entries, sizes, node + 1);
         node = next;
@@ -266,7 +302,7 @@ pub(crate) fn first_broken(
 /// The size of a structure or union that is not declared is its own byte size. So the container of a plain
 /// member, whose size the members are measured by, has the bytes that it says itself.
 pub fn container_has_its_own_size()
-    ensures { (entries : List Facts) (table : ℕ → Size) (node : ℕ)
-        → ObeysSizeLines entries table → node < length entries
-        → has_members (entry_of entries node) ≡ true → table node ≡ natural_of (byte_size (entry_of entries node)) }
+    ensures { (us : List DebugUnit) (table : ℕ → Size) (node : ℕ)
+        → ObeysSizeLines us table → node < length (entries_of us)
+        → has_members (entry_in us node) ≡ true → table node ≡ natural_of (byte_size (entry_in us node)) }
 {}

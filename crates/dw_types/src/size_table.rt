@@ -1,28 +1,29 @@
 //! The one table of sizes, filled in the order of the ranks.
 
-ghost use Rattle.std.specs.Prelude.{◌≡◌, ◌<◌, ◌≤◌, ◌^◌, ℕ, List, None, Some, length, replicate};
+ghost use Rattle.std.specs.Prelude.{◌≡◌, ◌<◌, ◌≤◌, ◌^◌, List, None, Some, length, replicate};
 ghost use Rattle.std.specs.Prelude.{slice_set, IfOk, IfErr, IfSome, OnOk};
 ghost use Rattle.dw_entries.specs.Failures.{HasNone};
 ghost use Rattle.dw_entries.specs.Stopped.{IfPlainFault};
+ghost use Rattle.dw_entries.specs.Views.{all_entries, units_of};
 ghost use Rattle.dw_types.specs.Sizes.{size_to, array_size, size_line, IsSizeTable};
 ghost use Rattle.dw_types.specs.SizeTables.{Size, size_at, cap_size, HasSizePlaces, OnlyTypesAreSized};
 ghost use Rattle.dw_types.specs.StoredSizes.{size_in, sizes_in, ObeysCappedLines};
-ghost use Rattle.dw_types.specs.Entries.{entry_of, TargetsAreEntries};
+ghost use Rattle.dw_types.specs.Entries.{entry_in};
+ghost use Rattle.dw_types.specs.Held.{entries_held, units_held};
 ghost use Rattle.dw_types.specs.Kinds.{kind_of};
-ghost use Rattle.dw_types.specs.Held.{all_facts, entries_held};
 ghost use Rattle.dw_types.specs.Orders.{IsOrderOf};
 ghost use Rattle.dw_types.specs.SizeFaults.{IsFirstSizeFault, SizeFailures};
 ghost use Rattle.dw_types.specs.Steps.{by_value};
 
-use crate::count::{capped_times, count_elements};
-use crate::facts::{FactsAt, FactsList, languages_of};
+use crate::count::{capped_times, count_elements, natural_or};
 use crate::graph::Order;
-use crate::kind::Kind;
+use crate::kind::{Kind, kind_of};
+use crate::linked::LinkedEntries;
 use crate::numbers::Numbers;
 use crate::size_rules::first_broken;
 use dw_entries::constants::*;
-use dw_entries::{Entries, EntryId, Fault, Stop};
-use dw_links::Links;
+use dw_entries::{Entries, EntryAt, EntryId, Fault, Stop};
+use dw_links::{Constant, Links};
 use std::alloc::{AllocError, Global};
 use std::marker::Model;
 
@@ -58,27 +59,19 @@ impl SizeTable {
         requires { id < length self.now }
         ensures { result ≡ size_at self.now id }
     {
-        self.at(id.number())
-    }
-
-    /// The size of the entry with a number.
-    pub(crate) fn at(&self, node: usize) -> Option<u64>
-        requires { node < length self.now }
-        ensures { result ≡ size_at self.now node }
-    {
-        match self.sizes.get(node) {
+        match self.sizes.get(id.number()) {
             0 => None,
             number => Some((number - 1) as u64),
         }
     }
 
     /// The size of the entry that is named, if one is.
-    pub(crate) fn get_to(&self, target: Option<usize>) -> Option<u64>
-        requires { (to : ℕ) → target ≡ Some to → to < length self.now }
+    pub(crate) fn get_to(&self, target: Option<EntryId>) -> Option<u64>
+        requires { IfSome target (λ to. to < length self.now) }
         ensures { result ≡ size_to (size_at self.now) target }
     {
         match target {
-            Some(to) => self.at(to),
+            Some(to) => self.get(to),
             None => None,
         }
     }
@@ -87,14 +80,14 @@ impl SizeTable {
     pub(crate) fn set(
         &mut self,
         alloc: Global,
-        node: usize,
+        id: EntryId,
         size: Option<u64>,
     ) -> Result<(), AllocError>
-        requires node_in { node < length self.old }
+        requires id_in { id < length self.old }
         requires small { IfSome size (λ n. n ≤ 2 ^ 63) }
-        ensures { OnOk result (self.new ≡ slice_set self.old node size) }
+        ensures { OnOk result (self.new ≡ slice_set self.old id size) }
     {
-        self.sizes.set(alloc, node, stored(size))
+        self.sizes.set(alloc, id.number(), stored(size))
     }
 }
 
@@ -123,57 +116,57 @@ fn capped(size: Option<u64>) -> Option<u64>
 /// The capped size of an array without a byte size of its own: element storage times all counts.
 #[inline(always)]
 fn capped_array(
-    entries: &mut FactsList<'_, '_>,
+    entries: &mut LinkedEntries<'_, '_>,
     sizes: &SizeTable,
-    node: usize,
-    entry: &FactsAt<'_, '_>,
+    id: EntryId,
+    entry: &EntryAt<'_, '_>,
 ) -> Option<u64>
-    requires places { HasSizePlaces entries.old sizes.now node }
-    requires entry { entry.now ≡ entry_of entries.old node }
-    ensures same { entries.new ≡ entries.old }
-    ensures value { result ≡ cap_size (2 ^ 63) (array_size entries.old (size_at sizes.now) node) }
+    requires places { HasSizePlaces (units_held entries.old) sizes.now id }
+    requires entry { entry.now ≡ entry_in (units_held entries.old) id }
+    ensures same { units_held entries.new ≡ units_held entries.old }
+    ensures value { result ≡ cap_size (2 ^ 63) (array_size (units_held entries.old) (size_at sizes.now) id) }
     ensures small { IfSome result (λ n. n ≤ 2 ^ 63) }
 {
-    if entry.constant(DW_AT_bit_stride).is_present() {
+    if Constant::read(entry, DW_AT_bit_stride).is_present() {
         return None;
     }
-    let stride = entry.constant(DW_AT_byte_stride);
-    let storage = stride.natural_or(sizes.get_to(entry.type_target()));
-    let elements = count_elements(entries, node);
+    let stride = Constant::read(entry, DW_AT_byte_stride);
+    let storage = natural_or(stride, sizes.get_to(entries.type_target(id)));
+    let elements = count_elements(entries, id);
     capped_times(storage, elements)
 }
 
 /// The capped size of an entry of this kind, by those of others.
 #[inline(always)]
 fn capped_size(
-    entries: &mut FactsList<'_, '_>,
+    entries: &mut LinkedEntries<'_, '_>,
     sizes: &SizeTable,
-    node: usize,
-    entry: &FactsAt<'_, '_>,
+    id: EntryId,
+    entry: &EntryAt<'_, '_>,
     kind: Kind,
 ) -> Option<u64>
-    requires places { HasSizePlaces entries.old sizes.now node }
-    requires entry { entry.now ≡ entry_of entries.old node }
+    requires places { HasSizePlaces (units_held entries.old) sizes.now id }
+    requires entry { entry.now ≡ entry_in (units_held entries.old) id }
     requires kind { kind ≡ kind_of entry.now }
-    ensures same { entries.new ≡ entries.old }
-    ensures value { result ≡ cap_size (2 ^ 63) (size_line entries.old (size_at sizes.now) node) }
+    ensures same { units_held entries.new ≡ units_held entries.old }
+    ensures value { result ≡ cap_size (2 ^ 63) (size_line (units_held entries.old) (size_at sizes.now) id) }
     ensures small { IfSome result (λ n. n ≤ 2 ^ 63) }
 {
     match kind {
-        Kind::Declared => capped(sizes.get_to(entry.signature_target())),
-        Kind::OwnSized => capped(entry.constant(DW_AT_byte_size).natural()),
+        Kind::Declared => capped(sizes.get_to(entries.signature_target(id))),
+        Kind::OwnSized => capped(Constant::read(entry, DW_AT_byte_size).natural()),
         Kind::Pointer => {
-            let own = entry.constant(DW_AT_byte_size);
-            capped(own.natural_or(Some(u64::from(entry.address_size()))))
+            let own = Constant::read(entry, DW_AT_byte_size);
+            capped(natural_or(own, Some(u64::from(entries.address_size(id, entry)))))
         }
-        Kind::Alias => capped(sizes.get_to(entry.type_target())),
+        Kind::Alias => capped(sizes.get_to(entries.type_target(id))),
         Kind::Enumeration => {
-            let own = entry.constant(DW_AT_byte_size);
-            capped(own.natural_or(sizes.get_to(entry.type_target())))
+            let own = Constant::read(entry, DW_AT_byte_size);
+            capped(natural_or(own, sizes.get_to(entries.type_target(id))))
         }
         Kind::Array => {
-            let own = entry.constant(DW_AT_byte_size);
-            capped(own.natural_or(capped_array(entries, sizes, node, entry)))
+            let own = Constant::read(entry, DW_AT_byte_size);
+            capped(natural_or(own, capped_array(entries, sizes, id, entry)))
         }
         Kind::Subroutine | Kind::NoType => None,
     }
@@ -182,57 +175,56 @@ fn capped_size(
 /// Writes the size of an entry, by those of what it holds by value.
 fn measure_type(
     alloc: Global,
-    entries: &mut FactsList<'_, '_>,
+    entries: &mut LinkedEntries<'_, '_>,
     sizes: &mut SizeTable,
-    node: usize,
+    id: EntryId,
 ) -> Result<(), AllocError>
-    requires places { HasSizePlaces entries.old sizes.old node }
-    ensures same { OnOk result (entries.new ≡ entries.old) }
+    requires places { HasSizePlaces (units_held entries.old) sizes.old id }
+    ensures same { OnOk result (units_held entries.new ≡ units_held entries.old) }
     ensures size { OnOk result (sizes.new
-        ≡ slice_set sizes.old node (cap_size (2 ^ 63) (size_line entries.old (size_at sizes.old) node))) }
+        ≡ slice_set sizes.old id (cap_size (2 ^ 63) (size_line (units_held entries.old) (size_at sizes.old) id))) }
 {
-    let entry = entries.at(node);
-    let kind = entry.kind();
-    let size = capped_size(entries, sizes, node, &entry, kind);
-    sizes.set(alloc, node, size)
+    let entry = entries.at(id);
+    let kind = kind_of(&entry);
+    let size = capped_size(entries, sizes, id, &entry, kind);
+    sizes.set(alloc, id, size)
 }
 
 /// Writes the size of an entry if it is a type.
 #[inline(always)]
 fn measure(
     alloc: Global,
-    entries: &mut FactsList<'_, '_>,
+    entries: &mut LinkedEntries<'_, '_>,
     sizes: &mut SizeTable,
-    node: usize,
+    id: EntryId,
 ) -> Result<(), AllocError>
-    requires places { HasSizePlaces entries.old sizes.old node }
-    requires untyped { OnlyTypesAreSized entries.old (size_at sizes.old) }
-    ensures same { OnOk result (entries.new ≡ entries.old) }
+    requires places { HasSizePlaces (units_held entries.old) sizes.old id }
+    requires untyped { OnlyTypesAreSized (units_held entries.old) (size_at sizes.old) }
+    ensures same { OnOk result (units_held entries.new ≡ units_held entries.old) }
     ensures size { OnOk result (sizes.new
-        ≡ slice_set sizes.old node (cap_size (2 ^ 63) (size_line entries.old (size_at sizes.old) node))) }
+        ≡ slice_set sizes.old id (cap_size (2 ^ 63) (size_line (units_held entries.old) (size_at sizes.old) id))) }
 {
-    if !entries.decl(node).is_type() {
+    if !entries.decl(id).is_type() {
         return Ok(());
     }
-    measure_type(alloc, entries, sizes, node)
+    measure_type(alloc, entries, sizes, id)
 }
 
 /// The capped sizes of all entries, one after another in the order of the ranks.
 fn measure_all(
     alloc: Global,
-    entries: &mut FactsList<'_, '_>,
+    entries: &mut LinkedEntries<'_, '_>,
     order: &Order,
 ) -> Result<SizeTable, AllocError>
-    requires targets { TargetsAreEntries entries.old }
-    requires order { IsOrderOf (by_value entries.old) order.now }
-    ensures same { OnOk result (entries.new ≡ entries.old) }
-    ensures long { IfOk result (λ table. length table ≡ length entries.old) }
-    ensures lines { IfOk result (λ table. ObeysCappedLines entries.old (size_at table)) }
+    requires { IsOrderOf (by_value (units_held entries.old)) order.now }
+    ensures same { OnOk result (units_held entries.new ≡ units_held entries.old) }
+    ensures long { IfOk result (λ table. length table ≡ length (entries_held entries.old)) }
+    ensures lines { IfOk result (λ table. ObeysCappedLines (units_held entries.old) (size_at table)) }
 {
     let mut sizes = SizeTable::none(alloc, entries.count())?;
     for rank in 0..order.count() {
-        let node = order.node(rank);
-        measure(alloc, entries, &mut sizes, node)?;
+        let id = entries.id(order.node(rank));
+        measure(alloc, entries, &mut sizes, id)?;
     }
     Ok(sizes)
 }
@@ -245,17 +237,16 @@ pub fn sizes(
     order: &Order,
 ) -> Result<SizeTable, Stop<Fault>>
     requires entries { links.now.entries.now ≡ entries.now }
-    requires order { IsOrderOf (by_value (all_facts links.now)) order.now }
-    ensures long { IfOk result (λ table. length table ≡ length (entries_held links.now)) }
-    ensures only { IfOk result (λ table. IsSizeTable (all_facts links.now) (size_at table)) }
-    ensures sound { IfOk result (λ table. HasNone (SizeFailures (all_facts links.now) (size_at table))) }
-    ensures fault { IfErr result (IfPlainFault (IsFirstSizeFault (all_facts links.now))) }
+    requires order { IsOrderOf (by_value (units_of links.now.entries.now)) order.now }
+    ensures long { IfOk result (λ table. length table ≡ length (all_entries links.now.entries.now)) }
+    ensures only { IfOk result (λ table. IsSizeTable (units_of links.now.entries.now) (size_at table)) }
+    ensures sound { IfOk result (λ table. HasNone (SizeFailures (units_of links.now.entries.now) (size_at table))) }
+    ensures fault { IfErr result (IfPlainFault (IsFirstSizeFault (units_of links.now.entries.now))) }
 {
-    let languages = languages_of(alloc, entries)?;
-    let mut facts = FactsList::new(links, &languages);
-    let sizes = measure_all(alloc, &mut facts, order)?;
-    if let Some(found) = first_broken(&mut facts, &sizes) {
-        return Err(facts.fault(alloc, found.0, found.1));
+    let mut linked = LinkedEntries::new(entries, links.tables());
+    let sizes = measure_all(alloc, &mut linked, order)?;
+    if let Some(found) = first_broken(&mut linked, &sizes) {
+        return Err(linked.fault(alloc, found.0, found.1));
     }
     Ok(sizes)
 }

@@ -1,35 +1,70 @@
-use Rattle.std.proofs.Common.{rules, ◌≡◌, ◌++◌, ℕ, List, Some, subst, sym, ◌∙◌, append-nil}
+use Rattle.std.proofs.Common.{◌≡◌, ◌++◌, true, false, [], List, ℕ, refl, sym, ap, ◌∙◌, append_assoc}
 use Rattle.std.specs.List.{flat_map}
-use Rattle.dw_types.specs.Steps.{part_step}
-use Rattle.dw_types.proofs.PartStepLemmas.{part-none, part-some, parts-push}
-use Rattle.dw_types.proofs.ChildSteps.{HasPassed, passed-more, passed-none}
+use Rattle.std.specs.Option.{option_to_list}
+use Rattle.std.proofs.lemmas.List.Elements.{All-head, All-rest, All-same}
+use Rattle.dw_types.specs.Children.{IsChildOf}
+use Rattle.dw_types.specs.ChildrenLeft.{children_left}
+use Rattle.dw_types.specs.Entries.{type_target}
+use Rattle.dw_types.specs.Held.{entries_held, units_held}
+use Rattle.dw_types.specs.Shapes.{is_plain}
+use Rattle.dw_types.specs.Steps.{member_step}
+use Rattle.dw_types.proofs.MemberLemmas.{plain-in_members}
+use Rattle.dw_types.proofs.SiblingLemmas.{children-all}
 use Rattle.dw_types.proofs.by_value.push_members.Goals as goal
-use Rattle.dw_types.proofs.by_value.push_members.Goals.{then-may_be_plain+in_ok-push_to, else-may_be_plain}
 
-pub loop-next-init : goal.loop-next-init
-loop-next-init c = search (rules, passed-none, append-nil)
+pub loop-child-init : goal.loop-child-init
+loop-child-init c =
+    let us = units_held c.args.entries.now in
+    let all = ap children_left c.into_iter-child-iterator.ensures.into_iter_gives ∙ c.children-child-items.ensures in
+    record {
+      same = refl;
+      are = All-same (IsChildOf (entries_held c.args.entries.now) c.args.id) _ _ all
+          (children-all (entries_held c.args.entries.now) c.args.id);
+      so_far = ap (λ (children : List ℕ). c.args.steps.now ++ flat_map (member_step us) children) all;
+    }
 
-pub loop-next-preserved : goal.loop-next-preserved
-loop-next-preserved c =
-    let entries = c.args.entries.now in
-    let steps = c.args.steps.now in
-    let node = c.args.node in
+pub is_defined_member-requires : goal.is_defined_member-requires
+is_defined_member-requires c =
+    rw c.loop-child.invariant.same
+    (All-head (IsChildOf (entries_held c.args.entries.now) c.args.id) _ _
+    (rw c.in-Some.ensures.steps at c.loop-child.invariant.are)).0
+
+pub loop-child-preserved-in-Continue-1 : goal.loop-child-preserved-in-Continue-1
+loop-child-preserved-in-Continue-1 c =
+    let us = units_held c.args.entries.now in
     let child = c.in-Some.child in
-    let Q : List ℕ → Type 0 = λ visited. c.loop-next.steps ≡ steps ++ flat_map (part_step entries) visited in
-    let R : List ℕ → Type 0 = λ visited. c.if-may_be_plain.steps ≡ steps ++ flat_map (part_step entries) visited in
-    let h : HasPassed entries node Q (Some child) = subst (HasPassed entries node Q) c.in-Some.is
-    c.loop-next.invariant.0 in
-    let rest = rw (c.may_be_plain.ensures.same, c.loop-next.invariant.1) at c.next_sibling-next.ensures.children node in
-    let is = rw (c.may_be_plain.ensures.same, c.loop-next.invariant.1) at c.next_sibling-next.ensures.child node in
-    let plain = rw c.loop-next.invariant.1 at c.may_be_plain.ensures.plain in
-    let grown : c.if-may_be_plain.steps ≡ c.loop-next.steps ++ part_step entries child =
-    elim c.if-may_be_plain.branch [
-      | then-may_be_plain+in_ok-push_to w ↦ search (rules, part-some)
-      | else-may_be_plain w ↦
-          rw w.steps-is (part-none entries child c.loop-next.steps (sym plain ∙ w.if-may_be_plain.false))
-    ] in (
-      passed-more entries node Q R child c.next_sibling-next.result h (rest h.next_is.parent_is)
-          (is h.next_is.parent_is)
-          (λ visited q. grown ∙ parts-push entries child visited c.loop-next.steps steps q),
-      c.may_be_plain.ensures.same ∙ c.loop-next.invariant.1,
-    )
+    let are = rw c.in-Some.ensures.steps at c.loop-child.invariant.are in
+    let same = c.is_defined_member.ensures.same ∙ c.loop-child.invariant.same in
+    let plain : is_plain us child ≡ true =
+    plain-in_members us c.args.id c.requires.members child (All-head (IsChildOf (entries_held c.args.entries.now)
+    c.args.id) _ _ are)
+    ∙ (rw c.loop-child.invariant.same at (sym c.is_defined_member.ensures.member ∙ c.if-is_defined_member.true)) in
+    let taken : member_step us child ≡ option_to_list (type_target us child) = rw plain refl in
+    record {
+      same = same;
+      are =
+          All-rest (IsChildOf (entries_held c.args.entries.now) c.args.id) _ _ _ c.in-Some.ensures.steps
+          c.loop-child.invariant.are;
+      so_far =
+          rw (c.in_ok-push_to.ensures, c.type_target.ensures.target, same)
+          (append_assoc c.loop-child.steps (option_to_list (type_target us child)) _
+          ∙ rw (c.in-Some.ensures.steps, taken) at c.loop-child.invariant.so_far);
+    }
+
+pub loop-child-preserved : goal.loop-child-preserved
+loop-child-preserved c =
+    let us = units_held c.args.entries.now in
+    let child = c.in-Some.child in
+    let are = rw c.in-Some.ensures.steps at c.loop-child.invariant.are in
+    let plain : is_plain us child ≡ false =
+    plain-in_members us c.args.id c.requires.members child (All-head (IsChildOf (entries_held c.args.entries.now)
+    c.args.id) _ _ are)
+    ∙ (rw c.loop-child.invariant.same at (sym c.is_defined_member.ensures.member ∙ c.if-is_defined_member.false)) in
+    let skipped : member_step us child ≡ [] = rw plain refl in
+    record {
+      same = c.is_defined_member.ensures.same ∙ c.loop-child.invariant.same;
+      are =
+          All-rest (IsChildOf (entries_held c.args.entries.now) c.args.id) _ _ _ c.in-Some.ensures.steps
+          c.loop-child.invariant.are;
+      so_far = rw (c.in-Some.ensures.steps, skipped) at c.loop-child.invariant.so_far;
+    }

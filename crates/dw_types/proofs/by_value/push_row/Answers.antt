@@ -1,5 +1,5 @@
 use Rattle.std.proofs.Common.{rules, append_assoc}
-use Rattle.dw_types.proofs.PartStepLemmas.{members-row, own-row}
+use Rattle.dw_types.proofs.MemberLemmas.{members-row, own-row}
 use Rattle.dw_types.proofs.by_value.push_row.Goals as goal
 
 pub returns-then-has_members-clause-steps : goal.returns-then-has_members-clause-steps

@@ -1,7 +1,7 @@
 use Rattle.std.proofs.Common.{rules, ◌≡◌, true, ℤ, pos, ◌+ℤ◌, ◌-ℤ◌, FitsSigned, arith, sym, ◌∙◌}
 use Rattle.std.proofs.lemmas.Int.{ints, to_z-of_z}
 use mir.Syntax.{w128}
-use Rattle.dw_types.specs.Constants.{IsOf64Bits, is_present}
+use Rattle.dw_links.specs.Constants.{IsOf64Bits, is_present}
 use Rattle.dw_types.proofs.count.count_from.Goals as goal
 
 -- numbers of 64 bits, their difference and one more fit 128 bits

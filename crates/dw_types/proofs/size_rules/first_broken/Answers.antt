@@ -1,8 +1,9 @@
 use Rattle.std.proofs.Common.{◌≤◌, length, ◌∙◌, refl, arith}
+use Rattle.dw_types.specs.Held.{entries_held, units_held}
 use Rattle.dw_types.specs.SizeFaults.{fails_size}
 use Rattle.dw_types.specs.SizeTables.{size_at}
 use Rattle.dw_types.proofs.FirstLemmas.{pass-on}
-use Rattle.dw_types.proofs.SizeFaultLemmas.{unasked-passes}
+use Rattle.dw_types.proofs.SizeRuleLemmas.{unasked-passes}
 use Rattle.dw_types.proofs.size_rules.first_broken.Goals as goal
 
 pub loop-node-init : goal.loop-node-init
@@ -10,42 +11,42 @@ loop-node-init c = (
   refl,
   c.next_asked-node.ensures.within.1,
   λ k below.
-      unasked-passes c.args.entries.now (size_at c.args.sizes.now) k c.requires.lines
+      unasked-passes (units_held c.args.entries.now) (size_at c.args.sizes.now) k c.requires.lines
       (let within = c.next_asked-node.ensures.within.1 in omega arith)
       (c.next_asked-node.ensures.none k (omega arith) below),
 )
 
 pub broken_size-requires-clause-places : goal.broken_size-requires-clause-places
 broken_size-requires-clause-places c =
-    rw c.loop-node.invariant.0 record {
+    rw (c.loop-node.invariant.0, c.id-id.ensures) record {
       node_in = rw (← c.count-count.ensures) c.loop-node-test.true;
       long = c.requires.long;
-      targets = c.requires.targets;
     }
 
 pub loop-node-preserved : goal.loop-node-preserved
 loop-node-preserved c =
-    let entries = c.args.entries.now in
+    let us = units_held c.args.entries.now in
     let table = size_at c.args.sizes.now in
-    let fails = fails_size entries table in
+    let fails = fails_size us table in
     let within = rw (c.broken_size.ensures.same, c.loop-node.invariant.0) at c.next_asked-next.ensures.within in
     let none = rw (c.broken_size.ensures.same, c.loop-node.invariant.0) at c.next_asked-next.ensures.none in (
       c.broken_size.ensures.same ∙ c.loop-node.invariant.0,
       within.1,
       pass-on fails c.loop-node.node c.next_asked-next.result c.loop-node.invariant.2
-          (rw (c.loop-node.invariant.0, c.in_default.is) at c.broken_size.ensures.least)
+          (rw (c.loop-node.invariant.0, c.id-id.ensures, c.in_default.is) at c.broken_size.ensures.least)
           (λ k low below.
-          unasked-passes entries table k c.requires.lines (let end = within.1 in omega arith) (none k low below)),
+          unasked-passes us table k c.requires.lines (let end = within.1 in omega arith) (none k low below)),
     )
 
 pub returns-in-Some-clause-first : goal.returns-in-Some-clause-first
 returns-in-Some-clause-first c = record {
-  inside = rw (← c.count-count.ensures) c.loop-node-test.true;
+  inside = rw (c.id-id.ensures, ← c.count-count.ensures) c.loop-node-test.true;
   least = rw (c.loop-node.invariant.0, c.in-Some.is) at c.broken_size.ensures.least;
-  before = c.loop-node.invariant.2;
+  before = rw c.id-id.ensures c.loop-node.invariant.2;
 }
 
 pub returns-clause-first : goal.returns-clause-first
 returns-clause-first c =
-    let over : length c.args.entries.now ≤ c.loop-node.node = rw (← c.count-count.ensures) c.loop-node-test.false in
+    let over : length (entries_held c.args.entries.now)
+    ≤ c.loop-node.node = rw (← c.count-count.ensures) c.loop-node-test.false in
     λ k below. c.loop-node.invariant.2 k (omega arith)

@@ -1,0 +1,173 @@
+//! Entries with what they refer to, looked up by number.
+
+ghost use Rattle.dw_links.specs.Tables.{AreTables};
+
+use crate::children::Children;
+use crate::kind::has_members;
+use dw_entries::constants::*;
+use dw_entries::{Cursor, Entries, EntryAt, EntryId, Fault, PlainFault, Rule, Section, Stop};
+use dw_forms::DeclAt;
+use dw_links::{Constant, LinkTables};
+use std::alloc::Global;
+
+/// The entries of .debug_info, with the targets of their references and the languages of their units. Of entries that
+/// are looked up one after another, those of one unit are found sooner.
+#[derive(Drop)]
+pub(crate) struct LinkedEntries<'r, 'a> {
+    cursor: Cursor<'r, 'a>,
+    tables: &'r LinkTables,
+    ghost tables_are: { AreTables cursor.entries.now tables.now },
+}
+
+impl<'r, 'a> LinkedEntries<'r, 'a> {
+    ghost use Rattle.std.specs.Prelude.{◌≡◌, ◌^◌, ◌<◌, length, IfSome};
+    ghost use Rattle.dw_forms.specs.KeptDecls.{decl_view};
+    ghost use Rattle.dw_entries.specs.Stopped.{IfPlainFault};
+    ghost use Rattle.dw_entries.specs.Entries.{placed};
+    ghost use Rattle.dw_entries.specs.Views.{units_of};
+    ghost use Rattle.dw_links.specs.Constants.{language_at};
+    ghost use Rattle.dw_links.specs.Tables.{AreTables};
+    ghost use Rattle.dw_types.specs.Children.{children_of};
+    ghost use Rattle.dw_types.specs.ChildrenLeft.{children_left};
+    ghost use Rattle.dw_types.specs.Entries.{address_size, entry_in, signature_target, type_target};
+    ghost use Rattle.dw_types.specs.Held.{entries_held, units_held};
+    ghost use Rattle.dw_types.specs.Kinds.{has_members, is_array, parent_is};
+    ghost use Rattle.dw_types.specs.TypeFailures.{plain_fault_at};
+
+    /// Entries and their tables.
+    pub(crate) fn new(entries: &'r Entries<'a>, tables: &'r LinkTables) -> Self
+        requires { AreTables entries.now tables.now }
+        ensures same { units_held result ≡ units_of entries.now }
+        ensures few { length (entries_held result) < 2 ^ 32 }
+    {
+        LinkedEntries {
+            cursor: entries.cursor(),
+            tables,
+        }
+    }
+
+    /// How many entries there are.
+    pub(crate) fn count(&self) -> usize
+        ensures { result ≡ length (entries_held self.now) }
+    {
+        self.cursor.entries.count()
+    }
+
+    /// The entry with a number.
+    pub(crate) fn id(&self, node: usize) -> EntryId
+        requires { node < length (entries_held self.now) }
+        ensures { result ≡ node }
+    {
+        self.cursor.entries.id(node)
+    }
+
+    /// The fault of a rule that an entry violates.
+    pub(crate) fn fault(&self, alloc: Global, id: EntryId, rule: Rule) -> Stop<Fault>
+        requires { id < length (entries_held self.now) }
+        ensures { IfPlainFault (λ broken. broken ≡ plain_fault_at rule (entry_in (units_held self.now) id).at) result }
+    {
+        let broken = PlainFault {
+            rule,
+            section: Section::Info,
+            at: self.cursor.entries.offset(id),
+            attribute: 0,
+        };
+        Stop::Fault(broken.into_fault(alloc))
+    }
+
+    /// The declaration of an entry. Its unit is not looked up.
+    #[inline(always)]
+    pub(crate) fn decl(&self, id: EntryId) -> DeclAt<'r>
+        requires { id < length (entries_held self.now) }
+        ensures { decl_view result ≡ (entry_in (units_held self.now) id).head.decl }
+    {
+        self.cursor.entries.decl(id)
+    }
+
+    /// The parent of an entry. Its unit is not looked up.
+    pub(crate) fn parent(&self, id: EntryId) -> Option<EntryId>
+        requires { id < length (entries_held self.now) }
+        ensures parent { result ≡ (entry_in (units_held self.now) id).parent }
+        ensures earlier { IfSome result (λ above. above < id) }
+    {
+        self.cursor.entries.parent(id)
+    }
+
+    /// The children of an entry.
+    #[inline(always)]
+    pub(crate) fn children(&self, id: EntryId) -> Children<'r, 'a>
+        requires { id < length (entries_held self.now) }
+        ensures { children_left result ≡ children_of (entries_held self.now) id }
+    {
+        Children::of(self.cursor.entries, id)
+    }
+
+    /// The entry.
+    #[inline(always)]
+    pub(crate) fn at(&mut self, id: EntryId) -> EntryAt<'r, 'a>
+        requires { id < length (entries_held self.old) }
+        ensures same { units_held self.new ≡ units_held self.old }
+        ensures found { result ≡ entry_in (units_held self.old) id }
+    {
+        self.cursor.at(id)
+    }
+
+    /// The entry that DW_AT_type of an entry refers to, which is kept since the links were made.
+    #[inline(always)]
+    pub(crate) fn type_target(&self, id: EntryId) -> Option<EntryId>
+        requires { id < length (entries_held self.now) }
+        ensures target { result ≡ type_target (units_held self.now) id }
+        ensures within { IfSome result (λ to. to < length (entries_held self.now)) }
+    {
+        self.tables.target(self.cursor.entries, id, DW_AT_type)
+    }
+
+    /// The entry that DW_AT_signature of an entry refers to.
+    #[inline(always)]
+    pub(crate) fn signature_target(&self, id: EntryId) -> Option<EntryId>
+        requires { id < length (entries_held self.now) }
+        ensures target { result ≡ signature_target (units_held self.now) id }
+        ensures within { IfSome result (λ to. to < length (entries_held self.now)) }
+    {
+        self.tables.target(self.cursor.entries, id, DW_AT_signature)
+    }
+
+    /// How many bytes an address has in the unit of an entry.
+    pub(crate) fn address_size(&self, id: EntryId, entry: &EntryAt<'_, '_>) -> u8
+        requires id { id < length (entries_held self.now) }
+        requires entry { entry.now ≡ entry_in (units_held self.now) id }
+        ensures { result ≡ address_size (units_held self.now) id }
+    {
+        self.cursor.entries.unit(entry.unit()).header.address_size
+    }
+
+    /// DW_AT_language of the first entry of the unit of an entry.
+    pub(crate) fn language(&self, entry: &EntryAt<'_, '_>) -> Constant
+        ensures { result ≡ language_at (placed (units_held self.now)) entry.now.unit }
+    {
+        self.tables.language(entry.unit())
+    }
+
+    /// Whether the parent of an entry is a structure or union that is not declared.
+    pub(crate) fn is_in_members(&mut self, id: EntryId) -> bool
+        requires { id < length (entries_held self.old) }
+        ensures same { units_held self.new ≡ units_held self.old }
+        ensures is { result ≡ parent_is has_members (units_held self.old) id }
+    {
+        match self.parent(id) {
+            Some(parent) => has_members(&self.at(parent)),
+            None => false,
+        }
+    }
+
+    /// Whether the parent of an entry is an array.
+    pub(crate) fn is_in_array(&self, id: EntryId) -> bool
+        requires { id < length (entries_held self.now) }
+        ensures { result ≡ parent_is is_array (units_held self.now) id }
+    {
+        match self.parent(id) {
+            Some(parent) => self.decl(parent).tag() == DW_TAG_array_type,
+            None => false,
+        }
+    }
+}
