@@ -3,11 +3,11 @@
 use Rattle.std.proofs.Common.{rules, ◌≡◌, ℕ, ◌<◌, ◌≤◌, List, sym, ap, ◌∙◌, subst, arith, inl, inr}
 use Rattle.dw_elf.specs.declared.sections.Sections.{Sections}
 use Rattle.dw_entries.specs.declared.fault.Fault.{Fault}
-use Rattle.dw_entries.specs.declared.fault.Broken.{Broken}
+use Rattle.dw_entries.specs.declared.fault.PlainFault.{PlainFault}
 use Rattle.dw_entries.specs.Units.{DebugUnit}
 use Rattle.dw_entries.specs.Entries.{entries_of}
-use Rattle.dw_entries.specs.Asked.{EachEntry}
-use Rattle.dw_entries.specs.Failures.{Failure, HasNone, IsFirst, broken_of, IsPlainFault}
+use Rattle.dw_entries.specs.EntryRules.{EachEntry}
+use Rattle.dw_entries.specs.Failures.{Failure, HasNone, IsFirst, plain_fault_of, IsPlainFault}
 use Rattle.dw_entries.specs.UnitLaws.{one_list}
 use Rattle.dw_entries.proofs.FaultLaws.{no_list, one_fault}
 use Rattle.dw_entries.proofs.HeadLaws.{head_stands}
@@ -18,19 +18,17 @@ use Rattle.dw_links.specs.Classes.{ClassFailures}
 use Rattle.dw_links.specs.LinkFaults.{IsFirstOfLinks}
 use Rattle.dw_links.specs.Strings.{StringFailures}
 use Rattle.dw_links.specs.References.{ReferenceFailures}
-use Rattle.dw_types.specs.FactsOf.{facts_in}
-use Rattle.dw_types.proofs.FactsLemmas.{facts-parents_first, facts-targets}
 use Rattle.dw_image.specs.declared.image.Image.{Image}
 use Rattle.dw_image.specs.Images.{sections_in, units_in, size_table_in}
 use Rattle.dw_image.specs.Valid.{SpellsInfo, HasSizes, IsValidBy, IsValid}
-use Rattle.dw_image.specs.First.{Group, classes, strings, references, cycles, sizes, turn_of, failures_of, FailsInTrees, IsFirstIn, FailsInGroup, IsFirstFault, in_trees, in_group, IsOneFault}
+use Rattle.dw_image.specs.FirstFault.{Group, classes, strings, references, cycles, sizes, turn_of, failures_of, FailsInTrees, IsFirstIn, FailsInGroup, IsFirstFault, in_trees, in_group, IsOneFault}
 use Rattle.dw_image.specs.Headline.{IsSpelled, IsSoundBy, IsImageOf, IsFaultOf}
 use Rattle.dw_image.proofs.OneFirst.{one_first}
-use Rattle.dw_image.specs.Before.{HoldBefore, PassBefore, FailsBefore}
-use Rattle.dw_image.proofs.GroupLaws.{one_group, one_at_place, rank_of, none_before, one_more}
+use Rattle.dw_image.specs.GroupsBefore.{HoldBefore, PassBefore, FailsBefore}
+use Rattle.dw_image.proofs.GroupLemmas.{one_group, one_at_place, rank_of, none_before, one_more}
 use Rattle.dw_image.proofs.MeasureLemmas.{none_by_size, no_cycle_holds, cycle_failure, cycle_fails, contained_of}
-use Rattle.dw_image.proofs.Promises.{classes_of, texts_of, references_of}
-use Rattle.dw_image.specs.Measures.{PassInTypes, FailsInTypes}
+use Rattle.dw_image.proofs.HeadlineLemmas.{classes_of, texts_of, references_of}
+use Rattle.dw_image.specs.StepsAndSizes.{PassInTypes, FailsInTypes}
 
 -- two lists of units that spell the sections are one
 pub one_list_of : (s : Sections) (units others : List DebugUnit) → SpellsInfo s units → SpellsInfo s others
@@ -41,10 +39,9 @@ one_list_of s units others p q =
 -- the rules of each group hold of valid sections
 holds_of : (s : Sections) (units : List DebugUnit) → IsValidBy s units → (group : Group)
     → HasNone (failures_of s units group)
-holds_of s units valid cycles = no_cycle_holds (facts_in units) valid.contained
+holds_of s units valid cycles = no_cycle_holds units valid.contained
 holds_of s units valid sizes =
-    none_by_size (facts_in units) (facts-parents_first units) (facts-targets units) valid.sizes.0 valid.sizes.1.one
-    valid.sizes.1.none
+    none_by_size units valid.sizes.0 valid.sizes.1.one valid.sizes.1.none
 holds_of s units valid _ = search rules
 
 -- a group where no rule fails has no first failure
@@ -54,13 +51,13 @@ none_first Fails fault none first = none first.holds.failure first.holds.fails
 none_named : (s : Sections) (units : List DebugUnit) (group : Group) (fault : Fault)
     → HasNone (failures_of s units group) → IsFirstIn s units group fault → ⊥
 none_named s units cycles fault none first =
-    none (cycle_failure (facts_in units) first.nodes) (cycle_fails (facts_in units) first.nodes first.is_cycle)
+    none (cycle_failure units first.nodes) (cycle_fails units first.nodes first.is_cycle)
 none_named s units _ fault none first = none_first _ fault none first
 
 -- valid sections have no fault
 pub no_fault_of : (s : Sections) (fault : Fault) → IsValid s → IsFirstFault s fault → ⊥
 no_fault_of s fault valid (in_trees fails cycle) =
-    no_list s.«abbrev».now s.info.now valid.0 (broken_of fault) valid.1.trees.spells fails
+    no_list s.«abbrev».now s.info.now valid.0 (plain_fault_of fault) valid.1.trees.spells fails
 no_fault_of s fault valid (in_group group fails) = search (rules, one_list_of, none_named, holds_of)
 
 -- a group's failure is of the first group that has one
@@ -74,7 +71,7 @@ one_of_group : (s : Sections) (units : List DebugUnit) (group : Group) (fault ot
 one_of_group s units group fault other spelled p q =
     inl (record {
       broken =
-          one_first (failures_of s units group) (broken_of fault) (broken_of other)
+          one_first (failures_of s units group) (plain_fault_of fault) (plain_fault_of other)
           (one_at_place s units spelled.spells.are group) p.holds q.holds;
       cycle = p.cycle ∙ sym q.cycle;
     })
@@ -82,7 +79,7 @@ one_of_group s units group fault other spelled p q =
 one_named : (s : Sections) (units : List DebugUnit) (group : Group) (fault other : Fault) → SpellsInfo s units
     → IsFirstIn s units group fault → IsFirstIn s units group other → IsOneFault fault other
 one_named s units cycles fault other spelled p q =
-    inr (record { one = ap (λ (b : Broken). b.rule) p.named; two = ap (λ (b : Broken). b.rule) q.named })
+    inr (record { one = ap (λ (b : PlainFault). b.rule) p.named; two = ap (λ (b : PlainFault). b.rule) q.named })
 one_named s units group fault other spelled p q = one_of_group s units group fault other spelled p q
 
 one_in_group : (s : Sections) (group : Group) (fault other : Fault) → FailsInGroup s group fault
@@ -100,16 +97,16 @@ one_in_groups s group later fault other p q =
     ]
 
 -- the trees fail, or a group of rules after them
-apart : (s : Sections) (group : Group) (fault other : Fault) → FailsInTrees s (broken_of fault)
+apart : (s : Sections) (group : Group) (fault other : Fault) → FailsInTrees s (plain_fault_of fault)
     → FailsInGroup s group other → ⊥
-apart s group fault other p q = no_list s.«abbrev».now s.info.now q.units (broken_of fault) q.spelled.spells p
+apart s group fault other p q = no_list s.«abbrev».now s.info.now q.units (plain_fault_of fault) q.spelled.spells p
 
 -- two first faults are one
 pub one_first_fault_of : (s : Sections) (fault other : Fault) → IsFirstFault s fault → IsFirstFault s other
     → IsOneFault fault other
 one_first_fault_of s fault other (in_trees p c) (in_trees q d) =
     inl (record {
-      broken = one_fault s.«abbrev».now s.info.now (broken_of fault) (broken_of other) p q;
+      broken = one_fault s.«abbrev».now s.info.now (plain_fault_of fault) (plain_fault_of other) p q;
       cycle = c ∙ sym d;
     })
 one_first_fault_of s fault other (in_trees p c) (in_group later q) = absurd (apart s later fault other p q)
@@ -122,8 +119,7 @@ spelled_of : (s : Sections) (units : List DebugUnit) → SpellsInfo s units
 spelled_of s units spells = λ id e there.
     let stands = head_stands s.«abbrev».now s.info.now units id e spells.spells there in
     record {
-      unit = stands.unit;
-      in_unit = stands.is_unit;
+      in_units = stands.within;
       head = stands.is;
       rest = stands.after;
       stands = stands.parts;
@@ -135,7 +131,7 @@ unfolding sections_in units_in size_table_in
 valid_by image = search (rules)
 
 -- no rule on sizes fails by the table that an image keeps
-sizes_of : (image : Image) → HasSizes (facts_in (units_in image)) (size_table_in image)
+sizes_of : (image : Image) → HasSizes (units_in image) (size_table_in image)
 unfolding units_in size_table_in
 sizes_of image = image.measured.sizes
 

@@ -1,8 +1,8 @@
 pub mod MeasureLemmas
-pub mod Promises
-pub mod RuleLaws
-pub mod GroupLaws
+pub mod HeadlineLemmas
+pub mod RuleLemmas
+pub mod GroupLemmas
 pub mod OneFirst
 pub mod JoinLemmas
 pub mod LookupLemmas
-pub mod HeldLaws
+pub mod LinkedLemmas

@@ -1,4 +1,4 @@
--- A text is no longer than its section; and no entry has a number from their count on.
+-- A text is no longer than its section.
 use Rattle.std.proofs.Common.{rules, ℕ, List, arith, length, ◌≤◌, length-take, length-drop}
 use Rattle.dw_elf.specs.declared.sections.Sections.{Sections}
 use Rattle.dw_elf.specs.Limits.{section_limit}
@@ -6,7 +6,6 @@ use Rattle.dw_links.specs.declared.texts.TextPlace.{TextPlace}
 use Rattle.dw_links.specs.declared.texts.TextPlace.TheVariants.{Info, Str, LineStr}
 use Rattle.dw_links.specs.Contributions.{string_at}
 use Rattle.dw_links.specs.ValueTexts.{text_there}
-pub use Rattle.dw_types.proofs.ChildSteps.{slice_get_none}
 
 string_short : (section : List ℕ) (offset : ℕ) → length (string_at section offset) ≤ length section
 string_short section offset = search (rules, length-take, length-drop)

@@ -4,12 +4,12 @@ use Rattle.std.specs.Prelude.{slice_get}
 use Rattle.dw_forms.specs.Value.{Datum}
 use Rattle.dw_entries.specs.declared.rule.Rule.{Rule}
 use Rattle.dw_entries.specs.declared.fault.Section.{Section}
-use Rattle.dw_entries.specs.declared.fault.Broken.{Broken}
+use Rattle.dw_entries.specs.declared.fault.PlainFault.{PlainFault}
 use Rattle.dw_entries.specs.Rules.{number_of}
 use Rattle.dw_entries.specs.Entries.{Entry}
 use Rattle.dw_entries.specs.Places.{Place, at_header, IsBefore}
 use Rattle.dw_entries.specs.Failures.{Failure, Names, IsFirst}
-use Rattle.dw_entries.specs.Asked.{OffsetsRise, AtAttributes, AtEntries}
+use Rattle.dw_entries.specs.EntryRules.{OffsetsRise, AtAttributes, AtEntries}
 use Rattle.dw_entries.proofs.Firsts.{same_some}
 use Rattle.dw_entries.proofs.NumberOrder.{three_ways}
 
@@ -21,14 +21,14 @@ compared : (p q : Place) → Compared p q
 compared (at_header a) (at_header b) = search (rules, three_ways)
 compared _ _ = search (rules, three_ways)
 
-named : Rule → Section → (at attribute : ℕ) → Broken
+named : Rule → Section → (at attribute : ℕ) → PlainFault
 named rule section at attribute = record { rule = rule; section = section; at = at; attribute = attribute }
 
 one_broken : (r s : Rule) (c d : Section) (i j m n : ℕ) → r ≡ s → c ≡ d → i ≡ j → m ≡ n → named r c i m ≡ named s d j n
 one_broken r s c d i j m n same_rule same_section same_at same_attribute = cc
 
 -- what is named is told by its failure
-one_name : (a b : Broken) (f g : Failure) → Names a f → Names b g → f.place ≡ g.place → f.rule ≡ g.rule
+one_name : (a b : PlainFault) (f g : Failure) → Names a f → Names b g → f.place ≡ g.place → f.rule ≡ g.rule
     → f.attribute ≡ g.attribute → a ≡ b
 unfolding named
 one_name a b f g p q place rule attribute = search (rules, one_broken)
@@ -40,7 +40,7 @@ AreOneAtPlace Fails =
     → (f.rule ≡ g.rule) × (f.attribute ≡ g.attribute)
 
 -- THE law of the first: two first failures of one group are named alike
-pub one_first : (Fails : Failure → Type 0) (a b : Broken) → AreOneAtPlace Fails → IsFirst Fails a → IsFirst Fails b
+pub one_first : (Fails : Failure → Type 0) (a b : PlainFault) → AreOneAtPlace Fails → IsFirst Fails a → IsFirst Fails b
     → a ≡ b
 one_first Fails a b one p q = search (rules, compared, three_ways, one_name, named)
 

@@ -8,7 +8,6 @@ use Rattle.dw_entries.specs.Entries.{Entry, entries_of, placed}
 use Rattle.dw_entries.specs.Views.{sections_of, units_of}
 use Rattle.dw_links.specs.AttributeTexts.{text_at}
 use Rattle.dw_links.specs.Targets.{target_of}
-use Rattle.dw_types.specs.FactsOf.{facts_in}
 use Rattle.dw_types.specs.Graphs.{Graph}
 use Rattle.dw_types.specs.Steps.{by_value}
 use Rattle.dw_types.specs.SizeTables.{Size, size_at}
@@ -45,7 +44,7 @@ size_table_in i = size_at i.sizes
 
 -- the steps by value of each entry, by its number
 unfoldable pub steps_in : Image → Graph
-steps_in i = by_value (facts_in (units_in i))
+steps_in i = by_value (units_in i)
 
 -- the name of an entry, if it has one
 unfoldable pub name_in : Image → Entry → Option (List ℕ)

@@ -1,8 +1,8 @@
 -- Chapters, in reading order.
 pub mod Headline
 pub mod Valid
-pub mod First
-pub mod Before
+pub mod FirstFault
+pub mod GroupsBefore
 pub mod Lookups
 pub mod Images
 -- What dw_links says of strings, for the crates above.
@@ -10,5 +10,4 @@ pub use Rattle.dw_links.specs.Contributions
 pub use Rattle.dw_links.specs.Slots
 pub use Rattle.dw_links.specs.ValueTexts
 -- State.
-pub mod Measures
-pub mod ChildrenLeft
+pub mod StepsAndSizes

@@ -4,9 +4,6 @@ use Rattle.std.specs.List.{position_from}
 use Rattle.std.specs.Option.{option_and_then}
 use Rattle.dw_forms.specs.Codes.{is_type_tag}
 use Rattle.dw_entries.specs.Entries.{Entry}
-pub use Rattle.dw_types.specs.Children.{children_from}
--- the numbers of an entry's children, in rising offset
-unfoldable pub use Rattle.dw_types.specs.Children.{children_of}
 
 -- the number of the entry that begins at an offset of .debug_info
 unfoldable pub entry_at : List Entry → ℕ → Option ℕ

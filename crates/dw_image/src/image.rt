@@ -1,35 +1,33 @@
 //! The image of valid sections, how much it holds, and look-ups of its entries.
 
-ghost use Rattle.std.specs.Prelude.{◌≡◌, ◌<◌, length, slice_get, IfSome, option_map, option_copied};
+ghost use Rattle.std.specs.Prelude.{◌≡◌, ◌<◌, length, IfSome, option_map, option_copied};
 ghost use Rattle.dw_entries.specs.Failures.{HasNone};
-ghost use Rattle.dw_entries.specs.Views.{sections_of, units_of, all_entries};
+ghost use Rattle.dw_entries.specs.ByNumber.{entry_of};
+ghost use Rattle.dw_entries.specs.Views.{sections_of, units_of};
 ghost use Rattle.dw_links.specs.Classes.{ClassFailures};
 ghost use Rattle.dw_links.specs.Strings.{StringFailures};
 ghost use Rattle.dw_links.specs.References.{ReferenceFailures};
 ghost use Rattle.dw_links.specs.Tables.{AreTables};
-ghost use Rattle.dw_types.specs.FactsOf.{facts_in, languages_in};
-ghost use Rattle.dw_image.specs.Measures.{AreMeasures, AreSteps};
+ghost use Rattle.dw_image.specs.StepsAndSizes.{AreMeasures, AreSteps};
 ghost use Rattle.dw_forms.specs.Value.{view};
 ghost use Rattle.dw_entries.specs.Lookups.{nth_of, full_head, value_at_entry};
 ghost use Rattle.dw_entries.specs.Entries.{placed};
-ghost use Rattle.dw_links.specs.Slots.{IsPlace, BeginsString};
-ghost use Rattle.dw_links.specs.Targets.{target_of};
+ghost use Rattle.dw_links.specs.Slots.{IsTextPlace, BeginsString};
+ghost use Rattle.dw_links.specs.Targets.{target_of, reach_of};
 ghost use Rattle.dw_links.specs.ValueTexts.{text_there};
-ghost use Rattle.dw_types.specs.Children.{children_of, IsChild};
+ghost use Rattle.dw_types.specs.Children.{children_of};
 
 use dw_elf::Sections;
 use dw_entries::constants::DW_AT_name;
 use dw_entries::{Attribute, Entries, EntryId, Head, Tag, Value};
 use dw_links::{LinkTables, TextPlace};
-use dw_types::{ByValue, Constant, SizeTable, first_child};
+use dw_types::{ByValue, Children, SizeTable};
 
 /// The image of valid sections. Only `verify` and `verify_scanned` make one.
 #[derive(Drop)]
 pub struct Image<'a> {
     pub(crate) entries: Entries<'a>,
     pub(crate) tables: LinkTables,
-    /// The language of each unit.
-    pub(crate) languages: Vec<Constant>,
     /// What each entry holds by value.
     pub(crate) steps: ByValue,
     pub(crate) sizes: SizeTable,
@@ -37,9 +35,8 @@ pub struct Image<'a> {
     ghost classes: { HasNone (ClassFailures (units_of entries)) },
     ghost strings: { HasNone (StringFailures (sections_of entries) (units_of entries)) },
     ghost references: { HasNone (ReferenceFailures (units_of entries)) },
-    ghost languages_read: { languages.items ≡ languages_in (units_of entries) },
-    ghost stepped: { AreSteps (facts_in (units_of entries)) steps },
-    ghost measured: { AreMeasures (facts_in (units_of entries)) sizes },
+    ghost stepped: { AreSteps (units_of entries) steps },
+    ghost measured: { AreMeasures (units_of entries) sizes },
 }
 
 impl<'a> Image<'a> {
@@ -70,6 +67,7 @@ impl<'a> Image<'a> {
     }
 
     /// How many entries are types, by their tags.
+    #[tactic(auto, unfolding(crate::specs::Images::type_count, crate::specs::Images::units_in))]
     pub fn types(&self) -> usize
         ensures { result ≡ type_count self.now }
     {
@@ -78,7 +76,7 @@ impl<'a> Image<'a> {
 }
 
 impl<'a> Image<'a> {
-    ghost use Rattle.dw_image.specs.Images.{units_in, entries_in, name_in, sections_in};
+    ghost use Rattle.dw_image.specs.Images.{units_in, entries_in, name_in, sections_in, unit_count};
     ghost use Rattle.dw_image.specs.Lookups.{entry_at};
 
     /// The entries of the image, as they were scanned.
@@ -110,7 +108,7 @@ impl<'a> Image<'a> {
     #[tactic(auto, unfolding(crate::specs::Images::units_in))]
     pub fn head(&self, id: EntryId) -> Head
         requires { id < length (entries_in self.now) }
-        ensures { IfSome (slice_get (entries_in self.now) id) (λ e. result ≡ full_head e) }
+        ensures { result ≡ full_head (entry_of (entries_in self.now) id) }
     {
         self.entries.head(id)
     }
@@ -119,7 +117,7 @@ impl<'a> Image<'a> {
     #[tactic(auto, unfolding(crate::specs::Images::units_in))]
     pub fn offset(&self, id: EntryId) -> u32
         requires { id < length (entries_in self.now) }
-        ensures { IfSome (slice_get (entries_in self.now) id) (λ e. result ≡ e.at) }
+        ensures { result ≡ (entry_of (entries_in self.now) id).at }
     {
         self.entries.offset(id)
     }
@@ -128,7 +126,7 @@ impl<'a> Image<'a> {
     #[tactic(auto, unfolding(crate::specs::Images::units_in))]
     pub fn tag(&self, id: EntryId) -> Tag
         requires { id < length (entries_in self.now) }
-        ensures { IfSome (slice_get (entries_in self.now) id) (λ e. result ≡ e.head.decl.tag) }
+        ensures { result ≡ (entry_of (entries_in self.now) id).head.decl.tag }
     {
         self.entries.tag(id)
     }
@@ -137,7 +135,7 @@ impl<'a> Image<'a> {
     #[tactic(auto, unfolding(crate::specs::Images::units_in))]
     pub fn depth(&self, id: EntryId) -> usize
         requires { id < length (entries_in self.now) }
-        ensures { IfSome (slice_get (entries_in self.now) id) (λ e. result ≡ e.depth) }
+        ensures { result ≡ (entry_of (entries_in self.now) id).depth }
     {
         self.entries.depth(id)
     }
@@ -146,7 +144,7 @@ impl<'a> Image<'a> {
     #[tactic(auto, unfolding(crate::specs::Images::units_in))]
     pub fn parent(&self, id: EntryId) -> Option<EntryId>
         requires { id < length (entries_in self.now) }
-        ensures { IfSome (slice_get (entries_in self.now) id) (λ e. result ≡ e.parent) }
+        ensures { result ≡ (entry_of (entries_in self.now) id).parent }
     {
         self.entries.parent(id)
     }
@@ -155,8 +153,7 @@ impl<'a> Image<'a> {
     #[tactic(auto, unfolding(crate::specs::Images::units_in))]
     pub fn value(&self, id: EntryId, attribute: Attribute) -> Option<Value<'a>>
         requires { id < length (entries_in self.now) }
-        ensures { IfSome (slice_get (entries_in self.now) id)
-            (λ e. option_map view result ≡ value_at_entry e attribute) }
+        ensures { option_map view result ≡ value_at_entry (entry_of (entries_in self.now) id) attribute }
     {
         self.entries.value(id, attribute)
     }
@@ -165,8 +162,8 @@ impl<'a> Image<'a> {
     #[tactic(auto, unfolding(crate::specs::Images::units_in))]
     pub fn target(&self, id: EntryId, attribute: Attribute) -> Option<EntryId>
         requires { id < length (entries_in self.now) }
-        ensures exact { IfSome (slice_get (entries_in self.now) id)
-            (λ e. result ≡ target_of (entries_in self.now) (placed (units_in self.now)) e attribute) }
+        ensures exact { result ≡ target_of (entries_in self.now) (placed (units_in self.now))
+            (entry_of (entries_in self.now) id) attribute }
         ensures within { IfSome result (λ to. to < length (entries_in self.now)) }
     {
         self.tables.target(&self.entries, id, attribute)
@@ -176,9 +173,9 @@ impl<'a> Image<'a> {
     #[tactic(auto, unfolding(crate::specs::Images::units_in))]
     pub fn name_place(&self, id: EntryId) -> Option<TextPlace>
         requires { id < length (entries_in self.now) }
-        ensures text { IfSome (slice_get (entries_in self.now) id)
-            (λ e. option_map (text_there (sections_in self.now)) result ≡ name_in self.now e) }
-        ensures within { IfSome result (IsPlace (sections_in self.now)) }
+        ensures text { option_map (text_there (sections_in self.now)) result
+            ≡ name_in self.now (entry_of (entries_in self.now) id) }
+        ensures within { IfSome result (IsTextPlace (sections_in self.now)) }
         ensures begins { IfSome result (BeginsString (sections_in self.now)) }
     {
         self.tables.text_place(&self.entries, id, DW_AT_name)
@@ -188,41 +185,24 @@ impl<'a> Image<'a> {
     #[tactic(auto, unfolding(crate::specs::Images::units_in))]
     pub fn name_of(&self, id: EntryId) -> Option<&'a [u8]>
         requires { id < length (entries_in self.now) }
-        ensures { IfSome (slice_get (entries_in self.now) id) (λ e. option_copied result ≡ name_in self.now e) }
+        ensures { option_copied result ≡ name_in self.now (entry_of (entries_in self.now) id) }
     {
         self.tables.text(&self.entries, id, DW_AT_name)
     }
-}
 
-/// The children of an entry that are left, in rising offset.
-#[derive(Drop)]
-pub struct Children<'i, 'a> {
-    entries: &'i Entries<'a>,
-    parent: EntryId,
-    next: Option<EntryId>,
-    ghost linked: { IsChild (all_entries entries.now) parent next },
-}
-
-impl<'i, 'a> Iterator for Children<'i, 'a> {
-    type Item = EntryId;
-
-    ghost use Rattle.std.specs.Iterator.{YieldsFirst, item_count};
-    ghost use Rattle.dw_image.specs.ChildrenLeft.{children_left};
-
-    ghost next_gives = { YieldsFirst children_left };
-
-    ghost remaining = { item_count children_left };
-
-    fn next(&mut self) -> Option<EntryId> {
-        let id = self.next?;
-        self.next = self.entries.next_sibling(id);
-        Some(id)
+    /// The entry that a value in a unit refers to. None if the value is no reference. An attribute's own is `target`.
+    #[tactic(auto, unfolding(crate::specs::Images::units_in))]
+    pub fn reach(&self, unit: usize, value: &Value<'_>) -> Option<EntryId>
+        requires { unit < unit_count self.now }
+        ensures { result ≡ reach_of (entries_in self.now) (placed (units_in self.now)) unit (view value.now) }
+    {
+        self.tables.reach(&self.entries, unit, value)
     }
 }
 
 impl<'a> Image<'a> {
     ghost use Rattle.dw_image.specs.Images.{entries_in};
-    ghost use Rattle.dw_image.specs.ChildrenLeft.{children_left};
+    ghost use Rattle.dw_types.specs.ChildrenLeft.{children_left};
 
     /// The children of an entry, in rising offset.
     #[tactic(auto, unfolding(crate::specs::Images::units_in))]
@@ -230,10 +210,6 @@ impl<'a> Image<'a> {
         requires { id < length (entries_in self.now) }
         ensures { children_left result ≡ children_of (entries_in self.now) id }
     {
-        Children {
-            entries: &self.entries,
-            parent: id,
-            next: first_child(&self.entries, id),
-        }
+        Children::of(&self.entries, id)
     }
 }

@@ -5,7 +5,7 @@ ghost use Rattle.dw_elf.specs.declared.sections.Sections.{Sections};
 ghost use Rattle.dw_entries.specs.declared.fault.Fault.{Fault};
 ghost use Rattle.dw_entries.specs.Units.{DebugUnit};
 ghost use Rattle.dw_image.specs.Valid.{SpellsInfo, IsValid};
-ghost use Rattle.dw_image.specs.First.{IsFirstFault, IsOneFault};
+ghost use Rattle.dw_image.specs.FirstFault.{IsFirstFault, IsOneFault};
 ghost use Rattle.dw_image.specs.declared.image.Image.{Image};
 ghost use Rattle.dw_image.specs.Headline.{IsImageOf};
 ghost use Rattle.dw_image.specs.Images.{sections_in};

@@ -2,8 +2,8 @@
 //! dimension has.
 
 ghost use Rattle.std.specs.Prelude.{◌≡◌, ◌<◌, length, slice_get, IfSome};
+ghost use Rattle.dw_entries.specs.ByNumber.{entry_of};
 ghost use Rattle.dw_types.specs.Counts.{count_at};
-ghost use Rattle.dw_types.specs.FactsOf.{facts_in};
 ghost use Rattle.dw_types.specs.Graphs.{steps_of};
 ghost use Rattle.dw_image.specs.Images.{units_in, entries_in, steps_in, size_table_in, type_in};
 ghost use Rattle.dw_image.specs.Lookups.{type_number};
@@ -65,7 +65,7 @@ impl Image<'_> {
     #[tactic(auto, unfolding(crate::specs::Images::units_in, crate::specs::Images::type_in))]
     pub fn type_of(&self, id: EntryId) -> Option<TypeId>
         requires { id < length (entries_in self.now) }
-        ensures exact { IfSome (slice_get (entries_in self.now) id) (λ e. result ≡ type_in self.now e) }
+        ensures exact { result ≡ type_in self.now (entry_of (entries_in self.now) id) }
         ensures within { IfSome result (λ it. it < length (entries_in self.now)) }
     {
         let to = self.tables.target(&self.entries, id, DW_AT_type)?;
@@ -85,9 +85,9 @@ impl Image<'_> {
     #[tactic(auto, unfolding(crate::specs::Images::units_in))]
     pub fn count_of(&self, id: EntryId) -> Option<u128>
         requires { id < length (entries_in self.now) }
-        ensures { result ≡ count_at (facts_in (units_in self.now)) id }
+        ensures { result ≡ count_at (units_in self.now) id }
     {
-        count_at(&self.entries, &self.languages, id)
+        count_at(&self.entries, &self.tables, id)
     }
 
     /// The steps by value of all entries. An entry is the node of its number.

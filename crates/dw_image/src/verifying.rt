@@ -5,20 +5,18 @@ ghost use Rattle.std.specs.Prelude.{◌≡◌, ◌<◌, ◌≤◌, length, map, 
 ghost use Rattle.dw_forms.specs.Stops.{IfFault};
 ghost use Rattle.dw_entries.specs.Rules.{group_of};
 ghost use Rattle.dw_entries.specs.Views.{sections_of, all_entries, units_of};
-ghost use Rattle.dw_types.specs.FactsOf.{facts_in};
 ghost use Rattle.dw_types.specs.Graphs.{IsCycle};
-ghost use Rattle.dw_types.specs.Held.{all_facts, units_held};
 ghost use Rattle.dw_types.specs.Steps.{by_value};
-ghost use Rattle.dw_image.specs.Before.{PassBefore, FailsBefore, IsVerdictBefore};
-ghost use Rattle.dw_image.specs.First.{offset_at, NamesCycle};
+ghost use Rattle.dw_image.specs.GroupsBefore.{PassBefore, FailsBefore, IsVerdictBefore};
+ghost use Rattle.dw_image.specs.FirstFault.{offset_at, NamesCycle};
 ghost use Rattle.dw_image.specs.Headline.{IsImageOf, IsFaultOf, IsVerdictOf};
-ghost use Rattle.dw_image.specs.Measures.{AreMeasures, AreOrdered, AreSteps, FailsInTypes, PassInTypes};
+ghost use Rattle.dw_image.specs.StepsAndSizes.{AreMeasures, AreOrdered, AreSteps, FailsInTypes, PassInTypes};
 
 use crate::image::Image;
 use dw_elf::Sections;
 use dw_entries::{Entries, Fault, Rule, Section, Stop, scan};
 use dw_links::{Links, check_classes, check_strings, link};
-use dw_types::{ByValue, NoMemory, Order, OrderFault, SizeTable, languages_of, order, sizes};
+use dw_types::{ByValue, NoMemory, Order, OrderFault, SizeTable, order, sizes};
 use std::alloc::{AllocError, Global};
 
 /// What sections are found to be.
@@ -33,7 +31,7 @@ pub enum Verdict<'a> {
 /// The offset of the entry with a number.
 fn offset_of(entries: &Entries<'_>, number: usize) -> u32
     requires { number < length (all_entries entries.now) }
-    ensures { result ≡ offset_at (facts_in (units_of entries.now)) number }
+    ensures { result ≡ offset_at (units_of entries.now) number }
 {
     entries.offset(entries.id(number))
 }
@@ -45,8 +43,8 @@ fn offsets_of(
     entries: &Entries<'_>,
     numbers: &[usize],
 ) -> Result<Vec<u32>, AllocError>
-    requires { IsCycle (by_value (facts_in (units_of entries.now))) numbers.now }
-    ensures { IfOk result (λ offsets. offsets.items ≡ map (offset_at (facts_in (units_of entries.now))) numbers.now) }
+    requires { IsCycle (by_value (units_of entries.now)) numbers.now }
+    ensures { IfOk result (λ offsets. offsets.items ≡ map (offset_at (units_of entries.now)) numbers.now) }
 {
     let mut offsets = Vec::with_capacity(alloc, numbers.len())?;
     for k in 0..numbers.len() {
@@ -58,8 +56,8 @@ fn offsets_of(
 /// The fault that names a cycle of steps by value.
 #[tactic(auto, using(crate::proofs::MeasureLemmas::entry_below))]
 fn cycle_fault(alloc: Global, entries: &Entries<'_>, numbers: &[usize]) -> Result<Fault, AllocError>
-    requires { IsCycle (by_value (facts_in (units_of entries.now))) numbers.now }
-    ensures { IfOk result (NamesCycle (facts_in (units_of entries.now))) }
+    requires { IsCycle (by_value (units_of entries.now)) numbers.now }
+    ensures { IfOk result (NamesCycle (units_of entries.now)) }
 {
     let at = offset_of(entries, numbers[0]);
     let cycle = offsets_of(alloc, entries, numbers)?;
@@ -74,9 +72,10 @@ fn cycle_fault(alloc: Global, entries: &Entries<'_>, numbers: &[usize]) -> Resul
 
 /// The steps by value of entries and their order, or the first fault of shapes and containment.
 fn order_types(alloc: Global, links: &Links<'_, '_>) -> Result<(ByValue, Order), Stop<Fault>>
-    ensures steps { IfOk result (λ found. AreSteps (all_facts links.now) found.0) }
-    ensures order { IfOk result (λ found. AreOrdered (all_facts links.now) found.1) }
-    ensures fault { IfErr result (IfFault (FailsInTypes (sections_of links.now.entries.now) (units_held links.now) 7)) }
+    ensures steps { IfOk result (λ found. AreSteps (units_of links.now.entries.now) found.0) }
+    ensures order { IfOk result (λ found. AreOrdered (units_of links.now.entries.now) found.1) }
+    ensures fault { IfErr result
+        (IfFault (FailsInTypes (sections_of links.now.entries.now) (units_of links.now.entries.now) 7)) }
 {
     let steps = ByValue::new(alloc, links.entries, links)?;
     match order(alloc, &steps) {
@@ -90,9 +89,10 @@ fn order_types(alloc: Global, links: &Links<'_, '_>) -> Result<(ByValue, Order),
 
 /// The steps by value of entries and their sizes, or the first fault of the rules on types.
 fn measure(alloc: Global, links: &Links<'_, '_>) -> Result<(ByValue, SizeTable), Stop<Fault>>
-    ensures steps { IfOk result (λ found. AreSteps (all_facts links.now) found.0) }
-    ensures sizes { IfOk result (λ found. AreMeasures (all_facts links.now) found.1) }
-    ensures fault { IfErr result (IfFault (FailsInTypes (sections_of links.now.entries.now) (units_held links.now) 8)) }
+    ensures steps { IfOk result (λ found. AreSteps (units_of links.now.entries.now) found.0) }
+    ensures sizes { IfOk result (λ found. AreMeasures (units_of links.now.entries.now) found.1) }
+    ensures fault { IfErr result
+        (IfFault (FailsInTypes (sections_of links.now.entries.now) (units_of links.now.entries.now) 8)) }
 {
     let (steps, order) = order_types(alloc, links)?;
     let sizes = sizes(alloc, links.entries, links, &order)?;
@@ -140,9 +140,9 @@ fn check_values(alloc: Global, entries: &Entries<'_>, group: u8) -> Result<(), S
 /// Checks the groups of rules on types before a group.
 fn check_types(alloc: Global, links: &Links<'_, '_>, group: u8) -> Result<(), Stop<Fault>>
     requires { group ≤ 7 }
-    ensures ok { OnOk result (PassInTypes (sections_of links.now.entries.now) (units_held links.now) group) }
+    ensures ok { OnOk result (PassInTypes (sections_of links.now.entries.now) (units_of links.now.entries.now) group) }
     ensures fault { IfErr result
-        (IfFault (FailsInTypes (sections_of links.now.entries.now) (units_held links.now) group)) }
+        (IfFault (FailsInTypes (sections_of links.now.entries.now) (units_of links.now.entries.now) group)) }
 {
     if group <= 5 {
         return Ok(());
@@ -192,11 +192,9 @@ fn image_of<'a>(alloc: Global, entries: Entries<'a>) -> Result<Image<'a>, Stop<F
     let links = link(alloc, &entries)?;
     let (steps, sizes) = measure(alloc, &links)?;
     let tables = links.into_tables();
-    let languages = languages_of(alloc, &entries)?;
     Ok(Image {
         entries,
         tables,
-        languages,
         steps,
         sizes,
     })

@@ -10,36 +10,36 @@ use Rattle.dw_entries.specs.declared.rule.Rule.{Rule}
 use Rattle.dw_entries.specs.declared.entry.EntryHead.{EntryHead}
 use Rattle.dw_entries.specs.Units.{DebugUnit, AreUnits, HaveBase, unit_bytes, units_bytes}
 use Rattle.dw_entries.specs.Entries.{Entry, entries_of, node_count, placed_from, placed}
-use Rattle.dw_entries.specs.Failures.{Failure, HasNone, broken_of}
+use Rattle.dw_entries.specs.Failures.{Failure, HasNone, plain_fault_of}
 use Rattle.dw_entries.specs.Faults.{Fails}
 use Rattle.dw_links.specs.Bases.{base_in}
 use Rattle.dw_entries.specs.Lookups.{entry_head}
 use Rattle.dw_links.specs.Strings.{StringIndexFails, AddressIndexFails, BaseFails, StringFailsIn, StringFailures}
 use Rattle.dw_units.specs.declared.counts.Counts.{Counts}
 use Rattle.dw_image.specs.Lookups.{is_type_entry}
-use Rattle.dw_entries.specs.Asked.{EachEntry}
+use Rattle.dw_entries.specs.EntryRules.{EachEntry}
 use Rattle.dw_entries.specs.Views.{units_of}
 use Rattle.dw_entries.specs.declared.entries.Entries.{Entries}
 use Rattle.dw_image.specs.Valid.{IsValidBy}
-use Rattle.dw_links.specs.Signatures.{type_in}
+use Rattle.dw_links.specs.Signatures.{type_unit_of}
 use Rattle.dw_entries.specs.Rules.{group_of}
 use Rattle.dw_entries.specs.declared.fault.Fault.{Fault}
 use Rattle.dw_entries.specs.Views.{sections_of}
 use Rattle.dw_entries.proofs.FaultLaws.{no_list}
 use Rattle.dw_entries.specs.Units.{SpellsInfo}
-use Rattle.dw_image.specs.First.{Group, classes, strings, references, shapes, cycles, sizes, turn_of, failures_of, IsFirstIn, IsFirstFault, in_trees, in_group}
+use Rattle.dw_image.specs.FirstFault.{Group, classes, strings, references, shapes, cycles, sizes, turn_of, failures_of, IsFirstIn, IsFirstFault, in_trees, in_group}
 use Rattle.dw_image.specs.Headline.{IsFaultOf}
-use Rattle.dw_image.proofs.GroupLaws.{rank_of}
-use Rattle.dw_image.specs.Before.{PassBefore}
+use Rattle.dw_image.proofs.GroupLemmas.{rank_of}
+use Rattle.dw_image.specs.GroupsBefore.{PassBefore}
 use Rattle.dw_units.specs.ByUnit.{IsMeasured, IsFirm, StaysAlone}
-use Rattle.dw_units.specs.declared.alone.Elsewhere.{Elsewhere}
-use Rattle.dw_units.specs.declared.alone.Elsewhere.TheVariants.{Never, ByOffset, BySignature}
-use Rattle.dw_units.specs.declared.alone.Verified.{Verified}
-use Rattle.dw_units.specs.declared.alone.Verified.TheVariants.{Sound, Passed, Fault as Fails_by}
-use Rattle.dw_units.specs.Parts.{IsFaultAlone, IsPassed, PassLess, IsVerdictOn, IsFirmly, Refer, IsKept, IsFoundAlone}
-use Rattle.dw_units.specs.Alone.{StaysInside, HaveNoTypeUnit}
-use Rattle.dw_units.specs.Parts.{IsAlone}
-use Rattle.dw_units.specs.Counted.{AreCounts}
+use Rattle.dw_units.specs.declared.batches.Elsewhere.{Elsewhere}
+use Rattle.dw_units.specs.declared.batches.Elsewhere.TheVariants.{Never, ByOffset, BySignature}
+use Rattle.dw_units.specs.declared.batches.Verified.{Verified}
+use Rattle.dw_units.specs.declared.batches.Verified.TheVariants.{Sound, Passed, Fault as Fails_by}
+use Rattle.dw_units.specs.BatchSections.{IsFaultAlone, IsSkipped, PassLess, IsVerdictOn, IsFirmly, Refer, IsKeptIn, IsFoundAlone}
+use Rattle.dw_units.specs.IndependentBatches.{StaysInside, HaveNoTypeUnit}
+use Rattle.dw_units.specs.BatchSections.{IsAlone}
+use Rattle.dw_units.specs.Counts.{AreCounts}
 use Rattle.dw_forms.specs.declared.fault.Stop.{Stop}
 use Rattle.dw_entries.specs.Stopped.{IfPlainFault}
 
@@ -213,7 +213,7 @@ module _ (s own : Sections) (shares : Shares s own) where
 
     -- no rule of the groups before the least fault's fails
     passed_alone_of : (least : Option Rule) → PassLess (sections_of entries) (units_of entries) least
-        → IsPassed s at least part
+        → IsSkipped s at least part
     passed_alone_of None pass = absurd pass
     passed_alone_of (Some rule) pass =
         let own_pass = subst (λ (t : Sections). PassBefore t (units_of entries) (group_of rule)) of_own pass in
@@ -235,7 +235,7 @@ module _ (s own : Sections) (shares : Shares s own) where
       where
         go : IsFirstFault own fault → IsFaultAlone s at part fault
         go (in_trees fails cycle) = absurd
-            (no_list own.«abbrev».now own.info.now (units_of entries) (broken_of fault) spelled.spells fails)
+            (no_list own.«abbrev».now own.info.now (units_of entries) (plain_fault_of fault) spelled.spells fails)
         go (in_group group fails) =
             let same : fails.units ≡ units_of entries = only fails.units fails.spelled in
             let before = subst (λ (us : List DebugUnit). (earlier : Group) → turn_of earlier < turn_of group
@@ -268,7 +268,7 @@ module _ (s own : Sections) (shares : Shares s own) where
     pub kept_alone_of : (least : Option Rule) (elsewhere : Elsewhere)
         → Refer (entries_of (units_of entries)) elsewhere → (found : Verified)
         → IsVerdictOn (sections_of entries) (units_of entries) least found
-        → (o : Option Verified) → IfSome o (IsKept elsewhere found) → IfSome o (IsFoundAlone s at least part)
+        → (o : Option Verified) → IfSome o (IsKeptIn elsewhere found) → IfSome o (IsFoundAlone s at least part)
     kept_alone_of least elsewhere refer found verdict None is = tt
     kept_alone_of least elsewhere refer found verdict (Some kept) (same, firm) =
         found_alone_of least kept (firm (units_of entries) refer)
@@ -284,11 +284,11 @@ refer_inside entries BySignature other refer = absurd (other refl)
 
 -- the unit with this number is no type unit
 abbrev pub IsNoTypeUnit : List DebugUnit → ℕ → Type 0
-IsNoTypeUnit us k = IfSome (slice_get (placed us) k) (λ p. type_in p.unit.header.kind ≡ None)
+IsNoTypeUnit us k = IfSome (slice_get (placed us) k) (λ p. type_unit_of p.unit.header.kind ≡ None)
 
 none_from : (at first : ℕ) (us : List DebugUnit)
     → ((k : ℕ) → k < length us
-    → IfSome (slice_get (placed_from at first us) k) (λ p. type_in p.unit.header.kind ≡ None))
+    → IfSome (slice_get (placed_from at first us) k) (λ p. type_unit_of p.unit.header.kind ≡ None))
     → HaveNoTypeUnit us
 none_from at first [] none = tt
 none_from at first (u ∷ us) none = (

@@ -12,7 +12,7 @@ use Rattle.dw_entries.specs.Units.{DebugUnit, HaveBase, unit_bytes, units_bytes}
 use Rattle.dw_entries.specs.UnitLaws.{with_base}
 use Rattle.dw_entries.proofs.EntryFacts.{entries_based}
 use Rattle.dw_entries.specs.Entries.{Entry, entries_of}
-use Rattle.dw_entries.specs.Failures.{HasNone, broken_of, IsPlainFault}
+use Rattle.dw_entries.specs.Failures.{HasNone, plain_fault_of, IsPlainFault}
 use Rattle.dw_entries.specs.Faults.{Fails}
 use Rattle.dw_entries.proofs.HeadLaws.{all-append}
 use Rattle.dw_units.specs.declared.counts.Counts.{Counts}
@@ -20,54 +20,55 @@ use Rattle.dw_image.specs.Lookups.{is_type_entry}
 use Rattle.dw_image.proofs.JoinLemmas.{sound_by}
 use Rattle.dw_entries.specs.Rules.{group_of}
 use Rattle.dw_entries.specs.declared.fault.Fault.{Fault}
-use Rattle.dw_entries.specs.declared.fault.Broken.{Broken}
-use Rattle.dw_types.specs.FactsOf.{facts_in}
-use Rattle.dw_image.specs.First.{Group, classes, strings, references, shapes, cycles, sizes, turn_of, failures_of, FailsInTrees, in_trees}
-use Rattle.dw_image.specs.Before.{PassBefore}
+use Rattle.dw_entries.specs.declared.fault.PlainFault.{PlainFault}
+use Rattle.dw_image.specs.FirstFault.{Group, classes, strings, references, shapes, cycles, sizes, turn_of, failures_of, FailsInTrees, in_trees}
+use Rattle.dw_image.specs.GroupsBefore.{PassBefore}
 use Rattle.dw_image.specs.Headline.{IsFaultOf}
-use Rattle.dw_image.proofs.MeasureLemmas.{no_cycle_holds}
+use Rattle.dw_image.proofs.MeasureLemmas.{no_cycle_holds, none_by_size}
 use Rattle.dw_image.proofs.JoinLemmas.{fault_of}
 use Rattle.dw_units.specs.declared.counting.SoFar.{SoFar}
-use Rattle.dw_units.specs.ByUnit.{StaysAlone, AreApart, IsMoved, moved_broken, PassesBelow, PassesThrough, IsMeasured}
-use Rattle.dw_units.specs.Parts.{AreWhole, IsFoundAt, IsFaultAlone, IsPassed, PassLess, IsLess, HasLeast, AreCounted}
-use Rattle.dw_units.specs.Parts.{AreVerified, AreSoFar, least_rule}
-use Rattle.dw_units.proofs.Batches.{bytes_before}
+use Rattle.dw_units.specs.ByUnit.{StaysAlone, AreBatches, IsMoved, moved_fault, PassesBelow, PassesThrough, IsMeasured}
+use Rattle.dw_units.specs.BatchSections.{AreWholeUnits, IsFoundAt, IsFaultAlone, IsSkipped, PassLess, IsLess, HasLeast, AreCounted}
+use Rattle.dw_units.specs.BatchSections.{AreVerified, AreSoFar, least_rule}
+use Rattle.dw_units.proofs.BatchLemmas.{bytes_before}
 use Rattle.dw_units.proofs.TreeLemmas.{trees_first, fails_with_more}
 use Rattle.dw_units.proofs.TextLemmas.{units_joined, each_of}
 use Rattle.dw_units.proofs.GroupLemmas.{first_by_unit}
-use Rattle.dw_units.specs.Alone.{joined, whole, FollowFrom, StandsAlone}
-use Rattle.dw_units.specs.Parts.{IsAlone}
-use Rattle.dw_units.specs.Counted.{AreCounts, IsFound}
+use Rattle.dw_units.specs.IndependentBatches.{joined_batches, whole, FollowFrom, StandsAlone}
+use Rattle.dw_units.specs.BatchSections.{IsAlone}
+use Rattle.dw_units.specs.Counts.{AreCounts, IsFoundIn}
 use Rattle.dw_units.specs.declared.counting.Found.{Found}
 use Rattle.dw_units.specs.declared.counting.Found.TheVariants as found
 use Rattle.dw_types.specs.declared.numbers.NoMemory.{NoMemory}
 use Rattle.dw_units.proofs.MovedEntries.{moved, entries_after, units_moved}
-use Rattle.dw_units.proofs.JoinLemmas.{none_by_table, join}
+use Rattle.dw_units.proofs.JoinLemmas.{join}
 
 -- ---- the units and the entries of one batch more
 
-joined_more : (bs : List (List DebugUnit)) (units : List DebugUnit) → joined (bs ++ units ∷ []) ≡ joined bs ++ units
+joined_more : (bs : List (List DebugUnit)) (units : List DebugUnit)
+    → joined_batches (bs ++ units ∷ []) ≡ joined_batches bs ++ units
 joined_more bs units =
     flat_map-append (λ (batch : List DebugUnit). batch) bs (units ∷ [])
-    ∙ ap (λ (xs : List DebugUnit). joined bs ++ xs) (append-nil units)
+    ∙ ap (λ (xs : List DebugUnit). joined_batches bs ++ xs) (append-nil units)
 
 bytes_more : (bs : List (List DebugUnit)) (units : List DebugUnit)
-    → units_bytes (joined (bs ++ units ∷ [])) ≡ units_bytes (joined bs) ++ units_bytes units
-bytes_more bs units = ap units_bytes (joined_more bs units) ∙ flat_map-append unit_bytes (joined bs) units
+    → units_bytes (joined_batches (bs ++ units ∷ [])) ≡ units_bytes (joined_batches bs) ++ units_bytes units
+bytes_more bs units = ap units_bytes (joined_more bs units) ∙ flat_map-append unit_bytes (joined_batches bs) units
 
 -- the entries of one batch more, in its place, come after the others
 entries_more : (bs : List (List DebugUnit)) (units : List DebugUnit) → (n : ℕ) × (first : ℕ) × (place : ℕ)
-    × (entries_of (joined (bs ++ units ∷ [])) ≡ entries_of (joined bs) ++ map (moved n first place) (entries_of units))
+    × (entries_of (joined_batches (bs ++ units ∷ []))
+    ≡ entries_of (joined_batches bs) ++ map (moved n first place) (entries_of units))
 entries_more bs units =
-    let n : ℕ = length (joined bs) in
-    let first : ℕ = length (entries_of (joined bs)) in
-    let place : ℕ = length (units_bytes (joined bs)) in (
+    let n : ℕ = length (joined_batches bs) in
+    let first : ℕ = length (entries_of (joined_batches bs)) in
+    let place : ℕ = length (units_bytes (joined_batches bs)) in (
       n,
       first,
       place,
       ap entries_of (joined_more bs units)
-          ∙ entries_after 0 0 0 n first place (joined bs) units (omega arith) (omega arith) (omega arith)
-          ∙ ap (λ (xs : List Entry). entries_of (joined bs) ++ xs)
+          ∙ entries_after 0 0 0 n first place (joined_batches bs) units (omega arith) (omega arith) (omega arith)
+          ∙ ap (λ (xs : List Entry). entries_of (joined_batches bs) ++ xs)
           (units_moved n first place 0 0 0 n first place units (omega arith) (omega arith) (omega arith)),
     )
 
@@ -85,8 +86,8 @@ passes_all s classes units one = one.classes
 passes_all s strings units one = one.strings
 passes_all s references units one = one.references
 passes_all s shapes units one = one.shapes
-passes_all s cycles units one = no_cycle_holds (facts_in units) one.contained
-passes_all s sizes units one = none_by_table units one.sizes
+passes_all s cycles units one = no_cycle_holds units one.contained
+passes_all s sizes units one = none_by_size units one.sizes.0 one.sizes.1.one one.sizes.1.none
 
 measured_all : (s : Sections) (group : Group) (units : List DebugUnit) → StandsAlone s units → IsMeasured group units
 measured_all s sizes units one = (one.sizes.0, one.sizes.1.one)
@@ -129,7 +130,7 @@ all_of P [] holds = tt
 all_of P (units ∷ bs) holds = (holds units, all_of P bs holds)
 
 follows_more : (base : ℕ) (bs : List (List DebugUnit)) (units : List DebugUnit) → FollowFrom base bs
-    → HaveBase (base + length (units_bytes (joined bs))) units → FollowFrom base (bs ++ units ∷ [])
+    → HaveBase (base + length (units_bytes (joined_batches bs))) units → FollowFrom base (bs ++ units ∷ [])
 follows_more base [] units follow based =
     let here : base + 0 ≡ base = omega arith in (subst (λ (n : ℕ). HaveBase n units) here based, tt)
 follows_more base (batch ∷ bs) units (one, more) based = (
@@ -141,7 +142,7 @@ follows_more base (batch ∷ bs) units (one, more) based = (
 module _ (s : Sections) (rest : List ℕ) (size : ℕ) (st : SoFar) (so : AreSoFar s rest st) (within : size ≤ length rest)
   where
     long_next : (units : List DebugUnit) → take size rest ≡ units_bytes units
-        → st.at + size ≡ length (units_bytes (joined (so.batches ++ units ∷ [])))
+        → st.at + size ≡ length (units_bytes (joined_batches (so.batches ++ units ∷ [])))
     long_next units bytes =
         let here = so.at in
         let taken = ap length bytes in
@@ -151,7 +152,7 @@ module _ (s : Sections) (rest : List ℕ) (size : ℕ) (st : SoFar) (so : AreSoF
           length-take-le size rest within,
           taken,
           ap length (bytes_more so.batches units),
-          length-append (units_bytes (joined so.batches)) (units_bytes units),
+          length-append (units_bytes (joined_batches so.batches)) (units_bytes units),
         )
 
     next : (units : List DebugUnit) (c : Counts) (least : Option Fault) (at : ℕ) → at ≡ st.at + size
@@ -168,8 +169,8 @@ module _ (s : Sections) (rest : List ℕ) (size : ℕ) (st : SoFar) (so : AreSoF
             follow = follows_more s.base so.batches units so.apart.follow
                 (subst (λ (n : ℕ). HaveBase (s.base + n) units) so.at based);
           };
-          bytes = so.bytes ∙ ap (λ (xs : List ℕ). units_bytes (joined so.batches) ++ xs) split
-              ∙ sym (append_assoc (units_bytes (joined so.batches)) (units_bytes units) (drop size rest))
+          bytes = so.bytes ∙ ap (λ (xs : List ℕ). units_bytes (joined_batches so.batches) ++ xs) split
+              ∙ sym (append_assoc (units_bytes (joined_batches so.batches)) (units_bytes units) (drop size rest))
               ∙ ap (λ (xs : List ℕ). xs ++ drop size rest) (sym (bytes_more so.batches units));
           at = is ∙ long_next units bytes;
           verified = verified;
@@ -208,7 +209,7 @@ module _ (s : Sections) (rest : List ℕ) (size : ℕ) (st : SoFar) (so : AreSoF
         let entry_count = are.entry_count in
         let type_count = are.type_count in
         let types_in = ap (count_by is_type_entry) same
-        ∙ sum_by-append (λ (x : Entry). cond (is_type_entry x) 1 0) (entries_of (joined so.batches))
+        ∙ sum_by-append (λ (x : Entry). cond (is_type_entry x) 1 0) (entries_of (joined_batches so.batches))
         (map (moved n first place) (entries_of units)) in
         record {
           alone = all-append (StandsAlone s) so.batches (units ∷ []) are.alone (alone, tt);
@@ -219,7 +220,7 @@ module _ (s : Sections) (rest : List ℕ) (size : ℕ) (st : SoFar) (so : AreSoF
                 unit_count,
                 its_units,
                 ap length (joined_more so.batches units),
-                length-append (joined so.batches) units,
+                length-append (joined_batches so.batches) units,
               );
           entry_count =
               omega (
@@ -250,7 +251,7 @@ module _ (s : Sections) (rest : List ℕ) (size : ℕ) (st : SoFar) (so : AreSoF
         go (Some fault) none least = absurd cc
 
     -- the batch has no less fault
-    pub next_passed : (at : ℕ) → at ≡ st.at + size → IsPassed s st.at (least_rule st.least) (take size rest)
+    pub next_passed : (at : ℕ) → at ≡ st.at + size → IsSkipped s st.at (least_rule st.least) (take size rest)
         → AreSoFar s (drop size rest) (record { at = at; counts = st.counts; least = st.least })
     next_passed at is one = next one.units st.counts st.least at is one.bytes one.stays one.based
         (go st.least so.verified one.passes)
@@ -284,7 +285,7 @@ module _ (s : Sections) (rest : List ℕ) (size : ℕ) (st : SoFar) (so : AreSoF
           fails = one.fails;
           below = tt;
           place = subst (λ (n : ℕ). IsMoved n alone fault) so.at place;
-          rank = ap (λ (b : Broken). group_of b.rule) place.broken ∙ one.rank;
+          rank = ap (λ (b : PlainFault). group_of b.rule) place.broken ∙ one.rank;
         })
       where
         go : (least : Option Fault) → AreVerified s so.batches st.counts least → IsLess (least_rule least) alone.rule
@@ -319,13 +320,13 @@ module _ (s : Sections) (rest : List ℕ) (size : ℕ) (st : SoFar) (so : AreSoF
 pub found_sound : (s : Sections) (st : SoFar) (so : AreSoFar s [] st) → AreCounted s so.batches st.counts
     → AreCounts s st.counts
 found_sound s st so are =
-    let same = entries_based s.base 0 0 0 (joined so.batches) in
+    let same = entries_based s.base 0 0 0 (joined_batches so.batches) in
     record {
       units = whole s so.batches;
       sound = sound_by s (whole s so.batches)
           (join s so.batches are.alone so.apart.follow
-          (so.bytes ∙ append-nil (units_bytes (joined so.batches))));
-      unit_count = are.unit_count ∙ sym (length-map (joined so.batches) (with_base s.base));
+          (so.bytes ∙ append-nil (units_bytes (joined_batches so.batches))));
+      unit_count = are.unit_count ∙ sym (length-map (joined_batches so.batches) (with_base s.base));
       entry_count = are.entry_count ∙ sym (ap length same);
       type_count = are.type_count ∙ sym (ap (count_by is_type_entry) same);
     }
@@ -334,34 +335,36 @@ pub found_fault : (s : Sections) (st : SoFar) (fault : Fault) (so : AreSoFar s [
     → IsFaultOf s fault
 found_fault s st fault so least =
     fault_of s fault (first_by_unit s least.before least.units least.behind least.group least.alone fault
-    (subst (AreApart s) least.are so.apart)
+    (subst (AreBatches s) least.are so.apart)
     (subst (AllByRecursion (IsMeasured least.group)) least.are least.measured)
     least.passed least.fails least.below
-    (so.bytes ∙ append-nil (units_bytes (joined so.batches))
-    ∙ ap (λ (bs : List (List DebugUnit)). units_bytes (joined bs)) least.are)
+    (so.bytes ∙ append-nil (units_bytes (joined_batches so.batches))
+    ∙ ap (λ (bs : List (List DebugUnit)). units_bytes (joined_batches bs)) least.are)
     least.place)
 
 -- the fault of trees in the bytes of one batch after those so far
 pub found_in_trees : (s : Sections) (rest : List ℕ) (size : ℕ) (st : SoFar) (so : AreSoFar s rest st)
-    (alone fault : Fault) → AreWhole (take size rest)
+    (alone fault : Fault) → AreWholeUnits (take size rest)
     → IsPlainFault (Fails s.«abbrev».now (take size rest)) alone → IsMoved st.at alone fault → IsFaultOf s fault
 found_in_trees s rest size st so alone fault whole plain place =
-    let fails : Fails s.«abbrev».now rest (broken_of alone) =
-    subst (λ (xs : List ℕ). Fails s.«abbrev».now xs (broken_of alone)) (take-append-drop size rest)
-    (fails_with_more s.«abbrev».now (take size rest) (drop size rest) (broken_of alone) whole plain.holds) in
-    let there = trees_first s (joined so.batches) rest (broken_of alone) (units_joined s so.batches so.apart.stay)
+    let fails : Fails s.«abbrev».now rest (plain_fault_of alone) =
+    subst (λ (xs : List ℕ). Fails s.«abbrev».now xs (plain_fault_of alone)) (take-append-drop size rest)
+    (fails_with_more s.«abbrev».now (take size rest) (drop size rest) (plain_fault_of alone) whole plain.holds) in
+    let there = trees_first s (joined_batches so.batches) rest (plain_fault_of alone)
+    (units_joined s so.batches so.apart.stay)
     so.bytes fails
     in
-    let at : moved_broken (length (units_bytes (joined so.batches))) (broken_of alone) ≡ broken_of fault =
-    ap (λ (n : ℕ). moved_broken n (broken_of alone)) (sym so.at) ∙ sym place.broken in
+    let at : moved_fault (length (units_bytes (joined_batches so.batches))) (plain_fault_of alone)
+    ≡ plain_fault_of fault =
+    ap (λ (n : ℕ). moved_fault n (plain_fault_of alone)) (sym so.at) ∙ sym place.broken in
     fault_of s fault (in_trees (subst (FailsInTrees s) at there)
     (place.cycle ∙ ap (map (λ (offset : ℕ). st.at + offset)) plain.cycle))
 
 -- it is what is found
 pub found_by_trees : (s : Sections) (rest : List ℕ) (size : ℕ) (st : SoFar) (so : AreSoFar s rest st) (alone : Fault)
-    → AreWhole (take size rest)
+    → AreWholeUnits (take size rest)
     → IsPlainFault (Fails s.«abbrev».now (take size rest)) alone → (r : Result (Option Found) NoMemory)
-    → IfOk r (λ there. IfSome there (IsFoundAt st.at alone)) → IfOk r (λ there. IfSome there (IsFound s))
+    → IfOk r (λ there. IfSome there (IsFoundAt st.at alone)) → IfOk r (λ there. IfSome there (IsFoundIn s))
 found_by_trees s rest size st so alone whole plain (Ok (Some (found.Sound c))) is = absurd is
 found_by_trees s rest size st so alone whole plain (Ok (Some (found.Fault fault))) is =
     found_in_trees s rest size st so alone fault whole plain is
@@ -385,7 +388,7 @@ none_so_far s = record {
 -- the bytes after those so far
 pub rest_is : (s : Sections) (rest : List ℕ) (st : SoFar) → AreSoFar s rest st → drop st.at s.info.now ≡ rest
 rest_is s rest st so =
-    ap (drop st.at) so.bytes ∙ drop_at (units_bytes (joined so.batches)) rest st.at (sym so.at)
+    ap (drop st.at) so.bytes ∙ drop_at (units_bytes (joined_batches so.batches)) rest st.at (sym so.at)
 
 pub no_bytes : (rest : List ℕ) → length rest ≡ 0 → rest ≡ []
 no_bytes [] is = refl

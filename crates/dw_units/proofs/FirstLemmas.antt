@@ -3,13 +3,13 @@
 use Rattle.std.proofs.Common.{rules, ◌≡◌, ℕ, ◌+◌, ◌<◌, ◌≤◌, List, ◌∷◌, ◌++◌, length, Some, ap, subst, ◌∙◌, inl, inr, arith}
 use Rattle.std.specs.Prelude.{slice_get}
 use Rattle.std.specs.List.{AllByRecursion}
-use Rattle.dw_entries.specs.declared.fault.Broken.{Broken}
+use Rattle.dw_entries.specs.declared.fault.PlainFault.{PlainFault}
 use Rattle.dw_entries.specs.Units.{DebugUnit, units_bytes}
 use Rattle.dw_entries.specs.Places.{Place, at_header, at_entry, at_attribute, offset_of, IsBefore}
 use Rattle.dw_entries.specs.Failures.{Failure, Precedes, Names, HasNone, IsFirst}
-use Rattle.dw_units.specs.Alone.{joined}
-use Rattle.dw_units.specs.ByUnit.{moved_broken, IsFirm}
-use Rattle.dw_units.proofs.Batches.{PlacedBatch, placed_batches, all_placed, stands_from, IsPlaced, placed_there}
+use Rattle.dw_units.specs.IndependentBatches.{joined_batches}
+use Rattle.dw_units.specs.ByUnit.{moved_fault, IsFirm}
+use Rattle.dw_units.proofs.BatchLemmas.{PlacedBatch, placed_batches, all_placed, stands_from, IsPlaced, placed_there}
 
 -- ---- places
 
@@ -122,16 +122,16 @@ module _ (bs : List (List DebugUnit)) (Fails : Failure → Type 0) (Alone : List
       let i = are.down f fails in
       all_placed (λ units. HasNone (Alone units)) 0 0 0 bs i.which i.place all i.is_place i.failure i.fails
 
-named_moved : (at : ℕ) (broken : Broken) (f : Failure) → Names broken f
-    → Names (moved_broken at broken) (moved_failure at f)
+named_moved : (at : ℕ) (broken : PlainFault) (f : Failure) → Names broken f
+    → Names (moved_fault at broken) (moved_failure at f)
 named_moved at broken f named = search (rules, offset_moved)
 
 pub first_of_group : (before : List (List DebugUnit)) (units : List DebugUnit) (behind : List (List DebugUnit))
     (Fails : Failure → Type 0) (Alone : List DebugUnit → Failure → Type 0)
-    (broken : Broken) → AreOfBatches (before ++ units ∷ behind) Fails Alone
+    (broken : PlainFault) → AreOfBatches (before ++ units ∷ behind) Fails Alone
     → AllByRecursion (λ batch. HasNone (Alone batch)) before
     → IsFirm units broken.rule → IsFirst (Alone units) broken
-    → IsFirst Fails (moved_broken (length (units_bytes (joined before))) broken)
+    → IsFirst Fails (moved_fault (length (units_bytes (joined_batches before))) broken)
 first_of_group before units behind Fails Alone broken are none firm first = record {
   failure = moved_failure at first.failure;
   fails = are.up i.which here is_here first.failure first.fails (subst (IsFirm units) first.named.rule firm);
@@ -143,7 +143,7 @@ first_of_group before units behind Fails Alone broken are none firm first = reco
     bs = before ++ units ∷ behind
 
     at : ℕ
-    at = length (units_bytes (joined before))
+    at = length (units_bytes (joined_batches before))
 
     i : IsPlaced 0 0 0 bs units (0 + at)
     i = placed_there 0 0 0 before units behind

@@ -9,12 +9,12 @@ use Rattle.dw_entries.specs.declared.rule.Rule.TheVariants.{WrongClass}
 use Rattle.dw_entries.specs.Units.{DebugUnit, Spells}
 use Rattle.dw_entries.specs.Entries.{Entry, entries_of}
 use Rattle.dw_entries.specs.Places.{at_attribute}
-use Rattle.dw_entries.specs.Asked.{EachEntry, HasAttribute}
-use Rattle.dw_links.specs.Concerns.{Passes}
-use Rattle.dw_links.proofs.Skips.{none_concerned}
-use Rattle.dw_units.specs.declared.alone.Elsewhere.TheVariants.{Never, BySignature}
+use Rattle.dw_entries.specs.EntryRules.{EachEntry, HasAttribute}
+use Rattle.dw_links.specs.RulesOfAttributes.{NeverFailsAt}
+use Rattle.dw_links.proofs.ListLookups.{none_concerned}
+use Rattle.dw_units.specs.declared.batches.Elsewhere.TheVariants.{Never, BySignature}
 use Rattle.dw_links.specs.References.{is_signature}
-use Rattle.dw_units.specs.Alone.{leaves_by, Where}
+use Rattle.dw_units.specs.IndependentBatches.{leaves_by, Where}
 use Rattle.dw_units.specs.ByUnit.{is_offset}
 
 stays_by_form : (version size : ℕ) (f : Form) (bytes : List ℕ) (v : Datum) → (leaves_by f ≡ BySignature → ⊥)
@@ -30,18 +30,19 @@ no_offset_by_form version size f bytes v is p = search rules
 -- a fact that no value in a form has, no value under such a declaration has
 passes_where : (holds : Datum → Bool) (spec : AttributeSpec)
     → ((version size : ℕ) (bytes : List ℕ) (v : Datum) → Val version spec.form size bytes v → holds v ≡ false)
-    → Passes (Where holds) spec
+    → NeverFailsAt (Where holds) spec
 passes_where holds spec never x a is head rule so =
     ∥∥₁_elim is.value (λ p q. absurd p)
     (λ v. let no : true ≡ false = sym so ∙ never x.version x.address_size a.bytes a.value v in cc)
 
 -- no value under such a declaration leaves its unit by a signature
-pub form_passes : (spec : AttributeSpec) → (leaves_by spec.form ≡ BySignature → ⊥) → Passes (Where is_signature) spec
+pub form_passes : (spec : AttributeSpec) → (leaves_by spec.form ≡ BySignature → ⊥)
+    → NeverFailsAt (Where is_signature) spec
 form_passes spec other =
     passes_where is_signature spec (λ version size bytes v val. stays_by_form version size spec.form bytes v other val)
 
 -- nor is one an offset of .debug_info
-pub offset_passes : (spec : AttributeSpec) → leaves_by spec.form ≡ Never → Passes (Where is_offset) spec
+pub offset_passes : (spec : AttributeSpec) → leaves_by spec.form ≡ Never → NeverFailsAt (Where is_offset) spec
 offset_passes spec never =
     passes_where is_offset spec (λ version size bytes v val. no_offset_by_form version size spec.form bytes v never val)
 
@@ -53,7 +54,7 @@ pub none_where : (holds : Datum → Bool) (a info : List ℕ) (us : List DebugUn
     → Spells a us info
     → ((id : ℕ) (e : Entry) → slice_get (entries_of us) id ≡ Some e
     → All (λ (spec : AttributeSpec). Contains kept spec) e.head.decl.attributes)
-    → ((k : ℕ) (spec : AttributeSpec) → slice_get kept k ≡ Some spec → Passes (Where holds) spec)
+    → ((k : ℕ) (spec : AttributeSpec) → slice_get kept k ≡ Some spec → NeverFailsAt (Where holds) spec)
     → EachEntry (λ e. (position attribute : ℕ) (v : Datum) → HasAttribute e position attribute v → holds v ≡ false)
     (entries_of us)
 none_where holds a info us kept spells declared pass id e is position attribute v has =

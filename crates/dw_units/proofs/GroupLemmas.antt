@@ -4,18 +4,17 @@ use Rattle.std.specs.List.{AllByRecursion}
 use Rattle.dw_elf.specs.declared.sections.Sections.{Sections}
 use Rattle.dw_entries.specs.declared.fault.Fault.{Fault}
 use Rattle.dw_entries.specs.Units.{DebugUnit, units_bytes}
-use Rattle.dw_entries.specs.Failures.{Failure, HasNone, IsFirst, broken_of, IsPlainFault}
+use Rattle.dw_entries.specs.Failures.{Failure, HasNone, IsFirst, plain_fault_of, IsPlainFault}
 use Rattle.dw_entries.specs.UnitLaws.{bytes_based, have_base}
 use Rattle.dw_entries.proofs.HeadLaws.{all-append}
 use Rattle.dw_links.specs.Classes.{ClassFailures}
 use Rattle.dw_links.specs.Strings.{StringFailures}
 use Rattle.dw_links.specs.References.{ReferenceFailures}
-use Rattle.dw_types.specs.FactsOf.{facts_in}
 use Rattle.dw_types.specs.Shapes.{ShapeFailures}
-use Rattle.dw_image.specs.First.{Group, classes, strings, references, shapes, cycles, sizes, turn_of, failures_of, FailsBySize, IsFirstIn, NamesCycle, in_group}
-use Rattle.dw_units.specs.Alone.{joined, whole}
-use Rattle.dw_units.specs.ByUnit.{AreApart, IsFirm, IsMoved, PassesBelow, PassesThrough, IsMeasured, FirstOfUnits}
-use Rattle.dw_units.proofs.Batches.{placed_there}
+use Rattle.dw_image.specs.FirstFault.{Group, classes, strings, references, shapes, cycles, sizes, turn_of, failures_of, FailsBySize, IsFirstIn, NamesCycle, in_group}
+use Rattle.dw_units.specs.IndependentBatches.{joined_batches, whole}
+use Rattle.dw_units.specs.ByUnit.{AreBatches, IsFirm, IsMoved, PassesBelow, PassesThrough, IsMeasured, FirstOfUnits}
+use Rattle.dw_units.proofs.BatchLemmas.{placed_there}
 use Rattle.dw_units.proofs.FirstLemmas.{AreOfBatches, none_of_batches, first_of_group}
 use Rattle.dw_units.proofs.TextLemmas.{all_units, each_of, classes_batches, strings_batches}
 use Rattle.dw_units.proofs.ReferenceLemmas.{Refer, references_batches}
@@ -27,7 +26,7 @@ abbrev Passes : Sections → Group → List DebugUnit → Type 0
 Passes s group units = HasNone (failures_of s units group)
 
 -- so none fails among all, if none of the rules on references does at a batch
-passes_batches : (s : Sections) (bs : List (List DebugUnit)) → AreApart s bs → (group : Group)
+passes_batches : (s : Sections) (bs : List (List DebugUnit)) → AreBatches s bs → (group : Group)
     → turn_of group < 7 → (4 < turn_of group → AllByRecursion (Passes s references) bs)
     → AllByRecursion (Passes s group) bs → HasNone (failures_of s (whole s bs) group)
 passes_batches s bs all classes early refer none =
@@ -37,7 +36,7 @@ passes_batches s bs all strings early refer none =
 passes_batches s bs all references early refer none =
     none_of_batches bs (ReferenceFailures (whole s bs)) ReferenceFailures (references_batches s bs all) none
 passes_batches s bs all shapes early refer none =
-    none_of_batches bs (ShapeFailures (facts_in (whole s bs))) (λ units. ShapeFailures (facts_in units))
+    none_of_batches bs (ShapeFailures (whole s bs)) ShapeFailures
     (shapes_batches s bs (record { apart = all; none = refer (omega arith) })) none
 passes_batches s bs all cycles early refer none =
     no_cycle_batches s bs (record { apart = all; none = refer (omega arith) }) none
@@ -53,8 +52,8 @@ no_later sizes earlier less = less
 
 module _ (s : Sections) (before : List (List DebugUnit)) (units : List DebugUnit) (behind : List (List DebugUnit))
     (alone fault : Fault)
-    (all : AreApart s (before ++ units ∷ behind))
-    (is : IsMoved (length (units_bytes (joined before))) alone fault) where
+    (all : AreBatches s (before ++ units ∷ behind))
+    (is : IsMoved (length (units_bytes (joined_batches before))) alone fault) where
   abbrev bs : List (List DebugUnit)
   bs = before ++ units ∷ behind
 
@@ -66,16 +65,22 @@ module _ (s : Sections) (before : List (List DebugUnit)) (units : List DebugUnit
   plain Fails Alone are none firm first = record {
     holds =
         subst (IsFirst Fails) (sym is.broken)
-        (first_of_group before units behind Fails Alone (broken_of alone) are none firm first.holds);
-    cycle = is.cycle ∙ ap (map (λ (offset : ℕ). length (units_bytes (joined before)) + offset)) first.cycle;
+        (first_of_group before units behind Fails Alone (plain_fault_of alone) are none firm first.holds);
+    cycle = is.cycle ∙ ap (map (λ (offset : ℕ). length (units_bytes (joined_batches before)) + offset)) first.cycle;
   }
 
-  cycle_there : Refer s bs → NamesCycle (facts_in units) alone → NamesCycle (facts_in (whole s bs)) fault
+  cycle_there : Refer s bs → NamesCycle units alone → NamesCycle (whole s bs) fault
   cycle_there refer names =
       let i = placed_there 0 0 0 before units behind in
-      let e : length (units_bytes (joined before)) ≡ 0 + length (units_bytes (joined before)) = omega arith in
+      let e : length (units_bytes (joined_batches before))
+      ≡ 0 + length (units_bytes (joined_batches before)) = omega arith in
       cycle_batches s bs refer i.which
-      (record { number = i.begins; first = i.entry; at = 0 + length (units_bytes (joined before)); units = units }) i.is
+      (record {
+        number = i.begins;
+        first = i.entry;
+        at = 0 + length (units_bytes (joined_batches before));
+        units = units;
+      }) i.is
       alone fault
       (subst (λ (n : ℕ). IsMoved n alone fault) e is) names
 
@@ -90,12 +95,12 @@ module _ (s : Sections) (before : List (List DebugUnit)) (units : List DebugUnit
   first_batches references measured refer none firm first =
       plain (ReferenceFailures (whole s bs)) ReferenceFailures (references_batches s bs all) none firm first
   first_batches shapes measured refer none firm first =
-      plain (ShapeFailures (facts_in (whole s bs))) (λ batch. ShapeFailures (facts_in batch))
+      plain (ShapeFailures (whole s bs)) ShapeFailures
       (shapes_batches s bs (record { apart = all; none = refer (omega arith) })) none firm first
   first_batches cycles measured refer none firm first =
       cycle_there (record { apart = all; none = refer (omega arith) }) first
   first_batches sizes measured refer none firm first =
-      plain (FailsBySize (facts_in (whole s bs))) (λ batch. FailsBySize (facts_in batch))
+      plain (FailsBySize (whole s bs)) FailsBySize
       (sizes_batches s bs (record { apart = all; none = refer (omega arith) }) measured) none firm first
 
 -- THE law
@@ -106,9 +111,9 @@ first_by_unit s before units behind group alone fault all measured passed fails 
       spelled = record {
         spells = record {
           are = all_units s (before ++ units ∷ behind) all;
-          parts = parts ∙ sym (bytes_based s.base (joined (before ++ units ∷ behind)));
+          parts = parts ∙ sym (bytes_based s.base (joined_batches (before ++ units ∷ behind)));
         };
-        based = have_base s.base (joined (before ++ units ∷ behind));
+        based = have_base s.base (joined_batches (before ++ units ∷ behind));
       };
       before = λ earlier less.
           passes_batches s (before ++ units ∷ behind) all earlier (no_later group earlier less)

@@ -1,11 +1,11 @@
 pub mod TreeLemmas
-pub mod Batches
+pub mod BatchLemmas
 pub mod FirstLemmas
 pub mod MovedEntries
 pub mod TextLemmas
 pub mod ReachLemmas
 pub mod ReferenceLemmas
-pub mod MovedFacts
+pub mod Windows
 pub mod WindowLemmas
 pub mod TypeLemmas
 pub mod WindowSizes

@@ -2,8 +2,9 @@
 use Rattle.std.proofs.Common.{rules, ◌≡◌, ℕ, zero, suc, ◌+◌, ◌-◌, ◌<◌, ◌≤◌, ◌⊎◌, List, [], ◌∷◌, ◌++◌, length, map, Option, Some, None, refl, sym, ap, subst, ◌∙◌, inl, inr, arith, append_assoc, length-append}
 use Rattle.std.specs.Prelude.{slice_get, option_map}
 use Rattle.std.proofs.lemmas.List.{map-append, length-map}
-use Rattle.std.proofs.lemmas.Option.{slice_get-map, slice_get_within}
+use Rattle.std.proofs.lemmas.Option.{get_or_from_slice_get, slice_get-get_or, slice_get-map, slice_get_within}
 use Rattle.dw_elf.specs.declared.sections.Sections.{Sections}
+use Rattle.dw_entries.specs.ByNumber.{entry_of, no_entry, no_placed, placed_of}
 use Rattle.dw_entries.specs.Grammar.{Head, head_bytes}
 use Rattle.dw_entries.specs.Header.{header_size}
 use Rattle.dw_entries.specs.Tree.{Node, Nodes, leaf, parent, none, ◌then◌, node_bytes}
@@ -12,9 +13,8 @@ use Rattle.dw_entries.specs.Entries.{Entry, node_count, first_id, node_entries, 
 use Rattle.dw_entries.specs.UnitLaws.{with_base}
 use Rattle.dw_entries.proofs.EntryFacts.{entries_based, length-node_entries, length-placed_from}
 use Rattle.dw_entries.proofs.UnitRanges.{get_front, get_behind}
-use Rattle.dw_types.specs.Entries.{Facts}
-use Rattle.dw_units.specs.Alone.{joined, whole}
-use Rattle.dw_units.proofs.Batches.{PlacedBatch, batches_from, placed_batches}
+use Rattle.dw_units.specs.IndependentBatches.{joined_batches, whole}
+use Rattle.dw_units.proofs.BatchLemmas.{PlacedBatch, batches_from, placed_batches}
 
 -- a number of an entry of the batch, among all entries
 abbrev pub moved_number : ℕ → Option ℕ → Option ℕ
@@ -38,15 +38,6 @@ moved number first at e = record {
 -- a unit, likewise, with the base of all
 abbrev pub moved_unit : (base first at : ℕ) → PlacedUnit → PlacedUnit
 moved_unit base first at q = record { at = at + q.at; first = first + q.first; unit = with_base base q.unit }
-
--- the facts of an entry, likewise
-abbrev pub moved_facts : (first at : ℕ) → Facts → Facts
-moved_facts first at f = record f {
-  offset = at + f.offset;
-  parent = moved_number first f.parent;
-  type_target = moved_number first f.type_target;
-  signature_target = moved_number first f.signature_target;
-}
 
 first_moved : (ns : Nodes) (first id to : ℕ) → to ≡ first + id → first_id ns to ≡ moved_number first (first_id ns id)
 first_moved ns first id to is = search rules
@@ -233,7 +224,7 @@ pub record Found (batches : List PlacedBatch) (id i : ℕ) (e : Entry) : Type 0 
   pub same : moved place.number place.first place.at entry ≡ e
 
 found_from : (number first at : ℕ) (bs : List (List DebugUnit)) (i : ℕ) (e : Entry)
-    → slice_get (entries_from number first at (joined bs)) i ≡ Some e
+    → slice_get (entries_from number first at (joined_batches bs)) i ≡ Some e
     → Found (batches_from number first at bs) first i e
 found_from number first at [] i e is = absurd cc
 found_from number first at (units ∷ bs) i e is =
@@ -242,10 +233,10 @@ found_from number first at (units ∷ bs) i e is =
   where
     behind : List Entry
     behind = entries_from (number + length units) (first + length (entries_of units))
-        (at + length (units_bytes units)) (joined bs)
+        (at + length (units_bytes units)) (joined_batches bs)
 
     here : slice_get (map (moved number first at) (entries_of units) ++ behind) i ≡ Some e
-    here = ap (λ (es : List Entry). slice_get es i) (sym (batch_front number first at units (joined bs))) ∙ is
+    here = ap (λ (es : List Entry). slice_get es i) (sym (batch_front number first at units (joined_batches bs))) ∙ is
 
     go : ((j : ℕ) → slice_get behind j ≡ Some e
         → Found (batches_from (number + length units) (first + length (entries_of units))
@@ -284,7 +275,7 @@ found_from number first at (units ∷ bs) i e is =
 get_from : (number first at : ℕ) (bs : List (List DebugUnit)) (k : ℕ) (p : PlacedBatch) (inner : ℕ) (d : Entry)
     → slice_get (batches_from number first at bs) k ≡ Some p → slice_get (entries_of p.units) inner ≡ Some d
     → (i : ℕ) × (first + i ≡ p.first + inner)
-    × (slice_get (entries_from number first at (joined bs)) i ≡ Some (moved p.number p.first p.at d))
+    × (slice_get (entries_from number first at (joined_batches bs)) i ≡ Some (moved p.number p.first p.at d))
 get_from number first at [] k p inner d is is_d = absurd cc
 get_from number first at (units ∷ bs) zero p inner d is is_d =
     let some : ◌≡◌ {A = Option PlacedBatch} (Some (record { number = number; first = first; at = at; units = units }))
@@ -292,14 +283,15 @@ get_from number first at (units ∷ bs) zero p inner d is is_d =
     let same : ◌≡◌ {A = PlacedBatch} (record { number = number; first = first; at = at; units = units }) p = cc in
     let P : PlacedBatch → Type 0 = λ q. slice_get (entries_of q.units) inner ≡ Some d
     → (i : ℕ) × (first + i ≡ q.first + inner)
-    × (slice_get (entries_from number first at (joined (units ∷ bs))) i ≡ Some (moved q.number q.first q.at d)) in
+    × (slice_get (entries_from number first at (joined_batches (units ∷ bs))) i ≡ Some (moved q.number q.first q.at d))
+    in
     subst P same (λ here. (
       inner,
       refl,
-      ap (λ (es : List Entry). slice_get es inner) (batch_front number first at units (joined bs))
+      ap (λ (es : List Entry). slice_get es inner) (batch_front number first at units (joined_batches bs))
           ∙ moved_get (moved number first at) (entries_of units)
           (entries_from (number + length units) (first + length (entries_of units))
-          (at + length (units_bytes units)) (joined bs)) inner d here,
+          (at + length (units_bytes units)) (joined_batches bs)) inner d here,
     )) is_d
 get_from number first at (units ∷ bs) (suc k) p inner d is is_d =
     let (i, begins, got) = get_from (number + length units) (first + length (entries_of units))
@@ -307,16 +299,17 @@ get_from number first at (units ∷ bs) (suc k) p inner d is is_d =
       length (entries_of units) + i,
       omega (arith, begins),
       ap (λ (es : List Entry). slice_get es (length (entries_of units) + i))
-          (batch_front number first at units (joined bs))
+          (batch_front number first at units (joined_batches bs))
           ∙ moved_behind (moved number first at) (entries_of units)
           (entries_from (number + length units) (first + length (entries_of units))
-          (at + length (units_bytes units)) (joined bs)) (length (entries_of units) + i) i refl ∙ got,
+          (at + length (units_bytes units)) (joined_batches bs)) (length (entries_of units) + i) i refl ∙ got,
     )
 
 unit_from : (base number first at : ℕ) (bs : List (List DebugUnit)) (k : ℕ) (p : PlacedBatch) (j : ℕ) (q : PlacedUnit)
     → slice_get (batches_from number first at bs) k ≡ Some p → slice_get (placed p.units) j ≡ Some q
     → (i : ℕ) × (number + i ≡ p.number + j)
-    × (slice_get (placed_from at first (map (with_base base) (joined bs))) i ≡ Some (moved_unit base p.first p.at q))
+    × (slice_get (placed_from at first (map (with_base base) (joined_batches bs))) i
+    ≡ Some (moved_unit base p.first p.at q))
 unit_from base number first at [] k p j q is is_q = absurd cc
 unit_from base number first at (units ∷ bs) zero p j q is is_q =
     let some : ◌≡◌ {A = Option PlacedBatch} (Some (record { number = number; first = first; at = at; units = units }))
@@ -324,15 +317,15 @@ unit_from base number first at (units ∷ bs) zero p j q is is_q =
     let same : ◌≡◌ {A = PlacedBatch} (record { number = number; first = first; at = at; units = units }) p = cc in
     let P : PlacedBatch → Type 0 = λ b. slice_get (placed b.units) j ≡ Some q
     → (i : ℕ) × (number + i ≡ b.number + j)
-    × (slice_get (placed_from at first (map (with_base base) (joined (units ∷ bs)))) i
+    × (slice_get (placed_from at first (map (with_base base) (joined_batches (units ∷ bs)))) i
     ≡ Some (moved_unit base b.first b.at q)) in
     subst P same (λ here. (
       j,
       refl,
-      ap (λ (ps : List PlacedUnit). slice_get ps j) (placed_front base first at units (joined bs))
+      ap (λ (ps : List PlacedUnit). slice_get ps j) (placed_front base first at units (joined_batches bs))
           ∙ moved_get (moved_unit base first at) (placed units)
           (placed_from (at + length (units_bytes units)) (first + length (entries_of units))
-          (map (with_base base) (joined bs))) j q here,
+          (map (with_base base) (joined_batches bs))) j q here,
     )) is_q
 unit_from base number first at (units ∷ bs) (suc k) p j q is is_q =
     let (i, begins, got) = unit_from base (number + length units) (first + length (entries_of units))
@@ -340,10 +333,11 @@ unit_from base number first at (units ∷ bs) (suc k) p j q is is_q =
     let long = length-placed_from 0 0 units in (
       length units + i,
       omega (arith, begins),
-      ap (λ (ps : List PlacedUnit). slice_get ps (length units + i)) (placed_front base first at units (joined bs))
+      ap (λ (ps : List PlacedUnit). slice_get ps (length units + i))
+          (placed_front base first at units (joined_batches bs))
           ∙ moved_behind (moved_unit base first at) (placed units)
           (placed_from (at + length (units_bytes units)) (first + length (entries_of units))
-          (map (with_base base) (joined bs)))
+          (map (with_base base) (joined_batches bs)))
           (length units + i) i (omega (arith, long)) ∙ got,
     )
 
@@ -364,7 +358,7 @@ pub found : (s : Sections) (bs : List (List DebugUnit)) (i : ℕ) (e : Entry)
     → IsOf bs i e
 found s bs i e is =
     let f = found_from 0 0 0 bs i e
-    (ap (λ (es : List Entry). slice_get es i) (sym (entries_based s.base 0 0 0 (joined bs))) ∙ is) in
+    (ap (λ (es : List Entry). slice_get es i) (sym (entries_based s.base 0 0 0 (joined_batches bs))) ∙ is) in
     let begins = f.begins in
     record {
       which = f.which;
@@ -383,8 +377,8 @@ pub get : (s : Sections) (bs : List (List DebugUnit)) (k : ℕ) (p : PlacedBatch
 get s bs k p inner d is is_d =
     let (i, begins, got) = get_from 0 0 0 bs k p inner d is is_d in
     let there : p.first + inner ≡ i = omega (arith, begins) in
-    ap (λ (es : List Entry). slice_get es (p.first + inner)) (entries_based s.base 0 0 0 (joined bs))
-    ∙ ap (slice_get (entries_of (joined bs))) there ∙ got
+    ap (λ (es : List Entry). slice_get es (p.first + inner)) (entries_based s.base 0 0 0 (joined_batches bs))
+    ∙ ap (slice_get (entries_of (joined_batches bs))) there ∙ got
 
 pub unit_get : (s : Sections) (bs : List (List DebugUnit)) (k : ℕ) (p : PlacedBatch) (j : ℕ) (q : PlacedUnit)
     → slice_get (placed_batches bs) k ≡ Some p → slice_get (placed p.units) j ≡ Some q
@@ -393,3 +387,40 @@ unit_get s bs k p j q is is_q =
     let (i, begins, got) = unit_from s.base 0 0 0 bs k p j q is is_q in
     let there : p.number + j ≡ i = omega (arith, begins) in
     ap (slice_get (placed (whole s bs))) there ∙ got
+
+-- the same by number
+module _ (s : Sections) (bs : List (List DebugUnit)) (k : ℕ) (p : PlacedBatch)
+    (is : slice_get (placed_batches bs) k ≡ Some p) (inner : ℕ) where
+  got : inner < length (entries_of p.units) → slice_get (entries_of (whole s bs)) (p.first + inner)
+      ≡ Some (moved p.number p.first p.at (entry_of (entries_of p.units) inner))
+  got inside =
+      get s bs k p inner (entry_of (entries_of p.units) inner) is
+      (slice_get-get_or (entries_of p.units) inner no_entry inside)
+
+  pub entry_within : inner < length (entries_of p.units) → p.first + inner < length (entries_of (whole s bs))
+  entry_within inside =
+      slice_get_within (entries_of (whole s bs)) (p.first + inner)
+      (moved p.number p.first p.at (entry_of (entries_of p.units) inner)) (got inside)
+
+  pub entry_at : inner < length (entries_of p.units) → entry_of (entries_of (whole s bs)) (p.first + inner)
+      ≡ moved p.number p.first p.at (entry_of (entries_of p.units) inner)
+  entry_at inside =
+      get_or_from_slice_get (entries_of (whole s bs)) (p.first + inner)
+      (moved p.number p.first p.at (entry_of (entries_of p.units) inner)) no_entry (got inside)
+
+  got_unit : inner < length p.units → slice_get (placed (whole s bs)) (p.number + inner)
+      ≡ Some (moved_unit s.base p.first p.at (placed_of (placed p.units) inner))
+  got_unit inside =
+      unit_get s bs k p inner (placed_of (placed p.units) inner) is
+      (slice_get-get_or (placed p.units) inner no_placed (omega (arith, inside, length-placed_from 0 0 p.units)))
+
+  pub unit_within : inner < length p.units → p.number + inner < length (placed (whole s bs))
+  unit_within inside =
+      slice_get_within (placed (whole s bs)) (p.number + inner)
+      (moved_unit s.base p.first p.at (placed_of (placed p.units) inner)) (got_unit inside)
+
+  pub unit_at : inner < length p.units → placed_of (placed (whole s bs)) (p.number + inner)
+      ≡ moved_unit s.base p.first p.at (placed_of (placed p.units) inner)
+  unit_at inside =
+      get_or_from_slice_get (placed (whole s bs)) (p.number + inner)
+      (moved_unit s.base p.first p.at (placed_of (placed p.units) inner)) no_placed (got_unit inside)

@@ -1,44 +1,50 @@
 -- References inside a batch: what is reached in the batch's place.
 use Rattle.std.proofs.Common.{rules, ◌≡◌, ℕ, ◌+◌, ◌<◌, ◌≤◌, ◌⊎◌, true, false, List, length, Option, Some, None, sym, ap, subst, ◌∙◌, inl, inr, refl, arith}
 use Rattle.std.specs.Prelude.{slice_get}
+use Rattle.std.proofs.lemmas.Option.{slice_get-get_or, slice_get_within}
 use Rattle.dw_elf.specs.declared.sections.Sections.{Sections}
 use Rattle.dw_forms.specs.Value.{Datum, ref_info, ref_unit}
+use Rattle.dw_entries.specs.ByNumber.{entry_of, no_entry, placed_of}
 use Rattle.dw_entries.specs.Units.{DebugUnit}
 use Rattle.dw_entries.specs.Entries.{Entry, entries_of, PlacedUnit, placed}
-use Rattle.dw_entries.specs.Asked.{OffsetsRise}
-use Rattle.dw_entries.proofs.EntryFacts.{entries_rise}
-use Rattle.dw_entries.proofs.Firsts.{same_some}
+use Rattle.dw_entries.specs.EntryRules.{OffsetsRise}
+use Rattle.dw_entries.proofs.EntryFacts.{entries_rise, length-placed_from}
 use Rattle.dw_links.specs.Targets.{reach_in_unit, reach_of}
-use Rattle.dw_links.proofs.TargetLaws.{reach_in_unit_is, at_reach_in_unit, reach_in_info_is, at_reach_in_info}
+use Rattle.dw_links.proofs.TargetLemmas.{reach_in_unit_is, at_reach_in_unit, reach_in_info_is, at_reach_in_info}
 use Rattle.dw_links.specs.References.{is_signature}
-use Rattle.dw_units.specs.Alone.{whole}
-use Rattle.dw_units.specs.ByUnit.{AreApart, is_offset}
-use Rattle.dw_units.proofs.Batches.{PlacedBatch, placed_batches, same_batch, based_at, unit_base}
-use Rattle.dw_units.proofs.MovedEntries.{moved_number, moved, moved_unit, found, get, unit_get}
+use Rattle.dw_units.specs.IndependentBatches.{whole}
+use Rattle.dw_units.specs.ByUnit.{AreBatches, is_offset}
+use Rattle.dw_units.proofs.BatchLemmas.{PlacedBatch, placed_batches, same_batch, based_at, unit_base}
+use Rattle.dw_units.proofs.MovedEntries.{moved_number, moved_unit, found, unit_get, entry_at, entry_within, unit_at, unit_within}
 use Rattle.dw_units.proofs.TextLemmas.{all_units, stays_at, unit_below}
 
--- an entry of this batch, in its place
-pub record IsIn (p : PlacedBatch) (i : ℕ) (e : Entry) : Type 0 where
+-- the number of an entry of this batch, in its place
+pub record IsIn (p : PlacedBatch) (i : ℕ) : Type 0 where
   pub inner : ℕ
-  pub entry : Entry
-  pub is_entry : slice_get (entries_of p.units) inner ≡ Some entry
+  pub inside : inner < length (entries_of p.units)
   pub begins : i ≡ p.first + inner
-  pub same : moved p.number p.first p.at entry ≡ e
 
-module _ (s : Sections) (bs : List (List DebugUnit)) (all : AreApart s bs) (k : ℕ) (p : PlacedBatch)
+module _ (s : Sections) (bs : List (List DebugUnit)) (all : AreBatches s bs) (k : ℕ) (p : PlacedBatch)
     (is : slice_get (placed_batches bs) k ≡ Some p) where
   -- an entry of a unit of the batch
-  pub found_in : (i : ℕ) (e : Entry) → slice_get (entries_of (whole s bs)) i ≡ Some e → p.number ≤ e.unit
-      → e.unit < p.number + length p.units → IsIn p i e
-  found_in i e is_e low high =
-      let f = found s bs i e is_e in
+  pub found_in : (i : ℕ) → i < length (entries_of (whole s bs))
+      → p.number ≤ (entry_of (entries_of (whole s bs)) i).unit
+      → (entry_of (entries_of (whole s bs)) i).unit < p.number + length p.units → IsIn p i
+  found_in i within low high =
+      let e = entry_of (entries_of (whole s bs)) i in
+      let f = found s bs i e (slice_get-get_or (entries_of (whole s bs)) i no_entry within) in
       let (q, is_q, below) = unit_below s f.place.units (stays_at s bs f.which f.place all f.is_place) f.inner f.entry
       f.is_entry in
       let unit : f.place.number + f.entry.unit ≡ e.unit = ap (λ (d : Entry). d.unit) f.same in
-      let here : f.place ≡ p = same_batch 0 0 0 bs f.which k f.place p f.is_place is e.unit (omega (arith, unit))
-      (omega (arith, unit, below)) low high in
-      subst (λ (b : PlacedBatch). IsIn b i e) here
-      (record { inner = f.inner; entry = f.entry; is_entry = f.is_entry; begins = f.begins; same = f.same })
+      let here : f.place ≡ p = same_batch bs f.which k f.place p f.is_place is
+      (λ after. let past = after.number_past in omega (arith, past, unit, below, low))
+      (λ after. let past = after.number_past in omega (arith, past, unit, high)) in
+      subst (λ (b : PlacedBatch). IsIn b i) here
+      (record {
+        inner = f.inner;
+        inside = slice_get_within (entries_of f.place.units) f.inner f.entry f.is_entry;
+        begins = f.begins;
+      })
 
   rise : OffsetsRise (entries_of (whole s bs))
   rise = entries_rise s.«abbrev».now (whole s bs) (all_units s bs all)
@@ -46,50 +52,45 @@ module _ (s : Sections) (bs : List (List DebugUnit)) (all : AreApart s bs) (k : 
   alone_rise : OffsetsRise (entries_of p.units)
   alone_rise = entries_rise s.«abbrev».now p.units (stays_at s bs k p all is).are
 
-  module _ (j : ℕ) (q : PlacedUnit) (is_q : slice_get (placed p.units) j ≡ Some q) (below : j < length p.units) where
+  module _ (j : ℕ) (below : j < length p.units) where
+    at_moved : (placed_of (placed (whole s bs)) (p.number + j)).at ≡ p.at + (placed_of (placed p.units) j).at
+    at_moved = ap (λ (u : PlacedUnit). u.at) (unit_at s bs k p is j below)
+
     reached_in_place : (offset id : ℕ)
         → reach_in_unit (entries_of p.units) (placed p.units) j offset ≡ Some id
         → reach_in_unit (entries_of (whole s bs)) (placed (whole s bs)) (p.number + j) offset ≡ Some (p.first + id)
     reached_in_place offset id reached =
-        let r = at_reach_in_unit (entries_of p.units) (placed p.units) j offset id reached in
-        let t = r.target in
-        let here : r.unit ≡ q = same_some (slice_get (placed p.units) j) r.unit q r.is_unit is_q in
-        let at : r.unit.at ≡ q.at = ap (λ (u : PlacedUnit). u.at) here in
+        let t = (at_reach_in_unit (entries_of p.units) (placed p.units) j offset id reached).target in
+        let e_is = entry_at s bs k p is id t.within in
         let begins = t.begins in
+        let at = ap (λ (e : Entry). e.at) e_is in
         reach_in_unit_is (entries_of (whole s bs)) (placed (whole s bs)) (p.number + j) offset (p.first + id) rise
         (record {
-          unit = moved_unit s.base p.first p.at q;
-          is_unit = unit_get s bs k p j q is is_q;
+          unit_within = unit_within s bs k p is j below;
           target = record {
-            entry = moved p.number p.first p.at t.entry;
-            is_entry = get s bs k p id t.entry is t.is_entry;
-            begins = omega (arith, begins, at);
-            in_unit = ap (λ (n : ℕ). p.number + n) t.in_unit;
+            within = entry_within s bs k p is id t.within;
+            begins = omega (arith, begins, at, at_moved);
+            in_unit = ap (λ (e : Entry). e.unit) e_is ∙ ap (λ (n : ℕ). p.number + n) t.in_unit;
           };
         })
 
     none_in_place : (offset id : ℕ) → reach_in_unit (entries_of p.units) (placed p.units) j offset ≡ None
         → reach_in_unit (entries_of (whole s bs)) (placed (whole s bs)) (p.number + j) offset ≡ Some id → ⊥
     none_in_place offset id none reached =
-        let r = at_reach_in_unit (entries_of (whole s bs)) (placed (whole s bs)) (p.number + j) offset id reached in
-        let t = r.target in
-        let same_unit : r.unit ≡ moved_unit s.base p.first p.at q =
-        same_some (slice_get (placed (whole s bs)) (p.number + j)) r.unit (moved_unit s.base p.first p.at q) r.is_unit
-        (unit_get s bs k p j q is is_q) in
-        let same_at : r.unit.at ≡ p.at + q.at = ap (λ (u : PlacedUnit). u.at) same_unit in
+        let t =
+        (at_reach_in_unit (entries_of (whole s bs)) (placed (whole s bs)) (p.number + j) offset id reached).target in
         let of = t.in_unit in
-        let i = found_in id t.entry t.is_entry (omega (arith, of)) (omega (arith, of, below)) in
-        let at : p.at + i.entry.at ≡ t.entry.at = ap (λ (d : Entry). d.at) i.same in
-        let unit : p.number + i.entry.unit ≡ t.entry.unit = ap (λ (d : Entry). d.unit) i.same in
+        let i = found_in id t.within (omega (arith, of)) (omega (arith, of, below)) in
+        let e_is = ap (entry_of (entries_of (whole s bs))) i.begins ∙ entry_at s bs k p is i.inner i.inside in
+        let at = ap (λ (e : Entry). e.at) e_is in
+        let unit = ap (λ (e : Entry). e.unit) e_is in
         let begins = t.begins in
         let there = reach_in_unit_is (entries_of p.units) (placed p.units) j offset i.inner alone_rise
         (record {
-          unit = q;
-          is_unit = is_q;
+          unit_within = omega (arith, below, length-placed_from 0 0 p.units);
           target = record {
-            entry = i.entry;
-            is_entry = i.is_entry;
-            begins = omega (arith, begins, at, same_at);
+            within = i.inside;
+            begins = omega (arith, begins, at, at_moved);
             in_unit = omega (arith, unit, of);
           };
         }) in
@@ -103,18 +104,17 @@ module _ (s : Sections) (bs : List (List DebugUnit)) (all : AreApart s bs) (k : 
     info_in_place offset id reached =
         let r = at_reach_in_info (entries_of p.units) (placed p.units) j offset id reached in
         let t = r.target in
-        let here : r.unit ≡ q = same_some (slice_get (placed p.units) j) r.unit q r.is_unit is_q in
-        let base : r.unit.unit.base ≡ s.base + p.at = ap (λ (u : PlacedUnit). u.unit.base) here
-        ∙ unit_base (s.base + p.at) p.units (based_at s.base bs all.follow k p is) j q is_q in
+        let base : r.unit.unit.base ≡ s.base + p.at =
+        unit_base (s.base + p.at) p.units (based_at s.base bs all.follow k p is) j r.unit r.is_unit in
         let begins = t.begins in
+        let at = ap (λ (e : Entry). e.at) (entry_at s bs k p is id t.within) in
         reach_in_info_is (entries_of (whole s bs)) (placed (whole s bs)) (p.number + j) offset (p.first + id) rise
         (record {
-          unit = moved_unit s.base p.first p.at q;
-          is_unit = unit_get s bs k p j q is is_q;
+          unit = moved_unit s.base p.first p.at r.unit;
+          is_unit = unit_get s bs k p j r.unit is r.is_unit;
           target = record {
-            entry = moved p.number p.first p.at t.entry;
-            is_entry = get s bs k p id t.entry is t.is_entry;
-            begins = omega (arith, begins, base);
+            within = entry_within s bs k p is id t.within;
+            begins = omega (arith, begins, base, at);
           };
         })
 

@@ -5,7 +5,7 @@ use Rattle.std.proofs.lemmas.Bool.{eqb-true}
 use Rattle.std.specs.Prelude.{slice_get}
 use Rattle.std.specs.List.{AllByRecursion}
 use Rattle.dw_elf.specs.declared.sections.Sections.{Sections}
-use Rattle.dw_forms.specs.Value.{Datum, ref_unit, ref_info, ref_sig}
+use Rattle.dw_forms.specs.Value.{Datum}
 use Rattle.dw_entries.specs.declared.rule.Rule.{Rule}
 use Rattle.dw_entries.specs.Units.{DebugUnit, unit_bytes}
 use Rattle.dw_entries.specs.Lookups.{entry_head}
@@ -13,21 +13,20 @@ use Rattle.dw_entries.specs.Entries.{Entry, entries_of, node_count, PlacedUnit, 
 use Rattle.dw_entries.specs.declared.rule.Rule.TheVariants.{NoEntry, WrongKind, NotNextSibling, NoSignature}
 use Rattle.dw_entries.specs.Places.{at_attribute}
 use Rattle.dw_entries.specs.Rules.{number_of}
-use Rattle.dw_entries.specs.Asked.{HasAttribute}
+use Rattle.dw_entries.specs.EntryRules.{HasAttribute}
 use Rattle.dw_entries.specs.Failures.{HasNone}
 use Rattle.dw_entries.specs.UnitLaws.{with_base}
 use Rattle.dw_entries.proofs.HeadLaws.{all-append}
 use Rattle.dw_entries.proofs.Firsts.{same_some}
-use Rattle.dw_links.specs.Signatures.{type_in}
+use Rattle.dw_links.specs.Signatures.{type_unit_of}
 use Rattle.dw_links.specs.Targets.{reach_of}
 use Rattle.dw_links.specs.References.{permits, is_reference_value, is_signature, NoSignatureThere, IsOtherThan, ReachesWrong, ReferenceFailsBy, ReferenceFails, HeaderFails, HeaderFailures, AttributeFailures, ReferenceFailures}
-use Rattle.dw_links.proofs.Skips.{there}
-use Rattle.std.proofs.lemmas.Option.{slice_get_within}
-use Rattle.dw_links.proofs.TargetLaws.{at_reach_in_unit, at_reach_in_info}
-use Rattle.dw_units.specs.Alone.{joined, whole, FollowFrom, HaveNoTypeUnit, StandsAlone}
-use Rattle.dw_units.proofs.Batches.{PlacedBatch, placed_batches, all_placed}
+use Rattle.dw_links.proofs.ListLookups.{there}
+use Rattle.dw_links.proofs.TargetLemmas.{reach_within}
+use Rattle.dw_units.specs.IndependentBatches.{joined_batches, whole, FollowFrom, HaveNoTypeUnit, StandsAlone}
+use Rattle.dw_units.proofs.BatchLemmas.{PlacedBatch, placed_batches, all_placed}
 use Rattle.dw_units.proofs.MovedEntries.{moved_number, none_moved, moved, get}
-use Rattle.dw_units.specs.ByUnit.{StaysAlone, AreApart, IsFirm, is_offset}
+use Rattle.dw_units.specs.ByUnit.{StaysAlone, AreBatches, IsFirm, is_offset}
 use Rattle.dw_units.proofs.FirstLemmas.{AreOfBatches, none_of_batches}
 use Rattle.dw_units.proofs.TextLemmas.{stays_at, apart_of, each_of, unit_below, FailsBy, heads_batches}
 use Rattle.dw_units.proofs.ReachLemmas.{reach_either}
@@ -45,16 +44,9 @@ permits_moved : (number first at : ℕ) (e t : Entry) (attribute : ℕ)
     ≡ permits (entry_head e) attribute t
 permits_moved number first at e t attribute = search (rules, eqb_moved)
 
-reached_below : (entries : List Entry) (units : List PlacedUnit) (unit : ℕ) (v : Datum) (k : ℕ) → is_signature v ≡ false
+reached_below : (entries : List Entry) (units : List PlacedUnit) (unit : ℕ) (v : Datum) (k : ℕ)
     → reach_of entries units unit v ≡ Some k → k < length entries
-reached_below entries units unit (ref_unit offset) k stays is =
-    let r = at_reach_in_unit entries units unit offset k is in
-    slice_get_within entries k r.target.entry r.target.is_entry
-reached_below entries units unit (ref_info offset) k stays is =
-    let r = at_reach_in_info entries units unit offset k is in
-    slice_get_within entries k r.target.entry r.target.is_entry
-reached_below entries units unit (ref_sig signature) k stays is = let no : true ≡ false = stays in absurd cc
-reached_below entries units unit v k stays is = absurd cc
+reached_below entries units unit v k is = reach_within entries units unit v (Some k) (sym is)
 
 no_signature : (units : List PlacedUnit) (v : Datum) → is_signature v ≡ false → NoSignatureThere units v → ⊥
 no_signature units v stays fails = search rules
@@ -78,7 +70,7 @@ next_none first (Some next) reached none (id, reaches, other) there =
 one_least : (rule : Rule) → 1 ≤ number_of rule
 one_least rule = search (rules)
 
-module _ (s : Sections) (bs : List (List DebugUnit)) (all : AreApart s bs) (k : ℕ) (p : PlacedBatch)
+module _ (s : Sections) (bs : List (List DebugUnit)) (all : AreBatches s bs) (k : ℕ) (p : PlacedBatch)
     (is : slice_get (placed_batches bs) k ≡ Some p) where
   wrong_alone : (e : Entry) (attribute : ℕ) (alone : Option ℕ)
       → ((k : ℕ) → alone ≡ Some k → k < length (entries_of p.units))
@@ -167,7 +159,7 @@ module _ (s : Sections) (bs : List (List DebugUnit)) (all : AreApart s bs) (k : 
       → FailsBy (ReferenceFails (entries_of p.units) (placed p.units) (entry_head e) attribute v) rule
   reference_down inner e is_e attribute v rule stays (reference, fails) =
       let (q, is_q, below) = unit_below s p.units (stays_at s bs k p all is) inner e is_e in
-      elim (reach_either s bs all k p is e.unit q is_q below v stays) [
+      elim (reach_either s bs all k p is e.unit below v stays) [
         | inl reached ↦ (rule, (reference, by_alone e attribute v rule stays reached fails), omega arith)
         | inr (offset, none) ↦ (NoEntry, (reference, (stays, none)), one_least rule)
       ]
@@ -181,7 +173,7 @@ module _ (s : Sections) (bs : List (List DebugUnit)) (all : AreApart s bs) (k : 
       attribute v rule
   reference_up inner e is_e position attribute v rule has stays (reference, fails) firm =
       let (q, is_q, below) = unit_below s p.units (stays_at s bs k p all is) inner e is_e in
-      elim (reach_either s bs all k p is e.unit q is_q below v stays) [
+      elim (reach_either s bs all k p is e.unit below v stays) [
         | inl reached ↦ (reference, by_in_place e attribute v rule stays reached fails)
         | inr (offset, none) ↦ (
           reference,
@@ -192,7 +184,7 @@ module _ (s : Sections) (bs : List (List DebugUnit)) (all : AreApart s bs) (k : 
       ]
 
 no_header_in : (at first : ℕ) (us : List DebugUnit) → HaveNoTypeUnit us → (number : ℕ)
-    (q : PlacedUnit) → slice_get (placed_from at first us) number ≡ Some q → type_in q.unit.header.kind ≡ None
+    (q : PlacedUnit) → slice_get (placed_from at first us) number ≡ Some q → type_unit_of q.unit.header.kind ≡ None
 no_header_in at first [] none number q is = absurd cc
 no_header_in at first (u ∷ us) (one, more) zero q is = search (rules)
 no_header_in at first (u ∷ us) (one, more) (suc number) q is =
@@ -210,13 +202,13 @@ none_based base [] none = tt
 none_based base (u ∷ us) (one, more) = (one, none_based base us more)
 
 none_joined : (s : Sections) (bs : List (List DebugUnit)) → AllByRecursion (StaysAlone s) bs
-    → HaveNoTypeUnit (joined bs)
+    → HaveNoTypeUnit (joined_batches bs)
 none_joined s [] all = tt
 none_joined s (units ∷ bs) (one, more) =
-    all-append (λ (u : DebugUnit). type_in u.header.kind ≡ None) units (joined bs) one.no_type_unit
+    all-append (λ (u : DebugUnit). type_unit_of u.header.kind ≡ None) units (joined_batches bs) one.no_type_unit
     (none_joined s bs more)
 
-attributes_batches : (s : Sections) (bs : List (List DebugUnit)) → AreApart s bs
+attributes_batches : (s : Sections) (bs : List (List DebugUnit)) → AreBatches s bs
     → AreOfBatches bs (AttributeFailures (entries_of (whole s bs)) (placed (whole s bs)))
     (λ units. AttributeFailures (entries_of units) (placed units))
 attributes_batches s bs all =
@@ -229,7 +221,7 @@ attributes_batches s bs all =
     ))
 
 -- the failures at headers are none, so those at attributes are all
-pub references_batches : (s : Sections) (bs : List (List DebugUnit)) → AreApart s bs
+pub references_batches : (s : Sections) (bs : List (List DebugUnit)) → AreBatches s bs
     → AreOfBatches bs (ReferenceFailures (whole s bs)) ReferenceFailures
 references_batches s bs all =
     let are = attributes_batches s bs all in
@@ -240,7 +232,7 @@ references_batches s bs all =
           elim fails [
             | inl header ↦
                 absurd (no_header_fails (entries_of (whole s bs)) (whole s bs)
-                (none_based s.base (joined bs) (none_joined s bs all.stay)) f header)
+                (none_based s.base (joined_batches bs) (none_joined s bs all.stay)) f header)
             | inr attribute ↦
                 let i = are.down f attribute in
                 record {
@@ -276,7 +268,7 @@ references_join s bs all follow =
 
 -- the batches stay apart, and no rule on references fails at one of them
 pub record Refer (s : Sections) (bs : List (List DebugUnit)) : Type 0 where
-  pub apart : AreApart s bs
+  pub apart : AreBatches s bs
   pub none : AllByRecursion (λ units. HasNone (ReferenceFailures units)) bs
 
 pub refer_of : (s : Sections) (bs : List (List DebugUnit)) → AllByRecursion (StandsAlone s) bs → FollowFrom s.base bs
@@ -300,7 +292,7 @@ value_moved s bs refer k p is inner e is_e position attribute v has =
     let stays = stays_at s bs k p refer.apart is in
     let inside = stays.stays inner e is_e position attribute v has in
     let (q, is_q, below) = unit_below s p.units stays inner e is_e in
-    elim (reach_either s bs refer.apart k p is e.unit q is_q below v inside) [
+    elim (reach_either s bs refer.apart k p is e.unit below v inside) [
       | inl same ↦ same
       | inr (offset, none) ↦
           absurd (all_placed (λ units. HasNone (ReferenceFailures units)) 0 0 0 bs k p refer.none is

@@ -13,7 +13,7 @@ use Rattle.dw_entries.specs.Entries.{Entry, entries_of, PlacedUnit, placed}
 use Rattle.dw_entries.specs.Places.{Place, at_attribute, IsBefore}
 use Rattle.dw_entries.specs.Failures.{Failure, Precedes, HasNone}
 use Rattle.dw_entries.specs.Rules.{number_of}
-use Rattle.dw_entries.specs.Asked.{HasAttribute, AtEntries, values_of}
+use Rattle.dw_entries.specs.EntryRules.{HasAttribute, AtEntries, values_of}
 use Rattle.dw_entries.specs.Lookups.{entry_head, value_in}
 use Rattle.dw_entries.proofs.Firsts.{same_some}
 use Rattle.dw_entries.specs.declared.records.Record.{Record}
@@ -24,15 +24,15 @@ use Rattle.dw_entries.proofs.OrderLaws.{Rises, units_rise}
 use Rattle.dw_entries.proofs.EntryFacts.{kept_get, first_entry, length-placed_from}
 use Rattle.dw_entries.specs.Grammar.{Head}
 use Rattle.dw_entries.specs.declared.header.UnitHeader.{UnitHeader}
-use Rattle.dw_links.specs.Concerns.{Rules, AtHead}
+use Rattle.dw_links.specs.RulesOfAttributes.{Rules, AtHead}
 use Rattle.dw_links.specs.Classes.{class_of, allows_in, ClassFails, ClassFailures}
 use Rattle.dw_links.specs.Strings.{StringFailsIn, StringFails, StringFailures}
-use Rattle.dw_links.proofs.Skips.{there}
-use Rattle.dw_links.proofs.ClassLaws.{in_units}
+use Rattle.dw_links.proofs.ListLookups.{there}
+use Rattle.dw_links.proofs.ClassLemmas.{in_units}
 use Rattle.dw_links.specs.Bases.{base_in, section_offset_in, section_offset_of}
-use Rattle.dw_units.specs.Alone.{joined, whole, FollowFrom, StandsAlone}
-use Rattle.dw_units.specs.ByUnit.{StaysAlone, AreApart, IsFirm}
-use Rattle.dw_units.proofs.Batches.{PlacedBatch, placed_batches, all_placed}
+use Rattle.dw_units.specs.IndependentBatches.{joined_batches, whole, FollowFrom, StandsAlone}
+use Rattle.dw_units.specs.ByUnit.{StaysAlone, AreBatches, IsFirm}
+use Rattle.dw_units.proofs.BatchLemmas.{PlacedBatch, placed_batches, all_placed}
 use Rattle.dw_units.proofs.FirstLemmas.{moved_place, IsInside, AreOfBatches, none_of_batches}
 use Rattle.dw_units.proofs.MovedEntries.{moved_number, none_moved, moved, moved_unit, found, get, unit_get}
 
@@ -42,7 +42,7 @@ pub alone_at : (s : Sections) (bs : List (List DebugUnit)) (k : ℕ) (p : Placed
 alone_at s bs k p all is = all_placed (StandsAlone s) 0 0 0 bs k p all is
 
 pub stays_at : (s : Sections) (bs : List (List DebugUnit)) (k : ℕ) (p : PlacedBatch)
-    → AreApart s bs
+    → AreBatches s bs
     → slice_get (placed_batches bs) k ≡ Some p → StaysAlone s p.units
 stays_at s bs k p all is = all_placed (StaysAlone s) 0 0 0 bs k p all.stay is
 
@@ -54,7 +54,7 @@ each_of P Q (units ∷ bs) holds (one, more) = (holds units one, each_of P Q bs 
 
 -- batches that are valid alone stay alone
 pub apart_of : (s : Sections) (bs : List (List DebugUnit)) → AllByRecursion (StandsAlone s) bs → FollowFrom s.base bs
-    → AreApart s bs
+    → AreBatches s bs
 apart_of s bs all follow = record {
   stay = each_of (StandsAlone s) (StaysAlone s) bs
       (λ units one. record { are = one.are; no_type_unit = one.no_type_unit; stays = one.stays }) all;
@@ -62,13 +62,13 @@ apart_of s bs all follow = record {
 }
 
 pub units_joined : (s : Sections) (bs : List (List DebugUnit)) → AllByRecursion (StaysAlone s) bs
-    → AreUnits s.«abbrev».now (joined bs)
+    → AreUnits s.«abbrev».now (joined_batches bs)
 units_joined s [] all = tt
 units_joined s (units ∷ bs) (one, more) =
-    all-append (IsUnit s.«abbrev».now) units (joined bs) one.are (units_joined s bs more)
+    all-append (IsUnit s.«abbrev».now) units (joined_batches bs) one.are (units_joined s bs more)
 
-pub all_units : (s : Sections) (bs : List (List DebugUnit)) → AreApart s bs → AreUnits s.«abbrev».now (whole s bs)
-all_units s bs all = are_based s.base s.«abbrev».now (joined bs) (units_joined s bs all.stay)
+pub all_units : (s : Sections) (bs : List (List DebugUnit)) → AreBatches s bs → AreUnits s.«abbrev».now (whole s bs)
+all_units s bs all = are_based s.base s.«abbrev».now (joined_batches bs) (units_joined s bs all.stay)
 
 -- an entry is of one of the units
 pub unit_below : (s : Sections) (units : List DebugUnit) → StaysAlone s units → (inner : ℕ) (e : Entry)
@@ -135,7 +135,7 @@ same_rules : (P Q : Rule → Type 0) (units : List DebugUnit) (rule : Rule) → 
 same_rules P Q units rule down up = (λ fails. (rule, down fails, omega arith), λ fails firm. up fails)
 
 pub heads_batches : (s : Sections) (bs : List (List DebugUnit)) (Fails : Rules) (Alone : List DebugUnit → Rules)
-    → AreApart s bs
+    → AreBatches s bs
     → FailAlike bs Fails Alone
     → AreOfBatches bs (AtEntries (entries_of (whole s bs)) (AtHead Fails))
     (λ units. AtEntries (entries_of units) (AtHead (Alone units)))
@@ -231,7 +231,7 @@ class_in_place s bs k p is e attribute v rule fails = record {
   only = fails.only;
 }
 
-pub classes_batches : (s : Sections) (bs : List (List DebugUnit)) → AreApart s bs
+pub classes_batches : (s : Sections) (bs : List (List DebugUnit)) → AreBatches s bs
     → AreOfBatches bs (ClassFailures (whole s bs)) ClassFailures
 classes_batches s bs all =
     heads_batches s bs (ClassFails (placed (whole s bs))) (λ units. ClassFails (placed units)) all
@@ -333,7 +333,7 @@ string_in_place s bs k p is e attribute v rule fails =
           attribute v rule both;
     }
 
-pub strings_batches : (s : Sections) (bs : List (List DebugUnit)) → AreApart s bs
+pub strings_batches : (s : Sections) (bs : List (List DebugUnit)) → AreBatches s bs
     → AreOfBatches bs (StringFailures s (whole s bs)) (StringFailures s)
 strings_batches s bs all =
     heads_batches s bs (StringFails s (entries_of (whole s bs)) (placed (whole s bs)))

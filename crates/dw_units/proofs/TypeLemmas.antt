@@ -1,315 +1,168 @@
 -- Shapes and containment: the failures among all are those of each batch alone, and so are cycles.
-use Rattle.std.proofs.Common.{rules, ◌≡◌, ℕ, Bool, subst, ◌+◌, ◌-◌, ◌<◌, ◌≤◌, List, length, map, Some, refl, sym, ap, ◌∙◌, arith}
+use Rattle.std.proofs.Common.{◌≡◌, ℕ, Bool, ◌+◌, ◌-◌, ◌<◌, List, length, map, Some, refl, sym, ap, subst, ◌∙◌, arith}
 use Rattle.std.specs.Prelude.{slice_get, slice_index}
 use Rattle.std.specs.List.{AllByRecursion}
-use Rattle.std.proofs.lemmas.Option.{get_or_from_slice_get, slice_get_within}
+use Rattle.std.proofs.lemmas.Option.{slice_get_within}
 use Rattle.dw_elf.specs.declared.sections.Sections.{Sections}
 use Rattle.dw_entries.specs.Units.{DebugUnit, units_bytes}
-use Rattle.dw_entries.specs.Entries.{Entry, entries_of, placed}
+use Rattle.dw_entries.specs.Entries.{Entry, entries_of}
 use Rattle.dw_entries.specs.Places.{Place, at_entry}
 use Rattle.dw_entries.specs.Failures.{Failure, Precedes, HasNone}
-use Rattle.dw_entries.proofs.Firsts.{same_some}
-use Rattle.dw_links.proofs.Skips.{there}
-use Rattle.dw_types.specs.Entries.{entry_of, no_entry, Facts}
-use Rattle.dw_types.specs.FactsOf.{facts_in}
-use Rattle.dw_types.specs.Graphs.{Graph, IsStep, HasNoCycle}
-use Rattle.dw_types.proofs.StepLemmas.{length-by_value}
-use Rattle.std.proofs.lemmas.List.{get_or_past}
-use Rattle.dw_types.specs.Shapes.{fails_shape, ShapeFailures}
-use Rattle.dw_types.specs.Steps.{by_value}
-use Rattle.dw_types.proofs.FactsLemmas.{facts-get, length-facts_of, facts-parents_first, facts-targets}
-use Rattle.dw_units.specs.Alone.{whole, FollowFrom, StandsAlone}
-use Rattle.dw_units.proofs.MovedEntries.{moved_number, moved, moved_facts, found, get}
-use Rattle.dw_types.specs.TypeFailures.{EntryFailures}
 use Rattle.dw_entries.specs.declared.rule.Rule.{Rule}
 use Rattle.dw_entries.specs.declared.rule.Rule.TheVariants.{ContainsItself}
 use Rattle.dw_entries.specs.declared.fault.Section.TheVariants.{Info}
 use Rattle.dw_entries.specs.declared.fault.Fault.{Fault}
-use Rattle.dw_image.specs.First.{ContainsItselfAt, NamesCycle}
-use Rattle.dw_image.proofs.MeasureLemmas.{cycle_failure, cycle_fails, node_below}
-use Rattle.dw_units.specs.ByUnit.{moved_broken, IsMoved}
-use Rattle.dw_units.proofs.Batches.{PlacedBatch, placed_batches, all_placed, same_batch}
+use Rattle.dw_types.specs.Entries.{entry_in}
+use Rattle.dw_types.specs.Graphs.{HasNoCycle}
+use Rattle.dw_types.specs.Shapes.{fails_shape, ShapeFailures}
+use Rattle.dw_types.specs.Steps.{by_value}
+use Rattle.dw_types.specs.TypeFailures.{EntryFailures}
+use Rattle.dw_types.proofs.StepLemmas.{length-by_value}
+use Rattle.dw_image.specs.FirstFault.{ContainsItselfAt, NamesCycle}
+use Rattle.dw_image.proofs.MeasureLemmas.{cycle_failure, cycle_fails, entry_below, from_below}
+use Rattle.dw_units.specs.IndependentBatches.{whole, FollowFrom, StandsAlone}
+use Rattle.dw_units.specs.ByUnit.{AreBatches, moved_fault, IsMoved}
+use Rattle.dw_units.proofs.BatchLemmas.{PlacedBatch, placed_batches, all_placed}
 use Rattle.dw_units.proofs.FirstLemmas.{moved_place, moved_failure, IsInside, AreOfBatches, none_of_batches}
-use Rattle.dw_units.proofs.TextLemmas.{alone_at, stays_at, each_of, unit_below, entry_inside}
-use Rattle.dw_units.proofs.ReferenceLemmas.{some_moved, Refer, refer_of}
-use Rattle.dw_units.proofs.MovedFacts.{facts_get}
-use Rattle.dw_units.proofs.WindowLemmas.{IsWindow, shape_same, closed_alone, raised, cycle_in_place, cycle_alone, offsets_moved}
+use Rattle.dw_units.proofs.MovedEntries.{moved, found, get}
+use Rattle.dw_units.proofs.TextLemmas.{alone_at, stays_at, each_of, entry_inside}
+use Rattle.dw_units.proofs.ReferenceLemmas.{Refer, refer_of}
+use Rattle.dw_units.proofs.Windows.{window, in_window}
+use Rattle.dw_units.proofs.WindowLemmas.{shape_same, closed_alone, raised, cycle_in_place, cycle_alone, offsets_moved}
 
-pub count_facts : (us : List DebugUnit) → length (facts_in us) ≡ length (entries_of us)
-count_facts us = length-facts_of (entries_of us) (placed us)
+-- ---- failures at entries
 
--- the facts of a batch are a window of all
-pub window : (s : Sections) (bs : List (List DebugUnit)) → Refer s bs → (k : ℕ) (p : PlacedBatch)
-    → slice_get (placed_batches bs) k ≡ Some p → 0 < length (entries_of p.units)
-    → IsWindow (facts_in (whole s bs)) (facts_in p.units) p.first p.at
-window s bs all k p is some = record {
-  within = within;
-  facts = facts;
-  children = children;
-  parents = facts-parents_first p.units;
-  targets = facts-targets p.units;
-}
-  where
-    within : p.first + length (facts_in p.units) ≤ length (facts_in (whole s bs))
-    within =
-        let count = count_facts p.units in
-        let last : length (entries_of p.units) - 1 < length (entries_of p.units) = omega (arith, some) in
-        let (e, is_e) = there (entries_of p.units) (length (entries_of p.units) - 1) last in
-        let below = slice_get_within (entries_of (whole s bs)) (p.first + (length (entries_of p.units) - 1))
-        (moved p.number p.first p.at e)
-        (get s bs k p (length (entries_of p.units) - 1) e is is_e) in
-        omega (arith, below, count, count_facts (whole s bs), some)
+-- the failures are those of a test of each entry, by its number
+pub record AreByTest (entries : List Entry) (Fails : Failure → Type 0) : Type 0 where
+  pub test : ℕ → Rule → Bool
+  pub into : (f : Failure) → Fails f → EntryFailures entries test f
+  pub from : (f : Failure) → EntryFailures entries test f → Fails f
 
-    facts : (inner : ℕ) → inner < length (facts_in p.units)
-        → entry_of (facts_in (whole s bs)) (p.first + inner)
-        ≡ moved_facts p.first p.at (entry_of (facts_in p.units) inner)
-    facts inner inside =
-        let (e, is_e) = there (entries_of p.units) inner (omega (arith, inside, count_facts p.units)) in
-        facts_get s bs all k p is inner e is_e
+-- so are those of a batch alone, by a test that says the same of each entry as that of all
+pub record IsTested (bs : List (List DebugUnit)) (test : ℕ → Rule → Bool) (p : PlacedBatch)
+    (Alone : Failure → Type 0) : Type 0 where
+  pub alone : AreByTest (entries_of p.units) Alone
+  pub same : (inner : ℕ) → inner < length (entries_of p.units) → (rule : Rule)
+      → test (p.first + inner) rule ≡ alone.test inner rule
 
-    children : (i inner : ℕ) → i < length (facts_in (whole s bs)) → inner < length (facts_in p.units)
-        → (entry_of (facts_in (whole s bs)) i).parent ≡ Some (p.first + inner)
-        → (j : ℕ) × (j < length (facts_in p.units)) × (i ≡ p.first + j)
-    children i inner below inside parent =
-        let (e, is_e) = there (entries_of (whole s bs)) i (omega (arith, below, count_facts (whole s bs))) in
-        let f = found s bs i e is_e in
-        let moved_f = facts_get s bs all f.which f.place f.is_place f.inner f.entry f.is_entry in
-        let parent_f : moved_number f.place.first (entry_of (facts_in f.place.units) f.inner).parent
-        ≡ Some (p.first + inner) =
-        sym (ap (λ (x : Facts). x.parent) moved_f)
-        ∙ ap (λ (n : ℕ). (entry_of (facts_in (whole s bs)) n).parent) (sym f.begins)
-        ∙ parent in
-        let (j, is_j, same) = some_moved f.place.first (entry_of (facts_in f.place.units) f.inner).parent
-        (p.first + inner) parent_f in
-        let before = facts-parents_first f.place.units f.inner j is_j in
-        let in_f = slice_get_within (entries_of f.place.units) f.inner f.entry f.is_entry in
-        let (d, is_d) = there (entries_of f.place.units) j (omega (arith, before, in_f)) in
-        let (c, is_c) = there (entries_of p.units) inner (omega (arith, inside, count_facts p.units)) in
-        let one = get s bs f.which f.place j d f.is_place is_d in
-        let two = get s bs k p inner c is is_c in
-        let entry_same : moved f.place.number f.place.first f.place.at d ≡ moved p.number p.first p.at c =
-        same_some (slice_get (entries_of (whole s bs)) (p.first + inner))
-        (moved f.place.number f.place.first f.place.at d)
-        (moved p.number p.first p.at c)
-        (ap (slice_get (entries_of (whole s bs))) (sym same) ∙ one) two in
-        let unit : f.place.number + d.unit ≡ p.number + c.unit = ap (λ (x : Entry). x.unit) entry_same in
-        let (q, is_q, in_d) = unit_below s f.place.units (stays_at s bs f.which f.place all.apart f.is_place) j d is_d
-        in
-        let (r, is_r, in_c) = unit_below s p.units (stays_at s bs k p all.apart is) inner c is_c in
-        let here : f.place ≡ p = same_batch 0 0 0 bs f.which k f.place p f.is_place is (p.number + c.unit)
-        (omega (arith, unit)) (omega (arith, unit, in_d)) (omega arith) (omega (arith, in_c)) in
-        let first : f.place.first ≡ p.first = ap (λ (b : PlacedBatch). b.first) here in
-        let long : length (entries_of f.place.units) ≡ length (entries_of p.units) =
-        ap (λ (b : PlacedBatch). length (entries_of b.units)) here in
-        let begins = f.begins in
-        (f.inner, omega (arith, in_f, long, count_facts p.units), omega (arith, begins, first))
-
--- where an entry among all is
-pub record IsInWindow (s : Sections) (bs : List (List DebugUnit)) (i : ℕ) : Type 0 where
-  pub which : ℕ
-  pub p : PlacedBatch
-  pub is : slice_get (placed_batches bs) which ≡ Some p
-  pub inner : ℕ
-  pub inside : inner < length (facts_in p.units)
-  pub begins : i ≡ p.first + inner
-  pub window : IsWindow (facts_in (whole s bs)) (facts_in p.units) p.first p.at
-
-pub in_window : (s : Sections) (bs : List (List DebugUnit)) → Refer s bs → (i : ℕ)
-    → i < length (facts_in (whole s bs)) → IsInWindow s bs i
-in_window s bs all i below =
-    let (e, is_e) = there (entries_of (whole s bs)) i (omega (arith, below, count_facts (whole s bs))) in
-    let f = found s bs i e is_e in
-    let in_f = slice_get_within (entries_of f.place.units) f.inner f.entry f.is_entry in
-    record {
-      which = f.which;
-      p = f.place;
-      is = f.is_place;
-      inner = f.inner;
-      inside = omega (arith, in_f, count_facts f.place.units);
-      begins = f.begins;
-      window = window s bs all f.which f.place f.is_place (omega (arith, in_f));
-    }
-
--- ---- failures at entries, by their facts
-
-item_is : (facts : List Facts) (k : ℕ) (x : Facts) → slice_get facts k ≡ Some x → entry_of facts k ≡ x
-item_is facts k x is = get_or_from_slice_get facts k x no_entry is
-
-module _ (s : Sections) (bs : List (List DebugUnit)) (all : Refer s bs) (k : ℕ) (p : PlacedBatch)
-    (is : slice_get (placed_batches bs) k ≡ Some p)
-    (Fails Alone : ℕ → Rule → Bool)
-    (alike : (inner : ℕ) → inner < length (facts_in p.units) → (rule : Rule)
-    → Fails (p.first + inner) rule ≡ Alone inner rule) where
-  some_entries : (inner : ℕ) → inner < length (facts_in p.units)
-      → IsWindow (facts_in (whole s bs)) (facts_in p.units) p.first p.at
-  some_entries inner inside = window s bs all k p is (omega (arith, inside, count_facts p.units))
-
-  -- where a failure in the batch's place is one of the batch alone
-  pub fact_down : (inner : ℕ) → inner < length (facts_in p.units)
-      → (f : Failure) (fails : EntryFailures (facts_in (whole s bs)) Fails f)
-      → fails.number ≡ p.first + inner
-      → (g : Failure) × EntryFailures (facts_in p.units) Alone g × (moved_failure p.at g ≡ f)
-  fact_down inner inside f fails begins =
-      let w = some_entries inner inside in
-      let (item, is_item) = there (facts_in p.units) inner inside in
-      let offset : p.at + item.offset ≡ fails.item.offset =
-      ap (λ (x : Facts). p.at + x.offset) (sym (item_is (facts_in p.units) inner item is_item))
-      ∙ sym (ap (λ (x : Facts). x.offset) (w.facts inner inside))
-      ∙ ap (λ (n : ℕ). (entry_of (facts_in (whole s bs)) n).offset) (sym begins)
-      ∙ ap (λ (x : Facts). x.offset) (item_is (facts_in (whole s bs)) fails.number fails.item fails.is_item) in (
-        record { rule = f.rule; place = at_entry item.offset; attribute = f.attribute },
-        record {
-          number = inner;
-          item = item;
-          is_item = is_item;
-          fails = record {
-            stands = refl;
-            attribute = fails.fails.attribute;
-            fails = sym (alike inner inside f.rule) ∙ ap (λ (n : ℕ). Fails n f.rule) (sym begins) ∙ fails.fails.fails;
-          };
-        },
-        ap (λ (q : Place). record { rule = f.rule; place = q; attribute = f.attribute })
-            (ap at_entry offset ∙ sym fails.fails.stands),
-      )
-
-  pub fact_up : (g : Failure) → EntryFailures (facts_in p.units) Alone g
-      → EntryFailures (facts_in (whole s bs)) Fails (moved_failure p.at g)
-  fact_up g fails =
-      let inside = slice_get_within (facts_in p.units) fails.number fails.item fails.is_item in
-      let w = some_entries fails.number inside in
-      let within = w.within in
-      let (item, is_item) = there (facts_in (whole s bs)) (p.first + fails.number) (omega (arith, within, inside)) in
-      let offset : p.at + fails.item.offset ≡ item.offset =
-      ap (λ (x : Facts). p.at + x.offset) (sym (item_is (facts_in p.units) fails.number fails.item fails.is_item))
-      ∙ sym (ap (λ (x : Facts). x.offset) (w.facts fails.number inside))
-      ∙ ap (λ (x : Facts). x.offset) (item_is (facts_in (whole s bs)) (p.first + fails.number) item is_item) in
+pub entries_batches : (s : Sections) (bs : List (List DebugUnit)) (Fails : Failure → Type 0)
+    (Alone : List DebugUnit → Failure → Type 0) → AreBatches s bs
+    → (all : AreByTest (entries_of (whole s bs)) Fails)
+    → ((k : ℕ) (p : PlacedBatch) → slice_get (placed_batches bs) k ≡ Some p → IsTested bs all.test p (Alone p.units))
+    → AreOfBatches bs Fails Alone
+entries_batches s bs Fails Alone apart all tested = record {
+  down = λ f fails.
+      let here = all.into f fails in
+      let i = found s bs here.number here.item here.is_item in
+      let batch = tested i.which i.place i.is_place in
+      let inside = slice_get_within (entries_of i.place.units) i.inner i.entry i.is_entry in
+      let g : Failure = record { rule = f.rule; place = at_entry i.entry.at; attribute = f.attribute } in
+      let moved_is : moved_failure i.place.at g ≡ f =
+      ap (λ (q : Place). record { rule = f.rule; place = q; attribute = f.attribute })
+      (ap (λ (e : Entry). at_entry e.at) i.same ∙ sym here.fails.stands) in
       record {
-        number = p.first + fails.number;
-        item = item;
-        is_item = is_item;
+        which = i.which;
+        place = i.place;
+        is_place = i.is_place;
+        failure = g;
+        fails =
+            batch.alone.from g (record {
+              number = i.inner;
+              item = i.entry;
+              is_item = i.is_entry;
+              fails = record {
+                stands = refl;
+                attribute = here.fails.attribute;
+                fails = sym (batch.same i.inner inside f.rule) ∙ ap (λ (n : ℕ). all.test n f.rule) (sym i.begins)
+                    ∙ here.fails.fails;
+              };
+            });
+        early = λ h. subst (λ (x : Failure). Precedes x h) (sym moved_is);
+      };
+  up = λ k p is g fails firm.
+      let batch = tested k p is in
+      let here = batch.alone.into g fails in
+      let inside = slice_get_within (entries_of p.units) here.number here.item here.is_item in
+      all.from (moved_failure p.at g) (record {
+        number = p.first + here.number;
+        item = moved p.number p.first p.at here.item;
+        is_item = get s bs k p here.number here.item is here.is_item;
         fails = record {
-          stands = ap (moved_place p.at) fails.fails.stands ∙ ap at_entry offset;
-          attribute = fails.fails.attribute;
-          fails = alike fails.number inside g.rule ∙ fails.fails.fails;
+          stands = ap (moved_place p.at) here.fails.stands;
+          attribute = here.fails.attribute;
+          fails = batch.same here.number inside g.rule ∙ here.fails.fails;
         };
-      }
-
-  pub fact_inside : (g : Failure) → EntryFailures (facts_in p.units) Alone g
-      → IsInside (length (units_bytes p.units)) g.place
-  fact_inside g fails =
-      let inside = slice_get_within (facts_in p.units) fails.number fails.item fails.is_item in
-      let (e, is_e) = there (entries_of p.units) fails.number (omega (arith, inside, count_facts p.units))
-      in
-      let offset : e.at ≡ fails.item.offset =
-      sym (ap (λ (x : Facts). x.offset)
-      (facts-get (entries_of p.units) (placed p.units) fails.number e is_e))
-      ∙ ap (λ (x : Facts). x.offset) (item_is (facts_in p.units) fails.number fails.item fails.is_item) in
-      let below = entry_inside s.«abbrev».now p.units fails.number e (stays_at s bs k p all.apart is).are is_e in
-      subst (IsInside (length (units_bytes p.units))) (sym fails.fails.stands) (omega (arith, below, offset))
+      });
+  inside = λ k p is g fails.
+      let here = (tested k p is).alone.into g fails in
+      subst (IsInside (length (units_bytes p.units))) (sym here.fails.stands)
+      (entry_inside s.«abbrev».now p.units here.number here.item (stays_at s bs k p apart is).are here.is_item);
+}
 
 -- ---- shapes
 
+abbrev by_shape : (us : List DebugUnit) → AreByTest (entries_of us) (ShapeFailures us)
+by_shape us = record { test = fails_shape us; into = λ f fails. fails; from = λ f fails. fails }
+
 pub shapes_batches : (s : Sections) (bs : List (List DebugUnit)) → Refer s bs
-    → AreOfBatches bs (ShapeFailures (facts_in (whole s bs))) (λ units. ShapeFailures (facts_in units))
-shapes_batches s bs all = record {
-  down = λ f fails.
-      let w = in_window s bs all fails.number
-      (slice_get_within (facts_in (whole s bs)) fails.number fails.item fails.is_item) in
-      let (g, alone, same) = fact_down s bs all w.which w.p w.is (fails_shape (facts_in (whole s bs)))
-      (fails_shape (facts_in w.p.units))
-      (shape_same (facts_in (whole s bs)) (facts_in w.p.units) w.p.first w.p.at w.window) w.inner w.inside f fails
-      w.begins
-      in
-      record {
-        which = w.which;
-        place = w.p;
-        is_place = w.is;
-        failure = g;
-        fails = alone;
-        early = λ h. subst (λ (x : Failure). Precedes x h) (sym same);
-      };
-  up =
-      λ k p is g fails firm. fact_up s bs all k p is (fails_shape (facts_in (whole s bs)))
-      (fails_shape (facts_in p.units)) (alike k p is) g fails;
-  inside =
-      λ k p is g fails. fact_inside s bs all k p is (fails_shape (facts_in (whole s bs)))
-      (fails_shape (facts_in p.units)) (alike k p is) g fails;
-}
-  where
-    alike : (k : ℕ) (p : PlacedBatch) → slice_get (placed_batches bs) k ≡ Some p → (inner : ℕ)
-        → inner < length (facts_in p.units) → (rule : Rule)
-        → fails_shape (facts_in (whole s bs)) (p.first + inner) rule ≡ fails_shape (facts_in p.units) inner rule
-    alike k p is inner inside rule =
-        shape_same (facts_in (whole s bs)) (facts_in p.units) p.first p.at
-        (window s bs all k p is (omega (arith, inside, count_facts p.units))) inner inside rule
+    → AreOfBatches bs (ShapeFailures (whole s bs)) ShapeFailures
+shapes_batches s bs all =
+    entries_batches s bs (ShapeFailures (whole s bs)) ShapeFailures all.apart (by_shape (whole s bs))
+    (λ k p is. record { alone = by_shape p.units; same = shape_same (whole s bs) p (window s bs all k p is) })
 
 pub shapes_join : (s : Sections) (bs : List (List DebugUnit)) → AllByRecursion (StandsAlone s) bs
     → FollowFrom s.base bs
-    → HasNone (ShapeFailures (facts_in (whole s bs)))
+    → HasNone (ShapeFailures (whole s bs))
 shapes_join s bs all follow =
-    none_of_batches bs (ShapeFailures (facts_in (whole s bs))) (λ units. ShapeFailures (facts_in units))
-    (shapes_batches s bs (refer_of s bs all follow))
-    (each_of (StandsAlone s) (λ units. HasNone (ShapeFailures (facts_in units))) bs (λ units one. one.shapes) all)
+    none_of_batches bs (ShapeFailures (whole s bs)) ShapeFailures (shapes_batches s bs (refer_of s bs all follow))
+    (each_of (StandsAlone s) (λ units. HasNone (ShapeFailures units)) bs (λ units one. one.shapes) all)
 
 -- ---- containment
 
-from_below : (graph : Graph) (from to : ℕ) → IsStep graph from to → from < length graph
-from_below graph from to step = search (rules, get_or_past)
-
 pub contained_join : (s : Sections) (bs : List (List DebugUnit)) → AllByRecursion (StandsAlone s) bs
     → FollowFrom s.base bs
-    → HasNoCycle (by_value (facts_in (whole s bs)))
+    → HasNoCycle (by_value (whole s bs))
 contained_join s bs all follow nodes closed =
     let two = closed.two in
-    let long = length-by_value (facts_in (whole s bs)) in
-    let below = from_below (by_value (facts_in (whole s bs))) (slice_index nodes 0) (slice_index nodes 1)
+    let long = length-by_value (whole s bs) in
+    let below = from_below (by_value (whole s bs)) (slice_index nodes 0) (slice_index nodes 1)
     (closed.steps 0 (omega (arith, two))) in
     let w = in_window s bs (refer_of s bs all follow) (slice_index nodes 0) (omega (arith, below, long)) in
     (alone_at s bs w.which w.p all w.is).contained (map (λ (n : ℕ). n - w.p.first) nodes)
-    (closed_alone (facts_in (whole s bs)) (facts_in w.p.units) w.p.first w.p.at w.window nodes closed w.inner w.inside
-    w.begins)
+    (closed_alone (whole s bs) w.p w.window nodes closed w.inner w.inside w.begins)
 
 -- the cycle among all that is one of the failing batch
 pub cycle_batches : (s : Sections) (bs : List (List DebugUnit)) → Refer s bs
     → (k : ℕ) (p : PlacedBatch) → slice_get (placed_batches bs) k ≡ Some p
-    → (alone fault : Fault) → IsMoved p.at alone fault → NamesCycle (facts_in p.units) alone
-    → NamesCycle (facts_in (whole s bs)) fault
+    → (alone fault : Fault) → IsMoved p.at alone fault → NamesCycle p.units alone
+    → NamesCycle (whole s bs) fault
 cycle_batches s bs all k p is alone fault there_is names =
-    let cycle = names.is_cycle in
-    let two = cycle.closed.two in
-    let long = length-by_value (facts_in p.units) in
-    let inside = λ (j : ℕ) (below : j < length names.nodes).
-    (let here = node_below (by_value (facts_in p.units)) names.nodes cycle j below in
-    let e : slice_index names.nodes j < length (facts_in p.units) = omega (arith, here, long) in e) in
-    let w = window s bs all k p is
-    (let some = inside 0 (omega (arith, two)) in omega (arith, some, count_facts p.units)) in
-    let begins = raised (facts_in (whole s bs)) (facts_in p.units) p.first p.at w names.nodes 0 (omega (arith, two)) in
-    let offset : p.at + (entry_of (facts_in p.units) (slice_index names.nodes 0)).offset
-    ≡ (entry_of (facts_in (whole s bs)) (slice_index (map (λ (n : ℕ). p.first + n) names.nodes) 0)).offset =
-    sym (ap (λ (x : Facts). x.offset) (w.facts (slice_index names.nodes 0) (inside 0 (omega (arith, two)))))
-    ∙ ap (λ (n : ℕ). (entry_of (facts_in (whole s bs)) n).offset) (sym begins) in
+    let two = names.is_cycle.closed.two in
+    let inside = entry_below p.units names.nodes names.is_cycle in
+    let w = window s bs all k p is in
+    let begins = raised (whole s bs) p w names.nodes 0 (omega (arith, two)) in
+    let offset : p.at + (entry_in p.units (slice_index names.nodes 0)).at
+    ≡ (entry_in (whole s bs) (slice_index (map (λ (n : ℕ). p.first + n) names.nodes) 0)).at =
+    sym (ap (λ (e : Entry). e.at) (w.entries (slice_index names.nodes 0) (inside 0 (omega (arith, two)))))
+    ∙ ap (λ (n : ℕ). (entry_in (whole s bs) n).at) (sym begins) in
     record {
       nodes = map (λ (n : ℕ). p.first + n) names.nodes;
-      is_cycle = cycle_in_place (facts_in (whole s bs)) (facts_in p.units) p.first p.at w names.nodes cycle inside;
-      named = there_is.broken ∙ ap (moved_broken p.at) names.named
+      is_cycle = cycle_in_place (whole s bs) p w names.nodes names.is_cycle inside;
+      named = there_is.broken ∙ ap (moved_fault p.at) names.named
           ∙ ap (λ (n : ℕ). record { rule = ContainsItself; section = Info; at = n; attribute = 0 }) offset;
       cycle = there_is.cycle ∙ ap (map (λ (offset : ℕ). p.at + offset)) names.cycle
-          ∙ offsets_moved (facts_in (whole s bs)) (facts_in p.units) p.first p.at w names.nodes inside;
+          ∙ offsets_moved (whole s bs) p w names.nodes inside;
     }
 
 -- without a cycle of a batch there is none
 pub no_cycle_batches : (s : Sections) (bs : List (List DebugUnit)) → Refer s bs
-    → AllByRecursion (λ units. HasNone (ContainsItselfAt (facts_in units))) bs
-    → HasNone (ContainsItselfAt (facts_in (whole s bs)))
+    → AllByRecursion (λ units. HasNone (ContainsItselfAt units)) bs
+    → HasNone (ContainsItselfAt (whole s bs))
 no_cycle_batches s bs all none f fails =
-    let cycle = fails.is_cycle in
-    let two = cycle.closed.two in
-    let long = length-by_value (facts_in (whole s bs)) in
-    let below = node_below (by_value (facts_in (whole s bs))) fails.nodes cycle 0 (omega (arith, two)) in
-    let w = in_window s bs all (slice_index fails.nodes 0) (omega (arith, below, long)) in
-    let lone = cycle_alone (facts_in (whole s bs)) (facts_in w.p.units) w.p.first w.p.at w.window fails.nodes cycle
-    w.inner
-    w.inside w.begins in
+    let two = fails.is_cycle.closed.two in
+    let below = entry_below (whole s bs) fails.nodes fails.is_cycle 0 (omega (arith, two)) in
+    let w = in_window s bs all (slice_index fails.nodes 0) below in
+    let lone = cycle_alone (whole s bs) w.p w.window fails.nodes fails.is_cycle w.inner w.inside w.begins in
     let lowered : List ℕ = map (λ (n : ℕ). n - w.p.first) fails.nodes in
-    all_placed (λ units. HasNone (ContainsItselfAt (facts_in units))) 0 0 0 bs w.which w.p none w.is
-    (cycle_failure (facts_in w.p.units) lowered) (cycle_fails (facts_in w.p.units) lowered lone)
+    all_placed (λ units. HasNone (ContainsItselfAt units)) 0 0 0 bs w.which w.p none w.is
+    (cycle_failure w.p.units lowered) (cycle_fails w.p.units lowered lone)

@@ -1,21 +1,31 @@
--- Children and sizes in a window are those of the entries alone.
-use Rattle.std.proofs.Common.{rules, ◌≡◌, ℕ, ◌+◌, ◌-◌, zero, suc, ◌<◌, ◌≤◌, Bool, true, false, List, [], ◌∷◌, ◌++◌, length, map, filter, Option, Some, None, refl, ap, ◌∙◌, arith, append-nil}
-use Rattle.std.specs.Prelude.{if◌then◌else◌, not, ◌&&◌, ◌||◌}
-use Rattle.std.specs.List.{AllByRecursion, list_any, range_with_len}
+-- Children and sizes in a window are those of the batch alone.
+use Rattle.std.proofs.Common.{rules, ◌≡◌, ℕ, ◌+◌, ◌-◌, zero, suc, ◌<◌, ◌≤◌, Bool, false, List, [], ◌∷◌, ◌++◌, length, map, filter, Option, Some, None, refl, ap, ◌∙◌, arith, append-nil}
+use Rattle.std.specs.Prelude.{if◌then◌else◌, ◌||◌, All}
+use Rattle.std.specs.List.{list_any, range_with_len}
+use Rattle.std.proofs.lemmas.Bool.{false_from_ne_true}
 use Rattle.std.proofs.lemmas.List.Elements.{filter-append}
+use Rattle.dw_forms.specs.Codes.{DW_AT_signature, DW_AT_type}
 use Rattle.dw_entries.specs.declared.rule.Rule.{Rule}
-use Rattle.dw_entries.specs.declared.rule.Rule.TheVariants.{MemberOutside, EnumSize}
+use Rattle.dw_entries.specs.declared.rule.Rule.TheVariants.{NoSize, SizeTooGreat, MemberOutside, EnumSize}
+use Rattle.dw_entries.specs.Entries.{Entry, entries_of}
+use Rattle.dw_entries.specs.Units.{DebugUnit}
+use Rattle.dw_links.specs.Constants.{natural_of}
 use Rattle.dw_types.specs.declared.kind.Kind.{Kind}
 use Rattle.dw_types.specs.declared.kind.Kind.TheVariants.{Declared, OwnSized, Pointer, Alias, Enumeration, Array, Subroutine, NoType}
-use Rattle.dw_types.specs.Constants.{is_present, natural_of}
-use Rattle.dw_types.specs.Entries.{entry_of, is_child, children, entry_numbers, Facts, byte_size}
-use Rattle.dw_types.specs.Kinds.{kind_of, parent_role, is_enumeration, Role}
-use Rattle.dw_types.specs.Shapes.{stands_alone}
+use Rattle.dw_types.specs.Children.{children_of, is_child, is_parent, IsChildOf}
+use Rattle.dw_types.specs.Entries.{byte_size, entry_in, signature_target, type_target}
+use Rattle.dw_types.specs.Extents.{ends_past_container}
+use Rattle.dw_types.specs.Kinds.{is_subrange, kind_of}
 use Rattle.dw_types.specs.SizeTables.{Size}
-use Rattle.dw_types.specs.Sizes.{is_subrange, product_of, factor_of, element_count, parts_of, size_to, constant_or, array_size, size_of_kind, size_line}
-use Rattle.dw_types.specs.SizeFaults.{breaks_size, fails_size, differ}
-use Rattle.dw_units.proofs.MovedEntries.{moved_number, moved_facts}
-use Rattle.dw_units.proofs.WindowLemmas.{IsWindow, role_same, parent_of_moved, parent_is, some_of_moved}
+use Rattle.dw_types.specs.Sizes.{array_size, element_count, elements_by, factor_of, product_of, size_line, size_of_kind, size_to}
+use Rattle.dw_types.specs.SizeFaults.{fails_size, has_no_size}
+use Rattle.dw_links.proofs.TableLemmas.{target_within}
+use Rattle.dw_types.proofs.SiblingLemmas.{children-all, parent_is, parent-first}
+use Rattle.dw_units.proofs.BatchLemmas.{PlacedBatch}
+use Rattle.dw_units.proofs.MovedEntries.{moved_number, moved}
+use Rattle.dw_units.proofs.ReferenceLemmas.{eqb_moved}
+use Rattle.dw_units.proofs.Windows.{IsWindow}
+use Rattle.dw_units.proofs.WindowLemmas.{plain_same, count_same, has_target_same}
 
 -- ---- lists of numbers
 
@@ -28,10 +38,6 @@ range_split (suc n) m a k is =
     ∙ ap (λ (xs : List ℕ). a ∷ xs)
     (range_split n m (a + 1) (n + m) refl ∙ ap (λ (b : ℕ). range_with_len (a + 1) n ++ range_with_len b m) next)
 
-range_moved : (first n a b : ℕ) → b ≡ first + a → range_with_len b n ≡ map (λ (k : ℕ). first + k) (range_with_len a n)
-range_moved first zero a b is = refl
-range_moved first (suc n) a b is = search (rules, (range_moved first n (a + 1) (b + 1) (omega (arith, is))))
-
 filter_none : (P : ℕ → Bool) (n a : ℕ) → ((k : ℕ) → a ≤ k → k < a + n → P k ≡ false)
     → filter P (range_with_len a n) ≡ []
 filter_none P zero a none = refl
@@ -40,60 +46,54 @@ filter_none P (suc n) a none =
     let rest = filter_none P n (a + 1) (λ k low high. none k (omega (arith, low)) (omega (arith, high))) in
     rw here rest
 
-all_range : (n a m : ℕ) → a + n ≤ m → AllByRecursion (λ (k : ℕ). k < m) (range_with_len a n)
-all_range zero a m within = tt
-all_range (suc n) a m within = (omega (arith, within), all_range n (a + 1) m (omega (arith, within)))
+filter_moved : (first : ℕ) (P Q : ℕ → Bool) (n a b : ℕ) → b ≡ first + a
+    → ((k : ℕ) → a ≤ k → k < a + n → P (first + k) ≡ Q k)
+    → filter P (range_with_len b n) ≡ map (λ (k : ℕ). first + k) (filter Q (range_with_len a n))
+filter_moved first P Q zero a b is same = refl
+filter_moved first P Q (suc n) a b is same =
+    let here = same a (omega arith) (omega arith) in
+    let rest = filter_moved first P Q n (a + 1) (b + 1) (omega (arith, is))
+    (λ k low high. same k (omega (arith, low)) (omega (arith, high))) in
+    search (rules, is, here, rest)
 
-all_filter : (P : ℕ → Bool) (m : ℕ) (xs : List ℕ) → AllByRecursion (λ (k : ℕ). k < m) xs
-    → AllByRecursion (λ (k : ℕ). k < m) (filter P xs)
-all_filter P m [] all = tt
-all_filter P m (x ∷ xs) (one, more) = search (rules, (all_filter P m xs more))
+parent_of_moved : (first : ℕ) (o : Option ℕ) (node : ℕ)
+    → is_parent (moved_number first o) (first + node) ≡ is_parent o node
+parent_of_moved first o node = search (rules, eqb_moved)
 
-module _ (first m : ℕ) where
-  filter_moved : (P Q : ℕ → Bool) (xs : List ℕ) → AllByRecursion (λ (k : ℕ). k < m) xs
-      → ((k : ℕ) → k < m → P (first + k) ≡ Q k)
-      → filter P (map (λ (k : ℕ). first + k) xs) ≡ map (λ (k : ℕ). first + k) (filter Q xs)
-  filter_moved P Q [] all same = refl
-  filter_moved P Q (x ∷ xs) (one, more) same = search (rules, (filter_moved P Q xs more same))
+-- whether a member ends past its container does not depend on its place
+past_moved : (number first at : ℕ) (container : Size) (e : Entry) (size : Size)
+    → ends_past_container container (moved number first at e) size ≡ ends_past_container container e size
+past_moved number first at None e size = refl
+past_moved number first at (Some n) e size = refl
 
--- the number of elements of an array reads nothing that differs
-elements_moved : (first at : ℕ) (parts : List Facts)
-    → element_count (map (moved_facts first at) parts) ≡ element_count parts
-elements_moved first at parts = λ i. if subranges parts i then product_of (factors parts i) else None
-  where
-    subranges : (parts : List Facts)
-        → list_any is_subrange (map (moved_facts first at) parts) ≡ list_any is_subrange parts
-    subranges [] = refl
-    subranges (part ∷ parts) = ap (λ (b : Bool). is_subrange part || b) (subranges parts)
+module _ (all : List DebugUnit) (p : PlacedBatch) (w : IsWindow all p) where
+  -- ---- children
 
-    factors : (parts : List Facts) → map factor_of (map (moved_facts first at) parts) ≡ map factor_of parts
-    factors [] = refl
-    factors (part ∷ parts) = ap (λ (sizes : List Size). factor_of part ∷ sizes) (factors parts)
+  child_moved : (inner k : ℕ) → k < length (entries_of p.units)
+      → is_child (entries_of all) (p.first + inner) (p.first + k) ≡ is_child (entries_of p.units) inner k
+  child_moved inner k within =
+      ap (λ (e : Entry). is_parent e.parent (p.first + inner)) (w.entries k within)
+      ∙ parent_of_moved p.first (entry_in p.units k).parent inner
 
-false_unless : (b : Bool) → (b ≡ true → ⊥) → b ≡ false
-false_unless true never = absurd (never refl)
-false_unless false never = refl
-
--- ---- children
-
-module _ (all alone : List Facts) (first at : ℕ) (w : IsWindow all alone first at) where
-  child_moved : (inner k : ℕ) → k < length alone → is_child all (first + inner) (first + k) ≡ is_child alone inner k
-  child_moved inner k within = search (rules, parent_of_moved)
-
-  no_child : (inner k : ℕ) → inner < length alone → k < length all → ((j : ℕ) → j < length alone → k ≡ first + j → ⊥)
-      → is_child all (first + inner) k ≡ false
+  no_child : (inner k : ℕ) → inner < length (entries_of p.units) → k < length (entries_of all)
+      → ((j : ℕ) → j < length (entries_of p.units) → k ≡ p.first + j → ⊥)
+      → is_child (entries_of all) (p.first + inner) k ≡ false
   no_child inner k inside below outside =
-      false_unless (is_child all (first + inner) k) (λ yes.
-      let (j, within, here) = w.children k inner below inside (parent_is (entry_of all k).parent (first + inner) yes) in
+      false_from_ne_true (is_child (entries_of all) (p.first + inner) k) (λ yes.
+      let (j, within, here) = w.children k inner below inside
+      (parent_is (entry_in all k).parent (p.first + inner) yes) in
       outside j within here)
 
-  pub children_moved : (inner : ℕ) → inner < length alone
-      → children all (first + inner) ≡ map (λ (k : ℕ). first + k) (children alone inner)
+  children_moved : (inner : ℕ) → inner < length (entries_of p.units)
+      → children_of (entries_of all) (p.first + inner)
+      ≡ map (λ (k : ℕ). p.first + k) (children_of (entries_of p.units) inner)
+  unfolding children_of
   children_moved inner inside =
-      let within = w.within in
-      let n : ℕ = length alone in
-      let rest : ℕ = length all - (first + length alone) in
-      let P : ℕ → Bool = is_child all (first + inner) in
+      let first : ℕ = p.first in
+      let n : ℕ = length (entries_of p.units) in
+      let rest : ℕ = length (entries_of all) - (first + n) in
+      let within = w.within (n - 1) (omega (arith, inside)) in
+      let P : ℕ → Bool = is_child (entries_of all) (first + inner) in
       let before : filter P (range_with_len 0 first) ≡ [] =
       filter_none P first 0 (λ k low high. no_child inner k inside (omega (arith, high, within))
       (λ j j_in is. omega (arith, is, high))) in
@@ -101,105 +101,108 @@ module _ (all alone : List Facts) (first at : ℕ) (w : IsWindow all alone first
       filter_none P rest (0 + first + n)
       (λ k low high. no_child inner k inside (omega (arith, high, within))
       (λ j j_in is. omega (arith, is, low, j_in))) in
-      let middle : filter P (range_with_len (0 + first) n) ≡ map (λ (k : ℕ). first + k) (children alone inner) =
-      ap (filter P) (range_moved first n 0 (0 + first) (omega arith))
-      ∙ filter_moved first n P (is_child alone inner) (range_with_len 0 n) (all_range n 0 n (omega arith))
-      (λ k k_in. child_moved inner k k_in) in
+      let middle : filter P (range_with_len (0 + first) n)
+      ≡ map (λ (k : ℕ). first + k) (children_of (entries_of p.units) inner) =
+      filter_moved first P (is_child (entries_of p.units) inner) n 0 (0 + first) (omega arith)
+      (λ k low high. child_moved inner k (omega (arith, high))) in
       rw (
-        range_split first (n + rest) 0 (length all) (omega (arith, within)),
-        range_split n rest (0 + first) (n + rest)
-            refl,
+        range_split first (n + rest) 0 (length (entries_of all)) (omega (arith, within, inside)),
+        range_split n rest (0 + first) (n + rest) refl,
       )
       (simp (filter-append, before, behind, middle, append-nil))
 
-  children_below : (inner : ℕ) → AllByRecursion (λ (k : ℕ). k < length alone) (children alone inner)
-  children_below inner =
-      all_filter (is_child alone inner) (length alone) (entry_numbers alone)
-      (all_range (length alone) 0 (length alone) (omega arith))
+  -- ---- the number of elements of an array
 
-  facts_moved : (ks : List ℕ) → AllByRecursion (λ (k : ℕ). k < length alone) ks
-      → map (entry_of all) (map (λ (k : ℕ). first + k) ks) ≡ map (moved_facts first at) (map (entry_of alone) ks)
-  facts_moved [] below = refl
-  facts_moved (k ∷ ks) (one, more) = λ i. w.facts k one i ∷ facts_moved ks more i
+  factor_same : (k : ℕ) → k < length (entries_of p.units) → factor_of all (p.first + k) ≡ factor_of p.units k
+  factor_same k within = rw (count_same all p w k within, w.entries k within) refl
 
-  elements_same : (inner : ℕ) → inner < length alone
-      → element_count (parts_of all (first + inner)) ≡ element_count (parts_of alone inner)
-  elements_same inner inside = search (rules, elements_moved, children_moved, children_below, facts_moved)
+  module _ (inner : ℕ) where
+    subranges_same : (ks : List ℕ) → All (IsChildOf (entries_of p.units) inner) ks
+        → list_any (λ child. is_subrange (entry_in all child)) (map (λ (k : ℕ). p.first + k) ks)
+        ≡ list_any (λ child. is_subrange (entry_in p.units child)) ks
+    subranges_same [] are = refl
+    subranges_same (k ∷ ks) are =
+        let here = w.entries k (are 0 k (omega arith)).0 in
+        let more = subranges_same ks (λ j d below. are (suc j) d (omega (arith, below))) in
+        λ i. is_subrange (here i) || more i
 
-  -- ---- sizes, by a table of all and one of the entries alone that agree
+    factors_same : (ks : List ℕ) → All (IsChildOf (entries_of p.units) inner) ks
+        → map (factor_of all) (map (λ (k : ℕ). p.first + k) ks) ≡ map (factor_of p.units) ks
+    factors_same [] are = refl
+    factors_same (k ∷ ks) are =
+        let here = factor_same k (are 0 k (omega arith)).0 in
+        let more = factors_same ks (λ j d below. are (suc j) d (omega (arith, below))) in
+        λ i. here i ∷ more i
 
-  module _ (table lone : ℕ → Size) (agree : (k : ℕ) → k < length alone → table (first + k) ≡ lone k) where
-    to_moved : (o : Option ℕ) → ((k : ℕ) → o ≡ Some k → k < length alone)
-        → size_to table (moved_number first o) ≡ size_to lone o
+  elements_same : (inner : ℕ) → inner < length (entries_of p.units)
+      → element_count all (p.first + inner) ≡ element_count p.units inner
+  elements_same inner inside =
+      let ks = children_of (entries_of p.units) inner in
+      let are = children-all (entries_of p.units) inner in
+      ap (elements_by all) (children_moved inner inside)
+      ∙ (λ i. if subranges_same inner ks are i then product_of (factors_same inner ks are i) else None)
+
+  -- ---- sizes, by a table of all and one of the batch alone that agree
+
+  module _ (table lone : ℕ → Size)
+      (agree : (k : ℕ) → k < length (entries_of p.units) → table (p.first + k) ≡ lone k) where
+    to_moved : (o : Option ℕ) → ((k : ℕ) → o ≡ Some k → k < length (entries_of p.units))
+        → size_to table (moved_number p.first o) ≡ size_to lone o
     to_moved None below = refl
     to_moved (Some k) below = agree k (below k refl)
 
-    type_moved : (inner : ℕ) → inner < length alone → size_to table (entry_of all (first + inner)).type_target
-        ≡ size_to lone (entry_of alone inner).type_target
+    type_moved : (inner : ℕ) → inner < length (entries_of p.units)
+        → size_to table (type_target all (p.first + inner)) ≡ size_to lone (type_target p.units inner)
     type_moved inner inside =
-        ap (λ (f : Facts). size_to table f.type_target) (w.facts inner inside)
-        ∙ to_moved (entry_of alone inner).type_target (λ k is. (w.targets inner k).0 is)
+        ap (size_to table) (w.targets inner DW_AT_type inside)
+        ∙ to_moved (type_target p.units inner) (target_within _ _ _ _)
 
-    signature_moved : (inner : ℕ) → inner < length alone → size_to table (entry_of all (first + inner)).signature_target
-        ≡ size_to lone (entry_of alone inner).signature_target
+    signature_moved : (inner : ℕ) → inner < length (entries_of p.units)
+        → size_to table (signature_target all (p.first + inner)) ≡ size_to lone (signature_target p.units inner)
     signature_moved inner inside =
-        ap (λ (f : Facts). size_to table f.signature_target) (w.facts inner inside)
-        ∙ to_moved (entry_of alone inner).signature_target (λ k is. (w.targets inner k).1 is)
+        ap (size_to table) (w.targets inner DW_AT_signature inside)
+        ∙ to_moved (signature_target p.units inner) (target_within _ _ _ _)
 
-    parent_moved : (inner : ℕ) → inner < length alone → size_to table (entry_of all (first + inner)).parent
-        ≡ size_to lone (entry_of alone inner).parent
+    parent_moved : (inner : ℕ) → inner < length (entries_of p.units)
+        → size_to table (entry_in all (p.first + inner)).parent ≡ size_to lone (entry_in p.units inner).parent
     parent_moved inner inside =
-        ap (λ (f : Facts). size_to table f.parent) (w.facts inner inside)
-        ∙ to_moved (entry_of alone inner).parent
-        (λ k is. let before = w.parents inner k is in omega (arith, before, inside))
+        ap (λ (e : Entry). size_to table e.parent) (w.entries inner inside)
+        ∙ to_moved (entry_in p.units inner).parent
+        (λ k is. let before = parent-first p.units inner k is in omega (arith, before, inside))
 
-    array_moved : (inner : ℕ) → inner < length alone
-        → array_size all table (first + inner) ≡ array_size alone lone inner
-    array_moved inner inside =
-        rw (elements_same inner inside, type_moved inner inside, w.facts inner inside)
+    array_moved : (inner : ℕ) → inner < length (entries_of p.units)
+        → array_size all table (p.first + inner) ≡ array_size p.units lone inner
+    array_moved inner inside = rw (elements_same inner inside, type_moved inner inside, w.entries inner inside) refl
 
-    kind_moved : (kind : Kind) (inner : ℕ) → inner < length alone
-        → size_of_kind kind all table (first + inner) ≡ size_of_kind kind alone lone inner
+    kind_moved : (kind : Kind) (inner : ℕ) → inner < length (entries_of p.units)
+        → size_of_kind kind all table (p.first + inner) ≡ size_of_kind kind p.units lone inner
     kind_moved Declared inner inside = signature_moved inner inside
-    kind_moved OwnSized inner inside = ap (λ (f : Facts). natural_of (byte_size f)) (w.facts inner inside)
-    kind_moved Pointer inner inside =
-        ap (λ (f : Facts). constant_or (byte_size f) (Some f.address_size)) (w.facts inner inside)
+    kind_moved OwnSized inner inside = ap (λ (e : Entry). natural_of (byte_size e)) (w.entries inner inside)
+    kind_moved Pointer inner inside = rw (w.address_sizes inner inside, w.entries inner inside) refl
     kind_moved Alias inner inside = type_moved inner inside
-    kind_moved Enumeration inner inside =
-        rw (type_moved inner inside, w.facts inner inside)
-    kind_moved Array inner inside =
-        rw (array_moved inner inside, w.facts inner inside)
+    kind_moved Enumeration inner inside = rw (type_moved inner inside, w.entries inner inside) refl
+    kind_moved Array inner inside = rw (array_moved inner inside, w.entries inner inside) refl
     kind_moved Subroutine inner inside = refl
     kind_moved NoType inner inside = refl
 
-    pub line_moved : (inner : ℕ) → inner < length alone
-        → size_line all table (first + inner) ≡ size_line alone lone inner
+    pub line_moved : (inner : ℕ) → inner < length (entries_of p.units)
+        → size_line all table (p.first + inner) ≡ size_line p.units lone inner
     line_moved inner inside =
-        ap (λ (f : Facts). size_of_kind (kind_of f) all table (first + inner)) (w.facts inner inside)
-        ∙ kind_moved (kind_of (entry_of alone inner)) inner inside
+        ap (λ (e : Entry). size_of_kind (kind_of e) all table (p.first + inner)) (w.entries inner inside)
+        ∙ kind_moved (kind_of (entry_in p.units inner)) inner inside
 
-    breaks_moved : (role : Role) (f : Facts) (size container type : Size) (rule : Rule)
-        → breaks_size role (moved_facts first at f) size container type rule
-        ≡ breaks_size role f size container type rule
-    breaks_moved role f size container type EnumSize =
-        ap (λ (b : Bool). is_enumeration f &&
-        ((not (is_present (byte_size f)) && (not b && stands_alone f)) || differ (natural_of (byte_size f)) type))
-        (some_of_moved first f.type_target)
-    breaks_moved role f size None type MemberOutside = refl
-    breaks_moved role f size (Some n) type MemberOutside = refl
-    breaks_moved role f size container type rule = refl
-
-    pub fails_moved : (inner : ℕ) → inner < length alone → (rule : Rule)
-        → fails_size all table (first + inner) rule ≡ fails_size alone lone inner rule
-    fails_moved inner inside rule =
+    pub fails_moved : (inner : ℕ) → inner < length (entries_of p.units) → (rule : Rule)
+        → fails_size all table (p.first + inner) rule ≡ fails_size p.units lone inner rule
+    fails_moved inner inside NoSize = ap has_no_size (w.entries inner inside)
+    fails_moved inner inside SizeTooGreat = rw (agree inner inside) refl
+    fails_moved inner inside MemberOutside =
         rw (
-          role_same all alone first at w inner inside,
-          agree inner inside,
+          plain_same all p w inner inside,
           parent_moved inner inside,
-          type_moved inner
-              inside,
-          w.facts inner inside,
-        )
-        (breaks_moved (parent_role alone inner) (entry_of alone inner) (lone inner)
-        (size_to lone (entry_of alone inner).parent)
-        (size_to lone (entry_of alone inner).type_target) rule)
+          type_moved inner inside,
+          w.entries inner inside,
+          past_moved p.number p.first p.at,
+        ) refl
+    fails_moved inner inside EnumSize =
+        rw (has_target_same all p w inner inside, type_moved inner inside, w.entries inner inside) refl
+    fails_moved inner inside rule = refl

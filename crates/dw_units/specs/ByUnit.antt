@@ -3,7 +3,7 @@
 use Rattle.std.specs.Prelude.{◌≡◌, ℕ, Bool, true, false, ◌+◌, ◌<◌, List, ◌∷◌, ◌++◌, length, map}
 use Rattle.std.specs.List.{AllByRecursion}
 use Rattle.dw_elf.specs.declared.sections.Sections.{Sections}
-use Rattle.dw_entries.specs.declared.fault.Broken.{Broken}
+use Rattle.dw_entries.specs.declared.fault.PlainFault.{PlainFault}
 use Rattle.dw_entries.specs.declared.fault.Fault.{Fault}
 use Rattle.dw_entries.specs.declared.rule.Rule.{Rule}
 use Rattle.dw_entries.specs.declared.rule.Rule.TheVariants.{NoEntry}
@@ -12,14 +12,13 @@ use Rattle.dw_entries.specs.declared.fault.Section.TheVariants.{Abbrev, Info}
 use Rattle.dw_entries.specs.Units.{DebugUnit, AreUnits, units_bytes}
 use Rattle.dw_forms.specs.Value.{Datum, ref_info}
 use Rattle.dw_entries.specs.Entries.{Entry, entries_of}
-use Rattle.dw_entries.specs.Asked.{EachEntry, HasAttribute}
-use Rattle.dw_entries.specs.Failures.{HasNone, broken_of}
+use Rattle.dw_entries.specs.EntryRules.{EachEntry, HasAttribute}
+use Rattle.dw_entries.specs.Failures.{HasNone, plain_fault_of}
 use Rattle.dw_entries.specs.Faults.{Fails}
-use Rattle.dw_types.specs.FactsOf.{facts_in}
 use Rattle.dw_types.specs.SizeTables.{Size}
 use Rattle.dw_types.specs.Sizes.{IsSizeTable}
-use Rattle.dw_image.specs.First.{Group, sizes, turn_of, failures_of, IsFirstIn, FailsInTrees, IsFirstFault}
-use Rattle.dw_units.specs.Alone.{joined, FollowFrom, StaysInside, HaveNoTypeUnit}
+use Rattle.dw_image.specs.FirstFault.{Group, sizes, turn_of, failures_of, IsFirstIn, FailsInTrees, IsFirstFault}
+use Rattle.dw_units.specs.IndependentBatches.{joined_batches, FollowFrom, StaysInside, HaveNoTypeUnit}
 
 -- none of the units is a type unit, and no value refers to a unit by its signature: but for offsets at which no entry
 -- of theirs starts, what is asked of them does not depend on the other units
@@ -29,7 +28,7 @@ pub record StaysAlone (s : Sections) (units : List DebugUnit) : Type 0 where
   pub stays : EachEntry StaysInside (entries_of units)
 
 -- the batches stay alone, and each begins where the one before it ends
-pub record AreApart (s : Sections) (batches : List (List DebugUnit)) : Type 0 where
+pub record AreBatches (s : Sections) (batches : List (List DebugUnit)) : Type 0 where
   pub stay : AllByRecursion (StaysAlone s) batches
   pub follow : FollowFrom s.base batches
 
@@ -55,8 +54,8 @@ moved_offset Abbrev at offset = offset
 moved_offset Info at offset = at + offset
 
 -- the fault of a batch alone, in the batch's place
-abbrev pub moved_broken : ℕ → Broken → Broken
-moved_broken at broken = record {
+abbrev pub moved_fault : ℕ → PlainFault → PlainFault
+moved_fault at broken = record {
   rule = broken.rule;
   section = broken.section;
   at = moved_offset broken.section at broken.at;
@@ -65,7 +64,7 @@ moved_broken at broken = record {
 
 -- likewise with its cycle
 pub record IsMoved (at : ℕ) (alone fault : Fault) : Type 0 where
-  pub broken : broken_of fault ≡ moved_broken at (broken_of alone)
+  pub broken : plain_fault_of fault ≡ moved_fault at (plain_fault_of alone)
   pub cycle : fault.cycle.items ≡ map (λ offset. at + offset) alone.cycle.items
 
 -- ---- the groups of rules
@@ -80,7 +79,7 @@ PassesThrough s group units = PassesBelow s group units × HasNone (failures_of 
 
 -- the batch alone has one table of sizes
 abbrev pub HasTable : List DebugUnit → Type 0
-HasTable units = (table : ℕ → Size) × IsSizeTable (facts_in units) table
+HasTable units = (table : ℕ → Size) × IsSizeTable units table
 
 -- where sizes are asked, it has
 abbrev pub IsMeasured : Group → List DebugUnit → Type 0
@@ -98,19 +97,19 @@ pub record FailsAlone (s : Sections) (units : List DebugUnit) (group : Group) (f
 abbrev pub FirstOfUnits : Type 0
 FirstOfUnits = (s : Sections) (before : List (List DebugUnit)) (units : List DebugUnit)
     (behind : List (List DebugUnit)) (group : Group) (alone fault : Fault)
-    → AreApart s (before ++ units ∷ behind)
+    → AreBatches s (before ++ units ∷ behind)
     → AllByRecursion (IsMeasured group) (before ++ units ∷ behind)
     → AllByRecursion (PassesThrough s group) before
     → FailsAlone s units group alone
     → AllByRecursion (PassesBelow s group) behind
-    → s.info.now ≡ units_bytes (joined (before ++ units ∷ behind))
-    → IsMoved (length (units_bytes (joined before))) alone fault
+    → s.info.now ≡ units_bytes (joined_batches (before ++ units ∷ behind))
+    → IsMoved (length (units_bytes (joined_batches before))) alone fault
     → IsFirstFault s fault
 
 -- whole units, and then bytes at which a rule of trees fails: it fails there in the sections
 abbrev pub TreesOfUnits : Type 0
-TreesOfUnits = (s : Sections) (before : List DebugUnit) (rest : List ℕ) (broken : Broken)
+TreesOfUnits = (s : Sections) (before : List DebugUnit) (rest : List ℕ) (broken : PlainFault)
     → AreUnits s.«abbrev».now before
     → s.info.now ≡ units_bytes before ++ rest
     → Fails s.«abbrev».now rest broken
-    → FailsInTrees s (moved_broken (length (units_bytes before)) broken)
+    → FailsInTrees s (moved_fault (length (units_bytes before)) broken)

@@ -1,6 +1,6 @@
 -- Chapters, in reading order.
-pub mod Alone
-pub mod Counted
+pub mod IndependentBatches
+pub mod Counts
 pub mod ByUnit
 -- State.
-pub mod Parts
+pub mod BatchSections

@@ -3,12 +3,12 @@
 ghost use Rattle.std.specs.Prelude.{◌≡◌, ℕ, ◌+◌, ◌≤◌, List, [], length, map, take, drop, IfOk, IfSome};
 ghost use Rattle.dw_elf.specs.declared.sections.Sections.{Sections};
 ghost use Rattle.dw_image.specs.Images.{sections_in};
-ghost use Rattle.dw_units.specs.Alone.{JoinsUnits};
+ghost use Rattle.dw_units.specs.IndependentBatches.{JoinsUnits};
 ghost use Rattle.dw_units.specs.ByUnit.{FirstOfUnits, TreesOfUnits, IsMoved, moved_offset};
-ghost use Rattle.dw_units.specs.Counted.{AreCounts, IsFound, counts_of};
-ghost use Rattle.dw_units.specs.Parts.{AreSoFar, IsFoundAlone, IsFoundAt, least_rule};
+ghost use Rattle.dw_units.specs.Counts.{AreCounts, IsFoundIn, counts_in};
+ghost use Rattle.dw_units.specs.BatchSections.{AreSoFar, IsFoundAlone, IsFoundAt, least_rule};
 
-use crate::alone::{Verified, are_apart, batch_size, verify_alone};
+use crate::batches::{Verified, are_apart, batch_size, verify_alone};
 use crate::counts::Counts;
 use dw_elf::Sections;
 use dw_entries::{Fault, Rule, Section, Stop};
@@ -159,7 +159,7 @@ fn one_more(
 /// What is found after the last batch.
 fn found_of(counts: Counts, least: Option<Fault>) -> Found
     ensures { (s : Sections) (so_far : SoFar) → so_far.counts ≡ counts → so_far.least ≡ least → AreSoFar s [] so_far
-        → IsFound s result }
+        → IsFoundIn s result }
 {
     match least {
         Some(fault) => Found::Fault(fault),
@@ -170,7 +170,7 @@ fn found_of(counts: Counts, least: Option<Fault>) -> Found
 /// The counts of sound sections or the first fault, if no unit may refer to another one. None if one may, or if
 /// `verify` costs less: for one unit, and for units whose abbreviation tables are large. None says nothing.
 pub fn verify_by_unit<'a>(alloc: Global, sections: &Sections<'a>) -> Result<Option<Found>, NoMemory>
-    ensures { IfOk result (λ found. IfSome found (IsFound sections.now)) }
+    ensures { IfOk result (λ found. IfSome found (IsFoundIn sections.now)) }
 {
     if !are_apart(sections) {
         return Ok(None);

@@ -2,7 +2,7 @@
 
 ghost use Rattle.std.specs.Prelude.{◌≡◌, ◌+◌, IfSome};
 ghost use Rattle.dw_image.specs.Images.{sections_in};
-ghost use Rattle.dw_units.specs.Counted.{AreCounts, counts_of};
+ghost use Rattle.dw_units.specs.Counts.{AreCounts, counts_in};
 
 use dw_image::Image;
 
@@ -19,7 +19,7 @@ impl Counts {
     /// The counts of an image.
     pub fn of(image: &Image<'_>) -> Counts
         ensures counts { AreCounts (sections_in image.now) result }
-        ensures same { result ≡ counts_of image.now }
+        ensures same { result ≡ counts_in image.now }
     {
         Counts {
             units: image.units(),

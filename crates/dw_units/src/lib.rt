@@ -1,7 +1,7 @@
 //! Whether sections are sound, batch after batch of units, with the memory of one batch.
 #![tactic(auto)]
 
-mod alone;
+mod batches;
 mod counting;
 mod counts;
 

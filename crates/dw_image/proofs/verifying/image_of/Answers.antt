@@ -36,7 +36,6 @@ invariant_of-result c =
       classes = rw links.ensures.entries at links.links.classes;
       strings = rw links.ensures.entries at links.links.strings;
       references = rw links.ensures.entries at links.links.references;
-      languages_read = c.in_ok-languages.ensures;
       stepped = rw links.ensures.entries at c.in_ok-steps.ensures.steps;
       measured = rw links.ensures.entries at c.in_ok-steps.ensures.sizes;
     }

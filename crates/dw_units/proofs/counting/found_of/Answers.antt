@@ -1,6 +1,6 @@
 use Rattle.std.proofs.Common.{subst, ◌∙◌}
-use Rattle.dw_units.specs.Counted.{AreCounts}
-use Rattle.dw_units.specs.Parts.{AreVerified}
+use Rattle.dw_units.specs.Counts.{AreCounts}
+use Rattle.dw_units.specs.BatchSections.{AreVerified}
 use Rattle.dw_units.proofs.CountLemmas.{found_sound, found_fault}
 use Rattle.dw_units.proofs.counting.found_of.Goals as goal
 

@@ -1,5 +1,5 @@
 use Rattle.std.proofs.Common.{subst, take}
-use Rattle.dw_units.specs.Parts.{IsFoundAlone, least_rule}
+use Rattle.dw_units.specs.BatchSections.{IsFoundAlone, least_rule}
 use Rattle.dw_units.proofs.CountLemmas.{next_sound, next_less, next_passed}
 use Rattle.dw_units.proofs.counting.one_more.Goals as goal
 

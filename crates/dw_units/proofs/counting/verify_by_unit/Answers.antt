@@ -1,7 +1,7 @@
 use Rattle.std.proofs.Common.{arith, subst, refl, List, ℕ, take}
 use Rattle.dw_entries.specs.Failures.{IsPlainFault}
 use Rattle.dw_entries.specs.Faults.{Fails}
-use Rattle.dw_units.specs.Parts.{AreSoFar}
+use Rattle.dw_units.specs.BatchSections.{AreSoFar}
 use Rattle.dw_units.proofs.CountLemmas.{none_so_far, rest_is, found_by_trees, no_bytes}
 use Rattle.dw_units.proofs.counting.verify_by_unit.Goals as goal
 

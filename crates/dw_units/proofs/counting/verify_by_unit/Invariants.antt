@@ -1,5 +1,5 @@
 use Rattle.std.proofs.Common.{length}
-use Rattle.dw_units.specs.Parts.{AreSoFar}
+use Rattle.dw_units.specs.BatchSections.{AreSoFar}
 use Rattle.dw_units.proofs.counting.verify_by_unit.Given as goal
 
 abbrev pub invariant-loop-rest : goal.invariant-loop-rest

@@ -6,7 +6,7 @@ use Rattle.dw_entries.specs.Entries.{Entry, entries_of}
 use Rattle.dw_entries.specs.Scanned.{found_units}
 use Rattle.dw_entries.proofs.EntryFacts.{entries_rise}
 use Rattle.dw_links.specs.Targets.{entry_past}
-use Rattle.dw_links.proofs.TargetLaws.{entry_found}
+use Rattle.dw_links.proofs.TargetLemmas.{entry_found}
 use Rattle.dw_image.specs.Images.{units_in}
 use Rattle.dw_image.specs.Lookups.{entry_at}
 use Rattle.dw_image.proofs.image.Image.entry.Goals as goal

@@ -1,0 +1,30 @@
+-- The steps by value that an image keeps.
+use Rattle.std.proofs.Common.{◌≡◌, ℕ, ◌<◌, ◌≤◌, List, length, Some, None, sym, ap, ◌∙◌, arith}
+use Rattle.std.specs.Prelude.{slice_get}
+use Rattle.std.proofs.lemmas.Option.{slice_get-get_or, slice_get_past}
+use Rattle.dw_entries.specs.Entries.{entries_of}
+use Rattle.dw_entries.specs.Units.{DebugUnit}
+use Rattle.dw_types.specs.Graphs.{Graph, step_at, steps_of}
+use Rattle.dw_types.specs.Steps.{by_value}
+use Rattle.dw_types.proofs.StepLemmas.{by_value-leads, length-by_value}
+
+module _ (us : List DebugUnit) (graph : Graph) (is : graph ≡ by_value us) where
+  -- each entry is a node
+  pub nodes-are : length graph ≡ length (entries_of us)
+  nodes-are = ap (λ (g : Graph). length g) is ∙ length-by_value us
+
+  -- each step leads to an entry
+  pub step-below : (node k : ℕ) → k < length (steps_of graph node) → step_at graph node k < length (entries_of us)
+  step-below node k within =
+      let long = length-by_value us in
+      let below = by_value-leads us node k (rw is at within) in
+      rw is (omega (arith, below, long))
+
+  -- the k-th step, or none past the last
+  pub step-there : (node k : ℕ) → k < length (steps_of graph node)
+      → Some (step_at graph node k) ≡ slice_get (steps_of (by_value us) node) k
+  step-there node k within = rw (← is) (sym (slice_get-get_or (steps_of graph node) k 0 within))
+
+  pub step-past : (node k : ℕ) → length (steps_of graph node) ≤ k
+      → None ≡ slice_get (steps_of (by_value us) node) k
+  step-past node k past = rw (← is) (sym (slice_get_past (steps_of graph node) k past))
