@@ -11,7 +11,6 @@ use Rattle.dw_entries.proofs.FindLaws.{entries_counted}
 use Rattle.dw_entries.proofs.OrderLaws.{scanned_few}
 use Rattle.dw_types.specs.Cycles.{AreClear, Leads, IsOnCycle}
 use Rattle.dw_types.specs.Graphs.{Graph, FollowsSteps, HasNoCycle, IsStep}
-use Rattle.dw_types.proofs.FactsLemmas.{length-facts_of}
 use Rattle.dw_types.proofs.LongestLemmas.{row-after}
 use Rattle.dw_types.proofs.StepLemmas.{length-by_value}
 use Rattle.dw_image.specs.declared.image.Image.{Image}
@@ -32,7 +31,7 @@ has-or-not xs x = elim (cases_Bool (list_any (eqb x) xs)) [
 -- as many rows as entries
 steps-long : (image : Image) → length (steps_in image) ≡ length (entries_in image)
 unfolding units_in steps_in
-steps-long image = search (rules, length-by_value, length-facts_of)
+steps-long image = length-by_value (units_in image)
 
 -- an entry takes a byte, so there are fewer than 2 ^ 32 - 1
 pub few-entries : (image : Image) → length (entries_in image) < 4294967295

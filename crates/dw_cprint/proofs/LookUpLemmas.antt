@@ -1,38 +1,16 @@
 -- What is read of an entry, and of its children from the first on.
-use Rattle.std.proofs.Common.{rules, suc, ◌+◌, true, false, Bool, [], ◌∷◌, ◌≡◌, ℕ, ◌<◌, ◌≤◌, List, Option, Some, None, IfSome, refl, ap, arith, length, ◌++◌, sym, subst, append-nil, map}
+use Rattle.std.proofs.Common.{◌+◌, [], ◌∷◌, ◌≡◌, ℕ, ◌<◌, List, Option, Some, None, refl, ap, length, ◌++◌, sym, subst, append-nil, map}
 use Rattle.std.specs.List.{filter_map}
-use Rattle.std.specs.Prelude.{slice_get, option_map, All, if◌then◌else◌}
-use Rattle.std.specs.Option.{option_map_or}
-use Rattle.std.proofs.lemmas.Option.{slice_get_cases}
-use Rattle.std.proofs.lemmas.List.Elements.{All-nil, All-cons, All-head, All-tail}
+use Rattle.std.specs.Prelude.{option_map, All, if◌then◌else◌}
+use Rattle.std.proofs.lemmas.List.Elements.{All-head, All-tail}
 use Rattle.dw_entries.specs.Entries.{Entry}
 use Rattle.dw_cprint.specs.Children.{AreKept}
-use Rattle.dw_image.specs.Lookups.{children_from, children_of}
-use Rattle.dw_types.specs.Entries.{is_parent}
-
-none_past : (es : List Entry) (i : ℕ) → slice_get es i ≡ None → length es ≤ i
-none_past es i gone = search (rules, slice_get_cases)
-
--- what is said of the entry with a number holds of what is read of it, and of d if there is none
-pub read_or : {X : Type 0} (es : List Entry) (id : ℕ) (f : Entry → X) (r d : X) → id < length es
-    → IfSome (slice_get es id) (λ e. r ≡ f e) → r ≡ option_map_or f (slice_get es id) d
-read_or {X = X} es id f r d within says = search (rules, none_past)
-
-within_one : (b : Bool) (k n : ℕ) (ids : List ℕ) → k < n → All (λ child. child < n) ids
-    → All (λ child. child < n) (if b then k ∷ ids else ids)
-within_one true k n ids below all = All-cons (λ child. child < n) k ids below all
-within_one false k n ids below all = all
-
-within_from : (es : List Entry) (id k n : ℕ) → k + length es ≤ n → All (λ child. child < n) (children_from es id k)
-within_from [] id k n fits = All-nil (λ child. child < n)
-within_from (e ∷ es) id k n fits =
-    within_one (is_parent e.parent id) k n (children_from es id (suc k)) (omega arith)
-    (within_from es id (suc k) n (omega arith))
+use Rattle.dw_types.specs.Children.{children_of}
+use Rattle.dw_types.proofs.SiblingLemmas.{children-all}
 
 -- the children of an entry are entries
 pub children_within : (es : List Entry) (id : ℕ) → All (λ child. child < length es) (children_of es id)
-unfolding children_of
-children_within es id = within_from es id 0 (length es) (omega arith)
+children_within es id = λ k d below. (children-all es id k d below).0
 
 -- ---- reading children from the first on
 

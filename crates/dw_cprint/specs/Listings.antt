@@ -1,10 +1,9 @@
 -- Chapter: the listing of all named types of an image, and its text.
 use Rattle.std.specs.Prelude.{◌≡◌, ℕ, suc, ◌<◌, ◌⊎◌, ◌↔◌, Bool, true, false, List, [], ◌∷◌, ◌++◌}
 use Rattle.std.specs.Prelude.{Option, Some, None, is_some, codes, ◌&&◌, nat_lt, if◌then◌else◌}
-use Rattle.std.specs.Prelude.{length, slice_get, slice_index, flat_map, Contains, AllPairs, IsPermutation}
+use Rattle.std.specs.Prelude.{length, slice_index, flat_map, Contains, AllPairs, IsPermutation}
 use Rattle.std.specs.List.{range_with_len}
-use Rattle.std.specs.Option.{option_map_or}
-use Rattle.dw_entries.specs.Entries.{Entry}
+use Rattle.dw_entries.specs.ByNumber.{entry_of}
 use Rattle.dw_image.specs.declared.image.Image.{Image}
 use Rattle.dw_image.specs.Images.{entries_in, steps_in}
 use Rattle.dw_types.specs.Cycles.{Leads}
@@ -111,7 +110,7 @@ refused_line offset rule =
 
 -- where an entry is
 abbrev pub offset_in : Image → ℕ → ℕ
-offset_in image id = option_map_or (λ (e : Entry). e.at) (slice_get (entries_in image) id) 0
+offset_in image id = (entry_of (entries_in image) id).at
 
 -- the line of an entry that is refused
 abbrev pub refused_line_in : Image → ℕ × PrintFault → List ℕ

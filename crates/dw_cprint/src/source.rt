@@ -5,7 +5,7 @@ ghost use Rattle.dw_forms.specs.Value.{view};
 ghost use Rattle.dw_forms.specs.Codes.{DW_AT_bit_size};
 ghost use Rattle.dw_image.specs.Contributions.{string_at};
 ghost use Rattle.dw_image.specs.Images.{entries_in, sections_in};
-ghost use Rattle.dw_image.specs.Slots.{IsPlace};
+ghost use Rattle.dw_image.specs.Slots.{IsTextPlace};
 ghost use Rattle.dw_image.specs.ValueTexts.{text_there};
 ghost use Rattle.dw_cprint.specs.LookUps.{name_at, tag_at, value_at, type_at, flag_at, integer_at};
 ghost use Rattle.dw_cprint.specs.Shapes.{view_name};
@@ -123,7 +123,7 @@ impl<'a> Source<'a> {
 
     /// The text at a place. One in .debug_info is read to its end.
     pub fn text(&self, place: TextPlace) -> Text<'a>
-        requires { IsPlace (sections_in self.now.image.now) place }
+        requires { IsTextPlace (sections_in self.now.image.now) place }
         ensures { result.bytes.now ≡ text_there (sections_in self.now.image.now) place }
     {
         match place {

@@ -1,13 +1,16 @@
 -- The line of an entry, the lines of the entries so far, and the bytes of a name as they are shown.
-use Rattle.std.proofs.Common.{rules, ◌≡◌, ℕ, zero, suc, ◌+◌, ◌<◌, List, [], ◌∷◌, ◌++◌, length, slice_index, take, drop, Option, Some, None, IfSome, refl, sym, ap, ◌∙◌, append_assoc, append-nil, arith}
-use Rattle.std.specs.Prelude.{slice_get}
+use Rattle.std.proofs.Common.{rules, ◌≡◌, ℕ, zero, suc, ◌+◌, ◌<◌, List, [], ◌∷◌, ◌++◌, length, Bool, true, false, slice_index, take, drop, Option, Some, None, refl, sym, ap, ◌∙◌, append_assoc, append-nil, arith}
+use Rattle.std.specs.Prelude.{slice_get, if◌then◌else◌}
+use Rattle.std.specs.Option.{option_and_then}
 use Rattle.std.specs.List.{enumerate_from, flat_map, All}
 use Rattle.std.proofs.lemmas.List.{take-append-drop, drop_more}
 use Rattle.std.proofs.lemmas.List.Concat.{flat_map-append}
+use Rattle.std.proofs.lemmas.Option.{slice_get-get_or}
 use Rattle.dw_entries.specs.Entries.{Entry}
+use Rattle.dw_entries.specs.ByNumber.{no_entry, entry_of}
 use Rattle.dw_image.specs.declared.image.Image.{Image}
-use Rattle.dw_image.specs.Images.{name_in}
-use Rattle.dw_image.proofs.LookupLemmas.{slice_get_none}
+use Rattle.dw_image.specs.Images.{entries_in, name_in, size_table_in}
+use Rattle.dw_image.specs.Lookups.{is_type_entry, type_number}
 use Rattle.dw_report.specs.Lines.{line}
 use Rattle.dw_report.specs.Shown.{glyph, entry_part, name_part, size_part, shown_line, entry_size, entry_line}
 
@@ -48,19 +51,30 @@ line_in_parts offset depth tag name size old mid new first last =
     ∙ ap (λ u. old ++ u) (sym (append_assoc begun ended (10 ∷ [])))
     ∙ ap (λ u. old ++ (u ++ 10 ∷ [])) (sym (append_assoc begun (name_part name) (size_part size)))
 
+-- the size of the type at an entry, if there is one, is the entry's
+pub entry_sized : (i : Image) (number : ℕ) (found : Option ℕ) → number < length (entries_in i)
+    → found ≡ type_number (entries_in i) number
+    → option_and_then (size_table_in i) found ≡ entry_size i number (entry_of (entries_in i) number)
+unfolding entry_size
+entry_sized i number found within told =
+    let typed : Entry → Option ℕ = λ e. if is_type_entry e then Some number else None in
+    ap (option_and_then (size_table_in i)) (told ∙ ap (option_and_then typed)
+    (slice_get-get_or (entries_in i) number no_entry within))
+    ∙ by_kind (is_type_entry (entry_of (entries_in i) number))
+  where
+    by_kind : (b : Bool) → option_and_then (size_table_in i) (if b then Some number else None)
+        ≡ (if b then size_table_in i number else None)
+    by_kind true = refl
+    by_kind false = refl
+
 -- what the look-ups of an entry tell makes its line
-pub entry_line_told : (i : Image) (number : ℕ) (found : Option Entry) (offset depth tag : ℕ) (name : Option (List ℕ))
-    (size : Option ℕ) (old mid new : List ℕ)
-    → IfSome found (λ e. offset ≡ e.at) → IfSome found (λ e. depth ≡ e.depth)
-    → IfSome found (λ e. tag ≡ e.head.decl.tag) → IfSome found (λ e. name ≡ name_in i e)
-    → IfSome found (λ e. size ≡ entry_size i number e)
+pub entry_line_told : (i : Image) (number : ℕ) (e : Entry) (offset depth tag : ℕ) (name : Option (List ℕ))
+    (size : Option ℕ) (old mid new : List ℕ) → offset ≡ e.at → depth ≡ e.depth → tag ≡ e.head.decl.tag
+    → name ≡ name_in i e → size ≡ entry_size i number e
     → mid ≡ old ++ entry_part offset depth tag → new ≡ mid ++ line (name_part name ++ size_part size)
-    → IfSome found (λ e. new ≡ old ++ entry_line i (number, e))
+    → new ≡ old ++ entry_line i (number, e)
 unfolding entry_line
-entry_line_told i number None offset depth tag name size old mid new is_at is_deep is_tag is_name is_size first last =
-    tt
-entry_line_told i number (Some e) offset depth tag name size old mid new is_at is_deep is_tag is_name is_size first last
-    =
+entry_line_told i number e offset depth tag name size old mid new is_at is_deep is_tag is_name is_size first last =
     line_in_parts offset depth tag name size old mid new first last
     ∙ ap (λ u. old ++ shown_line u depth tag name size) is_at
     ∙ ap (λ u. old ++ shown_line e.at u tag name size) is_deep
@@ -81,16 +95,13 @@ more_lines f (x ∷ es) n (suc k) e there =
 
 -- the line of the entry with the number k comes after those before it
 pub one_more_line : (f : ℕ × Entry → List ℕ) (es : List Entry) (k : ℕ) (first old new : List ℕ) → k < length es
-    → IfSome (slice_get es k) (λ e. new ≡ old ++ f (k, e)) → old ≡ first ++ flat_map f (take k (enumerate_from 0 es))
+    → new ≡ old ++ f (k, entry_of es k) → old ≡ first ++ flat_map f (take k (enumerate_from 0 es))
     → new ≡ first ++ flat_map f (take (k + 1) (enumerate_from 0 es))
-one_more_line f es k first old new below says is = go (slice_get es k) refl says
-  where
-    go : (found : Option Entry) → slice_get es k ≡ found → IfSome found (λ e. new ≡ old ++ f (k, e))
-        → new ≡ first ++ flat_map f (take (k + 1) (enumerate_from 0 es))
-    go None gone says = absurd (omega (arith, below, slice_get_none es k gone))
-    go (Some e) there says =
-        let next : k + 1 ≡ suc k = omega arith in
-        let at : 0 + k ≡ k = omega arith in
-        rw next (says ∙ ap (λ xs. xs ++ f (k, e)) is ∙ append_assoc first _ _
-        ∙ ap (λ xs. first ++ xs) (sym (more_lines f es 0 k e there
-        ∙ ap (λ m. flat_map f (take k (enumerate_from 0 es)) ++ f (m, e)) at)))
+one_more_line f es k first old new below says is =
+    let e = entry_of es k in
+    let there = slice_get-get_or es k no_entry below in
+    let next : k + 1 ≡ suc k = omega arith in
+    let at : 0 + k ≡ k = omega arith in
+    rw next (says ∙ ap (λ xs. xs ++ f (k, e)) is ∙ append_assoc first _ _
+    ∙ ap (λ xs. first ++ xs) (sym (more_lines f es 0 k e there
+    ∙ ap (λ m. flat_map f (take k (enumerate_from 0 es)) ++ f (m, e)) at)))

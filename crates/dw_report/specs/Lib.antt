@@ -1,5 +1,5 @@
 -- Chapters, in reading order.
 pub mod Lines
-pub mod Objects
+pub mod JsonObjects
 pub mod Shown
 pub mod Reports

@@ -12,10 +12,10 @@ use Rattle.dw_cprint.specs.declared.fault.PrintFault.{PrintFault}
 use Rattle.dw_image.specs.declared.image.Image.{Image}
 use Rattle.dw_image.specs.Headline.{IsImageOf, IsFaultOf}
 use Rattle.dw_units.specs.declared.counts.Counts.{Counts}
-use Rattle.dw_units.specs.Counted.{AreCounts}
+use Rattle.dw_units.specs.Counts.{AreCounts}
 use Rattle.dw_report.specs.Lines.{sound_line, elf_fault_line, fault_lines}
 use Rattle.dw_report.specs.Shown.{show_lines, size_text, size_status, type_at_offset}
-use Rattle.dw_report.specs.Objects.{sound_object, fault_object, elf_fault_object, object_line}
+use Rattle.dw_report.specs.JsonObjects.{sound_object, fault_object, elf_fault_object, object_line}
 use Rattle.dw_report.specs.declared.request.Request.{Request}
 use Rattle.dw_report.specs.declared.request.Request.TheVariants.{Check, Show, Types, Size}
 use Rattle.dw_report.specs.declared.request.Status.{Status}

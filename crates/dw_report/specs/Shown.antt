@@ -52,14 +52,14 @@ unfoldable pub type_at_offset : Image → ℕ → Option ℕ
 type_at_offset i offset = option_and_then (type_number (entries_in i)) (entry_at (entries_in i) offset)
 
 -- `size N` or `no size`
-unfoldable pub size_line : Option ℕ → List ℕ
-size_line None = line (codes "no size")
-size_line (Some n) = line (codes "size " ++ decimal n)
+unfoldable pub line_of_size : Option ℕ → List ℕ
+line_of_size None = line (codes "no size")
+line_of_size (Some n) = line (codes "size " ++ decimal n)
 
 -- what is written of the type with a number, or if there is none
 abbrev pub size_text : Image → Option ℕ → List ℕ
 size_text i None = line (codes "not a type")
-size_text i (Some number) = size_line (size_table_in i number)
+size_text i (Some number) = line_of_size (size_table_in i number)
 
 -- the status that goes with it
 abbrev pub size_status : Option ℕ → Status

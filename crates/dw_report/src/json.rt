@@ -3,8 +3,8 @@
 ghost use Rattle.std.specs.Prelude.{◌≡◌, ◌++◌, OnOk, IfOk, false};
 ghost use Rattle.serde_json.specs.View.{view};
 ghost use Rattle.serde_json.specs.Written.{has_float};
-ghost use Rattle.dw_report.specs.Objects.{cycle_array as array_of, sound_object, fault_members, fault_object};
-ghost use Rattle.dw_report.specs.Objects.{elf_fault_object, object_line};
+ghost use Rattle.dw_report.specs.JsonObjects.{cycle_array as array_of, sound_object, fault_members, fault_object};
+ghost use Rattle.dw_report.specs.JsonObjects.{elf_fault_object, object_line};
 
 use dw_elf::ElfFault;
 use dw_image::Fault;

@@ -1,13 +1,14 @@
 //! The entries of an image, one a line, and the size of the type at an offset.
 
-ghost use Rattle.std.specs.Prelude.{◌≡◌, ◌<◌, ◌++◌, ◌∷◌, [], ◌*◌, codes, length, slice_get, slice_index, take};
+ghost use Rattle.std.specs.Prelude.{◌≡◌, ◌<◌, ◌++◌, ◌∷◌, [], ◌*◌, codes, length, slice_index, take};
 ghost use Rattle.std.specs.Prelude.{replicate, option_copied, All, MatchBool, IfNone, IfSome, IfOk, OnOk};
 ghost use Rattle.std.specs.List.{flat_map};
+ghost use Rattle.dw_entries.specs.ByNumber.{entry_of};
 ghost use Rattle.dw_image.specs.Images.{entries_in};
 ghost use Rattle.dw_cprint.specs.Digits.{places};
 ghost use Rattle.dw_report.specs.Shown.{glyph, name_part, size_part, entry_part, entry_size, entry_line};
 ghost use Rattle.dw_report.specs.Lines.{line};
-ghost use Rattle.dw_report.specs.Shown.{show_lines, size_line, size_text, size_status, type_at_offset};
+ghost use Rattle.dw_report.specs.Shown.{show_lines, line_of_size, size_text, size_status, type_at_offset};
 
 use crate::lines::put_offset;
 use crate::request::Status;
@@ -119,7 +120,7 @@ fn put_line_end(
 #[tactic(auto, unfolding(crate::specs::Shown::entry_size))]
 pub fn size_of_entry(image: &Image<'_>, id: EntryId) -> Option<u64>
     requires { id < length (entries_in image.now) }
-    ensures { IfSome (slice_get (entries_in image.now) id) (λ e. result ≡ entry_size image.now id e) }
+    ensures { result ≡ entry_size image.now id (entry_of (entries_in image.now) id) }
 {
     match image.type_at(id) {
         Some(of_type) => image.size_of(of_type),
@@ -130,8 +131,8 @@ pub fn size_of_entry(image: &Image<'_>, id: EntryId) -> Option<u64>
 /// The line of an entry.
 fn put_entry_line(text: &mut Vec<u8>, image: &Image<'_>, id: EntryId) -> Result<(), AllocError>
     requires { id < length (entries_in image.now) }
-    ensures ok { OnOk result (IfSome (slice_get (entries_in image.now) id) (λ e.
-        text.new.items ≡ text.old.items ++ entry_line image.now (id, e))) }
+    ensures ok { OnOk result (text.new.items
+        ≡ text.old.items ++ entry_line image.now (id, entry_of (entries_in image.now) id)) }
 {
     let offset = image.offset(id);
     let depth = image.depth(id);
@@ -145,8 +146,8 @@ fn put_entry_line(text: &mut Vec<u8>, image: &Image<'_>, id: EntryId) -> Result<
 /// The line of the entry with a number.
 fn put_numbered_line(text: &mut Vec<u8>, image: &Image<'_>, number: usize) -> Result<(), AllocError>
     requires { number < length (entries_in image.now) }
-    ensures ok { OnOk result (IfSome (slice_get (entries_in image.now) number) (λ e.
-        text.new.items ≡ text.old.items ++ entry_line image.now (number, e))) }
+    ensures ok { OnOk result (text.new.items
+        ≡ text.old.items ++ entry_line image.now (number, entry_of (entries_in image.now) number)) }
 {
     match image.nth(number) {
         Some(id) => put_entry_line(text, image, id),
@@ -177,9 +178,9 @@ fn type_at(image: &Image<'_>, offset: u32) -> Option<TypeId>
 }
 
 /// `size N` or `no size`.
-#[tactic(auto, unfolding(crate::specs::Shown::size_line))]
+#[tactic(auto, unfolding(crate::specs::Shown::line_of_size))]
 fn put_size_line(text: &mut Vec<u8>, size: Option<u64>) -> Result<(), AllocError>
-    ensures ok { OnOk result (text.new.items ≡ text.old.items ++ size_line size) }
+    ensures ok { OnOk result (text.new.items ≡ text.old.items ++ line_of_size size) }
 {
     let Some(size) = size else {
         return text.extend_from_slice(b"no size\n");

@@ -2,7 +2,7 @@
 use Rattle.std.proofs.Common.{◌≡◌, ℕ, List, Result, Ok, Err, MatchResult}
 use Rattle.dw_elf.specs.declared.sections.Sections.{Sections}
 use Rattle.dw_units.specs.declared.counts.Counts.{Counts}
-use Rattle.dw_units.specs.Counted.{AreCounts}
+use Rattle.dw_units.specs.Counts.{AreCounts}
 use Rattle.dw_image.specs.declared.image.Image.{Image}
 use Rattle.dw_image.specs.Headline.{IsImageOf}
 use Rattle.dw_forms.specs.declared.fault.Stop.{Stop}

@@ -1,6 +1,7 @@
 -- How many values entries have.
-use Rattle.std.proofs.Common.{◌≡◌, ℕ, zero, suc, ◌+◌, ◌*◌, ◌<◌, ◌≤◌, ◌⊎◌, inl, inr, List, [], ◌∷◌, ◌++◌, length, Option, Some, None, IfSome, refl, sym, ap, subst, ◌∙◌, length-append, arith}
+use Rattle.std.proofs.Common.{◌≡◌, ℕ, zero, suc, ◌+◌, ◌*◌, ◌<◌, ◌≤◌, ◌⊎◌, inl, inr, List, [], ◌∷◌, ◌++◌, length, Option, Some, None, refl, sym, ap, ◌∙◌, length-append, arith}
 use Rattle.std.specs.Prelude.{slice_get}
+use Rattle.std.proofs.lemmas.Option.{slice_get-get_or}
 use Rattle.std.proofs.lemmas.List.{length-map, get_or_append_left, get_or_at}
 use Rattle.std.proofs.Math.ListN.{get_or-eq_default}
 use Rattle.dw_forms.specs.Chains.{Numbered, chain_in, chains_from}
@@ -14,13 +15,13 @@ use Rattle.dw_entries.specs.Views.{all_entries}
 use Rattle.dw_forms.specs.declared.attributes.Attributes.{Attributes}
 use Rattle.dw_forms.specs.declared.abbrev.AttributeSpec.{AttributeSpec}
 use Rattle.dw_forms.proofs.SuffixLaws.{first_specs}
-use Rattle.dw_entries.specs.Asked.{value_of, values_of}
+use Rattle.dw_entries.specs.EntryRules.{value_of, values_of}
 use Rattle.dw_entries.specs.Entries.{Entry}
+use Rattle.dw_entries.specs.ByNumber.{no_entry, entry_of}
 use Rattle.dw_entries.specs.Grammar.{AreAttributes, Attribute, Context}
 use Rattle.dw_entries.proofs.HeadLaws.{head_stands}
 use Rattle.dw_image.specs.declared.image.Image.{Image}
 use Rattle.dw_image.specs.Images.{entries_in, entry_count, units_in}
-use Rattle.dw_links.proofs.Skips.{there}
 use Rattle.dwv_c.specs.Tables.{values_before}
 use Rattle.dwv_c.proofs.RowLemmas.{below_or_not}
 use Rattle.dwv_c.proofs.TableLemmas.{counted_at}
@@ -91,17 +92,12 @@ none_left a (Some x) is not_some = absurd (not_some x refl)
 
 -- the attributes of an entry's declaration
 pub specs_told : (i : Image) (es : Entries) (id : ℕ) (specs : List AttributeSpec) (d : DeclAt) → es ≡ i.entries
-    → IfSome (slice_get (all_entries es) id) (λ e. decl_view d ≡ e.head.decl) → specs ≡ (decl_view d).attributes
-    → IfSome (slice_get (entries_in i) id) (λ e. specs ≡ e.head.decl.attributes)
+    → decl_view d ≡ (entry_of (all_entries es) id).head.decl → specs ≡ (decl_view d).attributes
+    → specs ≡ (entry_of (entries_in i) id).head.decl.attributes
 unfolding units_in
 specs_told i es id specs d same told is =
-    let here : IfSome (slice_get (all_entries i.entries) id) (λ e. decl_view d ≡ e.head.decl) = subst
-    (λ (x : Entries). IfSome (slice_get (all_entries x) id) (λ e. decl_view d ≡ e.head.decl)) same told in
-    go (slice_get (entries_in i) id) here
-  where
-    go : (o : Option Entry) → IfSome o (λ e. decl_view d ≡ e.head.decl) → IfSome o (λ e. specs ≡ e.head.decl.attributes)
-    go None told = tt
-    go (Some e) told = is ∙ ap (λ (x : Declaration). x.attributes) told
+    is ∙ ap (λ (x : Declaration). x.attributes) told
+    ∙ ap (λ (x : Entries). (entry_of (all_entries x) id).head.decl.attributes) same
 
 -- an entry has as many values as its declaration has attributes
 values_declared : (i : Image) (id : ℕ) (e : Entry) → slice_get (entries_in i) id ≡ Some e
@@ -114,18 +110,20 @@ values_declared i id e is =
 
 pub counted_all : (i : Image) (id count : ℕ) (specs left : List AttributeSpec) → id < entry_count i
     → count + length left ≡ length specs → left ≡ []
-    → IfSome (slice_get (entries_in i) id) (λ e. specs ≡ e.head.decl.attributes)
-    → IfSome (slice_get (entries_in i) id) (λ e. count ≡ length (values_of e.head))
-counted_all i id count specs left below counted none declared =
-    let (e, is) = there (entries_in i) id below in
-    let are : specs ≡ e.head.decl.attributes = rw is at declared in
-    rw is (omega (arith, counted, ap length none, ap length are, values_declared i id e is))
+    → specs ≡ (entry_of (entries_in i) id).head.decl.attributes
+    → count ≡ length (values_of (entry_of (entries_in i) id).head)
+counted_all i id count specs left below counted none are =
+    omega (
+      arith,
+      counted,
+      ap length none,
+      ap length are,
+      values_declared i id (entry_of (entries_in i) id) (slice_get-get_or (entries_in i) id no_entry below),
+    )
 
 pub counted_next : (i : Image) (n id count more : ℕ) → n < entry_count i → id ≡ n
-    → IfSome (slice_get (entries_in i) id) (λ e. more ≡ length (values_of e.head)) → count ≡ values_before i n
+    → more ≡ length (values_of (entry_of (entries_in i) id).head) → count ≡ values_before i n
     → count + more ≡ values_before i (n + 1)
-counted_next i n id count more below same of_entry so_far =
-    let (e, is) = there (entries_in i) n below in
-    let here = rw same at of_entry in
-    let own : more ≡ length (values_of e.head) = rw is at here in
-    omega (arith, so_far, own, counted_at i n e is)
+counted_next i n id count more below same own so_far =
+    let here = ap (λ (k : ℕ). length (values_of (entry_of (entries_in i) k).head)) same in
+    omega (arith, so_far, own, here, counted_at i n _ (slice_get-get_or (entries_in i) n no_entry below))

@@ -1,14 +1,15 @@
 -- What the values of entries of an image mean.
 use Rattle.std.proofs.Common.{◌≡◌, ℕ, ◌+◌, ◌<◌, ◌≤◌, true, List, [], ◌∷◌, ◌++◌, length, Option, Some, None, IfSome, inl, inr, refl, sym, ap, subst, ◌∙◌, arith}
 use Rattle.std.specs.Prelude.{slice_get}
-use Rattle.std.proofs.lemmas.Option.{slice_get_within}
+use Rattle.std.proofs.lemmas.Option.{slice_get-get_or}
 use Rattle.dw_elf.specs.Sections.{IsAt}
 use Rattle.dw_elf.specs.declared.sections.Sections.{Sections}
 use Rattle.dw_forms.specs.Codes.{DW_AT_str_offsets_base, DW_AT_addr_base}
 use Rattle.dw_forms.specs.Value.{Datum, address, text, str, line_str, str_index, ref_info, ref_unit, ref_sig, addr_index}
 use Rattle.dw_entries.specs.declared.header.UnitHeader.{UnitHeader}
-use Rattle.dw_entries.specs.Asked.{HasAttribute, OffsetsRise}
-use Rattle.dw_entries.specs.Entries.{Entry, PlacedUnit, node_count, placed}
+use Rattle.dw_entries.specs.EntryRules.{HasAttribute, OffsetsRise}
+use Rattle.dw_entries.specs.Entries.{Entry, placed}
+use Rattle.dw_entries.specs.ByNumber.{no_entry, end_in, entry_of, placed_of}
 use Rattle.dw_entries.specs.Failures.{HasNone}
 use Rattle.dw_entries.specs.Header.{IsSize}
 use Rattle.dw_entries.specs.Lookups.{entry_head, unit_head}
@@ -17,29 +18,28 @@ use Rattle.dw_entries.specs.declared.rule.Rule.{Rule}
 use Rattle.dw_entries.specs.declared.rule.Rule.TheVariants.{NoEntry, NoSignature}
 use Rattle.dw_entries.specs.declared.entries.Entries.{Entries}
 use Rattle.dw_entries.specs.declared.units.UnitHead.{UnitHead}
-use Rattle.dw_entries.specs.Views.{all_entries, all_units, units_of}
+use Rattle.dw_entries.specs.Views.{all_entries, all_units}
 use Rattle.dw_entries.proofs.EntryFacts.{entries_rise, length-placed_from}
-use Rattle.dw_entries.proofs.HeadLaws.{head_stands}
 use Rattle.dw_entries.proofs.ScanLaws.{few_units}
 use Rattle.dw_entries.proofs.UnitRanges.{unit_in_range}
 use Rattle.dw_links.specs.Bases.{base_in}
-use Rattle.dw_links.specs.Contributions.{Ends, slot_at, string_at}
+use Rattle.dw_links.specs.Contributions.{HasZeroFrom, slot_at, string_at}
 use Rattle.dw_links.specs.References.{ReferenceFails, ReferenceFailures, is_reference_value}
 use Rattle.dw_links.specs.Targets.{reach_in_unit, reach_of}
-use Rattle.dw_links.specs.ValueTexts.{address_of, text_of}
-use Rattle.dw_links.proofs.Reached.{in_unit}
-use Rattle.dw_links.proofs.Skips.{there}
-use Rattle.dw_links.proofs.SlotLaws.{slot_within}
-use Rattle.dw_links.proofs.TableLaws.{first_within, number_within, sized}
-use Rattle.dw_links.proofs.TargetLaws.{reach_in_unit_is, type_is}
+use Rattle.dw_links.specs.ValueTexts.{address_of, text_of_value}
+use Rattle.dw_links.proofs.ClassLemmas.{unit_there}
+use Rattle.dw_links.proofs.SlotLemmas.{slot_within}
+use Rattle.dw_links.proofs.TableLemmas.{first_within, sized}
+use Rattle.dw_links.proofs.TargetLemmas.{reach_in_unit_is, type_is}
+use Rattle.dw_links.proofs.UnitToAll.{unit_below}
 use Rattle.dw_image.specs.declared.image.Image.{Image}
-use Rattle.dw_image.specs.Headline.{HasAddressAt, HasStringAt, IsImageOf, LeadsToText}
+use Rattle.dw_image.specs.Headline.{HasAddressAt, HasStringAt, IsImageOf, HasItsText}
 use Rattle.dw_image.specs.Images.{entries_in, sections_in, unit_count, units_in}
 use Rattle.dwv_c.specs.declared.meaning.Meaning.TheVariants as means
 use Rattle.dwv_c.specs.declared.meaning.ValueRow.{ValueRow}
 use Rattle.dwv_c.specs.declared.places.Span.{Span}
 use Rattle.dwv_c.specs.declared.values.UnitAtHand.{UnitAtHand}
-use Rattle.dwv_c.specs.Meanings.{HasSlot, HasSpan, HasValue, IsAtHand, IsTextSpan, Means, is_address, is_text}
+use Rattle.dwv_c.specs.Meanings.{HasSlot, HasSpan, HasValue, IsAtHand, IsTextSpan, Means, is_address, is_text, place_at}
 use Rattle.dwv_c.specs.ValueRows.{TEXT, HasText, Holders, Says, SaysAddress, SaysText, address_in, held_in, value_text}
 
 -- ---- rows with bytes
@@ -62,10 +62,10 @@ string_slot s (Some b) index has = (inl refl, slot_within s.str_offsets.now 4 0 
 
 pub string_leads : (s : Sections) (base : Option ℕ) (index n : ℕ) → HasStringAt s base index
     → IfSome base (λ b. n ≡ slot_at s.str_offsets.now 4 b index)
-    → Ends s.str.now n × (text_of s base (str_index index) ≡ Some (string_at s.str.now n))
+    → HasZeroFrom s.str.now n × (text_of_value s base (str_index index) ≡ Some (string_at s.str.now n))
 string_leads s None index n has is = absurd has
 string_leads s (Some b) index n has is =
-    (subst (Ends s.str.now) (sym is) has.2, ap (λ (m : ℕ). Some (string_at s.str.now m)) (sym is))
+    (subst (HasZeroFrom s.str.now) (sym is) has.2, ap (λ (m : ℕ). Some (string_at s.str.now m)) (sym is))
 
 pub address_slot : (s : Sections) (header : UnitHeader) (base : Option ℕ) (index : ℕ) → IsSize header.address_size
     → HasAddressAt s header base index → HasSlot s.addr.now header.address_size base index
@@ -110,28 +110,31 @@ unfolding units_in
 none_fails i = i.references
 
 -- no rule fails at a reference
-passes : (i : Image) (id : ℕ) (e : Entry) (position attribute : ℕ) (v : Datum) → slice_get (entries_in i) id ≡ Some e
-    → HasAttribute e position attribute v → (rule : Rule)
-    → ReferenceFails (entries_in i) (placed (units_in i)) (entry_head e) attribute v rule → ⊥
-passes i id e position attribute v is has rule fails =
+passes : (i : Image) (id : ℕ) → id < length (entries_in i) → (position attribute : ℕ) (v : Datum)
+    → HasAttribute (entry_of (entries_in i) id) position attribute v → (rule : Rule)
+    → ReferenceFails (entries_in i) (placed (units_in i)) (entry_head (entry_of (entries_in i) id)) attribute v rule
+    → ⊥
+passes i id within position attribute v has rule fails =
+    let e = entry_of (entries_in i) id in
     none_fails i (record { rule = rule; place = at_attribute e.at position; attribute = attribute })
     (inr (record {
       number = id;
       item = e;
-      is_item = is;
+      is_item = slice_get-get_or (entries_in i) id no_entry within;
       fails = record { position = position; value = v; has = has; place = refl; fails = fails };
     }))
 
 -- so each reaches an entry
 no_target : {u : UnitAtHand} (i : Image) → IsImageOf (sections_in i) i
     → (id attribute : ℕ) (v : Datum) (x : HasValue i u id attribute v)
-    → is_reference_value v ≡ true → reach_of (entries_in i) (placed (units_in i)) x.entry.unit v ≡ None → ⊥
+    → is_reference_value v ≡ true → reach_of (entries_in i) (placed (units_in i)) (entry_of (entries_in i) id).unit v
+    ≡ None → ⊥
 no_target i sound id attribute (ref_info offset) x is none =
-    passes i id x.entry x.position attribute (ref_info offset) x.is_entry x.has NoEntry (refl, (refl, none))
+    passes i id x.within x.position attribute (ref_info offset) x.has NoEntry (refl, (refl, none))
 no_target i sound id attribute (ref_unit offset) x is none =
-    passes i id x.entry x.position attribute (ref_unit offset) x.is_entry x.has NoEntry (refl, (refl, none))
+    passes i id x.within x.position attribute (ref_unit offset) x.has NoEntry (refl, (refl, none))
 no_target i sound id attribute (ref_sig signature) x is none =
-    passes i id x.entry x.position attribute (ref_sig signature) x.is_entry x.has NoSignature (
+    passes i id x.within x.position attribute (ref_sig signature) x.has NoSignature (
       refl,
       λ number has.
           let typed = sound.sound.references.types.types number signature has.type_offset has.unit has.is_unit
@@ -146,43 +149,43 @@ no_target i sound id attribute _ x is none = absurd cc
 -- the entry of the unit at hand at an offset of .debug_info
 pub at_offset_in : (i : Image) (u : UnitAtHand) → IsAtHand i u → (offset at id : ℕ) → id < length (entries_in i)
     → at ≡ offset + u.offset
-    → IfSome (slice_get (entries_in i) id) (λ e. e.at ≡ at)
-    → IfSome (slice_get (entries_in i) id) (λ e. e.unit ≡ u.number)
+    → (entry_of (entries_in i) id).at ≡ at → (entry_of (entries_in i) id).unit ≡ u.number
     → reach_in_unit (entries_in i) (placed (units_in i)) u.number offset ≡ Some id
 at_offset_in i u hand offset at id within at_is begins number =
-    let (e, is) = there (entries_in i) id within in
-    let first : e.at ≡ at = rw is at begins in
-    let unit : e.unit ≡ u.number = rw is at number in
     reach_in_unit_is (entries_in i) (placed (units_in i)) u.number offset id (image_rise i)
-    (in_unit (entries_in i) (placed (units_in i)) u.number offset at id hand.place hand.is_place
-    (omega (arith, at_is, hand.offset))
-    (record { entry = e; is_entry = is; begins = first; in_unit = unit }))
+    (record {
+      unit_within = omega (arith, hand.within, length-placed_from 0 0 (units_in i));
+      target = record { within = within; begins = omega (arith, begins, at_is, hand.offset); in_unit = number };
+    })
 
 module _ (i : Image) (u : UnitAtHand) (hand : IsAtHand i u) where
   module _ (sound : IsImageOf (sections_in i) i) (id attribute : ℕ) where
-    unit_there : (v : Datum) (x : HasValue i u id attribute v)
-        → slice_get (placed (units_in i)) x.entry.unit ≡ Some hand.place
-    unit_there v x = ap (slice_get (placed (units_in i))) x.in_unit ∙ hand.is_place
+    its_unit : (v : Datum) (x : HasValue i u id attribute v)
+        → slice_get (placed (units_in i)) (entry_of (entries_in i) id).unit ≡ Some (place_at i u)
+    its_unit v x = ap (slice_get (placed (units_in i))) x.in_unit ∙ unit_there (units_in i) u.number hand.within
 
     pub leads_there : (v : Datum) → HasValue i u id attribute v
-        → LeadsToText (sections_in i) (entries_in i) hand.place v
-    leads_there v x = sound.sound.texts id x.entry x.is_entry x.position attribute v x.has hand.place (unit_there v x)
+        → HasItsText (sections_in i) (entries_in i) (place_at i u) v
+    leads_there v x =
+        sound.sound.texts id (entry_of (entries_in i) id) (slice_get-get_or (entries_in i) id no_entry x.within)
+        x.position attribute v x.has (place_at i u) (its_unit v x)
 
     pub text_means : (h : Holders) (v : Datum) (t : List ℕ) (s : Span) → HasValue i u id attribute v → is_text v ≡ true
-        → text_of (sections_in i) (base_in (entries_in i) hand.place DW_AT_str_offsets_base) v ≡ Some t
+        → text_of_value (sections_in i) (base_in (entries_in i) (place_at i u) DW_AT_str_offsets_base) v ≡ Some t
         → IsTextSpan h t s
-        → IfSome (slice_get (entries_in i) id) (λ e. Means h i e v (means.Text s))
+        → Means h i (entry_of (entries_in i) id) v (means.Text s)
     text_means h v t s x is told there =
-        let value : value_text i x.entry v ≡ Some t = rw (unit_there v x) told in
-        rw x.is_entry (λ r has. says_text h i x.entry v r is (t, value, text_row h t s r there has))
+        let value : value_text i (entry_of (entries_in i) id) v ≡ Some t = rw (its_unit v x) told in
+        λ r has. says_text h i (entry_of (entries_in i) id) v r is (t, value, text_row h t s r there has)
 
     pub address_means : (h : Holders) (v : Datum) (n : ℕ) → HasValue i u id attribute v → is_address v ≡ true
-        → address_of (sections_in i) hand.place.unit.header (base_in (entries_in i) hand.place DW_AT_addr_base) v
+        → address_of (sections_in i) (place_at i u).unit.header (base_in (entries_in i) (place_at i u) DW_AT_addr_base)
+        v
         ≡ Some n
-        → IfSome (slice_get (entries_in i) id) (λ e. Means h i e v (means.Address n))
+        → Means h i (entry_of (entries_in i) id) v (means.Address n)
     address_means h v n x is told =
-        let value : address_in i x.entry v ≡ Some n = rw (unit_there v x) told in
-        rw x.is_entry (λ r has. says_address h i x.entry v r is (n, value, has))
+        let value : address_in i (entry_of (entries_in i) id) v ≡ Some n = rw (its_unit v x) told in
+        λ r has. says_address h i (entry_of (entries_in i) id) v r is (n, value, has)
 
     -- each reference has a target
     pub has_target : (v : Datum) → HasValue i u id attribute v → is_reference_value v ≡ true
@@ -191,16 +194,13 @@ module _ (i : Image) (u : UnitAtHand) (hand : IsAtHand i u) where
         no_target i sound id attribute v x is
         (ap (λ (unit : ℕ). reach_of (entries_in i) (placed (units_in i)) unit v) x.in_unit ∙ none)
 
-  pub unit_within : u.number < unit_count i
-  unit_within = number_within (units_in i) u.number hand.place hand.is_place
-
   -- its number has 32 bits
   pub unit_fits : u.number < 4294967296
   unfolding units_in
   unit_fits =
       omega (
         arith,
-        unit_within,
+        hand.within,
         few_units _ (units_in i) i.entries.scanned.1.spells.are,
         ap length i.entries.scanned.1.spells.parts,
         i.entries.sections.info_fits,
@@ -210,35 +210,23 @@ module _ (i : Image) (u : UnitAtHand) (hand : IsAtHand i u) where
   pub unit_sized : IsImageOf (sections_in i) i → IsSize u.header.address_size
   unit_sized sound =
       subst (λ (h : UnitHeader). IsSize h.address_size) (sym hand.header)
-      (sized _ _ (units_in i) u.number hand.place sound.sound.trees.spelled.spells unit_within hand.is_place)
+      (sized _ _ (units_in i) u.number (place_at i u) sound.sound.trees.spelled.spells hand.within
+      (unit_there (units_in i) u.number hand.within))
 
--- an entry is of one of the units
-pub unit_of_entry : (i : Image) (id unit : ℕ) → id < length (entries_in i)
-    → IfSome (slice_get (entries_in i) id) (λ e. unit ≡ e.unit) → unit < unit_count i
-unfolding units_in
-unit_of_entry i id unit within told =
-    let (e, is) = there (entries_in i) id within in
-    let stands = head_stands _ _ (units_in i) id e i.entries.scanned.1.spells is in
-    let same : unit ≡ e.unit = rw is at told in
-    omega (arith, same, slice_get_within (units_in i) e.unit stands.unit stands.is_unit)
-
--- as it is looked up
-pub unit_looked_up : (i : Image) (es : Entries) (found : Option Entry) (id unit : ℕ) → es ≡ i.entries
-    → found ≡ slice_get (all_entries es) id → id < length (entries_in i) → IfSome found (λ e. unit ≡ e.unit)
-    → unit < unit_count i
+-- the unit of an entry that is looked up is one of the units
+pub unit_looked_up : (i : Image) (es : Entries) (found : Entry) (id unit : ℕ) → es ≡ i.entries
+    → found ≡ entry_of (all_entries es) id → id < length (entries_in i) → unit ≡ found.unit → unit < unit_count i
 unfolding units_in
 unit_looked_up i es found id unit same is within told =
-    unit_of_entry i id unit within (subst (λ (o : Option Entry). IfSome o (λ e. unit ≡ e.unit))
-    (is ∙ ap (λ (x : Entries). slice_get (all_entries x) id) same) told)
+    unit_below i.entries id unit within
+    (told ∙ ap (λ (e : Entry). e.unit) (is ∙ ap (λ (x : Entries). entry_of (all_entries x) id) same))
 
 -- what is told of a unit is what is known of it at hand
 pub unit_told : (i : Image) (es : Entries) (number : ℕ) (head : UnitHead) (strings addresses : Option ℕ)
     → es ≡ i.entries → number < unit_count i
-    → IfSome (slice_get (all_units es) number) (λ p. head ≡ unit_head p)
-    → ((p : PlacedUnit) → slice_get (all_units es) number ≡ Some p
-    → strings ≡ base_in (all_entries es) p DW_AT_str_offsets_base)
-    → ((p : PlacedUnit) → slice_get (all_units es) number ≡ Some p
-    → addresses ≡ base_in (all_entries es) p DW_AT_addr_base)
+    → head ≡ unit_head (placed_of (all_units es) number)
+    → strings ≡ base_in (all_entries es) (placed_of (all_units es) number) DW_AT_str_offsets_base
+    → addresses ≡ base_in (all_entries es) (placed_of (all_units es) number) DW_AT_addr_base
     → IsAtHand i (record {
       number = number;
       offset = head.offset;
@@ -248,39 +236,21 @@ pub unit_told : (i : Image) (es : Entries) (number : ℕ) (head : UnitHead) (str
     })
 unfolding units_in
 unit_told i es number head strings addresses same below told of_strings of_addresses =
-    let known = rw same at told in
-    let p_strings = rw same at of_strings in
-    let p_addresses = rw same at of_addresses in
-    let (p, is) = there (all_units i.entries) number (omega (arith, below, length-placed_from 0 0 (units_of i.entries)))
-    in
-    let is_head : head ≡ unit_head p = rw is at known in
+    let is_head = rw same at told in
     record {
-      place = p;
-      is_place = is;
+      within = below;
       offset = ap (λ (x : UnitHead). x.offset) is_head;
       header = ap (λ (x : UnitHead). x.header) is_head;
-      str_base = p_strings p is;
-      addr_base = p_addresses p is;
+      str_base = rw same at of_strings;
+      addr_base = rw same at of_addresses;
     }
 
 -- ---- the first entry of a unit
 
 pub first_in : (i : Image) (number : ℕ) (told : UnitHead) → number < unit_count i
-    → IfSome (slice_get (all_units i.entries) number) (λ p. told ≡ unit_head p)
-    → told.first < length (entries_in i)
+    → told ≡ unit_head (placed_of (all_units i.entries) number) → told.first < length (entries_in i)
 unfolding units_in
 first_in i number told below tells = first_within (units_in i) number told below tells
-
-pub range_rises : (i : Image) (number first end : ℕ) → number < unit_count i
-    → IfSome (slice_get (all_units i.entries) number) (λ p. first ≡ p.first)
-    → IfSome (slice_get (all_units i.entries) number) (λ p. end ≡ p.first + node_count p.unit.root) → first ≤ end
-unfolding units_in
-range_rises i number first end below of_first of_end =
-    let (p, is) = there (all_units i.entries) number (omega (arith, below, length-placed_from 0 0 (units_of i.entries)))
-    in
-    let first_is : first ≡ p.first = rw is at of_first in
-    let end_is : end ≡ p.first + node_count p.unit.root = rw is at of_end in
-    omega (arith, first_is, end_is)
 
 -- ---- the slot of an index of the unit at hand
 
@@ -289,7 +259,7 @@ module _ (i : Image) (u : UnitAtHand) (hand : IsAtHand i u) (sound : IsImageOf (
   address_here : HasAddressAt (sections_in i) u.header u.addr_base index
   address_here =
       subst (λ (b : Option ℕ). HasAddressAt (sections_in i) u.header b index) (sym hand.addr_base)
-      (subst (λ (h : UnitHeader). HasAddressAt (sections_in i) h (base_in (entries_in i) hand.place DW_AT_addr_base)
+      (subst (λ (h : UnitHeader). HasAddressAt (sections_in i) h (base_in (entries_in i) (place_at i u) DW_AT_addr_base)
       index) (sym hand.header)
       (leads_there i u hand sound id attribute (addr_index index) x))
 
@@ -298,12 +268,12 @@ module _ (i : Image) (u : UnitAtHand) (hand : IsAtHand i u) (sound : IsImageOf (
 
   pub index_means : (h : Holders) (n : ℕ)
       → IfSome u.addr_base (λ b. n ≡ slot_at (sections_in i).addr.now u.header.address_size b index)
-      → IfSome (slice_get (entries_in i) id) (λ e. Means h i e (addr_index index) (means.Address n))
+      → Means h i (entry_of (entries_in i) id) (addr_index index) (means.Address n)
   index_means h n is =
       let told : address_of (sections_in i) u.header u.addr_base (addr_index index)
       ≡ Some n = address_told (sections_in i) u.header u.addr_base index n address_here is in
       address_means i u hand sound id attribute h (addr_index index) n x refl
-      (subst (λ (b : Option ℕ). address_of (sections_in i) hand.place.unit.header b (addr_index index) ≡ Some n)
+      (subst (λ (b : Option ℕ). address_of (sections_in i) (place_at i u).unit.header b (addr_index index) ≡ Some n)
       hand.addr_base
       (subst (λ (h : UnitHeader). address_of (sections_in i) h u.addr_base (addr_index index) ≡ Some n) hand.header
       told))
@@ -319,16 +289,16 @@ module _ (i : Image) (u : UnitAtHand) (hand : IsAtHand i u) (sound : IsImageOf (
   index_string_slot = string_slot (sections_in i) u.str_base index string_here
 
   pub index_ends : (n : ℕ) → IfSome u.str_base (λ b. n ≡ slot_at (sections_in i).str_offsets.now 4 b index)
-      → Ends (sections_in i).str.now n
+      → HasZeroFrom (sections_in i).str.now n
   index_ends n is = (string_leads (sections_in i) u.str_base index n string_here is).0
 
   pub index_text : (h : Holders) (n : ℕ) (s : Span)
       → IfSome u.str_base (λ b. n ≡ slot_at (sections_in i).str_offsets.now 4 b index)
       → IsTextSpan h (string_at (sections_in i).str.now n) s
-      → IfSome (slice_get (entries_in i) id) (λ e. Means h i e (str_index index) (means.Text s))
+      → Means h i (entry_of (entries_in i) id) (str_index index) (means.Text s)
   index_text h n s is there =
       text_means i u hand sound id attribute h (str_index index) (string_at (sections_in i).str.now n) s x refl
-      (subst (λ (b : Option ℕ). text_of (sections_in i) b (str_index index)
+      (subst (λ (b : Option ℕ). text_of_value (sections_in i) b (str_index index)
       ≡ Some (string_at (sections_in i).str.now n)) hand.str_base
       (string_leads (sections_in i) u.str_base index n string_here is).1) there
 
@@ -336,29 +306,23 @@ module _ (i : Image) (u : UnitAtHand) (hand : IsAtHand i u) (sound : IsImageOf (
 
 pub str_ends : (i j : Image) (u : UnitAtHand) → j ≡ i → IsAtHand i u → IsImageOf (sections_in i) i
     → (id attribute offset : ℕ) → HasValue i u id attribute (str offset)
-    → Ends (sections_in j).str.now offset
+    → HasZeroFrom (sections_in j).str.now offset
 str_ends i j u same hand sound id attribute offset x = rw same (leads_there i u hand sound id attribute (str offset) x)
 
 pub line_str_ends : (i j : Image) (u : UnitAtHand) → j ≡ i → IsAtHand i u → IsImageOf (sections_in i) i
     → (id attribute offset : ℕ) → HasValue i u id attribute (line_str offset)
-    → Ends (sections_in j).line_str.now offset
+    → HasZeroFrom (sections_in j).line_str.now offset
 line_str_ends i j u same hand sound id attribute offset x =
     rw same (leads_there i u hand sound id attribute (line_str offset) x)
 
 -- ---- the entry of the unit at hand at an offset of .debug_info, by the numbers of the unit's entries
 
 pub ranged : (i : Image) (u : UnitAtHand) → IsAtHand i u → (offset at id told first end : ℕ)
-    → id < length (entries_in i) → at ≡ offset + u.offset
-    → told ≡ at → IfSome (slice_get (entries_in i) id) (λ e. told ≡ e.at)
-    → IfSome (slice_get (placed (units_in i)) u.number) (λ p. first ≡ p.first)
-    → IfSome (slice_get (placed (units_in i)) u.number) (λ p. end ≡ p.first + node_count p.unit.root) → first ≤ id
-    → id < end
+    → id < length (entries_in i) → at ≡ offset + u.offset → told ≡ at → told ≡ (entry_of (entries_in i) id).at
+    → first ≡ (place_at i u).first → end ≡ end_in (placed (units_in i)) u.number → first ≤ id → id < end
     → reach_in_unit (entries_in i) (placed (units_in i)) u.number offset ≡ Some id
 ranged i u hand offset at id told first end within at_is same begins of_first of_end low high =
-    let (e, is) = there (entries_in i) id within in
-    let first_is : first ≡ hand.place.first = rw hand.is_place at of_first in
-    let end_is : end ≡ hand.place.first + node_count hand.place.unit.root = rw hand.is_place at of_end in
-    let number : e.unit ≡ u.number = unit_in_range (units_in i) u.number hand.place id e hand.is_place is
-    (omega (arith, first_is, low)) (omega (arith, end_is, high)) in
-    let there_is : told ≡ e.at = rw is at begins in
-    at_offset_in i u hand offset at id within at_is (rw is (sym there_is ∙ same)) (rw is number)
+    let e = entry_of (entries_in i) id in
+    at_offset_in i u hand offset at id within at_is (sym begins ∙ same)
+    (unit_in_range (units_in i) u.number (place_at i u) id e (unit_there (units_in i) u.number hand.within)
+    (slice_get-get_or (entries_in i) id no_entry within) (omega (arith, of_first, low)) (omega (arith, of_end, high)))

@@ -6,7 +6,7 @@ use Rattle.std.proofs.lemmas.Bool.{ne_eqb}
 use Rattle.std.proofs.lemmas.List.Sums.{fails_before_first, passes_at_first}
 use Rattle.std.specs.List.{before_first, position_or_len}
 use Rattle.dw_elf.specs.Sections.{IsAt}
-use Rattle.dw_image.specs.Contributions.{Ends, string_at}
+use Rattle.dw_image.specs.Contributions.{HasZeroFrom, string_at}
 
 part_at : (file section : List ℕ) (start offset n : ℕ) → IsAt file start section → offset ≤ length section
     → IsAt file (start + offset) (take n (drop offset section))
@@ -49,7 +49,7 @@ first_zero xs k below is =
         let other : (suc b == 0) ≡ false = ne_eqb (suc b) 0 (λ same. omega (arith, same)) in absurd cc
 
 -- the string at an offset, and the zero byte that ends it
-string_ends : (section : List ℕ) (offset : ℕ) → Ends section offset
+string_ends : (section : List ℕ) (offset : ℕ) → HasZeroFrom section offset
     → take (suc (position_or_len (λ byte. byte == 0) (drop offset section))) (drop offset section)
     ≡ string_at section offset ++ 0 ∷ []
 string_ends section offset e =
@@ -59,7 +59,7 @@ string_ends section offset e =
     (get_or-drop offset section (e.last - offset) 0 ∙ ap (λ (n : ℕ). get_or section n 0) same ∙ e.is_zero)
 
 -- a string of a section that starts somewhere in the file, with the zero byte that ends it
-pub string_in_file : (file section : List ℕ) (start offset : ℕ) → IsAt file start section → Ends section offset
+pub string_in_file : (file section : List ℕ) (start offset : ℕ) → IsAt file start section → HasZeroFrom section offset
     → IsAt file (start + offset) (string_at section offset ++ 0 ∷ [])
 string_in_file file section start offset is ends =
     subst (IsAt file (start + offset)) (string_ends section offset ends)
@@ -74,7 +74,7 @@ part_in_file file section bytes start offset is part within =
     subst (IsAt file (start + offset)) part (part_at file section start offset (length bytes) is within)
 
 -- a string of such a section starts in the file
-pub starts_within : (file section : List ℕ) (start offset : ℕ) → IsAt file start section → Ends section offset
+pub starts_within : (file section : List ℕ) (start offset : ℕ) → IsAt file start section → HasZeroFrom section offset
     → start + offset < length file
 starts_within file section start offset is ends =
     let p = ends.behind in let q = ends.within in

@@ -4,12 +4,12 @@ use Rattle.std.specs.Prelude.{◌==◌, option_map, slice_get}
 use Rattle.std.specs.Option.{option_and_then, option_flatten}
 use Rattle.dw_forms.specs.Codes.{DW_AT_name, DW_AT_str_offsets_base}
 use Rattle.dw_forms.specs.Value.{Datum, address, block, unsigned, signed, wide, text, flag, str, line_str, str_index, ref_info, ref_unit, ref_sig, sec_offset, expr, addr_index, loc_index, rng_index}
-use Rattle.dw_entries.specs.Asked.{values_of}
+use Rattle.dw_entries.specs.EntryRules.{values_of}
 use Rattle.dw_entries.specs.Entries.{Entry, PlacedUnit, placed}
 use Rattle.dw_entries.specs.Lookups.{value_at_entry, value_in}
 use Rattle.dw_links.specs.AttributeTexts.{text_at}
 use Rattle.dw_links.specs.Bases.{base_in}
-use Rattle.dw_links.specs.ValueTexts.{text_of}
+use Rattle.dw_links.specs.ValueTexts.{text_of_value}
 use Rattle.dw_image.specs.declared.image.Image.{Image}
 use Rattle.dw_image.specs.Images.{entries_in, name_in, sections_in, units_in}
 use Rattle.dwv_c.specs.declared.meaning.ValueRow.{ValueRow}
@@ -40,14 +40,15 @@ back_value (x ∷ xs) ys attribute is = search (rules, (back_value xs ys attribu
 
 module _ (h : Holders) (i : Image) (e : Entry) where
   no_text : (v : Datum) (r : ValueRow) (kind : ℕ) → r.kind ≡ kind → (kind == TEXT) ≡ false
-      → ((base : Option ℕ) → text_of (sections_in i) base v ≡ None) → IsNameSpan h (value_text i e v) (text_span r)
+      → ((base : Option ℕ) → text_of_value (sections_in i) base v ≡ None)
+      → IsNameSpan h (value_text i e v) (text_span r)
   no_text v r kind is other none =
       let test : (r.kind == TEXT) ≡ false = ap (λ (k : ℕ). k == TEXT) is ∙ other in
       subst (λ (t : Option (List ℕ)). IsNameSpan h t (text_span r)) (sym (go (slice_get (placed (units_in i)) e.unit)))
       (rw test tt)
     where
       go : (o : Option PlacedUnit) → option_and_then (λ (p : PlacedUnit).
-          text_of (sections_in i) (base_in (entries_in i) p DW_AT_str_offsets_base) v) o ≡ None
+          text_of_value (sections_in i) (base_in (entries_in i) p DW_AT_str_offsets_base) v) o ≡ None
       go None = refl
       go (Some p) = none (base_in (entries_in i) p DW_AT_str_offsets_base)
 
@@ -121,7 +122,7 @@ module _ (h : Holders) (i : Image) (e : Entry) where
   name_is : name_in i e ≡ option_and_then (value_text i e) (value_at_entry e DW_AT_name)
   unfolding name_in text_at
   name_is =
-      swapped (λ (p : PlacedUnit). text_of (sections_in i) (base_in (entries_in i) p DW_AT_str_offsets_base))
+      swapped (λ (p : PlacedUnit). text_of_value (sections_in i) (base_in (entries_in i) p DW_AT_str_offsets_base))
       (slice_get (placed (units_in i)) e.unit) (value_at_entry e DW_AT_name)
 
   -- after all values of the entry

@@ -2,13 +2,14 @@
 use Rattle.std.proofs.Common.{rules, ◌≡◌, ℕ, zero, suc, ◌+◌, ◌<◌, ◌≤◌, ◌⊎◌, List, [], ◌∷◌, ◌++◌, length, drop, min, Option, Some, None, Err, IfSome, refl, sym, ap, subst, ◌∙◌, arith}
 use Rattle.std.specs.Prelude.{slice_get, slice_set, option_map}
 use Rattle.std.specs.Option.{IsSomeAnd}
+use Rattle.std.proofs.lemmas.Option.{slice_get-get_or, get_or_from_slice_get}
 use Rattle.dw_elf.specs.Sections.{IsAt}
 use Rattle.dw_entries.specs.Entries.{Entry}
+use Rattle.dw_entries.specs.ByNumber.{no_entry, entry_of}
 use Rattle.dw_entries.specs.Lookups.{nth_of}
 use Rattle.dw_entries.proofs.DepthLaws.{no_depth, one_deeper}
 use Rattle.dw_image.specs.declared.image.Image.{Image}
 use Rattle.dw_image.specs.Images.{entries_in, entry_count, name_in, units_in}
-use Rattle.dw_image.proofs.LookupLemmas.{slice_get_none}
 use Rattle.dw_forms.specs.declared.fault.Stop.{Stop}
 use Rattle.dw_forms.specs.declared.fault.Stop.TheVariants.{Fault, Memory}
 use Rattle.dw_report.specs.Shown.{entry_size}
@@ -64,19 +65,13 @@ has_name file (Some text) (Some place) r is has =
     (subst (λ (n : ℕ). IsAt file n (text ++ 0 ∷ [])) (sym has.0) is.0, has.1 ∙ is.1, has.2)
 
 -- what the look-ups of an entry tell makes its row
-pub row_told : (file : List ℕ) (i : Image) (k : ℕ) (rows : List EntryRow) (found : Option Entry) (offset tag : ℕ)
-    (above : Option ℕ) (d : ℕ)
-    (size : Option ℕ) (place : Option (ℕ × ℕ)) (r : EntryRow)
-    → slice_get (entries_in i) k ≡ found → HaveRows file i k rows
-    → IfSome found (λ e. offset ≡ e.at) → IfSome found (λ e. tag ≡ e.head.decl.tag)
-    → IfSome found (λ e. above ≡ e.parent)
-    → depth_under rows above ≡ Some d → IfSome found (λ e. size ≡ entry_size i k e)
-    → IfSome found (λ e. IsNamePlace file (name_in i e) place)
-    → r.offset ≡ offset → r.depth ≡ d → r.tag ≡ tag → HasSize size r → HasPlace place r
-    → IfSome found (λ e. IsRow file i k e r)
-row_told file i k rows None offset tag above d size place r at so_far is_offset is_tag is_above is_depth is_size
-    is_place r_offset r_depth r_tag r_size r_place = tt
-row_told file i k rows (Some e) offset tag above d size place r at so_far is_offset is_tag is_above is_depth is_size
+pub row_told : (file : List ℕ) (i : Image) (k : ℕ) (rows : List EntryRow) (e : Entry) (offset tag : ℕ)
+    (above : Option ℕ) (d : ℕ) (size : Option ℕ) (place : Option (ℕ × ℕ)) (r : EntryRow)
+    → slice_get (entries_in i) k ≡ Some e → HaveRows file i k rows → offset ≡ e.at → tag ≡ e.head.decl.tag
+    → above ≡ e.parent → depth_under rows above ≡ Some d → size ≡ entry_size i k e
+    → IsNamePlace file (name_in i e) place
+    → r.offset ≡ offset → r.depth ≡ d → r.tag ≡ tag → HasSize size r → HasPlace place r → IsRow file i k e r
+row_told file i k rows e offset tag above d size place r at so_far is_offset is_tag is_above is_depth is_size
     is_place r_offset r_depth r_tag r_size r_place =
     record {
       offset = r_offset ∙ is_offset;
@@ -89,9 +84,9 @@ row_told file i k rows (Some e) offset tag above d size place r at so_far is_off
 -- the rows so far and that of the next entry
 one_more_row : (file : List ℕ) (i : Image) (n : ℕ) (rows : List EntryRow) (r : EntryRow) → n < entry_count i
     → n < length rows → HaveRows file i n rows
-    → IfSome (slice_get (entries_in i) n) (λ e. IsRow file i n e r) → HaveRows file i (n + 1) (slice_set rows n r)
+    → IsRow file i n (entry_of (entries_in i) n) r → HaveRows file i (n + 1) (slice_set rows n r)
 one_more_row file i n rows r below room so_far says k d within at =
-    search (rules, below_or_not, get_set_other, get_set_same)
+    search (rules, below_or_not, get_set_other, get_set_same, get_or_from_slice_get)
 
 nth_is : (entries : List Entry) (k id : ℕ) → Some id ≡ nth_of entries k → id ≡ k
 nth_is entries k id is = search (rules, some_is)
@@ -99,20 +94,21 @@ nth_is entries k id is = search (rules, some_is)
 -- so with the row of the entry that a look-up by its number returns
 pub next_row : (file : List ℕ) (i : Image) (n id : ℕ) (rows : List EntryRow) (r : EntryRow)
     → Some id ≡ nth_of (entries_in i) n → n < entry_count i → n < length rows → HaveRows file i n rows
-    → IfSome (slice_get (entries_in i) id) (λ e. IsRow file i id e r) → HaveRows file i (n + 1) (slice_set rows n r)
-next_row file i n id rows r found below room so_far says = search (rules, one_more_row, nth_is)
+    → IsRow file i id (entry_of (entries_in i) id) r → HaveRows file i (n + 1) (slice_set rows n r)
+next_row file i n id rows r found below room so_far says =
+    let P : ℕ → Type 0 = λ k. IsRow file i k (entry_of (entries_in i) k) r in
+    one_more_row file i n rows r below room so_far (subst P (nth_is (entries_in i) n id found) says)
 
 -- a parent has an earlier number
-pub parent_before : (i : Image) (k : ℕ) (room : ℕ) (found : Option Entry) (parent : Option ℕ) → k ≤ room
-    → slice_get (entries_in i) k ≡ found → k < entry_count i → IfSome found (λ e. parent ≡ e.parent)
-    → IfSome parent (λ p. p < room)
-parent_before i k room None parent le at within is = absurd (omega (arith, within, slice_get_none (entries_in i) k at))
-parent_before i k room (Some e) parent le at within is = go e.parent refl
+pub parent_before : (i : Image) (k : ℕ) (room : ℕ) (parent : Option ℕ) → k ≤ room → k < entry_count i
+    → parent ≡ (entry_of (entries_in i) k).parent → IfSome parent (λ p. p < room)
+parent_before i k room parent le within is = go (entry_of (entries_in i) k).parent refl
   where
-    go : (above : Option ℕ) → e.parent ≡ above → IfSome parent (λ p. p < room)
+    go : (above : Option ℕ) → (entry_of (entries_in i) k).parent ≡ above → IfSome parent (λ p. p < room)
     go None top = rw (is, top) tt
     go (Some p) under =
-        let (above, there, deeper, less) = one_deeper (units_in i) k p e at under in
+        let (above, there, deeper, less) = one_deeper (units_in i) k p (entry_of (entries_in i) k)
+        (slice_get-get_or (entries_in i) k no_entry within) under in
         rw (is, under) (omega (arith, less, le))
 
 -- all rows are written, by what is known of the names

@@ -1,12 +1,13 @@
 -- Rows that are written one after another, and the values of entries in their order.
-use Rattle.std.proofs.Common.{◌≡◌, ℕ, zero, suc, ◌+◌, ◌-◌, ◌<◌, ◌≤◌, inl, inr, List, [], ◌∷◌, ◌++◌, length, take, drop, map, Option, Some, None, IfSome, refl, sym, ap, subst, ◌∙◌, append_assoc, append-nil, length-append, drop-drop, drop_at, arith}
+use Rattle.std.proofs.Common.{◌≡◌, ℕ, zero, suc, ◌+◌, ◌-◌, ◌<◌, ◌≤◌, inl, inr, List, [], ◌∷◌, ◌++◌, length, take, drop, map, Option, Some, None, refl, sym, ap, subst, ◌∙◌, append_assoc, append-nil, length-append, drop-drop, drop_at, arith}
 use Rattle.std.proofs.lemmas.List.{drop-set-lt, length-map}
-use Rattle.std.proofs.lemmas.Option.{slice_get_within}
+use Rattle.std.proofs.lemmas.Option.{slice_get_within, slice_get-get_or}
 use Rattle.std.specs.Prelude.{slice_get, slice_set}
 use Rattle.std.specs.Option.{IsSomeAnd, option_flatten}
 use Rattle.dw_forms.specs.Value.{Datum}
-use Rattle.dw_entries.specs.Asked.{values_of}
+use Rattle.dw_entries.specs.EntryRules.{values_of}
 use Rattle.dw_entries.specs.Entries.{Entry}
+use Rattle.dw_entries.specs.ByNumber.{no_entry, entry_of}
 use Rattle.dw_image.specs.declared.image.Image.{Image}
 use Rattle.dw_image.specs.Images.{entries_in, entry_count, name_in}
 use Rattle.dwv_c.specs.declared.meaning.ValueRow.{ValueRow}
@@ -17,7 +18,7 @@ use Rattle.dwv_c.specs.Meanings.{HasMeaning, HasValue, Means, named_after}
 use Rattle.dwv_c.specs.TableState.{IsNameSpan}
 use Rattle.dwv_c.specs.ValueRows.{Holders, IsValueRow, Told, told, values_from, values_in}
 use Rattle.dwv_c.specs.Tables.{HaveValues, value_count, values_before}
-use Rattle.dw_links.proofs.Skips.{there}
+use Rattle.dw_links.proofs.ListLookups.{there}
 use Rattle.dwv_c.proofs.NamedLemmas.{IsNamed, name_among, named_all, named_more}
 use Rattle.dwv_c.proofs.RowLemmas.{below_or_not, get_set_other, get_set_same}
 
@@ -57,9 +58,6 @@ rest_on {X} xs ys zs n m le more same =
     let at : (l : List X) → drop (m - n) (drop n l) ≡ drop m l =
     λ (l : List X). drop-drop (m - n) n l ∙ ap (λ (k : ℕ). drop k l) sum in
     more ∙ sym (at xs) ∙ ap (drop (m - n)) same ∙ at ys
-
-pub from_some : {X : Type 0} (o : Option X) (P : X → Type 0) → IfSome o P → (x : X) → o ≡ Some x → P x
-from_some o P p x is = rw is at p
 
 -- ---- the values of entries
 
@@ -121,30 +119,31 @@ values_rise i n below = let (e, is) = there (entries_in i) n below in omega (ari
 -- the walk over the values of an entry is at this value of all, and these are left
 pub record IsAtValue (h : Holders) (i : Image) (id at : ℕ) (left : List (ℕ × Datum)) (named : Option (Option Span))
     : Type 0 where
-  pub entry : Entry
-  pub is_entry : slice_get (entries_in i) id ≡ Some entry
+  pub within : id < entry_count i
   pub done : List (ℕ × Datum)
-  pub parts : values_of entry.head ≡ done ++ left
+  pub parts : values_of (entry_of (entries_in i) id).head ≡ done ++ left
   pub tail : List Told
-  pub all : drop at (values_in i) ≡ map (told id entry) left ++ tail
+  pub all : drop at (values_in i) ≡ map (told id (entry_of (entries_in i) id)) left ++ tail
   pub next : at + length left ≡ values_before i (id + 1)
-  pub name : IsNamed h (name_among h i entry done) named
+  pub name : IsNamed h (name_among h i (entry_of (entries_in i) id) done) named
 
-at_first : (h : Holders) (i : Image) (id at : ℕ) (e : Entry) (left : List (ℕ × Datum))
-    → slice_get (entries_in i) id ≡ Some e
-    → at ≡ values_before i id → left ≡ values_of e.head → IsAtValue h i id at left None
-at_first h i id at e left is at_is left_is = record {
-  entry = e;
-  is_entry = is;
-  done = [];
-  parts = sym left_is;
-  tail = values_from (suc id) (drop (suc id) (entries_in i));
-  all = ap (λ (n : ℕ). drop n (values_in i)) at_is ∙ values_at 0 id id (entries_in i) e (omega arith) is
-      ∙ ap (λ (vs : List (ℕ × Datum)). map (told id e) vs ++ values_from (suc id) (drop (suc id) (entries_in i)))
-      (sym left_is);
-  next = let counted = counted_at i id e is in omega (arith, counted, at_is, ap length left_is);
-  name = tt;
-}
+-- where it starts
+pub at_entry : (h : Holders) (i : Image) (id at : ℕ) (left : List (ℕ × Datum)) → id < entry_count i
+    → at ≡ values_before i id → left ≡ values_of (entry_of (entries_in i) id).head → IsAtValue h i id at left None
+at_entry h i id at left below at_is left_is =
+    let e = entry_of (entries_in i) id in
+    let is = slice_get-get_or (entries_in i) id no_entry below in
+    record {
+      within = below;
+      done = [];
+      parts = sym left_is;
+      tail = values_from (suc id) (drop (suc id) (entries_in i));
+      all = ap (λ (n : ℕ). drop n (values_in i)) at_is ∙ values_at 0 id id (entries_in i) e (omega arith) is
+          ∙ ap (λ (vs : List (ℕ × Datum)). map (told id e) vs ++ values_from (suc id) (drop (suc id) (entries_in i)))
+          (sym left_is);
+      next = let counted = counted_at i id e is in omega (arith, counted, at_is, ap length left_is);
+      name = tt;
+    }
 
 drop_more : {X : Type 0} (n : ℕ) (xs : List X) (x : X) (rest : List X) → drop n xs ≡ x ∷ rest
     → (slice_get xs n ≡ Some x) × (drop (suc n) xs ≡ rest)
@@ -163,33 +162,31 @@ middle (y ∷ xs) (d ∷ done) left x is = middle xs done left x (let e = is in 
 
 module _ (h : Holders) (i : Image) (id at : ℕ) (item : ℕ × Datum) (left : List (ℕ × Datum))
     (named : Option (Option Span)) (w : IsAtValue h i id at (item ∷ left) named) where
-  here : (slice_get (values_in i) at ≡ Some (told id w.entry item))
-      × (drop (suc at) (values_in i) ≡ map (told id w.entry) left ++ w.tail)
-  here = drop_more at (values_in i) (told id w.entry item) (map (told id w.entry) left ++ w.tail) w.all
+  here : (slice_get (values_in i) at ≡ Some (told id (entry_of (entries_in i) id) item))
+      × (drop (suc at) (values_in i) ≡ map (told id (entry_of (entries_in i) id)) left ++ w.tail)
+  here =
+      drop_more at (values_in i) (told id (entry_of (entries_in i) id) item)
+      (map (told id (entry_of (entries_in i) id)) left ++ w.tail) w.all
 
-  pub value_here : slice_get (values_in i) at ≡ Some (told id w.entry item)
+  pub value_here : slice_get (values_in i) at ≡ Some (told id (entry_of (entries_in i) id) item)
   value_here = here.0
 
   pub at_within : at < value_count i
-  at_within = slice_get_within (values_in i) at (told id w.entry item) value_here
+  at_within = slice_get_within (values_in i) at (told id (entry_of (entries_in i) id) item) value_here
 
-  pub has_here : slice_get (values_of w.entry.head) (length w.done) ≡ Some item
-  has_here = middle (values_of w.entry.head) w.done left item w.parts
+  pub has_here : slice_get (values_of (entry_of (entries_in i) id).head) (length w.done) ≡ Some item
+  has_here = middle (values_of (entry_of (entries_in i) id).head) w.done left item w.parts
 
   pub at_next : (m : Meaning) (row : ValueRow) → row.attribute ≡ item.0 → HasMeaning m row
-      → IfSome (slice_get (entries_in i) id) (λ e. Means h i e item.1 m)
-      → IsAtValue h i id (at + 1) left (named_after named row)
+      → Means h i (entry_of (entries_in i) id) item.1 m → IsAtValue h i id (at + 1) left (named_after named row)
   at_next m row attribute has means = record {
-    entry = w.entry;
-    is_entry = w.is_entry;
+    within = w.within;
     done = w.done ++ (item ∷ []);
     parts = w.parts ∙ sym (append_assoc w.done (item ∷ []) left);
     tail = w.tail;
     all = ap (λ (n : ℕ). drop n (values_in i)) (let e : at + 1 ≡ suc at = omega arith in e) ∙ here.1;
     next = omega (arith, w.next);
-    name =
-        let own : Means h i w.entry item.1 m = rw w.is_entry at means in
-        named_more h i w.entry w.done item named row w.name attribute (own row has);
+    name = named_more h i (entry_of (entries_in i) id) w.done item named row w.name attribute (means row has);
   }
 
 pub at_last : (h : Holders) (i : Image) (id at : ℕ) (left : List (ℕ × Datum)) (named : Option (Option Span)) → left ≡ []
@@ -199,68 +196,58 @@ at_last h i id at left named none w = omega (arith, w.next, ap length none)
 -- the name is known then
 pub name_at_last : (h : Holders) (i : Image) (id at : ℕ) (left : List (ℕ × Datum)) (named : Option (Option Span))
     → left ≡ [] → IsAtValue h i id at left named
-    → IfSome (slice_get (entries_in i) id) (λ e. IsNameSpan h (name_in i e) (option_flatten named))
+    → IsNameSpan h (name_in i (entry_of (entries_in i) id)) (option_flatten named)
 name_at_last h i id at left named none w =
-    let all : w.done ≡ values_of w.entry.head =
+    let e = entry_of (entries_in i) id in
+    let all : w.done ≡ values_of e.head =
     sym (append-nil w.done) ∙ ap (λ (l : List (ℕ × Datum)). w.done ++ l) (sym none) ∙ sym w.parts in
-    rw w.is_entry (named_all h i w.entry named
-    (subst (λ (l : List (ℕ × Datum)). IsNamed h (name_among h i w.entry l) named) all w.name))
+    named_all h i e named (subst (λ (l : List (ℕ × Datum)). IsNamed h (name_among h i e l) named) all w.name)
 
 -- ---- the rows of values
 
 -- the value at hand is one of the entry
 pub value_of_entry : (h : Holders) (i : Image) (u : UnitAtHand) (id at : ℕ) (item : ℕ × Datum)
     (left : List (ℕ × Datum)) (named : Option (Option Span)) → IsAtValue h i id at (item ∷ left) named
-    → IfSome (slice_get (entries_in i) id) (λ e. u.number ≡ e.unit) → HasValue i u id item.0 item.1
-value_of_entry h i u id at item left named w unit =
-    let same : u.number ≡ w.entry.unit = rw w.is_entry at unit in
-    record {
-      entry = w.entry;
-      is_entry = w.is_entry;
-      in_unit = sym same;
-      position = length w.done;
-      has = has_here h i id at item left named w;
-    }
+    → u.number ≡ (entry_of (entries_in i) id).unit → HasValue i u id item.0 item.1
+value_of_entry h i u id at item left named w unit = record {
+  within = w.within;
+  in_unit = sym unit;
+  position = length w.done;
+  has = has_here h i id at item left named w;
+}
 
 -- the row of its meaning is its row
 value_row_is : (h : Holders) (i : Image) (id at : ℕ) (item : ℕ × Datum) (left : List (ℕ × Datum))
     (named : Option (Option Span)) → IsAtValue h i id at (item ∷ left) named
     → (row : ValueRow) (m : Meaning) → row.entry ≡ id → row.attribute ≡ item.0 → HasMeaning m row → row.zero ≡ 0
-    → IfSome (slice_get (entries_in i) id) (λ e. Means h i e item.1 m)
+    → Means h i (entry_of (entries_in i) id) item.1 m
     → (t : Told) → slice_get (values_in i) at ≡ Some t → IsValueRow h i t row
 value_row_is h i id at item left named w row m entry attribute has is_zero means t is =
-    let same : told id w.entry item
-    ≡ t = some_same (slice_get (values_in i) at) (told id w.entry item) t (value_here h i id at item left named w) is
+    let same : told id (entry_of (entries_in i) id) item
+    ≡ t =
+    some_same (slice_get (values_in i) at) (told id (entry_of (entries_in i) id) item) t
+    (value_here h i id at item left named w) is
     in
-    let own : Means h i w.entry item.1 m = rw w.is_entry at means in
     subst (λ (x : Told). IsValueRow h i x row) same
-    (record { entry = entry; attribute_is = attribute; says = own row has; zero_is = is_zero })
+    (record { entry = entry; attribute_is = attribute; says = means row has; zero_is = is_zero })
 
 -- so the rows of the values up to it and with it
 pub values_more : (h : Holders) (i : Image) (id at : ℕ) (item : ℕ × Datum) (left : List (ℕ × Datum))
     (named : Option (Option Span)) → IsAtValue h i id at (item ∷ left) named
     → (rows : List ValueRow) (row : ValueRow) (m : Meaning) → value_count i ≤ length rows → HaveValues h i at rows
     → row.entry ≡ id → row.attribute ≡ item.0 → HasMeaning m row → row.zero ≡ 0
-    → IfSome (slice_get (entries_in i) id) (λ e. Means h i e item.1 m)
+    → Means h i (entry_of (entries_in i) id) item.1 m
     → HaveValues h i (at + 1) (slice_set rows at row)
 values_more h i id at item left named w rows row m room so_far entry attribute has is_zero means =
     have_more (λ k t r. IsValueRow h i t r) (values_in i) at rows row
     (let below = at_within h i id at item left named w in omega (arith, below, room)) so_far
     (value_row_is h i id at item left named w row m entry attribute has is_zero means)
 
--- where the walk starts
-pub at_entry : (h : Holders) (i : Image) (id at : ℕ) (left : List (ℕ × Datum)) → id < entry_count i
-    → at ≡ values_before i id
-    → IfSome (slice_get (entries_in i) id) (λ e. left ≡ values_of e.head) → IsAtValue h i id at left None
-at_entry h i id at left below at_is left_is =
-    let (e, is) = there (entries_in i) id below in
-    at_first h i id at e left is at_is (rw is at left_is)
-
 -- after the last value of an entry
 pub counted_to : (h : Holders) (i : Image) (id at from : ℕ) (left : List (ℕ × Datum)) (named : Option (Option Span))
     → left ≡ [] → from ≡ values_before i id → IsAtValue h i id at left named
-    → IfSome (slice_get (entries_in i) id) (λ e. at ≡ from + length (values_of e.head))
+    → at ≡ from + length (values_of (entry_of (entries_in i) id).head)
 counted_to h i id at from left named none from_is w =
     let last = at_last h i id at left named none w in
-    let counted = counted_at i id w.entry w.is_entry in
-    rw w.is_entry (omega (arith, last, counted, from_is))
+    let counted = counted_at i id _ (slice_get-get_or (entries_in i) id no_entry w.within) in
+    omega (arith, last, counted, from_is)

@@ -1,19 +1,20 @@
 -- The rows of a table: that of an entry by what is told of it, and what a call returns.
-use Rattle.std.proofs.Common.{◌≡◌, ℕ, suc, ◌+◌, ◌-◌, ◌<◌, ◌≤◌, List, [], ◌∷◌, ◌++◌, length, min, Option, Some, None, Err, IfSome, refl, sym, ap, subst, ◌∙◌, arith}
+use Rattle.std.proofs.Common.{◌≡◌, ℕ, suc, ◌+◌, ◌-◌, ◌<◌, List, [], ◌∷◌, ◌++◌, length, min, Option, Some, None, Err, refl, sym, ap, subst, ◌∙◌, arith}
 use Rattle.std.specs.Prelude.{slice_get, slice_set, option_map}
 use Rattle.std.specs.Option.{IsSomeAnd}
+use Rattle.std.proofs.lemmas.Option.{get_or_from_slice_get}
 use Rattle.dw_elf.specs.Checks.{ChecksPass}
 use Rattle.dw_elf.specs.Sections.{AreSections, IsAt}
 use Rattle.dw_elf.specs.declared.sections.Sections.{Sections}
-use Rattle.dw_entries.specs.Asked.{values_of}
+use Rattle.dw_entries.specs.EntryRules.{values_of}
 use Rattle.dw_entries.specs.Entries.{Entry}
+use Rattle.dw_entries.specs.ByNumber.{no_entry, entry_of}
 use Rattle.dw_entries.proofs.DepthLaws.{no_depth, one_deeper}
 use Rattle.dw_forms.specs.declared.fault.Stop.{Stop}
 use Rattle.dw_forms.specs.declared.fault.Stop.TheVariants.{Fault, Memory}
 use Rattle.dw_image.specs.declared.image.Image.{Image}
 use Rattle.dw_image.specs.Headline.{IsImageOf}
-use Rattle.dw_links.proofs.Skips.{there}
-use Rattle.dw_image.specs.Images.{entries_in, entry_count, name_in, sections_in, units_in}
+use Rattle.dw_image.specs.Images.{entries_in, name_in, sections_in, units_in}
 use Rattle.dw_report.specs.Shown.{entry_size}
 use Rattle.dwv_c.specs.declared.places.Span.{Span}
 use Rattle.dwv_c.specs.declared.table_rows.Links.{Links}
@@ -64,24 +65,15 @@ has_name h (Some text) (Some s) r is has = (
 )
 
 -- what is told of an entry makes its row
-pub entry_told : (h : Holders) (i : Image) (k : ℕ) (rows : List TableEntry) (found : Option Entry) (offset tag : ℕ)
-    (above : Option ℕ) (d : ℕ) (size : Option ℕ)
-    (name : Option Span) (l : Links) (r : TableEntry) → slice_get (entries_in i) k ≡ found → HaveEntries h i k rows
-    → IfSome found (λ e. offset ≡ e.at) → IfSome found (λ e. tag ≡ e.head.decl.tag)
-    → IfSome found (λ e. above ≡ e.parent)
-    → depth_by rows above ≡ Some d → IfSome found (λ e. size ≡ entry_size i k e)
-    → IfSome found (λ e. IsNameSpan h (name_in i e) name)
-    → l.first_value ≡ values_before i k → IfSome found (λ e. l.values ≡ length (values_of e.head))
-    → IfSome found (λ e. l.unit ≡ e.unit)
-    → IfSome found (λ e. l.parent ≡ e.parent) → IfSome found (λ e. l.next_sibling ≡ e.next)
+pub entry_told : (h : Holders) (i : Image) (k : ℕ) (rows : List TableEntry) (e : Entry) (offset tag : ℕ)
+    (above : Option ℕ) (d : ℕ) (size : Option ℕ) (name : Option Span) (l : Links) (r : TableEntry)
+    → slice_get (entries_in i) k ≡ Some e → HaveEntries h i k rows → offset ≡ e.at → tag ≡ e.head.decl.tag
+    → above ≡ e.parent → depth_by rows above ≡ Some d → size ≡ entry_size i k e → IsNameSpan h (name_in i e) name
+    → l.first_value ≡ values_before i k → l.values ≡ length (values_of e.head) → l.unit ≡ e.unit
+    → l.parent ≡ e.parent → l.next_sibling ≡ e.next
     → r.offset ≡ offset → r.depth ≡ d → r.tag ≡ tag → HasSize size r → HasNameSpan name r → HasLinks l r
-    → IfSome found (λ e. IsTableEntry h i k e r)
-entry_told h i k rows None offset tag above d size name l r at so_far is_offset is_tag is_above is_depth is_size is_name
-    first
-    values unit parent next r_offset r_depth r_tag r_size r_name r_links =
-    tt
-entry_told h i k rows (Some e) offset tag above d size name l r at so_far is_offset is_tag is_above is_depth is_size
-    is_name
+    → IsTableEntry h i k e r
+entry_told h i k rows e offset tag above d size name l r at so_far is_offset is_tag is_above is_depth is_size is_name
     first values unit parent next r_offset r_depth r_tag r_size r_name r_links =
     record {
       offset = r_offset ∙ is_offset;
@@ -99,27 +91,10 @@ entry_told h i k rows (Some e) offset tag above d size name l r at so_far is_off
 -- the rows of entries and that of the next one
 pub entries_more : (h : Holders) (i : Image) (n : ℕ) (rows : List TableEntry) (r : TableEntry) → n < length rows
     → HaveEntries h i n rows
-    → IfSome (slice_get (entries_in i) n) (λ e. IsTableEntry h i n e r) → HaveEntries h i (n + 1) (slice_set rows n r)
+    → IsTableEntry h i n (entry_of (entries_in i) n) r → HaveEntries h i (n + 1) (slice_set rows n r)
 entries_more h i n rows r room so_far says =
-    have_more (IsTableEntry h i) (entries_in i) n rows r room so_far (λ e is. rw is at says)
-
--- the values of an entry come after those before it
-pub rises : (i : Image) (id from next : ℕ) → id < entry_count i
-    → IfSome (slice_get (entries_in i) id) (λ e. next ≡ from + length (values_of e.head)) → from ≤ next
-rises i id from next below told =
-    let (e, is) = there (entries_in i) id below in
-    let here : next ≡ from + length (values_of e.head) = rw is at told in
-    omega (arith, here)
-
-pub told_length : (i : Image) (id from next : ℕ)
-    → IfSome (slice_get (entries_in i) id) (λ e. next ≡ from + length (values_of e.head))
-    → IfSome (slice_get (entries_in i) id) (λ e. next - from ≡ length (values_of e.head))
-told_length i id from next told = go (slice_get (entries_in i) id) told
-  where
-    go : (o : Option Entry) → IfSome o (λ e. next ≡ from + length (values_of e.head))
-        → IfSome o (λ e. next - from ≡ length (values_of e.head))
-    go None told = tt
-    go (Some e) told = omega (arith, told)
+    have_more (IsTableEntry h i) (entries_in i) n rows r room so_far
+    (λ e is. subst (λ (x : Entry). IsTableEntry h i n x r) (get_or_from_slice_get (entries_in i) n e no_entry is) says)
 
 -- ---- what a call returns
 

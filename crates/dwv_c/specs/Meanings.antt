@@ -1,18 +1,19 @@
 -- State: what a value means before its row is written, and the unit at hand.
 use Rattle.std.specs.Prelude.{◌≡◌, ℕ, ◌+◌, ◌*◌, ◌≤◌, List, [], ◌∷◌, ◌++◌, length, ◌==◌, Bool, true, false}
 use Rattle.std.specs.Prelude.{if◌then◌else◌}
-use Rattle.std.specs.Prelude.{Option, None, Some, slice_get}
+use Rattle.std.specs.Prelude.{Option, None, Some, ◌<◌}
 use Rattle.std.specs.Int.{cast_unsigned, w64}
 use Rattle.dw_elf.specs.Sections.{IsAt}
 use Rattle.dw_forms.specs.Codes.{DW_AT_name, DW_AT_str_offsets_base, DW_AT_addr_base}
 use Rattle.dw_forms.specs.Value.{Datum, address, block, unsigned, signed, wide, text, flag, str, line_str, str_index}
 use Rattle.dw_forms.specs.Value.{sec_offset, expr, addr_index, loc_index, rng_index}
-use Rattle.dw_entries.specs.Asked.{HasAttribute}
+use Rattle.dw_entries.specs.EntryRules.{HasAttribute}
 use Rattle.dw_entries.specs.Entries.{Entry, PlacedUnit, placed}
+use Rattle.dw_entries.specs.ByNumber.{entry_of, placed_of}
 use Rattle.dw_entries.specs.Header.{IsSize}
 use Rattle.dw_links.specs.Bases.{base_in}
 use Rattle.dw_image.specs.declared.image.Image.{Image}
-use Rattle.dw_image.specs.Images.{entries_in, units_in}
+use Rattle.dw_image.specs.Images.{entries_in, unit_count, units_in}
 use Rattle.dwv_c.specs.declared.meaning.Meaning.{Meaning}
 use Rattle.dwv_c.specs.declared.meaning.Meaning.TheVariants as means
 use Rattle.dwv_c.specs.declared.places.Places.{Places}
@@ -117,22 +118,24 @@ named_after None r = if r.attribute == DW_AT_name then Some (text_span r) else N
 
 -- ---- the unit at hand
 
+-- it, at its place
+abbrev pub place_at : Image → UnitAtHand → PlacedUnit
+place_at i u = placed_of (placed (units_in i)) u.number
+
 -- what is known of it is right
 pub record IsAtHand (i : Image) (u : UnitAtHand) : Type 0 where
-  pub place : PlacedUnit
-  pub is_place : slice_get (placed (units_in i)) u.number ≡ Some place
-  pub offset : u.offset ≡ place.at
-  pub header : u.header ≡ place.unit.header
-  pub str_base : u.str_base ≡ base_in (entries_in i) place DW_AT_str_offsets_base
-  pub addr_base : u.addr_base ≡ base_in (entries_in i) place DW_AT_addr_base
+  pub within : u.number < unit_count i
+  pub offset : u.offset ≡ (place_at i u).at
+  pub header : u.header ≡ (place_at i u).unit.header
+  pub str_base : u.str_base ≡ base_in (entries_in i) (place_at i u) DW_AT_str_offsets_base
+  pub addr_base : u.addr_base ≡ base_in (entries_in i) (place_at i u) DW_AT_addr_base
 
 -- an entry of the unit at hand has this value
 pub record HasValue (i : Image) (u : UnitAtHand) (id attribute : ℕ) (v : Datum) : Type 0 where
-  pub entry : Entry
-  pub is_entry : slice_get (entries_in i) id ≡ Some entry
-  pub in_unit : entry.unit ≡ u.number
+  pub within : id < length (entries_in i)
+  pub in_unit : (entry_of (entries_in i) id).unit ≡ u.number
   pub position : ℕ
-  pub has : HasAttribute entry position attribute v
+  pub has : HasAttribute (entry_of (entries_in i) id) position attribute v
 
 -- the slot of an index, of so many bytes from a base on, is within a section
 abbrev pub HasSlot : (section : List ℕ) → (size : ℕ) → (base : Option ℕ) → (index : ℕ) → Type 0

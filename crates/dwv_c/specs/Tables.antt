@@ -7,12 +7,13 @@ use Rattle.dw_elf.specs.Checks.{ChecksPass}
 use Rattle.dw_elf.specs.Sections.{AreSections, IsAt}
 use Rattle.dw_elf.specs.declared.sections.Sections.{Sections}
 use Rattle.dw_forms.specs.Codes.{DW_AT_language}
-use Rattle.dw_entries.specs.Asked.{values_of}
+use Rattle.dw_entries.specs.EntryRules.{values_of}
 use Rattle.dw_entries.specs.Entries.{Entry, PlacedUnit, node_count, placed}
+use Rattle.dw_entries.specs.ByNumber.{entry_of}
 use Rattle.dw_entries.specs.Header.{code_of_type, version_of}
 use Rattle.dw_entries.specs.Lookups.{unit_head, value_at_entry}
 use Rattle.dw_links.specs.Bases.{section_offset_of}
-use Rattle.dw_types.specs.Constants.{constant_of, natural_of}
+use Rattle.dw_links.specs.Constants.{constant_of, natural_of}
 use Rattle.dw_image.specs.declared.image.Image.{Image}
 use Rattle.dw_image.specs.Headline.{IsImageOf}
 use Rattle.dw_image.specs.Images.{entries_in, entry_count, name_in, sections_in, unit_count, units_in}
@@ -50,14 +51,12 @@ abbrev pub values_before : Image → ℕ → ℕ
 values_before i number = length (values_from 0 (take number (entries_in i)))
 
 -- the number under an attribute of an entry, or 0 if there is none that is 0 or more
-abbrev pub number_under : Option Entry → ℕ → ℕ
-number_under None attribute = 0
-number_under (Some e) attribute = unwrap_or (natural_of (constant_of (value_at_entry e attribute))) 0
+abbrev pub number_under : Entry → ℕ → ℕ
+number_under e attribute = unwrap_or (natural_of (constant_of (value_at_entry e attribute))) 0
 
 -- the offset into a section under an attribute of an entry, or 0 if there is none
-abbrev pub offset_under : Option Entry → ℕ → ℕ
-offset_under None attribute = 0
-offset_under (Some e) attribute = unwrap_or (section_offset_of e attribute) 0
+abbrev pub offset_under : Entry → ℕ → ℕ
+offset_under e attribute = unwrap_or (section_offset_of e attribute) 0
 
 -- the row of a unit; the last three are of its first entry
 pub record IsUnitRow (i : Image) (p : PlacedUnit) (r : UnitRow) : Type 0 where
@@ -67,9 +66,9 @@ pub record IsUnitRow (i : Image) (p : PlacedUnit) (r : UnitRow) : Type 0 where
   pub address_size : r.address_size ≡ p.unit.header.address_size
   pub first : r.first ≡ p.first
   pub entries : r.entries ≡ min (node_count p.unit.root) greatest
-  pub language : r.language ≡ number_under (slice_get (entries_in i) p.first) DW_AT_language
-  pub rnglists_base : r.rnglists_base ≡ offset_under (slice_get (entries_in i) p.first) DW_AT_rnglists_base
-  pub loclists_base : r.loclists_base ≡ offset_under (slice_get (entries_in i) p.first) DW_AT_loclists_base
+  pub language : r.language ≡ number_under (entry_of (entries_in i) p.first) DW_AT_language
+  pub rnglists_base : r.rnglists_base ≡ offset_under (entry_of (entries_in i) p.first) DW_AT_rnglists_base
+  pub loclists_base : r.loclists_base ≡ offset_under (entry_of (entries_in i) p.first) DW_AT_loclists_base
 
 -- a row has this size, or none
 abbrev pub HasSize : Option ℕ → TableEntry → Type 0

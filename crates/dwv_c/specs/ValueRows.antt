@@ -8,13 +8,13 @@ use Rattle.dw_elf.specs.declared.sections.Sections.{Sections}
 use Rattle.dw_forms.specs.Codes.{DW_AT_str_offsets_base, DW_AT_addr_base}
 use Rattle.dw_forms.specs.Value.{Datum, address, block, unsigned, signed, wide, text, flag, str, line_str, str_index}
 use Rattle.dw_forms.specs.Value.{ref_info, ref_unit, ref_sig, sec_offset, expr, addr_index, loc_index, rng_index}
-use Rattle.dw_entries.specs.Asked.{values_of}
+use Rattle.dw_entries.specs.EntryRules.{values_of}
 use Rattle.dw_entries.specs.Entries.{Entry, PlacedUnit, placed}
 use Rattle.dw_image.specs.declared.image.Image.{Image}
 use Rattle.dw_image.specs.Images.{entries_in, sections_in, units_in}
 use Rattle.dw_links.specs.Bases.{base_in}
 use Rattle.dw_links.specs.Targets.{reach_of}
-use Rattle.dw_links.specs.ValueTexts.{address_of, text_of}
+use Rattle.dw_links.specs.ValueTexts.{address_of, text_of_value}
 use Rattle.dwv_c.specs.declared.meaning.ValueRow.{ValueRow}
 
 -- ---- the kinds
@@ -131,7 +131,7 @@ address_in i e v = option_and_then (λ (p : PlacedUnit).
 -- the text of a value of an entry, if it is one
 abbrev pub value_text : Image → Entry → Datum → Option (List ℕ)
 value_text i e v = option_and_then (λ (p : PlacedUnit).
-    text_of (sections_in i) (base_in (entries_in i) p DW_AT_str_offsets_base) v)
+    text_of_value (sections_in i) (base_in (entries_in i) p DW_AT_str_offsets_base) v)
     (slice_get (placed (units_in i)) e.unit)
 
 -- the number of the entry that a value of an entry refers to, if it is a reference

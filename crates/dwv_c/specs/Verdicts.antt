@@ -12,7 +12,7 @@ use Rattle.dw_entries.specs.RuleTexts.{code_text, name_text, section_text}
 use Rattle.dw_image.specs.declared.image.Image.{Image}
 use Rattle.dw_image.specs.Headline.{IsImageOf, IsFaultOf}
 use Rattle.dw_units.specs.declared.counts.Counts.{Counts}
-use Rattle.dw_units.specs.Counted.{AreCounts, counts_of}
+use Rattle.dw_units.specs.Counts.{AreCounts, counts_in}
 use Rattle.dw_report.specs.Reports.{file_limit, too_large}
 use Rattle.dwv_c.specs.declared.verdict.Verdict.{Verdict}
 
@@ -76,7 +76,7 @@ of_counts c = record {
 
 -- an image: the counts of its sections
 abbrev pub of_image : Image → Verdict
-of_image i = of_counts (counts_of i)
+of_image i = of_counts (counts_in i)
 
 -- the file is within the limit, all checks of it pass, and these are its sections
 pub record AreOfFile (bytes : List ℕ) (s : Sections) : Type 0 where

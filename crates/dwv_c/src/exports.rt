@@ -10,7 +10,7 @@ ghost use Rattle.dwv_c.specs.ValueRows.{held_by_file};
 ghost use Rattle.dwv_c.specs.Texts.{PutsReport, request_of};
 ghost use Rattle.dwv_c.specs.Checked.{status_of, verdict_after, IsErrorOf};
 ghost use Rattle.dw_image.specs.Headline.{IsImageOf};
-ghost use Rattle.dw_units.specs.Counted.{AreCounts};
+ghost use Rattle.dw_units.specs.Counts.{AreCounts};
 
 use crate::meaning::ValueRow;
 use crate::places::Ground;

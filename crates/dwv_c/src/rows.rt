@@ -1,8 +1,9 @@
 //! The entries of a sound file as rows in an array of the caller, and where the names of entries are in the file.
 
-ghost use Rattle.std.specs.Prelude.{◌≡◌, ◌+◌, ◌<◌, ◌≤◌, ◌++◌, ◌∷◌, [], Some, length, drop, slice_get, IfOk, IfSome};
+ghost use Rattle.std.specs.Prelude.{◌≡◌, ◌+◌, ◌<◌, ◌≤◌, ◌++◌, ◌∷◌, [], Some, length, drop, IfOk, IfSome};
 ghost use Rattle.dw_elf.specs.Checks.{ChecksPass};
 ghost use Rattle.dw_elf.specs.Sections.{AreSections, IsAt};
+ghost use Rattle.dw_entries.specs.ByNumber.{entry_of};
 ghost use Rattle.dw_image.specs.Images.{entries_in, entry_count, name_in, sections_in};
 ghost use Rattle.dw_image.specs.Slots.{BeginsString};
 ghost use Rattle.dw_image.specs.ValueTexts.{text_there};
@@ -71,8 +72,8 @@ impl<'i, 'a> Names<'i, 'a> {
     /// .debug_line_str is not read to its end.
     fn place(&self, id: EntryId) -> Option<(u64, u32)>
         requires { id < length (entries_in self.now.strings.image.now) }
-        ensures { IfSome (slice_get (entries_in self.now.strings.image.now) id)
-            (λ e. IsNamePlace self.now.file.now (name_in self.now.strings.image.now e) result) }
+        ensures { IsNamePlace self.now.file.now
+            (name_in self.now.strings.image.now (entry_of (entries_in self.now.strings.image.now) id)) result }
     {
         match self.strings.image.name_place(id) {
             Some(place) => {
@@ -156,8 +157,8 @@ fn row_at(rows: &[EntryRow], names: &Names<'_, '_>, id: EntryId) -> EntryRow
     requires entry { id < length (entries_in names.now.strings.image.now) }
     requires room { id ≤ length rows.now }
     requires before { HaveRows names.now.file.now names.now.strings.image.now id rows.now }
-    ensures { IfSome (slice_get (entries_in names.now.strings.image.now) id)
-        (λ e. IsRow names.now.file.now names.now.strings.image.now id e result) }
+    ensures { IsRow names.now.file.now names.now.strings.image.now id
+        (entry_of (entries_in names.now.strings.image.now) id) result }
 {
     let image = names.strings.image;
     let depth = depth_by_rows(rows, image.parent(id));

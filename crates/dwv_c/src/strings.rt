@@ -3,7 +3,7 @@
 ghost use Rattle.std.specs.Prelude.{◌≡◌, ◌≤◌, length, drop, IfOk};
 ghost use Rattle.dw_image.specs.Contributions.{string_at};
 ghost use Rattle.dw_image.specs.Images.{sections_in};
-ghost use Rattle.dw_image.specs.Slots.{IsPlace};
+ghost use Rattle.dw_image.specs.Slots.{IsTextPlace};
 ghost use Rattle.dw_image.specs.ValueTexts.{text_there};
 ghost use Rattle.dwv_c.specs.Strings.{AreLengths, front_length};
 
@@ -92,7 +92,7 @@ impl<'i, 'a> Strings<'i, 'a> {
 
     /// How long the text at a place is. One in .debug_info is read to its end.
     pub fn length(&self, place: TextPlace) -> usize
-        requires { IsPlace (sections_in self.now.image.now) place }
+        requires { IsTextPlace (sections_in self.now.image.now) place }
         ensures { result ≡ length (text_there (sections_in self.now.image.now) place) }
     {
         match place {

@@ -1,8 +1,9 @@
 //! All that sound sections say, as rows in three arrays of the caller.
 
-ghost use Rattle.std.specs.Prelude.{◌≡◌, ◌+◌, ◌<◌, ◌≤◌, length, drop, slice_get, IfSome};
+ghost use Rattle.std.specs.Prelude.{◌≡◌, ◌+◌, ◌<◌, ◌≤◌, length, drop};
 ghost use Rattle.std.specs.Bool.{OnTrue, OnFalse};
-ghost use Rattle.dw_entries.specs.Asked.{values_of};
+ghost use Rattle.dw_entries.specs.EntryRules.{values_of};
+ghost use Rattle.dw_entries.specs.ByNumber.{entry_of};
 ghost use Rattle.dw_image.specs.Headline.{IsImageOf};
 ghost use Rattle.dw_image.specs.Images.{entries_in, entry_count, name_in, sections_in, unit_count};
 ghost use Rattle.dwv_c.specs.Meanings.{IsAtHand, holders_of};
@@ -38,15 +39,14 @@ impl<'p, 'i, 'a> Resolver<'p, 'i, 'a> {
         requires sound { IsImageOf (sections_in self.now.image.now) self.now.image.now }
         requires unit { IsAtHand self.now.image.now unit.now }
         requires id { id < length (entries_in self.now.image.now) }
-        requires in_unit { IfSome (slice_get (entries_in self.now.image.now) id) (λ e. unit.now.number ≡ e.unit) }
+        requires in_unit { unit.now.number ≡ (entry_of (entries_in self.now.image.now) id).unit }
         requires room { value_count self.now.image.now ≤ length values.old }
         requires from { from ≡ values_before self.now.image.now id }
         requires before { HaveValues (holders_of self.now.places.now) self.now.image.now from values.old }
         ensures next { result.0 ≡ values_before self.now.image.now (id + 1) }
-        ensures count { IfSome (slice_get (entries_in self.now.image.now) id)
-            (λ e. result.0 ≡ from + length (values_of e.head)) }
-        ensures name { IfSome (slice_get (entries_in self.now.image.now) id)
-            (λ e. IsNameSpan (holders_of self.now.places.now) (name_in self.now.image.now e) result.1) }
+        ensures count { result.0 ≡ from + length (values_of (entry_of (entries_in self.now.image.now) id).head) }
+        ensures name { IsNameSpan (holders_of self.now.places.now)
+            (name_in self.now.image.now (entry_of (entries_in self.now.image.now) id)) result.1 }
         ensures rows { HaveValues (holders_of self.now.places.now) self.now.image.now result.0 values.new }
         ensures rest { drop result.0 values.new ≡ drop result.0 values.old }
     {
@@ -76,16 +76,15 @@ impl<'p, 'i, 'a> Resolver<'p, 'i, 'a> {
     ) -> TableEntry
         requires unit { IsAtHand self.now.image.now unit.now }
         requires id { id < length (entries_in self.now.image.now) }
-        requires in_unit { IfSome (slice_get (entries_in self.now.image.now) id) (λ e. unit.now.number ≡ e.unit) }
+        requires in_unit { unit.now.number ≡ (entry_of (entries_in self.now.image.now) id).unit }
         requires room { id ≤ length entries.now }
         requires before { HaveEntries (holders_of self.now.places.now) self.now.image.now id entries.now }
         requires from { from ≡ values_before self.now.image.now id }
-        requires next { IfSome (slice_get (entries_in self.now.image.now) id)
-            (λ e. next ≡ from + length (values_of e.head)) }
-        requires name { IfSome (slice_get (entries_in self.now.image.now) id)
-            (λ e. IsNameSpan (holders_of self.now.places.now) (name_in self.now.image.now e) name) }
-        ensures { IfSome (slice_get (entries_in self.now.image.now) id)
-            (λ e. IsTableEntry (holders_of self.now.places.now) self.now.image.now id e result) }
+        requires next { next ≡ from + length (values_of (entry_of (entries_in self.now.image.now) id).head) }
+        requires name { IsNameSpan (holders_of self.now.places.now)
+            (name_in self.now.image.now (entry_of (entries_in self.now.image.now) id)) name }
+        ensures { IsTableEntry (holders_of self.now.places.now) self.now.image.now id
+            (entry_of (entries_in self.now.image.now) id) result }
     {
         let image = self.image;
         let depth = depth_by_rows(entries, image.parent(id));
@@ -193,7 +192,7 @@ fn put_units(image: &Image<'_>, units: &mut [UnitRow])
 #[tactic(auto, unfolding(dw_image::specs::Images::units_in))]
 fn count_entry(image: &Image<'_>, id: EntryId) -> u32
     requires { id < length (entries_in image.now) }
-    ensures { IfSome (slice_get (entries_in image.now) id) (λ e. result ≡ length (values_of e.head)) }
+    ensures { result ≡ length (values_of (entry_of (entries_in image.now) id).head) }
 {
     let mut count = 0;
     let mut left = image.scanned().decl(id).attributes();

@@ -1,6 +1,7 @@
 //! The rows of units and of entries.
 
-ghost use Rattle.std.specs.Prelude.{◌≡◌, ◌<◌, Some, length, min, slice_get, IfSome};
+ghost use Rattle.std.specs.Prelude.{◌≡◌, ◌<◌, Some, length, min, IfSome};
+ghost use Rattle.dw_entries.specs.ByNumber.{entry_of, placed_of};
 ghost use Rattle.dw_entries.specs.Entries.{placed};
 ghost use Rattle.dw_image.specs.Images.{entries_in, unit_count, units_in};
 ghost use Rattle.dwv_c.specs.Rows.{greatest};
@@ -106,7 +107,7 @@ fn row_or_none(id: Option<EntryId>) -> u32
 /// The number under an attribute of an entry, or 0 if there is none that is 0 or more.
 fn number_under(image: &Image<'_>, id: EntryId, attribute: Attribute) -> u64
     requires { id < length (entries_in image.now) }
-    ensures { result ≡ number_under (slice_get (entries_in image.now) id) attribute }
+    ensures { result ≡ number_under (entry_of (entries_in image.now) id) attribute }
 {
     match image.value(id, attribute) {
         Some(Value::Unsigned(n)) => n,
@@ -118,7 +119,7 @@ fn number_under(image: &Image<'_>, id: EntryId, attribute: Attribute) -> u64
 /// The offset into a section under an attribute of an entry, or 0 if there is none.
 fn offset_under(image: &Image<'_>, id: EntryId, attribute: Attribute) -> u32
     requires { id < length (entries_in image.now) }
-    ensures { result ≡ offset_under (slice_get (entries_in image.now) id) attribute }
+    ensures { result ≡ offset_under (entry_of (entries_in image.now) id) attribute }
 {
     match image.value(id, attribute) {
         Some(Value::SecOffset(offset)) => offset,
@@ -130,7 +131,7 @@ fn offset_under(image: &Image<'_>, id: EntryId, attribute: Attribute) -> u32
 #[tactic(auto, unfolding(dw_image::specs::Images::units_in))]
 pub fn unit_row(image: &Image<'_>, number: usize) -> UnitRow
     requires { number < unit_count image.now }
-    ensures { IfSome (slice_get (placed (units_in image.now)) number) (λ p. IsUnitRow image.now p result) }
+    ensures { IsUnitRow image.now (placed_of (placed (units_in image.now)) number) result }
 {
     let head = image.scanned().unit(number);
     let (first, end) = image.scanned().range(number);

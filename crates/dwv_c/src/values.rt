@@ -1,6 +1,7 @@
 //! What the values of entries mean, each resolved as far as the rules go.
 
-ghost use Rattle.std.specs.Prelude.{◌≡◌, ◌<◌, true, Some, length, slice_get, IfSome};
+ghost use Rattle.std.specs.Prelude.{◌≡◌, ◌<◌, true, Some, IfSome};
+ghost use Rattle.dw_entries.specs.ByNumber.{entry_of};
 ghost use Rattle.dw_entries.specs.Entries.{Entry, placed};
 ghost use Rattle.dw_entries.specs.Placed.{EndsAt};
 ghost use Rattle.dw_forms.specs.Value.{ref_unit, view};
@@ -114,8 +115,8 @@ impl<'p, 'i, 'a> Resolver<'p, 'i, 'a> {
         requires unit { IsAtHand self.now.image.now unit.now }
         requires value { HasValue self.now.image.now unit.now id attribute (view value.now) }
         requires reference { is_reference_value (view value.now) ≡ true }
-        ensures { IfSome (slice_get (entries_in self.now.image.now) id)
-            (λ e. Means (holders_of self.now.places.now) self.now.image.now e (view value.now) result) }
+        ensures { Means (holders_of self.now.places.now) self.now.image.now
+            (entry_of (entries_in self.now.image.now) id) (view value.now) result }
     {
         match self.target(unit, value) {
             Some(target) => Meaning::Reference(target.number() as u32),
@@ -135,8 +136,8 @@ impl<'p, 'i, 'a> Resolver<'p, 'i, 'a> {
         requires unit { IsAtHand self.now.image.now unit.now }
         requires value { HasValue self.now.image.now unit.now id attribute (view value.now) }
         requires address { is_address (view value.now) ≡ true }
-        ensures { IfSome (slice_get (entries_in self.now.image.now) id)
-            (λ e. Means (holders_of self.now.places.now) self.now.image.now e (view value.now) result) }
+        ensures { Means (holders_of self.now.places.now) self.now.image.now
+            (entry_of (entries_in self.now.image.now) id) (view value.now) result }
     {
         match *value {
             Value::Addr(address) => Meaning::Address(address),
@@ -163,8 +164,8 @@ impl<'p, 'i, 'a> Resolver<'p, 'i, 'a> {
         requires value { HasValue self.now.image.now unit.now id attribute (view value.now) }
         requires text { is_text (view value.now) ≡ true }
         requires place { EndsAt (sections_in self.now.image.now).info.now (view value.now) end }
-        ensures { IfSome (slice_get (entries_in self.now.image.now) id)
-            (λ e. Means (holders_of self.now.places.now) self.now.image.now e (view value.now) result) }
+        ensures { Means (holders_of self.now.places.now) self.now.image.now
+            (entry_of (entries_in self.now.image.now) id) (view value.now) result }
     {
         match *value {
             Value::Text(bytes) => {
@@ -213,8 +214,8 @@ impl<'p, 'i, 'a> Resolver<'p, 'i, 'a> {
         requires unit { IsAtHand self.now.image.now unit.now }
         requires value { HasValue self.now.image.now unit.now id attribute (view value.now) }
         requires place { EndsAt (sections_in self.now.image.now).info.now (view value.now) end }
-        ensures { IfSome (slice_get (entries_in self.now.image.now) id)
-            (λ e. Means (holders_of self.now.places.now) self.now.image.now e (view value.now) result) }
+        ensures { Means (holders_of self.now.places.now) self.now.image.now
+            (entry_of (entries_in self.now.image.now) id) (view value.now) result }
     {
         match *value {
             Value::Text(_) | Value::Str(_) | Value::LineStr(_) | Value::StrIndex(_) => {

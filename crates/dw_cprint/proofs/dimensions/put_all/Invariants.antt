@@ -1,7 +1,7 @@
 use Rattle.std.proofs.Common.{◌≡◌, ◌<◌, length}
 use Rattle.std.specs.Prelude.{All, flat_map}
 use Rattle.std.specs.List.{filter_map}
-use Rattle.dw_image.specs.ChildrenLeft.{children_left}
+use Rattle.dw_types.specs.ChildrenLeft.{children_left}
 use Rattle.dw_image.specs.Images.{entries_in}
 use Rattle.dw_cprint.specs.Drafts.{appended}
 use Rattle.dw_cprint.specs.EntryShapes.{counts_in, dimension_at}

@@ -1,7 +1,7 @@
 use Rattle.std.proofs.Common.{◌<◌, length}
 use Rattle.std.specs.Prelude.{All}
 use Rattle.std.specs.List.{filter_map}
-use Rattle.dw_image.specs.ChildrenLeft.{children_left}
+use Rattle.dw_types.specs.ChildrenLeft.{children_left}
 use Rattle.dw_image.specs.Images.{entries_in}
 use Rattle.dw_cprint.specs.Counted.{EnumeratorsSoFar}
 use Rattle.dw_cprint.specs.EntryShapes.{enumerator_at, enumerators_in}

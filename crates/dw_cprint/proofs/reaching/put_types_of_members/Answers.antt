@@ -1,7 +1,7 @@
 use Rattle.std.proofs.Common.{rules, ◌<◌, length, sym, ◌∙◌, append_assoc}
 use Rattle.std.specs.List.{filter_map}
 use Rattle.std.proofs.lemmas.List.Elements.{All-head, All-rest}
-use Rattle.dw_image.specs.ChildrenLeft.{children_left}
+use Rattle.dw_types.specs.ChildrenLeft.{children_left}
 use Rattle.dw_image.specs.Images.{entries_in}
 use Rattle.dw_cprint.specs.EntryShapes.{member_at}
 use Rattle.dw_cprint.proofs.LookUpLemmas.{children_within}

@@ -1,6 +1,6 @@
 use Rattle.std.proofs.Common.{◌<◌, ℕ, length, true, false, ap, refl, sym, ◌∙◌}
 use Rattle.std.proofs.lemmas.List.Elements.{All-head, All-rest, All-same}
-use Rattle.dw_image.specs.ChildrenLeft.{children_left}
+use Rattle.dw_types.specs.ChildrenLeft.{children_left}
 use Rattle.dw_image.specs.Images.{entries_in}
 use Rattle.dw_cprint.proofs.LookUpLemmas.{children_within}
 use Rattle.dw_cprint.proofs.shape_reader.any_child.Goals as goal

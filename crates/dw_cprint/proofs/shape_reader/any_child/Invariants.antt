@@ -1,6 +1,6 @@
 use Rattle.std.proofs.Common.{◌<◌, Bool, length}
 use Rattle.std.specs.Prelude.{All}
-use Rattle.dw_image.specs.ChildrenLeft.{children_left}
+use Rattle.dw_types.specs.ChildrenLeft.{children_left}
 use Rattle.dw_image.specs.Images.{entries_in}
 use Rattle.dw_cprint.specs.Children.{TellsAny}
 use Rattle.dw_cprint.specs.LookUps.{children_at}

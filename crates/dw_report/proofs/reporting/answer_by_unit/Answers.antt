@@ -4,7 +4,7 @@ use Rattle.dw_report.specs.declared.request.Request.{Request}
 use Rattle.dw_report.specs.declared.request.Request.TheVariants.{Check}
 use Rattle.dw_report.specs.declared.request.Status.TheVariants.{Sound, Fault}
 use Rattle.dw_report.specs.Reports.{SoundReport, SectionsReport, counted, fault, sound}
-use Rattle.dw_units.specs.Counted.{AreCounts}
+use Rattle.dw_units.specs.Counts.{AreCounts}
 use Rattle.dw_report.proofs.reporting.answer_by_unit.Goals as goal
 
 pub returns-in_ok-text-in-Some-Sound : goal.returns-in_ok-text-in-Some-Sound

@@ -1,6 +1,6 @@
 use Rattle.std.proofs.Common.{rules, subst}
 use Rattle.dw_image.specs.Headline.{IsFaultOf}
-use Rattle.dw_units.specs.Counted.{AreCounts}
+use Rattle.dw_units.specs.Counts.{AreCounts}
 use Rattle.dwv_c.proofs.exports.count_sections.Goals as goal
 
 pub returns-in-Ok-Some-Sound : goal.returns-in-Ok-Some-Sound

@@ -1,4 +1,5 @@
-use Rattle.dwv_c.proofs.MeaningLemmas.{first_in, range_rises}
+use Rattle.std.proofs.Common.{arith}
+use Rattle.dwv_c.proofs.MeaningLemmas.{first_in}
 use Rattle.dwv_c.proofs.table_rows.unit_row.Goals as goal
 
 pub number_under-requires : goal.number_under-requires
@@ -7,8 +8,7 @@ number_under-requires c =
 
 pub overflow_sub-end : goal.overflow_sub-end
 overflow_sub-end c =
-    range_rises c.args.image.now c.args.number _ _ c.requires (rw c.scanned-2.ensures at c.range-first.ensures.first)
-    (rw c.scanned-2.ensures at c.range-first.ensures.end)
+    omega (arith, c.range-first.ensures.first, c.range-first.ensures.end)
 
 pub offset_under-requires : goal.offset_under-requires
 offset_under-requires c =

@@ -1,11 +1,11 @@
 use Rattle.std.proofs.Common.{rules, ◌≡◌, ◌+◌, ◌<◌, length, sym, ◌∙◌, arith}
 use Rattle.dw_image.specs.Images.{entries_in, units_in}
-use Rattle.dwv_c.proofs.MeaningLemmas.{ranged, unit_within}
+use Rattle.dwv_c.proofs.MeaningLemmas.{ranged}
 use Rattle.dwv_c.proofs.values.Resolver.guess_in_unit.Goals as goal
 
 pub range-first-requires : goal.range-first-requires
 unfolding units_in
-range-first-requires c = rw c.scanned.ensures (unit_within c.args.self.now.image.now c.args.unit.now c.requires)
+range-first-requires c = rw c.scanned.ensures c.requires.within
 
 pub returns-then-number-end : goal.returns-then-number-end
 unfolding units_in

@@ -1,8 +1,8 @@
-use Rattle.std.proofs.Common.{rules, ◌≡◌, ◌≤◌, ℕ, List, length, IfSome, refl, ap, subst, ◌∙◌, arith}
+use Rattle.std.proofs.Common.{rules, ◌≡◌, ◌≤◌, ℕ, List, length, refl, ap, subst, ◌∙◌, arith}
 use Rattle.dw_forms.specs.Value.{Datum, view}
 use Rattle.dw_entries.specs.Placed.{EndsAt, placed_left}
 use Rattle.dw_image.specs.Images.{entries_in, units_in, sections_in}
-use Rattle.std.specs.Prelude.{slice_get}
+use Rattle.dw_entries.specs.ByNumber.{entry_of}
 use Rattle.dwv_c.specs.Meanings.{Means, holders_of}
 use Rattle.dw_forms.specs.declared.value.Value.{Value}
 use Rattle.dwv_c.specs.Tables.{value_count}
@@ -40,13 +40,12 @@ meaning-meaning-requires-clause-place c =
 
 -- what the value that was taken means
 means_there : (c : goal.After-named_after-named)
-    → IfSome (slice_get (entries_in c.args.self.now.image.now) c.args.id) (λ e.
-    Means (holders_of c.args.self.now.places.now) c.args.self.now.image.now e (view c.in-Some.value)
-    c.meaning-meaning.result)
+    → Means (holders_of c.args.self.now.places.now) c.args.self.now.image.now
+    (entry_of (entries_in c.args.self.now.image.now) c.args.id) (view c.in-Some.value) c.meaning-meaning.result
 means_there c =
     let same : ◌≡◌ {A = Value} _ c.in-Some.value = search (rules, c.in-Some.value-is) in
-    subst (λ (v : Value). IfSome (slice_get (entries_in c.args.self.now.image.now) c.args.id) (λ e.
-    Means (holders_of c.args.self.now.places.now) c.args.self.now.image.now e (view v) c.meaning-meaning.result)) same
+    subst (λ (v : Value). Means (holders_of c.args.self.now.places.now) c.args.self.now.image.now
+    (entry_of (entries_in c.args.self.now.image.now) c.args.id) (view v) c.meaning-meaning.result) same
     c.meaning-meaning.ensures
 
 pub items-preserved : goal.items-preserved

@@ -1,6 +1,30 @@
+use Rattle.std.proofs.Common.{refl}
+use Rattle.dw_forms.specs.Value.{text, str, line_str}
+use Rattle.dw_links.specs.Contributions.{string_at}
+use Rattle.dw_image.specs.Images.{sections_in}
 use Rattle.dwv_c.specs.Meanings.{holders_of}
-use Rattle.dwv_c.proofs.MeaningLemmas.{index_ends, index_string_slot, index_text, line_str_ends, str_ends}
+use Rattle.dwv_c.proofs.MeaningLemmas.{index_ends, index_string_slot, index_text, line_str_ends, str_ends, text_means}
 use Rattle.dwv_c.proofs.values.Resolver.text.Goals as goal
+
+pub returns-in-Text : goal.returns-in-Text
+returns-in-Text c =
+    rw c.in-Text.is (text_means c.args.self.now.image.now c.args.unit.now c.requires.unit c.requires.sound c.args.id
+    c.args.attribute (holders_of c.args.self.now.places.now) (text c.in-Text.bytes.now) c.in-Text.bytes.now _
+    (rw c.in-Text.is at c.requires.value) refl refl c.text_in_info.ensures)
+
+pub returns-in-Str : goal.returns-in-Str
+returns-in-Str c =
+    rw c.in-Str.is (text_means c.args.self.now.image.now c.args.unit.now c.requires.unit c.requires.sound c.args.id
+    c.args.attribute (holders_of c.args.self.now.places.now) (str c.in-Str.offset)
+    (string_at (sections_in c.args.self.now.image.now).str.now c.in-Str.offset) _
+    (rw c.in-Str.is at c.requires.value) refl refl (rw c.args.self.now.same at c.text_at.ensures))
+
+pub returns-in-LineStr : goal.returns-in-LineStr
+returns-in-LineStr c =
+    rw c.in-LineStr.is (text_means c.args.self.now.image.now c.args.unit.now c.requires.unit c.requires.sound c.args.id
+    c.args.attribute (holders_of c.args.self.now.places.now) (line_str c.in-LineStr.offset)
+    (string_at (sections_in c.args.self.now.image.now).line_str.now c.in-LineStr.offset) _
+    (rw c.in-LineStr.is at c.requires.value) refl refl (rw c.args.self.now.same at c.text_at-in-LineStr.ensures))
 
 pub text_at-requires : goal.text_at-requires
 text_at-requires c =

@@ -10,26 +10,26 @@ use Rattle.dw_entries.specs.RuleTexts.{code_text, name_text, section_text}
 use Rattle.dw_report.specs.Lines.{line}
 
 -- a number that is not negative
-abbrev pub whole : ℕ → Data
-whole n = number (unsigned n)
+abbrev pub whole_object : ℕ → Data
+whole_object n = number (unsigned n)
 
 -- the counts of sound sections
 abbrev pub sound_object : ℕ → ℕ → ℕ → Data
 sound_object units entries types =
-    object (member (codes "entries") (whole entries)
+    object (member (codes "entries") (whole_object entries)
     (member (codes "sound") (boolean true)
-    (member (codes "types") (whole types)
-    (member (codes "units") (whole units) no_members))))
+    (member (codes "types") (whole_object types)
+    (member (codes "units") (whole_object units) no_members))))
 
 -- offsets as numbers
 abbrev pub cycle_array : List ℕ → Data
-cycle_array cycle = array (items_of (map whole cycle))
+cycle_array cycle = array (items_of (map whole_object cycle))
 
 -- a fault's place, attribute, cycle, name, code and section
 abbrev pub fault_members : ℕ → ℕ → Data → List ℕ → List ℕ → List ℕ → Data
 fault_members at attribute cycle name rule section =
-    object (member (codes "at") (whole at)
-    (member (codes "attribute") (whole attribute)
+    object (member (codes "at") (whole_object at)
+    (member (codes "attribute") (whole_object attribute)
     (member (codes "cycle") cycle
     (member (codes "name") (string name)
     (member (codes "rule") (string rule)
