@@ -16,7 +16,7 @@ LEFT_OUT = re.compile(r"//.*|\bghost use [^;]*;")
 PATH = re.compile(r"\bcrate::(\w+)")
 BRACES = re.compile(r"\bcrate::\{((?:[^{}]|\{[^{}]*\})*)\}")
 # Crates that still have a circle. One of them that has none any more is no longer to be named here.
-EXCEPTED = ["dw_cprint", "dw_types"]
+EXCEPTED = ["dw_types"]
 
 
 def imports(path):

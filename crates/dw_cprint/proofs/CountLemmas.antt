@@ -1,14 +1,12 @@
 -- What a pass over enumerators or dimensions finds, one after another.
-use Rattle.std.proofs.lemmas.Grind.{common_steps}
-use Rattle.std.proofs.Common.{arith, rules, ◌≡◌, ℕ, ◌+◌, ◌≤◌, Bool, true, false, List, [], ◌∷◌, Option, Some, None, refl, sym, ◌∙◌, ap, sum_by}
-use Rattle.std.specs.Prelude.{◌&&◌, ◌||◌, if◌then◌else◌, option_map}
+use Rattle.std.proofs.Common.{arith, ◌≡◌, ℕ, ◌+◌, Bool, true, false, List, [], ◌∷◌, Option, Some, None, refl, sym, ◌∙◌, ap}
+use Rattle.std.specs.Prelude.{◌&&◌, ◌||◌, if◌then◌else◌}
 use Rattle.std.specs.List.{cons_option, list_any}
 use Rattle.std.proofs.lemmas.List.Sums.{sum_by-cons}
 use Rattle.dw_cprint.specs.Counted.{lacks_identifier, AreEnumerators, IsEnumeratorsStart, is_wrong_with, bytes_with, EnumeratorsSoFar, is_unknown, count_bytes, AreDimensions, IsDimensionsStart, starts_open_with, is_miscounted_with, DimensionsSoFar}
-use Rattle.dw_cprint.specs.Declarations.{is_miscounted}
-use Rattle.dw_cprint.specs.Lengths.{capped, enumerator_bytes, enumerators_bytes}
+use Rattle.dw_cprint.specs.Lengths.{capped, enumerator_bytes}
 use Rattle.dw_cprint.specs.Shapes.{EnumeratorOf}
-use Rattle.dw_cprint.specs.Wrong.{is_wrong_enumeration, lacks_value, starts_open}
+use Rattle.dw_cprint.specs.Wrong.{lacks_value, starts_open}
 use Rattle.dw_cprint.specs.declared.dimensions.DimensionTally.{DimensionTally}
 use Rattle.dw_cprint.specs.declared.enumerators.EnumeratorTally.{EnumeratorTally}
 

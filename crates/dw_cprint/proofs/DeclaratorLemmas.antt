@@ -3,7 +3,7 @@ use Rattle.std.proofs.Common.{◌≡◌, ℕ, Bool, true, List, [], ◌∷◌, �
 use Rattle.std.specs.Prelude.{◌||◌}
 use Rattle.std.proofs.lemmas.List.{append-nil}
 use Rattle.dw_types.specs.Sizes.{has_elements}
-use Rattle.dw_cprint.specs.Terms.{Qualifier, Enum, Term, Void, Named, Basic, Tagged, Body, Enumeration, Qualified, Pointer, Array, Function}
+use Rattle.dw_cprint.specs.Terms.{Qualifier, OfAggregate, Enum, Term, Void, Named, Basic, Tagged, Body, Enumeration, Qualified, Pointer, Array, Function}
 use Rattle.dw_cprint.specs.Tokens.{Token, Blank, Star, Open, Close, LeftBrace, RightBrace, VoidWord, TagWord, QualifierWord, Identifier, LeftBracket, RightBracket, Number}
 use Rattle.dw_cprint.specs.Writing.{spell, spaced, qualifying, joined, basic, enclosed, count_tokens, constants, signature_tokens, members_tokens}
 use Rattle.dw_cprint.specs.Declarators.{gap, pointer_row, opened, closed, before, after}
@@ -80,9 +80,9 @@ in_parts qs Void d = parts-many (qualifying qs) (VoidWord ∷ []) d
 in_parts qs (Named name) d = parts-many (qualifying qs) (Identifier name ∷ []) d
 in_parts qs (Basic words) d = parts-many (qualifying qs) (basic words) d
 in_parts qs (Tagged tag name) d = parts-many (qualifying qs) (TagWord tag ∷ Blank ∷ Identifier name ∷ []) d
-in_parts qs (Body tag members) d =
-    parts-body (qualifying qs) (TagWord tag ∷ Blank ∷ LeftBrace ∷ Blank ∷ []) (members_tokens members) (RightBrace ∷ [])
-    d
+in_parts qs (Body word members) d =
+    parts-body (qualifying qs) (TagWord (OfAggregate word) ∷ Blank ∷ LeftBrace ∷ Blank ∷ []) (members_tokens members)
+    (RightBrace ∷ []) d
 in_parts qs (Enumeration cs) d =
     parts-body (qualifying qs) (TagWord Enum ∷ Blank ∷ LeftBrace ∷ Blank ∷ []) (constants cs) (Blank ∷ RightBrace ∷ [])
     d

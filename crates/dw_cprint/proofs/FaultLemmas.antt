@@ -1,16 +1,16 @@
 -- What is wrong with a type, by its own entry and by the types that it names.
-use Rattle.std.proofs.Common.{rules, ◌≡◌, ℕ, Bool, true, false, List, [], ◌∷◌, Option, Some, refl, sym, ap, ◌∙◌, ◌⊎◌, inl, inr, length, map}
+use Rattle.std.proofs.Common.{rules, ◌≡◌, ℕ, Bool, true, false, List, [], ◌∷◌, Some, refl, sym, ap, ◌∙◌, ◌⊎◌, inl, inr, map, arith}
 use Rattle.std.proofs.lemmas.Bool.{or_cases}
-use Rattle.std.specs.Prelude.{IsTrue, All, Any, ◌↔◌, ◌||◌, is_none, ◌==◌}
+use Rattle.std.specs.Prelude.{IsTrue, All, Any, ◌↔◌, ◌||◌}
 use Rattle.std.specs.List.{list_any}
 use Rattle.std.proofs.lemmas.List.Elements.{All-weaker, All-nil}
 use Rattle.std.proofs.lemmas.List.Folds.{Any-from_list_any, list_any-from_Any}
-use Rattle.dw_cprint.specs.Declarations.{is_cut_short, is_miscounted, is_misplaced}
-use Rattle.dw_cprint.specs.Shapes.{Parameter, TypeAt, ShapeOf, array, qualified, function, body, SubjectOf, typedef_subject, variable_subject, tag_subject, view_enumerator}
+use Rattle.dw_cprint.specs.Declarations.{is_cut_short, is_misplaced}
+use Rattle.dw_cprint.specs.Shapes.{Parameter, TypeAt, ShapeOf, array, qualified, function, body, Enum, SubjectOf, variable_subject, aggregate_subject, enumeration_subject, declared_subject}
 use Rattle.dw_cprint.specs.Steps.{parameter_types, types_declared, types_reached}
-use Rattle.dw_cprint.specs.Summaries.{IsBase, Knows, base_known, is_own_unspeakable, is_unspeakable, is_wrong_base, kind_known}
+use Rattle.dw_cprint.specs.Summaries.{IsBase, Knows, base_known, has_void, is_own_unspeakable, is_unspeakable, kind_known}
 use Rattle.dw_cprint.specs.declared.survey.Survey.{Survey}
-use Rattle.dw_cprint.specs.Wrong.{TypeKind, kind_at, StandsUnder, nothing, itself, below, IsVoidLike, has_bad_name, has_own_bad_name, is_void, is_wrong, is_wrong_row, is_wrong_enumeration, lacks_value, object_types, IsUnspeakable, wrong, void_object, row, IsOwnUnspeakable, void_variable, unspeakable, declared_enumeration}
+use Rattle.dw_cprint.specs.Wrong.{TypeKind, kind_at, StandsUnder, nothing, itself, below, IsVoidLike, has_bad_name, has_own_bad_name, is_void, is_wrong, is_wrong_row, object_types, IsUnspeakable, wrong, void_object, row, IsOwnUnspeakable, void_variable, unspeakable, wrong_enumeration, declared_enumeration}
 use Rattle.dw_cprint.proofs.KindLemmas.{first-of, names-alike, others-of, own-names-alike, wrong-alike}
 use Rattle.dw_cprint.proofs.OptionLemmas.{or_left, or_right}
 
@@ -90,7 +90,7 @@ module _ (shapes : ℕ → ShapeOf) (s : Survey) where
   void-known at known = void-like shapes at (base_known s at) known.is_base
 
   voids-known : (shape : ShapeOf) → All (Knows shapes s) (types_reached shape)
-      → IsTrue (list_any (λ at. is_void (base_known s at)) (object_types shape))
+      → IsTrue (has_void s (object_types shape))
       ↔ Any (IsVoidLike shapes) (object_types shape)
   voids-known shape all = search (rules, any-iff, void-known, objects-of)
 
@@ -98,30 +98,27 @@ module _ (shapes : ℕ → ShapeOf) (s : Survey) where
       → is_wrong (kind_known s) shape ≡ is_wrong (kind_at shapes) shape
   wrong-known shape all = wrong-alike (kind_known s) (kind_at shapes) shape (kinds-known (types_reached shape) all)
 
-  row-told : (shape : ShapeOf) → All (Knows shapes s) (types_reached shape) → is_wrong_base (base_known s) shape ≡ true
-      → IsUnspeakable shapes shape
-  row-told (qualified q at) all h =
-      let base = (first-of (Knows shapes s) at [] all).is_base in
-      row base.0 base.1 (ap (is_wrong_row q) (sym base.2) ∙ h)
-  row-told _ all h = absurd (cc)
-
   unspeakable-told : (shape : ShapeOf) → All (Knows shapes s) (types_reached shape) → is_unspeakable s shape ≡ true
       → IsUnspeakable shapes shape
-  unspeakable-told shape all t = elim (or_cases (is_wrong (kind_known s) shape) _ t) [
-    | inl h ↦ wrong (sym (wrong-known shape all) ∙ h)
-    | inr rest ↦ elim (or_cases (list_any (λ at. is_void (base_known s at)) (object_types shape)) _ rest) [
-      | inl h ↦ void_object ((voids-known shape all).0 h)
-      | inr h ↦ row-told shape all h
-    ]
+  unspeakable-told (qualified q at) all h =
+      let base = (first-of (Knows shapes s) at [] all).is_base in
+      row base.0 base.1 (ap (is_wrong_row q) (sym base.2) ∙ h)
+  unspeakable-told shape all t = elim (or_cases (has_void s (object_types shape)) _ t) [
+    | inl h ↦ void_object ((voids-known shape all).0 h)
+    | inr h ↦ wrong (sym (wrong-known shape all) ∙ h)
   ]
 
   unspeakable-tells : (shape : ShapeOf) → All (Knows shapes s) (types_reached shape) → IsUnspeakable shapes shape
       → is_unspeakable s shape ≡ true
-  unspeakable-tells shape all (wrong h) = or_left _ _ (wrong-known shape all ∙ h)
-  unspeakable-tells shape all (void_object some) = or_right _ _ (or_left _ _ ((voids-known shape all).1 some))
   unspeakable-tells (qualified q at) all (row under stands h) =
       let base = (first-of (Knows shapes s) at [] all).is_base in
       ap (is_wrong_row q) (base-kind shapes at (base_known s at) base under stands) ∙ h
+  unspeakable-tells (qualified q at) all (wrong h) = absurd (cc)
+  unspeakable-tells (qualified q at) all (void_object some) = absurd (omega (arith, some.2))
+  unspeakable-tells shape all (wrong h) =
+      or_right (has_void s (object_types shape)) (is_wrong (kind_known s) shape) (wrong-known shape all ∙ h)
+  unspeakable-tells shape all (void_object some) =
+      or_left (has_void s (object_types shape)) (is_wrong (kind_known s) shape) ((voids-known shape all).1 some)
 
   pub unspeakable-known : (shape : ShapeOf) → All (Knows shapes s) (types_reached shape)
       → IsTrue (is_unspeakable s shape) ↔ IsUnspeakable shapes shape
@@ -129,18 +126,16 @@ module _ (shapes : ℕ → ShapeOf) (s : Survey) where
 
   pub own-unspeakable-known : (subject : SubjectOf) → All (Knows shapes s) (types_declared subject)
       → IsTrue (is_own_unspeakable s subject) ↔ IsOwnUnspeakable shapes subject
-  own-unspeakable-known (typedef_subject name at) all = (λ h. absurd (cc), λ h. elim h [ ])
   own-unspeakable-known (variable_subject name at) all =
       let void = void-known at (first-of (Knows shapes s) at [] all) in
       (λ h. void_variable (void.0 h), λ h. elim h [ void_variable v ↦ void.1 v ])
-  own-unspeakable-known (tag_subject name shape) all = (
-    λ h. elim (or_cases (is_unspeakable s shape) _ h)
-        [ inl t ↦ unspeakable (unspeakable-told shape all t) | inr t ↦ declared_enumeration t ],
-    λ h. elim h [
-      | unspeakable t ↦ or_left _ _ (unspeakable-tells shape all t)
-      | declared_enumeration t ↦ or_right _ _ t
-    ],
-  )
+  own-unspeakable-known (aggregate_subject word name odd ms) all =
+      let known = unspeakable-known (body word odd ms) all in
+      (λ h. unspeakable (known.0 h), λ h. elim h [ unspeakable u ↦ known.1 u ])
+  own-unspeakable-known (enumeration_subject name odd es) all =
+      (λ h. wrong_enumeration h, λ h. elim h [ wrong_enumeration w ↦ w ])
+  own-unspeakable-known (declared_subject Enum name) all = (λ h. declared_enumeration, λ h. refl)
+  own-unspeakable-known _ all = (λ h. absurd (cc), λ h. elim h [ ])
 
 -- ---- parameters
 

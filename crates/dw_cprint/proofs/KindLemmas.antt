@@ -3,7 +3,7 @@ use Rattle.std.proofs.Common.{◌≡◌, suc, Bool, List, [], ◌∷◌, Some, N
 use Rattle.std.specs.Prelude.{All, ◌||◌}
 use Rattle.std.specs.List.{list_any}
 use Rattle.dw_cprint.specs.Declarations.{is_miscounted, is_misplaced}
-use Rattle.dw_cprint.specs.Shapes.{TypeAt, MemberOf, ShapeOf, array, function, body, SubjectOf, tag_subject}
+use Rattle.dw_cprint.specs.Shapes.{TypeAt, MemberOf, ShapeOf, array, function, body, SubjectOf, aggregate_subject}
 use Rattle.dw_cprint.specs.Steps.{member_types, parameter_types, types_declared, types_reached}
 use Rattle.dw_cprint.specs.Wrong.{TypeKind, has_bad_name, has_own_bad_name, is_bracketed, is_function, is_open, is_wrong, is_wrong_bits, lacks_member_name, lacks_name}
 
@@ -32,7 +32,8 @@ module _ (f g : TypeAt → TypeKind) where
 
   pub own-names-alike : (subject : SubjectOf) → All Same (types_declared subject)
       → has_own_bad_name f subject ≡ has_own_bad_name g subject
-  own-names-alike (tag_subject name shape) same = ap (λ (b : Bool). lacks_name name || b) (names-alike shape same)
+  own-names-alike (aggregate_subject word name odd ms) same =
+      ap (λ (b : Bool). lacks_name name || b) (names-alike (body word odd ms) same)
   own-names-alike _ same = refl
 
   pub wrong-alike : (shape : ShapeOf) → All Same (types_reached shape) → is_wrong f shape ≡ is_wrong g shape

@@ -5,13 +5,12 @@ use Rattle.std.specs.List.{list_any}
 use Rattle.std.proofs.lemmas.Option.{same_Some}
 use Rattle.dw_cprint.specs.Declarations.{is_miscounted, is_misplaced, arrays, constants_of, has_more, parameters_by, members_by, term_by, term_at, declaration_by}
 use Rattle.dw_cprint.specs.Legible.{is_identifier, IsIdentifier, IsName, AreConstants, IsQualifiable, IsPresent, IsLegible, IsSignature, AreParameters, AreMembers, IsDeclaration}
-use Rattle.dw_cprint.specs.Regular.{IsRegular, IsRegularSubject}
-use Rattle.dw_cprint.specs.Shapes.{Parameter, Typed, More, Name, TypeAt, MemberOf, EnumeratorOf, ShapeOf, base, typedef, Qualifier, Restrict, qualified, pointer, array, function, tagged, body, enumeration, nameless, SubjectOf, typedef_subject, variable_subject, tag_subject}
+use Rattle.dw_cprint.specs.Shapes.{Parameter, Typed, More, Name, TypeAt, MemberOf, EnumeratorOf, ShapeOf, base, typedef, Qualifier, Restrict, qualified, pointer, array, function, tagged, body, enumeration, SubjectOf, typedef_subject, variable_subject, aggregate_subject, enumeration_subject, declared_subject, other_subject}
 use Rattle.dw_cprint.specs.Steps.{entries_of, parameter_types, member_types, types_reached, first_steps, root, further, IsReached, HasPath}
 use Rattle.dw_cprint.specs.Terms.{Constant, Term, Void, Named, Tagged, Body, Enumeration, Qualified, Pointer, Function, Unprototyped, Prototyped, Parameters, NoParameter, Parameter as ParameterTerm, Members, NoMember, Member as MemberTerm, Declaration, Typedef, Variable, Aggregate, Constants, Declared}
-use Rattle.dw_cprint.specs.Wrong.{TypeKind, StandsUnder, nothing, itself, IsVoidLike, is_bracketed, is_wrong_row, kind_at, kind_in, lacks_member_name, row, void_object, has_own_bad_name, lacks_name, unspeakable, wrong}
-use Rattle.dw_cprint.specs.Refusals.{other_kind, own_name, own_child, own_shape, name_reached, foreign_reached, shape_reached, HoldsNoneBelow, NotPrintable, BadName, Foreign, Unspeakable}
-use Rattle.dw_cprint.specs.declared.refusals.TypeKind.TheVariants as kind
+use Rattle.dw_cprint.specs.Wrong.{TypeKind, StandsUnder, nothing, itself, IsVoidLike, is_bracketed, is_wrong_row, kind_at, kind_in, lacks_member_name, row, void_object, has_own_bad_name, wrong_enumeration}
+use Rattle.dw_cprint.specs.Refusals.{other_kind, own_name, own_shape, name_reached, foreign_reached, shape_reached, HoldsNoneBelow, NotPrintable, BadName, Foreign, Unspeakable}
+use Rattle.dw_cprint.specs.declared.shape.TypeKind.TheVariants as kind
 use Rattle.dw_cprint.proofs.OptionLemmas.{both_hold, map_holds, map_inverted, then_inverted, unless_holds, unless_inverted, not_refuted, or_left, or_right, map_some}
 use Rattle.dw_cprint.proofs.ItemWriterLemmas.{more-constants}
 use Rattle.dw_cprint.proofs.HasTermLemmas.{AreKept, IsBaseTerm, IsFine, among_here, among_there, any_here, base_is, head_of, name_there, nameless_at, rest_of, HasTerm, constants_some, entry_some, members_some, unvalued}
@@ -151,31 +150,31 @@ void_legible zero shapes t e = absurd (cc)
 void_legible (suc k) shapes t e = let same : Void ≡ t = cc in subst IsLegible same tt
 
 module _ (shapes : ℕ → ShapeOf) (k : ℕ) where
-  shape_legible : (s : ShapeOf) → IsFine shapes s → IsRegular s
+  shape_legible : (s : ShapeOf) → IsFine shapes s
       → ((n : ℕ) → Contains (entries_of (types_reached s)) n → (t : Term) → term_at k shapes (Some n) ≡ Some t
       → IsPresent t)
       → ((n : ℕ) → Contains (entries_of (types_reached s)) n → ReadsAt (term_at k shapes) (Some n)) → (t : Term)
       → term_by (term_at k shapes) s ≡ Some t → IsLegible t
-  shape_legible (base (Some n)) fine fit there h t e = IsBaseTerm.legible (base_is n t e)
-  shape_legible (typedef (Some n)) fine fit there h t e =
+  shape_legible (base (Some n)) fine there h t e = IsBaseTerm.legible (base_is n t e)
+  shape_legible (typedef (Some n)) fine there h t e =
       let same : Named n ≡ t = cc in subst IsLegible same (not_refuted (is_identifier n) fine.named)
-  shape_legible (qualified q at) fine fit there h t e =
+  shape_legible (qualified q at) fine there h t e =
       map_holds IsLegible (Qualified q) (term_at k shapes at) (λ u is. (
         qualifiable shapes k at (λ under stands w. fine.speakable
             (row under stands (bracketed_row q (kind_at shapes under) w))) u is,
         head_of (ReadsAt (term_at k shapes)) (void_legible k shapes) at [] h u is,
       )) t e
-  shape_legible (pointer at) fine fit there h t e =
+  shape_legible (pointer at) fine there h t e =
       map_holds IsLegible Pointer (term_at k shapes at)
       (λ u is. head_of (ReadsAt (term_at k shapes)) (void_legible k shapes) at [] h u is) t e
-  shape_legible (array counts strange at) fine fit there h t e =
+  shape_legible (array counts strange at) fine there h t e =
       unless_holds IsLegible (is_miscounted counts) (option_map (arrays counts) (term_at k shapes at))
       (λ placed. map_holds IsLegible (arrays counts) (term_at k shapes at)
       (λ u is. arrays_legible counts u (head_of (ReadsAt (term_at k shapes)) (void_legible k shapes) at [] h u is))) t e
-  shape_legible (function at None) fine fit there h t e =
+  shape_legible (function at None) fine there h t e =
       map_holds IsLegible (λ (t : Term). Function t Unprototyped) (term_at k shapes at)
       (λ u is. (head_of (ReadsAt (term_at k shapes)) (void_legible k shapes) at [] h u is, tt)) t e
-  shape_legible (function at (Some ps)) fine fit there h t e =
+  shape_legible (function at (Some ps)) fine there h t e =
       let term = term_at k shapes in
       let called : Term → Parameters → Term = λ t us. Function t (Prototyped us (has_more ps)) in
       unless_holds IsLegible (is_misplaced ps)
@@ -191,28 +190,26 @@ module _ (shapes : ℕ → ShapeOf) (k : ℕ) where
           → Contains (entries_of (at ∷ ats)) n
       further_in None ats n c = c
       further_in (Some m) ats n c = among_there m n (entries_of ats) c
-  shape_legible (tagged word name) fine fit there h t e =
+  shape_legible (tagged word name) fine there h t e =
       let same : Tagged word name ≡ t = cc in subst IsLegible same (not_refuted (is_identifier name) fine.named)
-  shape_legible (body word odd ms) fine fit there h t e =
+  shape_legible (body word odd ms) fine there h t e =
       map_holds IsLegible (Body word) (members_by (term_at k shapes) ms)
-      (λ us are. (fit, members_legible (term_at k shapes) (void_legible k shapes) shapes ms fine.named h us are)) t
-      e
-  shape_legible (enumeration odd es) fine fit there h t e =
+      (λ us are. members_legible (term_at k shapes) (void_legible k shapes) shapes ms fine.named h us are) t e
+  shape_legible (enumeration odd es) fine there h t e =
       map_holds IsLegible Enumeration (constants_of es) (λ cs are. constants_legible es fine.named cs are) t e
-  shape_legible _ fine fit there h t e = absurd (cc)
+  shape_legible _ fine there h t e = absurd (cc)
 
 entry_present : (shapes : ℕ → ShapeOf) (k n : ℕ) (t : Term) → term_at k shapes (Some n) ≡ Some t → IsPresent t
 entry_present shapes zero n t e = absurd (cc)
 entry_present shapes (suc k) n t e = (head_is (term_at k shapes) (shapes n) t e).0
 
 pub entry_legible : (shapes : ℕ → ShapeOf) (Good : ℕ → Type 0) → AreKept shapes Good
-    → ((entry : ℕ) → Good entry → IsRegular (shapes entry))
     → (k n : ℕ) → Good n → (t : Term) → term_at k shapes (Some n) ≡ Some t → IsLegible t
-entry_legible shapes Good kept fit zero n good t e = absurd (cc)
-entry_legible shapes Good kept fit (suc k) n good t e =
-    shape_legible shapes k (shapes n) (kept.fine n good) (fit n good)
+entry_legible shapes Good kept zero n good t e = absurd (cc)
+entry_legible shapes Good kept (suc k) n good t e =
+    shape_legible shapes k (shapes n) (kept.fine n good)
     (λ m leads. entry_present shapes k m)
-    (λ m leads. entry_legible shapes Good kept fit k m (kept.on n m good leads)) t e
+    (λ m leads. entry_legible shapes Good kept k m (kept.on n m good leads)) t e
 
 -- ---- where an entry has a declaration, and where that can be read back
 
@@ -226,15 +223,6 @@ module _ (shapes : ℕ → ShapeOf) (subject : SubjectOf) where
     };
     on = λ from to reached leads. further reached leads;
   }
-
--- nothing is wrong with the body of the declared entry
-own_fine : (shapes : ℕ → ShapeOf) (name : Name) (shape : ShapeOf) → HoldsNoneBelow 5 shapes (tag_subject name shape)
-    → IsFine shapes shape
-own_fine shapes name shape none = record {
-  named = λ w. none BadName (omega arith) (own_name (or_right (lacks_name name) _ w));
-  ours = λ w. none Foreign (omega arith) (own_child w);
-  speakable = λ w. none Unspeakable (omega arith) (own_shape (unspeakable w));
-}
 
 -- where nothing is wrong and no row of steps is too long, there is a declaration
 pub subject_some : (k : ℕ) (shapes : ℕ → ShapeOf) (subject : SubjectOf) → HoldsNoneBelow 5 shapes subject
@@ -252,62 +240,59 @@ subject_some k shapes subject none short =
     by_subject (variable_subject None at) none h = absurd (none BadName (omega arith) (own_name refl))
     by_subject (variable_subject (Some n) at) none h =
         map_some (Variable n) (term_at (suc k) shapes at) (head_of (HasTerm (term_at (suc k) shapes) refl) refl at [] h)
-    by_subject (tag_subject None shape) none h = absurd (none BadName (omega arith) (own_name refl))
-    by_subject (tag_subject (Some n) (tagged word tag)) none h = refl
-    by_subject (tag_subject (Some n) (nameless word)) none h =
-        absurd ((own_fine shapes (Some n) (nameless word) none).named refl)
-    by_subject (tag_subject (Some n) (body word odd ms)) none h =
+    by_subject (aggregate_subject word None odd ms) none h = absurd (none BadName (omega arith) (own_name refl))
+    by_subject (aggregate_subject word (Some n) odd ms) none h =
         map_some (Aggregate word n) (members_by (term_at (suc k) shapes) ms)
         (members_some (term_at (suc k) shapes) refl ms h)
-    by_subject (tag_subject (Some n) (enumeration odd es)) none h =
-        let fine = own_fine shapes (Some n) (enumeration odd es) none in
+    by_subject (enumeration_subject None odd es) none h = absurd (none BadName (omega arith) (own_name refl))
+    by_subject (enumeration_subject (Some n) odd es) none h =
         map_some (Constants n) (constants_of es)
-        (constants_some es fine.named (λ w. fine.speakable (wrong (unvalued es w))))
-    by_subject (tag_subject (Some n) _) none h = absurd (none NotPrintable (omega arith) (other_kind refl))
+        (constants_some es (λ w. none BadName (omega arith) (own_name (or_right _ _ w)))
+        (λ w. none Unspeakable (omega arith) (own_shape (wrong_enumeration (unvalued es w)))))
+    by_subject (declared_subject word None) none h = absurd (none BadName (omega arith) (own_name refl))
+    by_subject (declared_subject word (Some n)) none h = refl
+    by_subject other_subject none h = absurd (none NotPrintable (omega arith) (other_kind refl))
 
 -- where nothing is wrong, the declaration can be read back
 pub subject_legible : (k : ℕ) (shapes : ℕ → ShapeOf) (subject : SubjectOf) → HoldsNoneBelow 5 shapes subject
-    → IsRegularSubject subject → ((entry : ℕ) → IsReached shapes subject entry → IsRegular (shapes entry))
     → (d : Declaration) → declaration_by (term_at k shapes) subject ≡ Some d → IsDeclaration d
-subject_legible k shapes subject none own fit d e =
-    by_subject subject none own (λ n leads. entry_legible shapes (IsReached shapes subject)
-    (kept_reached shapes subject none) fit k n (root leads)) e
+subject_legible k shapes subject none d e =
+    by_subject subject none (λ n leads. entry_legible shapes (IsReached shapes subject)
+    (kept_reached shapes subject none) k n (root leads)) e
   where
     identifier : (s : SubjectOf) (n : List ℕ) → HoldsNoneBelow 5 shapes s
         → (not (is_identifier n) ≡ true → has_own_bad_name (kind_at shapes) s ≡ true) → IsIdentifier n
     identifier s n none bad = not_refuted (is_identifier n) (λ w. none BadName (omega arith) (own_name (bad w)))
 
-    by_subject : (s : SubjectOf) → HoldsNoneBelow 5 shapes s → IsRegularSubject s
+    by_subject : (s : SubjectOf) → HoldsNoneBelow 5 shapes s
         → ((n : ℕ) → Contains (first_steps s) n → ReadsAt (term_at k shapes) (Some n))
         → declaration_by (term_at k shapes) s ≡ Some d → IsDeclaration d
-    by_subject (typedef_subject (Some n) at) none own h e =
+    by_subject (typedef_subject (Some n) at) none h e =
         map_holds IsDeclaration (Typedef n) (term_at k shapes at)
         (λ u is. (
           identifier (typedef_subject (Some n) at) n none (λ w. w),
           head_of (ReadsAt (term_at k shapes))
               (void_legible k shapes) at [] h u is,
         )) d e
-    by_subject (variable_subject (Some n) at) none own h e =
+    by_subject (variable_subject (Some n) at) none h e =
         map_holds IsDeclaration (Variable n) (term_at k shapes at)
         (λ u is. (
           identifier (variable_subject (Some n) at) n none (λ w. w),
           head_of (ReadsAt (term_at k shapes))
               (void_legible k shapes) at [] h u is,
         )) d e
-    by_subject (tag_subject (Some n) (body word odd ms)) none own h e =
+    by_subject (aggregate_subject word (Some n) odd ms) none h e =
         map_holds IsDeclaration (Aggregate word n) (members_by (term_at k shapes) ms) (λ us are. (
-          own,
-          identifier (tag_subject (Some n) (body word odd ms)) n none (λ w. or_left _ _ w),
+          identifier (aggregate_subject word (Some n) odd ms) n none (λ w. or_left _ _ w),
           members_legible (term_at k shapes) (void_legible k shapes) shapes ms
-              (own_fine shapes (Some n) (body word odd ms) none).named h us are,
+              (λ w. none BadName (omega arith) (own_name (or_right _ _ w))) h us are,
         )) d e
-    by_subject (tag_subject (Some n) (enumeration odd es)) none own h e =
+    by_subject (enumeration_subject (Some n) odd es) none h e =
         map_holds IsDeclaration (Constants n) (constants_of es) (λ cs are. (
-          identifier (tag_subject (Some n) (enumeration odd es)) n none (λ w. or_left _ _ w),
-          constants_legible es (own_fine shapes (Some n) (enumeration odd es) none).named cs are,
+          identifier (enumeration_subject (Some n) odd es) n none (λ w. or_left _ _ w),
+          constants_legible es (λ w. none BadName (omega arith) (own_name (or_right _ _ w))) cs are,
         )) d e
-    by_subject (tag_subject (Some n) (tagged word tag)) none own h e =
-        let same : Declared word tag ≡ d = cc in
-        subst IsDeclaration same (not_refuted (is_identifier tag)
-        (own_fine shapes (Some n) (tagged word tag) none).named)
-    by_subject _ none own h e = absurd (cc)
+    by_subject (declared_subject word (Some n)) none h e =
+        let same : Declared word n ≡ d = cc in
+        subst IsDeclaration same (identifier (declared_subject word (Some n)) n none (λ w. w))
+    by_subject _ none h e = absurd (cc)

@@ -6,14 +6,14 @@ use Rattle.dw_types.specs.Sizes.{has_elements}
 use Rattle.dw_cprint.specs.Declarations.{arrays, constants_of, declaration_by, has_more, is_miscounted, members_by, term_by}
 use Rattle.dw_cprint.specs.Declarators.{gap, opened, closed, pointer_row, before, after, core}
 use Rattle.dw_cprint.specs.Lengths.{byte_count, capped, type_bytes, space, has_gap, qualifier_bytes, IsLength, tag_bytes, bytes_around, named_bytes, member_bytes, parameters_bytes, shape_bytes, base_in, declared_bytes}
-use Rattle.dw_cprint.specs.Shapes.{Qualifier, Enum, TypeAt, ShapeOf, base, typedef, qualified, pointer, array, function, tagged, body, enumeration, SubjectOf, typedef_subject, variable_subject, tag_subject}
+use Rattle.dw_cprint.specs.Shapes.{Qualifier, OfAggregate, Enum, TypeAt, ShapeOf, base, typedef, qualified, pointer, array, function, tagged, body, enumeration, SubjectOf, typedef_subject, variable_subject, aggregate_subject, enumeration_subject, declared_subject}
 use Rattle.dw_cprint.specs.Steps.{parameter_types, types_declared, types_reached}
 use Rattle.dw_cprint.specs.Summaries.{Summary}
 use Rattle.dw_cprint.specs.Terms.{Term, Void, Body, Enumeration, Qualified, Pointer, Function, Unprototyped, Prototyped, Declaration, Typedef, Variable, Aggregate, Constants}
 use Rattle.dw_cprint.specs.Tokens.{Token, Blank, Star, Open, Close, LeftBrace, RightBrace, Semicolon, TypedefWord, TagWord, QualifierWord, Identifier, qualifier_spelling}
 use Rattle.dw_cprint.specs.Writing.{spell, qualifying, constants, count_tokens, members_tokens, signature_tokens, written}
 use Rattle.dw_cprint.specs.Wrong.{TypeKind, is_bracketed, is_pointer, kind_in}
-use Rattle.dw_cprint.specs.declared.refusals.TypeKind.TheVariants as kind
+use Rattle.dw_cprint.specs.declared.shape.TypeKind.TheVariants as kind
 use Rattle.dw_cprint.proofs.KindLemmas.{first-of, others-of}
 use Rattle.dw_cprint.proofs.OptionLemmas.{map_holds, map_inverted, unless_holds}
 use Rattle.dw_cprint.proofs.PartLengthLemmas.{count-append, count-cons, capped-plus, capped-twice, Tells, bare-length, bare-known, around-length, named-length, members-length, signature-length, enumerators-length}
@@ -270,10 +270,11 @@ module _ (term : TypeAt → Option Term) (known : TypeAt → Summary) where
       let own = byte_count (core t) in
       let long = ap (λ (u : Term). byte_count (core u)) f.2 in
       let inner = members-length term known ms f.0 all f.1 in
-      let a = count-cons (TagWord word) (Blank ∷ LeftBrace ∷ Blank ∷ (members_tokens f.0 ++ RightBrace ∷ [])) in
+      let tag = OfAggregate word in
+      let a = count-cons (TagWord tag) (Blank ∷ LeftBrace ∷ Blank ∷ (members_tokens f.0 ++ RightBrace ∷ [])) in
       let b = count-append (Blank ∷ LeftBrace ∷ Blank ∷ []) (members_tokens f.0 ++ RightBrace ∷ []) in
       let c = count-append (members_tokens f.0) (RightBrace ∷ []) in
-      let counted = capped-plus (tag_bytes word None + 3) (sum_by (member_bytes known) ms) (tag_bytes word None + 3)
+      let counted = capped-plus (tag_bytes tag None + 3) (sum_by (member_bytes known) ms) (tag_bytes tag None + 3)
       (byte_count (members_tokens f.0)) refl inner in
       let same : capped (shape_bytes known (body word odd ms)) ≡ capped own =
       ap (λ (n : ℕ). capped n) (omega arith) ∙ counted ∙ ap (λ (n : ℕ). capped n) (omega (arith, a, b, c, long)) in
@@ -309,14 +310,15 @@ module _ (term : TypeAt → Option Term) (known : TypeAt → Summary) where
       let own = named-length term known t at (Some name) (first-of (Tells term known) at [] all t is) in
       capped-plus (named_bytes known at (Some name)) 1 (byte_count text) 1 own refl
       ∙ ap (λ (n : ℕ). capped n) (omega (arith, count-append text (Semicolon ∷ [])))) d e
-  declared-length (tag_subject (Some name) (body word odd ms)) d all e =
-      map_holds (λ (d : Declaration). capped (declared_bytes known (tag_subject (Some name) (body word odd ms)))
+  declared-length (aggregate_subject word (Some name) odd ms) d all e =
+      let tag = OfAggregate word in
+      map_holds (λ (d : Declaration). capped (declared_bytes known (aggregate_subject word (Some name) odd ms))
       ≡ capped (length (written d))) (Aggregate word name) (members_by term ms) (λ us are.
       let rest = Blank ∷ LeftBrace ∷ Blank ∷ (members_tokens us ++ RightBrace ∷ Semicolon ∷ []) in
-      let a = count-cons (TagWord word) (Blank ∷ Identifier name ∷ rest) in
+      let a = count-cons (TagWord tag) (Blank ∷ Identifier name ∷ rest) in
       let b = count-append (Blank ∷ LeftBrace ∷ Blank ∷ []) (members_tokens us ++ RightBrace ∷ Semicolon ∷ []) in
-      let counted = capped-plus (tag_bytes word (Some name) + 5) (sum_by (member_bytes known) ms)
-      (tag_bytes word (Some name) + 5) (byte_count (members_tokens us)) refl
+      let counted = capped-plus (tag_bytes tag (Some name) + 5) (sum_by (member_bytes known) ms)
+      (tag_bytes tag (Some name) + 5) (byte_count (members_tokens us)) refl
       (members-length term known ms us all are) in
       ap (λ (n : ℕ). capped n) (omega arith) ∙ counted
       ∙ ap (λ (n : ℕ). capped n) (omega (
@@ -328,8 +330,8 @@ module _ (term : TypeAt → Option Term) (known : TypeAt → Summary) where
         count-append
             (members_tokens us) (RightBrace ∷ Semicolon ∷ []),
       ))) d e
-  declared-length (tag_subject (Some name) (enumeration odd es)) d all e =
-      map_holds (λ (d : Declaration). capped (declared_bytes known (tag_subject (Some name) (enumeration odd es)))
+  declared-length (enumeration_subject (Some name) odd es) d all e =
+      map_holds (λ (d : Declaration). capped (declared_bytes known (enumeration_subject (Some name) odd es))
       ≡ capped (length (written d))) (Constants name) (constants_of es) (λ cs are.
       let rest = Blank ∷ LeftBrace ∷ Blank ∷ (constants cs ++ Blank ∷ RightBrace ∷ Semicolon ∷ []) in
       let a = count-cons (TagWord Enum) (Blank ∷ Identifier name ∷ rest) in
@@ -344,9 +346,9 @@ module _ (term : TypeAt → Option Term) (known : TypeAt → Summary) where
             (Identifier name) rest,
         count-append (constants cs) (Blank ∷ RightBrace ∷ Semicolon ∷ []),
       ))) d e
-  declared-length (tag_subject (Some name) (tagged word tag)) d all e =
-      let a = count-cons (TagWord word) (Blank ∷ Identifier tag ∷ Semicolon ∷ []) in
+  declared-length (declared_subject word (Some name)) d all e =
+      let a = count-cons (TagWord word) (Blank ∷ Identifier name ∷ Semicolon ∷ []) in
       ap (λ (n : ℕ). capped n) (omega
-      (arith, a, count-cons Blank (Identifier tag ∷ Semicolon ∷ []), count-cons (Identifier tag) (Semicolon ∷ [])))
+      (arith, a, count-cons Blank (Identifier name ∷ Semicolon ∷ []), count-cons (Identifier name) (Semicolon ∷ [])))
       ∙ ap (λ (o : Option Declaration). capped (written-count o)) e
   declared-length _ d all e = absurd (cc)

@@ -1,5 +1,5 @@
 -- The least refusal that holds, by the tests of each.
-use Rattle.std.proofs.Common.{rules, ◌≡◌, ℕ, suc, ◌<◌, ◌≤◌, true, List, [], Option, Some, ◌∙◌, ap, arith}
+use Rattle.std.proofs.Common.{rules, ◌≡◌, ℕ, suc, ◌<◌, ◌≤◌, List, [], Option, Some, ◌∙◌, ap, arith, refl}
 use Rattle.std.specs.Prelude.{All, length}
 use Rattle.std.proofs.lemmas.Bool.{cases_lt}
 use Rattle.dw_cprint.specs.Declarations.{declaration_by, declaration_of, term_at}
@@ -7,13 +7,14 @@ use Rattle.dw_cprint.specs.Drafts.{appended}
 use Rattle.dw_cprint.specs.Judgements.{IsDrafted}
 use Rattle.dw_cprint.specs.Kept.{WritesDeclaration}
 use Rattle.dw_cprint.specs.Refusals.{PrintFault, NotPrintable, TooDeep, TooLong, Memory, IsLonger, Holds, other_kind, cycle, deep, long, HoldsNoneBelow, Refuses, IsPrinted, number_of}
-use Rattle.dw_cprint.specs.Shapes.{ShapeOf, SubjectOf}
+use Rattle.dw_cprint.specs.Shapes.{ShapeOf, SubjectOf, other_subject, view_subject}
 use Rattle.dw_cprint.specs.Steps.{first_steps, types_declared, ReachACycle}
 use Rattle.dw_cprint.specs.Summaries.{Knows, known_of}
 use Rattle.dw_cprint.specs.Surveys.{AreAmong, IsSurveyOf}
 use Rattle.dw_cprint.specs.Terms.{Declaration}
 use Rattle.dw_cprint.specs.Writing.{written}
-use Rattle.dw_cprint.specs.Wrong.{is_other_kind}
+use Rattle.dw_cprint.specs.declared.shape.Subject.{Subject}
+use Rattle.dw_cprint.specs.declared.shape.Subject.TheVariants as subject
 use Rattle.dw_cprint.specs.declared.survey.Survey.{Survey}
 use Rattle.dw_cprint.specs.Lengths.{capped, declared_bytes}
 use Rattle.dw_cprint.proofs.DraftLemmas.{appended-fits}
@@ -22,6 +23,11 @@ use Rattle.dw_cprint.proofs.SameLemmas.{declaration-kept}
 use Rattle.dw_cprint.proofs.LengthLemmas.{declared-length}
 use Rattle.dw_cprint.proofs.OptionLemmas.{some_value}
 use Rattle.dw_cprint.proofs.SummaryLemmas.{knows-lengths}
+
+-- the code tells an entry of another kind as such
+pub is-other : (s : Subject) → view_subject s ≡ other_subject → s ≡ subject.Other
+is-other subject.Other same = refl
+is-other _ same = absurd (cc)
 
 -- ---- one refusal
 
@@ -55,7 +61,7 @@ module _ (shapes : ℕ → ShapeOf) (subject : SubjectOf) where
   none-more rule none not other less holds = search (rules, cases_lt, one-number)
 
   -- neither another kind of entry nor a cycle that is reached
-  pub printable : (is_other_kind subject ≡ true → ⊥) → (ReachACycle shapes (first_steps subject) → ⊥)
+  pub printable : (subject ≡ other_subject → ⊥) → (ReachACycle shapes (first_steps subject) → ⊥)
       → HoldsNoneBelow 2 shapes subject
   printable kind none =
       none-more NotPrintable none-first

@@ -1,17 +1,17 @@
 -- The rows of named types, added one after another.
 use Rattle.std.proofs.Common.{◌≡◌, ℕ, zero, suc, ◌+◌, ◌<◌, true, false, List, [], ◌∷◌, ◌++◌, Some, None, refl, sym, ap, ◌∙◌, inl, inr, length, arith}
-use Rattle.std.specs.Prelude.{Bool, is_some, if◌then◌else◌}
+use Rattle.std.specs.Prelude.{is_some}
 use Rattle.std.specs.List.{cons_option, filter_map, range_with_len}
 use Rattle.std.proofs.lemmas.Bool.{cases_lt}
 use Rattle.std.proofs.lemmas.List.{get_or_append_left, get_or_push, length-append}
 use Rattle.std.proofs.lemmas.List.Elements.{filter_map-append}
 use Rattle.dw_image.specs.declared.image.Image.{Image}
 use Rattle.dw_image.specs.Images.{entries_in, sections_in}
-use Rattle.dw_cprint.specs.EntryShapes.{body_in, members_in, subject_in, tag_in, tag_shape}
+use Rattle.dw_cprint.specs.EntryShapes.{defined_in, members_in, subject_in, tag_in}
 use Rattle.dw_cprint.specs.Listings.{AreNamedTypes, is_named_type, named_number}
 use Rattle.dw_cprint.specs.LookUps.{declared_at, name_at, type_at}
-use Rattle.dw_cprint.specs.Rows.{AreRows, IsWithin, Place, Row, RowKind, Tag, Tells, TellsOf, Typedef, place_in, row_at, subject_of, text_at}
-use Rattle.dw_cprint.specs.Shapes.{Name, ShapeOf, nameless, TagKeyword, Struct, Union, Enum, tag_subject, typedef_subject}
+use Rattle.dw_cprint.specs.Rows.{AreRows, IsWithin, Place, Row, RowKind, Tag, Tells, TellsOf, Typedef, place_in, row_at, subject_of, row_text}
+use Rattle.dw_cprint.specs.Shapes.{Name, AggregateKeyword, TagKeyword, OfAggregate, Enum, typedef_subject}
 use Rattle.dw_cprint.specs.Steps.{member_types, types_declared}
 use Rattle.dw_cprint.proofs.ListingLemmas.{named-done}
 
@@ -76,27 +76,17 @@ module _ (image : Image) where
   line_str_short = omega (arith, (sections_in image).line_str_fits)
 
   module _ (id : ℕ) where
-    by_name : (word : TagKeyword) (name : Name) → declared_at image id ≡ true
-        → is_named_type (tag_subject name (tag_shape image id word name)) ≡ false
-    by_name word (Some text) is = refl
-    by_name word None is = rw is refl
-
     -- one that is declared is no named type
     pub tag_declared : (word : TagKeyword) → declared_at image id ≡ true → is_named_type (tag_in image id word) ≡ false
-    tag_declared word is = rw is (by_name word (name_at image id) is)
+    tag_declared word is = rw is refl
 
     -- another one has its body
     tag_body : (word : TagKeyword) → declared_at image id ≡ false
-        → tag_in image id word ≡ tag_subject (name_at image id) (body_in image id word)
-    tag_body word is =
-        ap (λ (b : Bool). tag_subject (name_at image id)
-        (tag_shape image id word (if b then name_at image id else None))) is
-        ∙ ap (λ (b : Bool). tag_subject (name_at image id) (if b then nameless word else body_in image id word)) is
+        → tag_in image id word ≡ defined_in image id word (name_at image id)
+    tag_body word is = rw is refl
 
-    body_named : (word : TagKeyword) (name : Name)
-        → is_named_type (tag_subject name (body_in image id word)) ≡ is_some name
-    body_named Struct name = refl
-    body_named Union name = refl
+    body_named : (word : TagKeyword) (name : Name) → is_named_type (defined_in image id word name) ≡ is_some name
+    body_named (OfAggregate word) name = refl
     body_named Enum name = refl
 
     -- and is a named type if it has a name
@@ -105,23 +95,20 @@ module _ (image : Image) where
     tag_named word is = ap is_named_type (tag_body word is) ∙ body_named word (name_at image id)
 
     pub tells_tag : (word : TagKeyword) (place : Place) → declared_at image id ≡ false
-        → Some (text_at image place) ≡ name_at image id → IsWithin image place
+        → Some (row_text image place) ≡ name_at image id → IsWithin image place
         → TellsOf image id (tag_in image id word) (row_at (Tag word) place None)
     tells_tag word place is name within =
-        record {
-          is = tag_body word is ∙ ap (λ (n : Name). tag_subject n (body_in image id word)) (sym name);
-          within = within;
-        }
+        record { is = tag_body word is ∙ ap (defined_in image id word) (sym name); within = within }
 
-    pub tells_typedef : (place : Place) → Some (text_at image place) ≡ name_at image id → IsWithin image place
+    pub tells_typedef : (place : Place) → Some (row_text image place) ≡ name_at image id → IsWithin image place
         → TellsOf image id (typedef_subject (name_at image id) (type_at image id))
         (row_at Typedef place (type_at image id))
     tells_typedef place name within = record { is = rw (← name) refl; within = within }
 
     module _ (row : Row) (h : Tells image id row) where
       told : (kind : RowKind) → row.kind ≡ kind
-          → subject_in image id ≡ subject_of image id kind (text_at image (place_in row)) row.to
-      told kind is = h.is ∙ ap (λ (k : RowKind). subject_of image id k (text_at image (place_in row)) row.to) is
+          → subject_in image id ≡ subject_of image id kind (row_text image (place_in row)) row.to
+      told kind is = h.is ∙ ap (λ (k : RowKind). subject_of image id k (row_text image (place_in row)) row.to) is
 
       -- the types that it leads to
       pub typedef_types : row.kind ≡ Typedef → types_declared (subject_in image id) ≡ row.to ∷ []
@@ -130,22 +117,18 @@ module _ (image : Image) where
       pub enum_types : row.kind ≡ Tag Enum → types_declared (subject_in image id) ≡ []
       enum_types is = ap types_declared (told (Tag Enum) is)
 
-      pub struct_types : row.kind ≡ Tag Struct
+      pub aggregate_types : (word : AggregateKeyword) → row.kind ≡ Tag (OfAggregate word)
           → types_declared (subject_in image id) ≡ member_types (members_in image id)
-      struct_types is = ap types_declared (told (Tag Struct) is)
-
-      pub union_types : row.kind ≡ Tag Union → types_declared (subject_in image id) ≡ member_types (members_in image id)
-      union_types is = ap types_declared (told (Tag Union) is)
+      aggregate_types word is = ap types_declared (told (Tag (OfAggregate word)) is)
 
       -- what is declared
-      pub is_typedef : (text : List ℕ) → row.kind ≡ Typedef → text ≡ text_at image (place_in row)
+      pub is_typedef : (text : List ℕ) → row.kind ≡ Typedef → text ≡ row_text image (place_in row)
           → typedef_subject (Some text) row.to ≡ subject_in image id
       is_typedef text is same = rw same (sym (told Typedef is))
 
-      pub is_tag : (text : List ℕ) (word : TagKeyword) (shape : ShapeOf) → row.kind ≡ Tag word
-          → text ≡ text_at image (place_in row) → shape ≡ body_in image id word
-          → tag_subject (Some text) shape ≡ subject_in image id
-      is_tag text word shape is same body = rw (same, body) (sym (told (Tag word) is))
+      pub is_tag : (text : List ℕ) (word : TagKeyword) → row.kind ≡ Tag word → text ≡ row_text image (place_in row)
+          → defined_in image id word (Some text) ≡ subject_in image id
+      is_tag text word is same = rw same (sym (told (Tag word) is))
 
 -- ---- what the code of rows cites
 
@@ -153,4 +136,4 @@ pub ruleset sections_short = (info_short, str_short, line_str_short)
 
 pub ruleset tag_rows = (tag_declared, tag_named, tells_tag)
 
-pub ruleset types_of_rows = (typedef_types, enum_types, struct_types, union_types)
+pub ruleset types_of_rows = (typedef_types, enum_types, aggregate_types)

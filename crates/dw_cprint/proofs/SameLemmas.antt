@@ -5,12 +5,11 @@ use Rattle.std.proofs.lemmas.List.Elements.{All-nil, All-cons}
 use Rattle.dw_cprint.specs.Declarations.{arrays, is_miscounted, parameters_by, members_by, term_by, declaration_by, term_at, declaration_of}
 use Rattle.dw_cprint.specs.Refusals.{PrintFault, Holds, other_kind, cycle, own_name, name_reached, own_child, foreign_reached, own_shape, shape_reached, deep, long, number_of, HoldsNoneBelow, Refuses, HasOneReading, IsPrinted}
 use Rattle.dw_cprint.specs.SameShapes.{AreSameFor}
-use Rattle.dw_cprint.specs.Shapes.{Parameter, Typed, More, TypeAt, MemberOf, ShapeOf, base, typedef, qualified, pointer, array, function, body, SubjectOf, typedef_subject, variable_subject, tag_subject}
+use Rattle.dw_cprint.specs.Shapes.{Parameter, Typed, More, TypeAt, MemberOf, ShapeOf, base, typedef, qualified, pointer, array, function, body, SubjectOf, typedef_subject, variable_subject, aggregate_subject, enumeration_subject, declared_subject, other_subject}
 use Rattle.dw_cprint.specs.Steps.{entries_of, parameter_types, member_types, types_reached, types_declared, first_steps, root, further, IsReached, Leads}
 use Rattle.dw_cprint.specs.Terms.{Term, Qualified, Pointer, Function, Unprototyped, Body, Typedef, Variable, Aggregate}
-use Rattle.dw_cprint.specs.Wrong.{shape_of, StandsUnder, nothing, itself, below, HasBadName, is_wrong_row, kind_at, kind_in, object_types, IsVoidLike, IsUnspeakable, wrong, void_object, row, IsOwnUnspeakable, void_variable, unspeakable, declared_enumeration}
+use Rattle.dw_cprint.specs.Wrong.{shape_of, StandsUnder, nothing, itself, below, HasBadName, is_wrong_row, kind_at, kind_in, object_types, IsVoidLike, IsUnspeakable, wrong, void_object, row, IsOwnUnspeakable, void_variable, unspeakable, wrong_enumeration, declared_enumeration}
 use Rattle.dw_cprint.specs.Kept.{kept}
-use Rattle.dw_cprint.specs.Regular.{AreRegular}
 use Rattle.dw_cprint.specs.Surveys.{AreAmong, IsSurveyOf}
 use Rattle.dw_cprint.specs.declared.survey.Survey.{Survey}
 use Rattle.dw_cprint.proofs.KindLemmas.{names-alike, own-names-alike, wrong-alike}
@@ -143,7 +142,7 @@ module _ (shapes others : ℕ → ShapeOf) (subject : SubjectOf) (same : AreSame
     by-subject-same (typedef_subject (Some name) at) h = ap (option_map (Typedef name)) (head_of SameTerm void at [] h)
     by-subject-same (variable_subject (Some name) at) h =
         ap (option_map (Variable name)) (head_of SameTerm void at [] h)
-    by-subject-same (tag_subject (Some name) (body word odd ms)) h =
+    by-subject-same (aggregate_subject word (Some name) odd ms) h =
         ap (option_map (Aggregate word name)) (members-same ms h)
     by-subject-same _ h = refl
 
@@ -181,8 +180,11 @@ module _ (shapes others : ℕ → ShapeOf) (subject : SubjectOf) (same : AreSame
   own-unspeakable-same (typedef_subject name at) goods h = elim h [ ]
   own-unspeakable-same (variable_subject name at) goods (void_variable h) =
       void_variable (void-same at (good-first at [] goods) h)
-  own-unspeakable-same (tag_subject name shape) goods (unspeakable h) = unspeakable (unspeakable-same shape goods h)
-  own-unspeakable-same (tag_subject name shape) goods (declared_enumeration h) = declared_enumeration h
+  own-unspeakable-same (aggregate_subject word name odd ms) goods (unspeakable h) =
+      unspeakable (unspeakable-same (body word odd ms) goods h)
+  own-unspeakable-same (enumeration_subject name odd es) goods (wrong_enumeration h) = wrong_enumeration h
+  own-unspeakable-same (declared_subject word name) goods declared_enumeration = declared_enumeration
+  own-unspeakable-same other_subject goods h = elim h [ ]
 
   holds-same : (rule : PrintFault) → Holds shapes subject rule → Holds others subject rule
   holds-same rule (other_kind e) = other_kind e
@@ -232,9 +234,9 @@ declaration-kept shapes roots s subject survey among =
     sym (declaration-same shapes (kept s) subject (kept-same shapes roots s subject survey among))
 
 -- no other declaration has the text of one that is printed
-pub printed-one : (shapes : ℕ → ShapeOf) (subject : SubjectOf) → IsPrinted shapes subject → AreRegular shapes subject
+pub printed-one : (shapes : ℕ → ShapeOf) (subject : SubjectOf) → IsPrinted shapes subject
     → HasOneReading shapes subject
 unfolding declaration_of
-printed-one shapes subject printed regular d another e legible text =
-    one_text another d legible (subject_legible 65 shapes subject (λ rule below holds. printed rule (omega arith) holds)
-    regular.own regular.reached d e) text
+printed-one shapes subject printed d another e legible text =
+    one_text another d legible
+    (subject_legible 65 shapes subject (λ rule below holds. printed rule (omega arith) holds) d e) text

@@ -15,7 +15,7 @@ use Rattle.dw_cprint.specs.declared.survey.Survey.{Survey}
 use Rattle.dw_cprint.specs.Wrong.{kind_in, nothing, itself, below}
 use Rattle.dw_cprint.specs.declared.shape.Shape.{Shape}
 use Rattle.dw_cprint.specs.declared.shape.Shape.TheVariants as shape
-use Rattle.dw_cprint.specs.declared.summary.TheConstants.{VOID}
+use Rattle.dw_cprint.specs.declared.survey.TheConstants.{UNKNOWN, VOID}
 use Rattle.dw_cprint.proofs.FoundLemmas.{found-none}
 use Rattle.dw_cprint.proofs.LengthLemmas.{void-length}
 use Rattle.dw_cprint.proofs.PartLengthLemmas.{Tells}
@@ -153,7 +153,7 @@ have_more clear nodes i s within there have node =
 
 -- what is known by two lists
 abbrev pub known_by : List ℕ → List (Option Summary) → TypeAt → Summary
-known_by places nodes at = unwrap_or (summary_at VOID places nodes at) VOID
+known_by places nodes at = unwrap_or (summary_at VOID places nodes at) UNKNOWN
 
 -- the summaries of the first nodes are right
 abbrev pub RightBefore : (ℕ → ShapeOf) → (found clear places : List ℕ) → List (Option Summary) → ℕ → Type 0
@@ -195,7 +195,7 @@ module _ (all : ℕ → ShapeOf) (places found : List ℕ) (kept : List Shape) (
           let n = get_or clear i 0 in
           let at = summary-there places (set nodes n (Some s)) (get_or found n 0) n (Some (Some s))
           (are.placed n (are.within i within)) (get-set-same nodes n (Some s) there) in
-          let P : Option Summary → Type 0 = λ o. IsSummary all (Some (get_or found n 0)) (unwrap_or o VOID) in
+          let P : Option Summary → Type 0 = λ o. IsSummary all (Some (get_or found n 0)) (unwrap_or o UNKNOWN) in
           let Q : ℕ → Type 0 = λ x. IsSummary all (Some (get_or found x 0))
           (known_by places (set nodes n (Some s)) (Some (get_or found x 0))) in
           subst Q same (subst P (sym at) new)
@@ -207,7 +207,7 @@ module _ (all : ℕ → ShapeOf) (places found : List ℕ) (kept : List Shape) (
           let new_at = summary-there places (set nodes n (Some s)) (get_or found m 0) m (slice_get nodes m) placed
           (get-set-other nodes n m (Some s) apart) in
           let old_at = summary-there places nodes (get_or found m 0) m (slice_get nodes m) placed refl in
-          let P : Option Summary → Type 0 = λ o. IsSummary all (Some (get_or found m 0)) (unwrap_or o VOID) in
+          let P : Option Summary → Type 0 = λ o. IsSummary all (Some (get_or found m 0)) (unwrap_or o UNKNOWN) in
           subst P (old_at ∙ sym new_at) (right j earlier)
         where
           before : (i ≡ j) ⊎ (i ≡ j → ⊥) → j < i

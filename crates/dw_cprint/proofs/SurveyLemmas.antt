@@ -17,7 +17,7 @@ use Rattle.dw_cprint.specs.Summaries.{Knows, AreNodes, AreRight}
 use Rattle.dw_cprint.specs.Surveys.{found_at, AreAmong, HaveSummaries, lacks_summary, IsSurveyOf}
 use Rattle.dw_cprint.specs.declared.shape.Shape.{Shape}
 use Rattle.dw_cprint.specs.declared.survey.Survey.{Survey}
-use Rattle.dw_cprint.specs.declared.summary.Summary.{Summary}
+use Rattle.dw_cprint.specs.declared.survey.Summary.{Summary}
 use Rattle.dw_cprint.proofs.ReachLemmas.{entry-among, from-map, into-map}
 use Rattle.dw_cprint.proofs.SummaryLemmas.{all-types, void_summary}
 use Rattle.dw_types.proofs.LongestLemmas.{clear-free}

@@ -1,4 +1,4 @@
--- What holds of each shape and declaration that is read: each type that it names is an entry, and it is regular.
+-- Each type that a shape or a declaration of an image names is an entry.
 use Rattle.std.proofs.Common.{rules, ◌≡◌, ℕ, ◌<◌, Bool, true, false, List, [], ◌∷◌, Option, Some, None, refl, length, arith}
 use Rattle.std.specs.Prelude.{option_and_then, All, ◌==◌, flat_map, if◌then◌else◌}
 use Rattle.std.specs.List.{cons_option, filter_map}
@@ -9,10 +9,9 @@ use Rattle.dw_image.specs.declared.image.Image.{Image}
 use Rattle.dw_image.specs.Images.{entries_in, type_in}
 use Rattle.dw_image.specs.Lookups.{type_number}
 use Rattle.dw_forms.specs.Codes.{DW_AT_prototyped, DW_TAG_array_type, DW_TAG_atomic_type, DW_TAG_base_type, DW_TAG_const_type, DW_TAG_enumeration_type, DW_TAG_pointer_type, DW_TAG_restrict_type, DW_TAG_structure_type, DW_TAG_subroutine_type, DW_TAG_typedef, DW_TAG_union_type, DW_TAG_variable, DW_TAG_volatile_type, is_type_tag}
-use Rattle.dw_cprint.specs.EntryShapes.{member_at, parameter_at, parameters_in, shape_in, subject_in, body_in, tag_in, tag_shape, declared_name, counts_in, is_strange}
+use Rattle.dw_cprint.specs.EntryShapes.{member_at, parameter_at, parameters_in, shape_in, subject_in, body_in, defined_in, tag_in, tag_shape, counts_in, is_strange}
 use Rattle.dw_cprint.specs.LookUps.{tag_at, type_at, name_at, flag_at, declared_at, children_at}
-use Rattle.dw_cprint.specs.Regular.{AreRegular, IsRegular, IsRegularSubject}
-use Rattle.dw_cprint.specs.Shapes.{Parameter, Typed, More, TagKeyword, Struct, Union, Enum, Const, Volatile, Restrict, Atomic, base, typedef, qualified, pointer, array, function, foreign, other, Name, TypeAt, MemberOf, ShapeOf, nameless, SubjectOf, typedef_subject, variable_subject, tag_subject}
+use Rattle.dw_cprint.specs.Shapes.{Parameter, Typed, More, TagKeyword, OfAggregate, Struct, Union, Enum, Const, Volatile, Restrict, Atomic, base, typedef, qualified, pointer, array, function, foreign, other, Name, TypeAt, MemberOf, ShapeOf, nameless, SubjectOf, typedef_subject, variable_subject, declared_subject, other_subject}
 use Rattle.dw_cprint.specs.Steps.{entries_of, parameter_types, member_types, types_reached, types_declared, first_steps}
 
 one_within : (b : Bool) (n id to : ℕ) → id < n → (if b then Some id else None) ≡ Some to → to < n
@@ -36,10 +35,9 @@ type_within image id to is = search (rules, named_within)
 pub record AreWithin (n : ℕ) (types : List (Option ℕ)) : Type 0 where
   pub all : All (λ to. to < n) (entries_of types)
 
--- those that a shape names are entries, and its body is that of a structure or a union
-pub record IsRead (n : ℕ) (s : ShapeOf) : Type 0 where
-  pub all : AreWithin n (types_reached s)
-  pub regular : IsRegular s
+-- those that a shape names are entries
+abbrev pub NamesWithin : ℕ → ShapeOf → Type 0
+NamesWithin n s = AreWithin n (types_reached s)
 
 none_within : (n : ℕ) → AreWithin n []
 none_within n = record { all = All-nil (λ to. to < n) }
@@ -82,55 +80,49 @@ parameters_within image (id ∷ ids) =
     parameter_more (length (entries_in image)) _ _ (type_at image id) (filter_map (parameter_at image) ids)
     (type_within image id) (parameters_within image ids)
 
-leads_nowhere : (n : ℕ) (s : ShapeOf) → types_reached s ≡ [] → IsRegular s → IsRead n s
-leads_nowhere n s none regular = record { all = rw none (none_within n); regular = regular }
-
 either : {X : Type 0} (P : X → Type 0) (b : Bool) (x y : X) → P x → P y → P (if b then x else y)
 either P true x y one another = one
 either P false x y one another = another
 
 function_within : (image : Image) (id : ℕ) (b : Bool) (ids : List ℕ)
-    → IsRead (length (entries_in image))
+    → NamesWithin (length (entries_in image))
     (function (type_at image id) (if b then Some (filter_map (parameter_at image) ids) else None))
 function_within image id true ids =
-    record {
-      all = type_more image id (parameter_types (filter_map (parameter_at image) ids))
-          (parameters_within image ids);
-      regular = tt;
-    }
-function_within image id false ids =
-    record { all = type_more image id [] (none_within (length (entries_in image))); regular = tt }
+    type_more image id (parameter_types (filter_map (parameter_at image) ids)) (parameters_within image ids)
+function_within image id false ids = type_more image id [] (none_within (length (entries_in image)))
 
-body_within : (image : Image) (id : ℕ) (word : TagKeyword) → IsRead (length (entries_in image)) (body_in image id word)
-body_within image id Enum = leads_nowhere (length (entries_in image)) _ refl tt
-body_within image id Struct = record { all = members_within image (children_at image id); regular = tt }
-body_within image id Union = record { all = members_within image (children_at image id); regular = tt }
+body_within : (image : Image) (id : ℕ) (word : TagKeyword)
+    → NamesWithin (length (entries_in image)) (body_in image id word)
+body_within image id (OfAggregate word) = members_within image (children_at image id)
+body_within image id Enum = none_within (length (entries_in image))
 
 tag_within : (image : Image) (id : ℕ) (word : TagKeyword) (name : Name)
-    → IsRead (length (entries_in image)) (tag_shape image id word name)
-tag_within image id word (Some name) = leads_nowhere (length (entries_in image)) _ refl tt
+    → NamesWithin (length (entries_in image)) (tag_shape image id word name)
+tag_within image id word (Some name) = none_within (length (entries_in image))
 tag_within image id word None =
     let n = length (entries_in image) in
-    either (IsRead n) (declared_at image id) (nameless word) (body_in image id word)
-    (leads_nowhere n (nameless word) refl tt) (body_within image id word)
+    either (NamesWithin n) (declared_at image id) (nameless word) (body_in image id word)
+    (none_within n) (body_within image id word)
 
--- what holds of each shape of an image
-pub shape_within : (image : Image) (id : ℕ) → IsRead (length (entries_in image)) (shape_in image id)
+-- those that a shape of an image names
+pub shape_within : (image : Image) (id : ℕ) → NamesWithin (length (entries_in image)) (shape_in image id)
 unfolding shape_in
 shape_within image id =
-    test DW_TAG_base_type (base name) _ (none _ refl tt) (test DW_TAG_typedef (typedef name) _ (none _ refl tt)
-    (test DW_TAG_const_type (qualified Const at) _ (typed _ refl tt)
-    (test DW_TAG_volatile_type (qualified Volatile at) _ (typed _ refl tt)
-    (test DW_TAG_restrict_type (qualified Restrict at) _ (typed _ refl tt)
-    (test DW_TAG_atomic_type (qualified Atomic at) _ (typed _ refl tt)
-    (test DW_TAG_pointer_type (pointer at) _ (typed _ refl tt)
-    (test DW_TAG_array_type (array (counts_in image id) (is_strange image id) at) _ (typed _ refl tt)
+    test DW_TAG_base_type (base name) _ none (test DW_TAG_typedef (typedef name) _ none
+    (test DW_TAG_const_type (qualified Const at) _ one
+    (test DW_TAG_volatile_type (qualified Volatile at) _ one
+    (test DW_TAG_restrict_type (qualified Restrict at) _ one
+    (test DW_TAG_atomic_type (qualified Atomic at) _ one
+    (test DW_TAG_pointer_type (pointer at) _ one
+    (test DW_TAG_array_type (array (counts_in image id) (is_strange image id) at) _ one
     (test DW_TAG_subroutine_type (function at (parameters_in image id)) _
     (function_within image id (flag_at image id DW_AT_prototyped) (children_at image id))
-    (test DW_TAG_structure_type (tag_shape image id Struct name) _ (tag_within image id Struct name)
-    (test DW_TAG_union_type (tag_shape image id Union name) _ (tag_within image id Union name)
+    (test DW_TAG_structure_type (tag_shape image id (OfAggregate Struct) name) _
+    (tag_within image id (OfAggregate Struct) name)
+    (test DW_TAG_union_type (tag_shape image id (OfAggregate Union) name) _
+    (tag_within image id (OfAggregate Union) name)
     (test DW_TAG_enumeration_type (tag_shape image id Enum name) _ (tag_within image id Enum name)
-    (either (IsRead n) (is_type_tag (tag_at image id)) foreign other (none _ refl tt) (none _ refl tt)))))))))))))
+    (either (NamesWithin n) (is_type_tag (tag_at image id)) foreign other none none))))))))))))
   where
     n : ℕ
     n = length (entries_in image)
@@ -141,31 +133,35 @@ shape_within image id =
     at : TypeAt
     at = type_at image id
 
-    test : (tag : ℕ) (x y : ShapeOf) → IsRead n x → IsRead n y → IsRead n (if tag_at image id == tag then x else y)
-    test tag = either (IsRead n) (tag_at image id == tag)
+    test : (tag : ℕ) (x y : ShapeOf) → NamesWithin n x → NamesWithin n y
+        → NamesWithin n (if tag_at image id == tag then x else y)
+    test tag = either (NamesWithin n) (tag_at image id == tag)
 
-    none : (s : ShapeOf) → types_reached s ≡ [] → IsRegular s → IsRead n s
-    none = search (rules, leads_nowhere)
+    none : AreWithin n []
+    none = none_within n
 
-    typed : (s : ShapeOf) → types_reached s ≡ type_at image id ∷ [] → IsRegular s → IsRead n s
-    typed s one regular = record { all = rw one (type_more image id [] (none_within n)); regular = regular }
+    one : AreWithin n (at ∷ [])
+    one = type_more image id [] none
 
 -- ---- the same of the entry that is declared
 
-pub record IsSubjectRead (n : ℕ) (s : SubjectOf) : Type 0 where
-  pub all : AreWithin n (types_declared s)
-  pub regular : IsRegularSubject s
+abbrev pub DeclaresWithin : ℕ → SubjectOf → Type 0
+DeclaresWithin n s = AreWithin n (types_declared s)
 
--- what holds of each declaration of an image
-pub subject_within : (image : Image) (id : ℕ) → IsSubjectRead (length (entries_in image)) (subject_in image id)
+defined_within : (image : Image) (id : ℕ) (word : TagKeyword) (name : Name)
+    → DeclaresWithin (length (entries_in image)) (defined_in image id word name)
+defined_within image id (OfAggregate word) name = members_within image (children_at image id)
+defined_within image id Enum name = none_within (length (entries_in image))
+
+-- those that a declaration of an image names
+pub subject_within : (image : Image) (id : ℕ) → DeclaresWithin (length (entries_in image)) (subject_in image id)
 unfolding subject_in
 subject_within image id =
-    test DW_TAG_typedef (typedef_subject name at) _ (record { all = one; regular = tt })
-    (test DW_TAG_variable (variable_subject name at) _ (record { all = one; regular = tt })
-    (test DW_TAG_structure_type (tag_in image id Struct) _ (tag Struct)
-    (test DW_TAG_union_type (tag_in image id Union) _ (tag Union)
-    (test DW_TAG_enumeration_type (tag_in image id Enum) (tag_subject None other) (tag Enum)
-    (record { all = none_within n; regular = tt })))))
+    test DW_TAG_typedef (typedef_subject name at) _ one
+    (test DW_TAG_variable (variable_subject name at) _ one
+    (test DW_TAG_structure_type (tag_in image id (OfAggregate Struct)) _ (tag (OfAggregate Struct))
+    (test DW_TAG_union_type (tag_in image id (OfAggregate Union)) _ (tag (OfAggregate Union))
+    (test DW_TAG_enumeration_type (tag_in image id Enum) other_subject (tag Enum) (none_within n)))))
   where
     n : ℕ
     n = length (entries_in image)
@@ -176,16 +172,17 @@ subject_within image id =
     at : TypeAt
     at = type_at image id
 
-    test : (tag : ℕ) (x y : SubjectOf) → IsSubjectRead n x → IsSubjectRead n y
-        → IsSubjectRead n (if tag_at image id == tag then x else y)
-    test tag = either (IsSubjectRead n) (tag_at image id == tag)
+    test : (tag : ℕ) (x y : SubjectOf) → DeclaresWithin n x → DeclaresWithin n y
+        → DeclaresWithin n (if tag_at image id == tag then x else y)
+    test tag = either (DeclaresWithin n) (tag_at image id == tag)
 
     one : AreWithin n (at ∷ [])
     one = search (rules, type_more, none_within)
 
-    tag : (word : TagKeyword) → IsSubjectRead n (tag_in image id word)
+    tag : (word : TagKeyword) → DeclaresWithin n (tag_in image id word)
     tag word =
-        (let own = tag_within image id word (declared_name image id) in record { all = own.all; regular = own.regular })
+        either (DeclaresWithin n) (declared_at image id) (declared_subject word name) (defined_in image id word name)
+        (none_within n) (defined_within image id word name)
 
 -- and so are the roots of some declarations
 pub roots_within : (image : Image) (ids : List ℕ)
@@ -193,9 +190,4 @@ pub roots_within : (image : Image) (ids : List ℕ)
 roots_within image [] = All-nil (λ to. to < length (entries_in image))
 roots_within image (id ∷ ids) =
     All-append (λ to. to < length (entries_in image)) (first_steps (subject_in image id)) _
-    (subject_within image id).all.all (roots_within image ids)
-
--- the declared entry is regular, and so is each that it reaches
-pub all-regular : (image : Image) (id : ℕ) → AreRegular (shape_in image) (subject_in image id)
-all-regular image id =
-    record { own = (subject_within image id).regular; reached = λ entry r. (shape_within image entry).regular }
+    (subject_within image id).all (roots_within image ids)

@@ -8,7 +8,7 @@ use Rattle.dw_cprint.specs.Declarations.{base_term, arrays, is_miscounted, is_mi
 use Rattle.dw_cprint.specs.Declarators.{gap, pointer_row, opened, closed, before, after, core, body_tokens, enumeration_tokens}
 use Rattle.dw_cprint.specs.Drafts.{appended}
 use Rattle.dw_cprint.specs.Kept.{Writes}
-use Rattle.dw_cprint.specs.Shapes.{Qualifier, TagKeyword, Parameter, Name, TypeAt, MemberOf, EnumeratorOf, ShapeOf, base, typedef, qualified, pointer, array, function, tagged, body, enumeration, typedef_subject, variable_subject, tag_subject, view_shape}
+use Rattle.dw_cprint.specs.Shapes.{Qualifier, AggregateKeyword, OfAggregate, Parameter, Name, TypeAt, MemberOf, EnumeratorOf, ShapeOf, base, typedef, qualified, pointer, array, function, tagged, body, enumeration, typedef_subject, variable_subject, aggregate_subject, enumeration_subject, view_shape}
 use Rattle.dw_cprint.specs.Terms.{Enum, Term, Void, Named, Tagged, Body, Function, Prototyped, Parameters, Members, Constant, Declaration, Aggregate}
 use Rattle.dw_cprint.specs.Tokens.{Token, Blank, Star, Open, Close, LeftBrace, RightBrace, Semicolon, TypedefWord, TagWord, Identifier, spelling, text_of}
 use Rattle.dw_cprint.specs.Writing.{spell, qualifying, count_tokens, name_tokens, signature_tokens, members_tokens, declaration_tokens, written}
@@ -192,13 +192,13 @@ module _ (term : TypeAt → Option Term) (old new : Option (List ℕ)) where
   base_core None h t e = absurd (cc)
   base_core (Some name) h t e = as_text (Identifier name ∷ []) (core t) old new (base-core name t e) h
 
-  pub body_core : (mid mid2 : Option (List ℕ)) (word : TagKeyword) (odd : Bool) (ms : List MemberOf)
-      → Writes (TagWord word ∷ []) old mid → Writes (Blank ∷ []) mid mid2
+  pub body_core : (mid mid2 : Option (List ℕ)) (word : AggregateKeyword) (odd : Bool) (ms : List MemberOf)
+      → Writes (TagWord (OfAggregate word) ∷ []) old mid → Writes (Blank ∷ []) mid mid2
       → ((us : Members) → members_by term ms ≡ Some us → Writes (body_tokens us) mid2 new) → (t : Term)
       → term_by term (body word odd ms) ≡ Some t → Writes (core t) old new
   body_core mid mid2 word odd ms tag blank inner t e =
       map_holds (λ (u : Term). Writes (core u) old new) (Body word) (members_by term ms)
-      (λ us are. both (TagWord word ∷ []) (Blank ∷ body_tokens us) old mid new tag
+      (λ us are. both (TagWord (OfAggregate word) ∷ []) (Blank ∷ body_tokens us) old mid new tag
       (both (Blank ∷ []) (body_tokens us) mid mid2 new blank (inner us are))) t e
 
   pub enumeration_core : (mid : Option (List ℕ)) (odd : Bool) (es : List EnumeratorOf)
@@ -224,15 +224,16 @@ module _ (term : TypeAt → Option Term) (old mid mid2 new : Option (List ℕ)) 
   variable_done None at inner last d e = absurd (cc)
   variable_done (Some name) at inner last d e = search (rules, map_inverted, both)
 
-  pub aggregate_done : (mid3 : Option (List ℕ)) (word : TagKeyword) (name : Name) (odd : Bool) (ms : List MemberOf)
-      → Writes (TagWord word ∷ Blank ∷ name_tokens name) old mid → Writes (Blank ∷ []) mid mid2
+  pub aggregate_done : (mid3 : Option (List ℕ)) (word : AggregateKeyword) (name : Name) (odd : Bool)
+      (ms : List MemberOf)
+      → Writes (TagWord (OfAggregate word) ∷ Blank ∷ name_tokens name) old mid → Writes (Blank ∷ []) mid mid2
       → ((us : Members) → members_by term ms ≡ Some us → Writes (body_tokens us) mid2 mid3)
       → Writes (Semicolon ∷ []) mid3 new
-      → (d : Declaration) → declaration_by term (tag_subject name (body word odd ms)) ≡ Some d
+      → (d : Declaration) → declaration_by term (aggregate_subject word name odd ms) ≡ Some d
       → new ≡ appended old (written d)
   aggregate_done mid3 word None odd ms first gap inner last d e = absurd (cc)
   aggregate_done mid3 word (Some name) odd ms first gap inner last d e =
-      let tag = TagWord word ∷ Blank ∷ Identifier name ∷ [] in
+      let tag = TagWord (OfAggregate word) ∷ Blank ∷ Identifier name ∷ [] in
       map_holds (λ (d : Declaration). new ≡ appended old (written d)) (Aggregate word name) (members_by term ms)
       (λ us are.
       let body = body_tokens us in
@@ -249,7 +250,7 @@ module _ (term : TypeAt → Option Term) (old mid mid2 new : Option (List ℕ)) 
       → Writes (TagWord Enum ∷ Blank ∷ name_tokens name) old mid → Writes (Blank ∷ []) mid mid2
       → ((cs : List Constant) → constants_of es ≡ Some cs → Writes (enumeration_tokens cs) mid2 mid3)
       → Writes (Semicolon ∷ []) mid3 new
-      → (d : Declaration) → declaration_by term (tag_subject name (enumeration odd es)) ≡ Some d
+      → (d : Declaration) → declaration_by term (enumeration_subject name odd es) ≡ Some d
       → new ≡ appended old (written d)
   constants_done mid3 None odd es first gap inner last d e = absurd (cc)
   constants_done mid3 (Some name) odd es first gap inner last d e =

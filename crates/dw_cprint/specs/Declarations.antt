@@ -10,7 +10,8 @@ use Rattle.dw_cprint.specs.Terms.{NoParameter, Parameter as ParameterTerm, Membe
 use Rattle.dw_cprint.specs.Terms.{Declaration, Typedef, Variable, Aggregate, Constants, Declared}
 use Rattle.dw_cprint.specs.Shapes.{Parameter, Typed, More, TypeAt, MemberOf, EnumeratorOf, ShapeOf, base}
 use Rattle.dw_cprint.specs.Shapes.{typedef, qualified, pointer, array, function, tagged, body, enumeration, SubjectOf}
-use Rattle.dw_cprint.specs.Shapes.{typedef_subject, variable_subject, tag_subject}
+use Rattle.dw_cprint.specs.Shapes.{typedef_subject, variable_subject, aggregate_subject, enumeration_subject}
+use Rattle.dw_cprint.specs.Shapes.{declared_subject}
 
 -- ---- names of base types
 
@@ -122,11 +123,11 @@ module _ (term : TypeAt → Option Term) where
   abbrev pub declaration_by : SubjectOf → Option Declaration
   declaration_by (typedef_subject (Some name) at) = option_map (Typedef name) (term at)
   declaration_by (variable_subject (Some name) at) = option_map (Variable name) (term at)
-  declaration_by (tag_subject (Some name) (body word odd members)) =
+  declaration_by (aggregate_subject word (Some name) odd members) =
       option_map (Aggregate word name) (members_by members)
-  declaration_by (tag_subject (Some name) (enumeration odd enumerators)) =
+  declaration_by (enumeration_subject (Some name) odd enumerators) =
       option_map (Constants name) (constants_of enumerators)
-  declaration_by (tag_subject (Some name) (tagged word tag)) = Some (Declared word tag)
+  declaration_by (declared_subject word (Some name)) = Some (Declared word name)
   declaration_by _ = None
 
 -- the term of a type, where fewer than k steps lead on from it in a row

@@ -1,8 +1,8 @@
 -- State: the text of a type in two parts: before its declarator, and after it.
 use Rattle.std.specs.Prelude.{Bool, true, false, ◌||◌, List, [], ◌∷◌, ◌++◌}
 use Rattle.dw_types.specs.Sizes.{has_elements}
-use Rattle.dw_cprint.specs.Terms.{Qualifier, Enum, Constant, Members, Term, Void, Named, Basic, Tagged, Body}
-use Rattle.dw_cprint.specs.Terms.{Enumeration, Qualified, Pointer, Array, Function}
+use Rattle.dw_cprint.specs.Terms.{Qualifier, OfAggregate, Enum, Constant, Members, Term, Void, Named, Basic, Tagged}
+use Rattle.dw_cprint.specs.Terms.{Body, Enumeration, Qualified, Pointer, Array, Function}
 use Rattle.dw_cprint.specs.Tokens.{Token, Blank, Star, Open, Close, LeftBrace, RightBrace, VoidWord, TagWord}
 use Rattle.dw_cprint.specs.Tokens.{QualifierWord, Identifier, Comma}
 use Rattle.dw_cprint.specs.Writing.{qualifying, basic, count_tokens, constants, signature_tokens, members_tokens}
@@ -48,7 +48,7 @@ core Void = VoidWord ∷ []
 core (Named name) = Identifier name ∷ []
 core (Basic words) = basic words
 core (Tagged tag name) = TagWord tag ∷ Blank ∷ Identifier name ∷ []
-core (Body tag members) = TagWord tag ∷ Blank ∷ body_tokens members
+core (Body word members) = TagWord (OfAggregate word) ∷ Blank ∷ body_tokens members
 core (Enumeration cs) = TagWord Enum ∷ Blank ∷ enumeration_tokens cs
 core _ = []
 
@@ -58,8 +58,9 @@ before qs Void inside = qualifying qs ++ VoidWord ∷ gap inside
 before qs (Named name) inside = qualifying qs ++ Identifier name ∷ gap inside
 before qs (Basic words) inside = qualifying qs ++ (basic words ++ gap inside)
 before qs (Tagged tag name) inside = qualifying qs ++ TagWord tag ∷ Blank ∷ Identifier name ∷ gap inside
-before qs (Body tag members) inside =
-    qualifying qs ++ TagWord tag ∷ Blank ∷ LeftBrace ∷ Blank ∷ (members_tokens members ++ RightBrace ∷ gap inside)
+before qs (Body word members) inside =
+    qualifying qs
+    ++ TagWord (OfAggregate word) ∷ Blank ∷ LeftBrace ∷ Blank ∷ (members_tokens members ++ RightBrace ∷ gap inside)
 before qs (Enumeration cs) inside =
     qualifying qs ++ TagWord Enum ∷ Blank ∷ LeftBrace ∷ Blank ∷ (constants cs ++ Blank ∷ RightBrace ∷ gap inside)
 before qs (Qualified q t) inside = before (qs ++ q ∷ []) t inside

@@ -14,10 +14,11 @@ use Rattle.dw_forms.specs.Value.{Datum, unsigned, signed}
 use Rattle.dw_image.specs.declared.image.Image.{Image}
 use Rattle.dw_cprint.specs.LookUps.{tag_at, value_at, name_at, type_at, children_at, count_in, has_at, flag_at}
 use Rattle.dw_cprint.specs.LookUps.{declared_at, integer_at}
-use Rattle.dw_cprint.specs.Shapes.{Const, Volatile, Restrict, Atomic, TagKeyword, Struct, Union, Enum}
+use Rattle.dw_cprint.specs.Shapes.{Const, Volatile, Restrict, Atomic, TagKeyword, OfAggregate, Struct, Union, Enum}
 use Rattle.dw_cprint.specs.Shapes.{Parameter, Typed, More, Name, MemberOf, EnumeratorOf, ShapeOf, base}
 use Rattle.dw_cprint.specs.Shapes.{typedef, qualified, pointer, array, function, tagged, nameless, body, enumeration}
-use Rattle.dw_cprint.specs.Shapes.{foreign, other, SubjectOf, typedef_subject, variable_subject, tag_subject}
+use Rattle.dw_cprint.specs.Shapes.{foreign, other, SubjectOf, typedef_subject, variable_subject, aggregate_subject}
+use Rattle.dw_cprint.specs.Shapes.{enumeration_subject, declared_subject, other_subject}
 
 -- an entry has one of two tags
 abbrev pub has_tag : Image → (one other : ℕ) → ℕ → Bool
@@ -115,8 +116,8 @@ enumerators_in image id = filter_map (enumerator_at image) (children_at image id
 
 -- a structure, union or enumeration with its body
 abbrev pub body_in : Image → ℕ → TagKeyword → ShapeOf
+body_in image id (OfAggregate word) = body word (is_odd image id) (members_in image id)
 body_in image id Enum = enumeration (is_odd image id) (enumerators_in image id)
-body_in image id word = body word (is_odd image id) (members_in image id)
 
 -- one that is printed by a name; without a name one that is only declared, or its body
 abbrev pub tag_shape : Image → ℕ → TagKeyword → Name → ShapeOf
@@ -135,8 +136,8 @@ shape_by image id tag =
     else if tag == DW_TAG_pointer_type then pointer (type_at image id)
     else if tag == DW_TAG_array_type then array (counts_in image id) (is_strange image id) (type_at image id)
     else if tag == DW_TAG_subroutine_type then function (type_at image id) (parameters_in image id)
-    else if tag == DW_TAG_structure_type then tag_shape image id Struct (name_at image id)
-    else if tag == DW_TAG_union_type then tag_shape image id Union (name_at image id)
+    else if tag == DW_TAG_structure_type then tag_shape image id (OfAggregate Struct) (name_at image id)
+    else if tag == DW_TAG_union_type then tag_shape image id (OfAggregate Union) (name_at image id)
     else if tag == DW_TAG_enumeration_type then tag_shape image id Enum (name_at image id)
     else if is_type_tag tag then foreign
     else other
@@ -145,23 +146,26 @@ shape_by image id tag =
 unfoldable pub shape_in : Image → ℕ → ShapeOf
 shape_in image id = shape_by image id (tag_at image id)
 
--- the name of an entry that is only declared in DWARF: it is declared to C by that name
-abbrev pub declared_name : Image → ℕ → Name
-declared_name image id = if declared_at image id then name_at image id else None
+-- a structure, union or enumeration that is declared to C with its body
+abbrev pub defined_in : Image → ℕ → TagKeyword → Name → SubjectOf
+defined_in image id (OfAggregate word) name = aggregate_subject word name (is_odd image id) (members_in image id)
+defined_in image id Enum name = enumeration_subject name (is_odd image id) (enumerators_in image id)
 
--- a structure, union or enumeration that is declared to C: only by its name, or with its body
+-- the same, or only by its name, if that is all that DWARF declares
 abbrev pub tag_in : Image → ℕ → TagKeyword → SubjectOf
-tag_in image id word = tag_subject (name_at image id) (tag_shape image id word (declared_name image id))
+tag_in image id word =
+    if declared_at image id then declared_subject word (name_at image id)
+    else defined_in image id word (name_at image id)
 
 -- the entry that is declared, by its tag
 abbrev pub subject_by : Image → ℕ → (tag : ℕ) → SubjectOf
 subject_by image id tag =
     if tag == DW_TAG_typedef then typedef_subject (name_at image id) (type_at image id)
     else if tag == DW_TAG_variable then variable_subject (name_at image id) (type_at image id)
-    else if tag == DW_TAG_structure_type then tag_in image id Struct
-    else if tag == DW_TAG_union_type then tag_in image id Union
+    else if tag == DW_TAG_structure_type then tag_in image id (OfAggregate Struct)
+    else if tag == DW_TAG_union_type then tag_in image id (OfAggregate Union)
     else if tag == DW_TAG_enumeration_type then tag_in image id Enum
-    else tag_subject None other
+    else other_subject
 
 -- the subject that an entry of an image is
 unfoldable pub subject_in : Image → ℕ → SubjectOf

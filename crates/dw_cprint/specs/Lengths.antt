@@ -4,14 +4,15 @@ use Rattle.std.specs.Prelude.{◌≡◌, ℕ, ℤ, ◌+◌, min, Bool, true, fal
 use Rattle.std.specs.Prelude.{length, sum_by, if◌then◌else◌}
 use Rattle.dw_types.specs.Sizes.{has_elements}
 use Rattle.dw_cprint.specs.Declarators.{before, after, opened, closed}
-use Rattle.dw_cprint.specs.Shapes.{Qualifier, TagKeyword, Enum, Name, Parameter, Typed, More, TypeAt, MemberOf}
-use Rattle.dw_cprint.specs.Shapes.{EnumeratorOf, ShapeOf, base, typedef, qualified, pointer, array, function, tagged}
-use Rattle.dw_cprint.specs.Shapes.{body, enumeration, SubjectOf, typedef_subject, variable_subject, tag_subject}
+use Rattle.dw_cprint.specs.Shapes.{Qualifier, TagKeyword, OfAggregate, Enum, Name, Parameter, Typed, More, TypeAt}
+use Rattle.dw_cprint.specs.Shapes.{MemberOf, EnumeratorOf, ShapeOf, base, typedef, qualified, pointer, array, function}
+use Rattle.dw_cprint.specs.Shapes.{tagged, body, enumeration, SubjectOf, typedef_subject, variable_subject}
+use Rattle.dw_cprint.specs.Shapes.{aggregate_subject, enumeration_subject, declared_subject, other_subject}
 use Rattle.dw_cprint.specs.Terms.{Term}
 use Rattle.dw_cprint.specs.Tokens.{Token, text_of, qualifier_spelling, tag_spelling}
 use Rattle.dw_cprint.specs.Writing.{spell, bits_tokens, count_tokens, value_tokens}
 use Rattle.dw_cprint.specs.Wrong.{TypeKind, is_bracketed, is_pointer, kind_in}
-use Rattle.dw_cprint.specs.declared.summary.Summary.{Summary}
+use Rattle.dw_cprint.specs.declared.survey.Summary.{Summary}
 
 -- how many bytes the text of some tokens has
 abbrev pub byte_count : List Token → ℕ
@@ -110,7 +111,7 @@ module _ (known : TypeAt → Summary) where
   shape_bytes (function at None) = bytes_around at + 2
   shape_bytes (function at (Some ps)) = bytes_around at + parameters_bytes ps
   shape_bytes (tagged word name) = tag_bytes word (Some name)
-  shape_bytes (body word odd ms) = tag_bytes word None + members_bytes ms
+  shape_bytes (body word odd ms) = tag_bytes (OfAggregate word) None + members_bytes ms
   shape_bytes (enumeration odd es) = 5 + enumerators_bytes es
   shape_bytes _ = 0
 
@@ -123,7 +124,7 @@ module _ (known : TypeAt → Summary) where
   abbrev pub declared_bytes : SubjectOf → ℕ
   declared_bytes (typedef_subject name at) = named_bytes at name + 9
   declared_bytes (variable_subject name at) = named_bytes at name + 1
-  declared_bytes (tag_subject name (body word odd ms)) = tag_bytes word name + 2 + members_bytes ms
-  declared_bytes (tag_subject name (enumeration odd es)) = tag_bytes Enum name + 2 + enumerators_bytes es
-  declared_bytes (tag_subject name (tagged word tag)) = tag_bytes word (Some tag) + 1
-  declared_bytes _ = 0
+  declared_bytes (aggregate_subject word name odd ms) = tag_bytes (OfAggregate word) name + 2 + members_bytes ms
+  declared_bytes (enumeration_subject name odd es) = tag_bytes Enum name + 2 + enumerators_bytes es
+  declared_bytes (declared_subject word name) = tag_bytes word name + 1
+  declared_bytes other_subject = 0

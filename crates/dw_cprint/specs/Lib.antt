@@ -18,7 +18,6 @@ pub mod Listings
 pub mod Children
 pub mod StringSpans
 pub mod Declarators
-pub mod Regular
 pub mod SameShapes
 pub mod Reach
 pub mod Rows

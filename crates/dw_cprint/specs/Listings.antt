@@ -14,15 +14,15 @@ use Rattle.dw_cprint.specs.Digits.{places}
 use Rattle.dw_cprint.specs.EntryShapes.{shape_in, subject_in}
 use Rattle.dw_cprint.specs.Refusals.{PrintFault, NotPrintable, BadName, Foreign, Unspeakable, TooDeep, TooLong, Memory}
 use Rattle.dw_cprint.specs.Refusals.{Refuses, IsPrinted}
-use Rattle.dw_cprint.specs.Shapes.{body, enumeration, SubjectOf, typedef_subject, tag_subject}
+use Rattle.dw_cprint.specs.Shapes.{SubjectOf, typedef_subject, aggregate_subject, enumeration_subject}
 use Rattle.dw_cprint.specs.Terms.{Declaration}
 use Rattle.dw_cprint.specs.Writing.{written}
 
 -- a typedef, or a structure, union or enumeration that is not declared, with a name
 abbrev pub is_named_type : SubjectOf → Bool
 is_named_type (typedef_subject name at) = is_some name
-is_named_type (tag_subject name (body word odd members)) = is_some name
-is_named_type (tag_subject name (enumeration odd enumerators)) = is_some name
+is_named_type (aggregate_subject word name odd members) = is_some name
+is_named_type (enumeration_subject name odd enumerators) = is_some name
 is_named_type _ = false
 
 -- the entry of this number is a named type

@@ -3,8 +3,8 @@ use Rattle.std.specs.Prelude.{◌≡◌, ℕ, ◌<◌, ◌≤◌, List, Some, le
 use Rattle.dw_image.specs.declared.image.Image.{Image}
 use Rattle.dw_image.specs.Images.{sections_in}
 use Rattle.dw_image.specs.Contributions.{string_at}
-use Rattle.dw_cprint.specs.EntryShapes.{body_in, subject_in}
-use Rattle.dw_cprint.specs.Shapes.{SubjectOf, TypeAt, typedef_subject, tag_subject}
+use Rattle.dw_cprint.specs.EntryShapes.{defined_in, subject_in}
+use Rattle.dw_cprint.specs.Shapes.{SubjectOf, TypeAt, typedef_subject}
 pub use Rattle.dw_cprint.specs.declared.rows.Place.{Place}
 pub use Rattle.dw_cprint.specs.declared.rows.Row.{Row}
 pub use Rattle.dw_cprint.specs.declared.rows.RowKind.{RowKind}
@@ -19,8 +19,8 @@ section_in image Str = (sections_in image).str.now
 section_in image LineStr = (sections_in image).line_str.now
 
 -- the text at a place
-abbrev pub text_at : Image → Place → List ℕ
-text_at image place = string_at (section_in image place.section) place.offset
+abbrev pub row_text : Image → Place → List ℕ
+row_text image place = string_at (section_in image place.section) place.offset
 
 -- a place is within its section
 abbrev pub IsWithin : Image → Place → Type 0
@@ -37,11 +37,11 @@ place_in row = record { section = row.section; offset = row.offset }
 -- the subject of this kind, with this text as its name; a structure, union or enumeration has its body
 abbrev pub subject_of : Image → ℕ → RowKind → (text : List ℕ) → (to : TypeAt) → SubjectOf
 subject_of image id Typedef text to = typedef_subject (Some text) to
-subject_of image id (Tag word) text to = tag_subject (Some text) (body_in image id word)
+subject_of image id (Tag word) text to = defined_in image id word (Some text)
 
 -- a row tells what is declared at an entry, and its name is within its section
 pub record TellsOf (image : Image) (id : ℕ) (subject : SubjectOf) (row : Row) : Type 0 where
-  pub is : subject ≡ subject_of image id row.kind (text_at image (place_in row)) row.to
+  pub is : subject ≡ subject_of image id row.kind (row_text image (place_in row)) row.to
   pub within : IsWithin image (place_in row)
 
 -- the same of the subject that the entry is

@@ -5,8 +5,10 @@ use Rattle.std.specs.Global.{Global}
 pub use Rattle.dw_cprint.specs.Enumerators.{Name, EnumeratorOf}
 pub use Rattle.dw_cprint.specs.declared.words.Qualifier.{Qualifier}
 pub use Rattle.dw_cprint.specs.declared.words.Qualifier.TheVariants.{Const, Volatile, Restrict, Atomic}
+pub use Rattle.dw_cprint.specs.declared.words.AggregateKeyword.{AggregateKeyword}
+pub use Rattle.dw_cprint.specs.declared.words.AggregateKeyword.TheVariants.{Struct, Union}
 pub use Rattle.dw_cprint.specs.declared.words.TagKeyword.{TagKeyword}
-pub use Rattle.dw_cprint.specs.declared.words.TagKeyword.TheVariants.{Struct, Union, Enum}
+pub use Rattle.dw_cprint.specs.declared.words.TagKeyword.TheVariants.{OfAggregate, Enum}
 pub use Rattle.dw_cprint.specs.declared.shape.Parameter.{Parameter}
 pub use Rattle.dw_cprint.specs.declared.shape.Parameter.TheVariants.{Typed, More}
 use Rattle.dw_cprint.specs.declared.words.Text.{Text}
@@ -37,20 +39,24 @@ pub data ShapeOf : Type 0 where
   array : (counts : List (Option ℕ)) → (strange : Bool) → TypeAt → ShapeOf
   -- the result, and the parameters where it is prototyped
   function : TypeAt → Option (List Parameter) → ShapeOf
-  -- a structure, union or enumeration with a name; one that is declared and has none; the bodies of those without
+  -- a structure, union or enumeration with a name, one that is declared and has none, and the bodies of those without;
+  -- odd: a child is an inheritance or a variant part
   tagged : TagKeyword → List ℕ → ShapeOf
   nameless : TagKeyword → ShapeOf
-  body : TagKeyword → (odd : Bool) → List MemberOf → ShapeOf
+  body : AggregateKeyword → (odd : Bool) → List MemberOf → ShapeOf
   enumeration : (odd : Bool) → List EnumeratorOf → ShapeOf
   foreign : ShapeOf
   other : ShapeOf
 
--- the entry that is declared: a typedef, a variable, or a structure, union or enumeration by its name and its shape; an
--- entry of another kind has no name and the shape other
+-- the entry that is declared: a typedef or a variable with its type; a structure, union or enumeration with its body,
+-- or only declared; or an entry of another kind
 pub data SubjectOf : Type 0 where
   typedef_subject : Name → TypeAt → SubjectOf
   variable_subject : Name → TypeAt → SubjectOf
-  tag_subject : Name → ShapeOf → SubjectOf
+  aggregate_subject : AggregateKeyword → Name → (odd : Bool) → List MemberOf → SubjectOf
+  enumeration_subject : Name → (odd : Bool) → List EnumeratorOf → SubjectOf
+  declared_subject : TagKeyword → Name → SubjectOf
+  other_subject : SubjectOf
 
 -- ---- what the code keeps of them
 
@@ -76,7 +82,7 @@ view_shape (shape.Base name) = base (view_name name)
 view_shape (shape.Typedef name) = typedef (view_name name)
 view_shape (shape.Qualified q at) = qualified q at
 view_shape (shape.Pointer at) = pointer at
-view_shape (shape.Array counts strange at) = array counts strange at
+view_shape (shape.Array dimensions strange element) = array dimensions strange element
 view_shape (shape.Function at parameters) = function at (parameter_items parameters)
 view_shape (shape.Tagged word name) = tagged word name.bytes.now
 view_shape (shape.Nameless word) = nameless word
@@ -89,4 +95,8 @@ view_shape shape.Other = other
 abbrev pub view_subject : Subject → SubjectOf
 view_subject (subject.Typedef name at) = typedef_subject (view_name name) at
 view_subject (subject.Variable name at) = variable_subject (view_name name) at
-view_subject (subject.Tag name shape) = tag_subject (view_name name) (view_shape shape)
+view_subject (subject.Aggregate word name odd members) =
+    aggregate_subject word (view_name name) odd (map view_member members.items)
+view_subject (subject.Enumeration name odd enumerators) = enumeration_subject (view_name name) odd enumerators
+view_subject (subject.Declared word name) = declared_subject word (view_name name)
+view_subject subject.Other = other_subject

@@ -3,7 +3,7 @@
 use Rattle.std.specs.Prelude.{◌≡◌, ℕ, zero, suc, List, [], ◌∷◌, Option, Some, None, Contains, map}
 use Rattle.dw_cprint.specs.Shapes.{Parameter, Typed, More, MemberOf}
 use Rattle.dw_cprint.specs.Shapes.{ShapeOf, qualified, pointer, array, function, body}
-use Rattle.dw_cprint.specs.Shapes.{SubjectOf, typedef_subject, variable_subject, tag_subject}
+use Rattle.dw_cprint.specs.Shapes.{SubjectOf, typedef_subject, variable_subject, aggregate_subject}
 
 -- the entries among types; void is none
 abbrev pub entries_of : List (Option ℕ) → List ℕ
@@ -35,7 +35,8 @@ types_reached _ = []
 abbrev pub types_declared : SubjectOf → List (Option ℕ)
 types_declared (typedef_subject name at) = at ∷ []
 types_declared (variable_subject name at) = at ∷ []
-types_declared (tag_subject name shape) = types_reached shape
+types_declared (aggregate_subject word name odd members) = member_types members
+types_declared _ = []
 
 -- the spelling steps of an entry that is reached
 abbrev pub steps_reached : (ℕ → ShapeOf) → ℕ → List ℕ

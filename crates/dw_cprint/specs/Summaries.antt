@@ -7,17 +7,17 @@ use Rattle.std.specs.List.{list_any}
 use Rattle.dw_cprint.specs.Declarations.{term_at}
 use Rattle.dw_cprint.specs.Lengths.{IsLength}
 use Rattle.dw_cprint.specs.Refusals.{Holds, BadName, Foreign, Unspeakable, TooDeep}
-use Rattle.dw_cprint.specs.Shapes.{TypeAt, ShapeOf, qualified, SubjectOf, typedef_subject, variable_subject}
-use Rattle.dw_cprint.specs.Shapes.{tag_subject, view_shape}
-use Rattle.dw_cprint.specs.Steps.{entries_of, steps_reached, IsReachedFrom, HasPathFrom}
+use Rattle.dw_cprint.specs.Shapes.{Enum, TypeAt, MemberOf, ShapeOf, qualified, SubjectOf, variable_subject}
+use Rattle.dw_cprint.specs.Shapes.{aggregate_subject, enumeration_subject, declared_subject, view_shape}
+use Rattle.dw_cprint.specs.Steps.{entries_of, member_types, steps_reached, IsReachedFrom, HasPathFrom}
 use Rattle.dw_cprint.specs.Terms.{Term}
 use Rattle.dw_cprint.specs.Wrong.{kind_at, StandsUnder, is_void, HasBadName, is_foreign, IsUnspeakable}
-use Rattle.dw_cprint.specs.Wrong.{is_declared_enumeration, is_wrong, is_wrong_row, object_types}
+use Rattle.dw_cprint.specs.Wrong.{is_wrong, is_wrong_enumeration, is_wrong_member, is_wrong_row, object_types}
 use Rattle.dw_cprint.specs.declared.shape.Shape.{Shape}
-use Rattle.dw_cprint.specs.declared.summary.TheConstants.{VOID}
+use Rattle.dw_cprint.specs.declared.survey.TheConstants.{UNKNOWN, VOID}
 pub use Rattle.dw_cprint.specs.Wrong.{TypeKind}
-pub use Rattle.dw_cprint.specs.declared.summary.Findings.{Findings}
-pub use Rattle.dw_cprint.specs.declared.summary.Summary.{Summary}
+pub use Rattle.dw_cprint.specs.declared.survey.Findings.{Findings}
+pub use Rattle.dw_cprint.specs.declared.survey.Summary.{Summary}
 use Rattle.dw_cprint.specs.declared.survey.Survey.{Survey}
 
 -- ---- what is found
@@ -88,9 +88,9 @@ abbrev pub summary_at : (void : Summary) → List ℕ → List (Option Summary) 
 summary_at void places nodes None = Some void
 summary_at void places nodes (Some entry) = option_and_then (λ (s : Option Summary). s) (found_at places nodes entry)
 
--- the same; void's, if there is none
+-- what is told of a type: its summary, if it has one
 abbrev pub known_of : Survey → TypeAt → Summary
-known_of s at = unwrap_or (summary_at VOID s.places.items s.summaries.items at) VOID
+known_of s at = unwrap_or (summary_at VOID s.places.items s.summaries.items at) UNKNOWN
 
 -- what a survey tells of a type is right
 abbrev pub Knows : (ℕ → ShapeOf) → Survey → TypeAt → Type 0
@@ -104,22 +104,26 @@ kind_known s at = (known_of s at).kind
 abbrev pub base_known : Survey → TypeAt → TypeKind
 base_known s at = (known_of s at).base
 
--- the row of qualifiers that begins with a shape is wrong
-abbrev pub is_wrong_base : (TypeAt → TypeKind) → ShapeOf → Bool
-is_wrong_base bases (qualified q at) = is_wrong_row q (bases at)
-is_wrong_base bases _ = false
+-- one of some types is void, or a row of qualifiers over void, by what it tells
+abbrev pub has_void : Survey → List TypeAt → Bool
+has_void s types = list_any (λ at. is_void (base_known s at)) types
 
--- the fourth refusal holds for a shape, by what it tells
+-- the fourth refusal holds for a body of these members, by what it tells
+abbrev pub are_unspeakable : Survey → List MemberOf → Bool
+are_unspeakable s members = has_void s (member_types members) || list_any (is_wrong_member (kind_known s)) members
+
+-- the same of a shape
 abbrev pub is_unspeakable : Survey → ShapeOf → Bool
-is_unspeakable s shape =
-    is_wrong (kind_known s) shape
-    || (list_any (λ at. is_void (base_known s at)) (object_types shape) || is_wrong_base (base_known s) shape)
+is_unspeakable s (qualified q at) = is_wrong_row q (base_known s at)
+is_unspeakable s shape = has_void s (object_types shape) || is_wrong (kind_known s) shape
 
 -- the same for the declared entry
 abbrev pub is_own_unspeakable : Survey → SubjectOf → Bool
-is_own_unspeakable s (typedef_subject name at) = false
 is_own_unspeakable s (variable_subject name at) = is_void (base_known s at)
-is_own_unspeakable s (tag_subject name shape) = is_unspeakable s shape || is_declared_enumeration shape
+is_own_unspeakable s (aggregate_subject word name odd members) = are_unspeakable s members
+is_own_unspeakable s (enumeration_subject name odd enumerators) = is_wrong_enumeration enumerators
+is_own_unspeakable s (declared_subject Enum name) = true
+is_own_unspeakable s _ = false
 
 -- nodes, each after those that its steps lead to; the entry of each node; and the shapes that are kept of them
 pub record AreNodes (shapes : ℕ → ShapeOf) (places found : List ℕ) (kept : List Shape) (clear : List ℕ) : Type 0 where

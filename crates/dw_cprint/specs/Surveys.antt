@@ -4,7 +4,7 @@ use Rattle.dw_cprint.specs.Kept.{kept}
 use Rattle.dw_cprint.specs.Shapes.{ShapeOf, TypeAt}
 use Rattle.dw_cprint.specs.Steps.{IsReachedFrom, ReachesCycle}
 use Rattle.dw_cprint.specs.declared.survey.Survey.{Survey}
-use Rattle.dw_cprint.specs.declared.summary.TheConstants.{VOID}
+use Rattle.dw_cprint.specs.declared.survey.TheConstants.{VOID}
 pub use Rattle.dw_cprint.specs.Summaries.{found_at, HaveSummaries, summary_at}
 use Rattle.dw_cprint.specs.Summaries.{Knows}
 

@@ -5,13 +5,14 @@ use Rattle.std.specs.List.{list_any}
 use Rattle.dw_cprint.specs.Declarations.{words_of, parts_of}
 pub use Rattle.dw_cprint.specs.Declarations.{is_miscounted, is_misplaced}
 use Rattle.dw_cprint.specs.Legible.{is_identifier}
-use Rattle.dw_cprint.specs.Shapes.{Qualifier, Restrict, Struct, Union, Enum}
+use Rattle.dw_cprint.specs.Shapes.{Qualifier, Restrict, AggregateKeyword, OfAggregate, Enum}
 use Rattle.dw_cprint.specs.Shapes.{Name, TypeAt, MemberOf, EnumeratorOf, ShapeOf, base, typedef}
 use Rattle.dw_cprint.specs.Shapes.{qualified, pointer, array, function, tagged, nameless, body, enumeration, foreign}
-use Rattle.dw_cprint.specs.Shapes.{other, SubjectOf, typedef_subject, variable_subject, tag_subject}
+use Rattle.dw_cprint.specs.Shapes.{other, SubjectOf, typedef_subject, variable_subject, aggregate_subject}
+use Rattle.dw_cprint.specs.Shapes.{enumeration_subject, declared_subject}
 use Rattle.dw_cprint.specs.Steps.{parameter_types, member_types}
-pub use Rattle.dw_cprint.specs.declared.refusals.TypeKind.{TypeKind}
-use Rattle.dw_cprint.specs.declared.refusals.TypeKind.TheVariants as kind
+pub use Rattle.dw_cprint.specs.declared.shape.TypeKind.{TypeKind}
+use Rattle.dw_cprint.specs.declared.shape.TypeKind.TheVariants as kind
 
 -- ---- types
 
@@ -33,8 +34,7 @@ kind_in (Some (qualified q at)) = kind.Qualified
 kind_in (Some (pointer at)) = kind.Pointer
 kind_in (Some (array counts strange at)) = kind.Array (starts_open counts)
 kind_in (Some (function at parameters)) = kind.Function
-kind_in (Some (nameless Struct)) = kind.UnnamedAggregate
-kind_in (Some (nameless Union)) = kind.UnnamedAggregate
+kind_in (Some (nameless (OfAggregate word))) = kind.UnnamedAggregate
 kind_in (Some (body word odd members)) = kind.UnnamedAggregate
 kind_in (Some _) = kind.Other
 
@@ -120,14 +120,17 @@ abbrev pub lacks_member_name : TypeKind → Option ℕ → Name → Bool
 lacks_member_name k bits None = not (is_unnamed_aggregate k && is_none bits)
 lacks_member_name k bits (Some name) = not (is_identifier name)
 
+-- one of the members lacks a name that it needs
+abbrev pub lack_names : (TypeAt → TypeKind) → List MemberOf → Bool
+lack_names kinds members = list_any (λ (m : MemberOf). lacks_member_name (kinds m.type_at) m.bits m.name) members
+
 -- the second refusal, at an entry that is reached, by the kinds of the types that it names
 abbrev pub has_bad_name : (TypeAt → TypeKind) → ShapeOf → Bool
 has_bad_name kinds (base name) = lacks_base_name name
 has_bad_name kinds (typedef name) = lacks_name name
 has_bad_name kinds (tagged word name) = lacks_name (Some name)
 has_bad_name kinds (nameless word) = true
-has_bad_name kinds (body word odd members) =
-    list_any (λ (m : MemberOf). lacks_member_name (kinds m.type_at) m.bits m.name) members
+has_bad_name kinds (body word odd members) = lack_names kinds members
 has_bad_name kinds (enumeration odd enumerators) = list_any (λ (e : EnumeratorOf). lacks_name e.name) enumerators
 has_bad_name kinds _ = false
 
@@ -139,18 +142,13 @@ HasBadName shapes shape = has_bad_name (kind_at shapes) shape ≡ true
 abbrev pub has_own_bad_name : (TypeAt → TypeKind) → SubjectOf → Bool
 has_own_bad_name kinds (typedef_subject name at) = lacks_name name
 has_own_bad_name kinds (variable_subject name at) = lacks_name name
-has_own_bad_name kinds (tag_subject name shape) = lacks_name name || has_bad_name kinds shape
+has_own_bad_name kinds (aggregate_subject word name odd members) = lacks_name name || lack_names kinds members
+has_own_bad_name kinds (enumeration_subject name odd enumerators) =
+    lacks_name name || list_any (λ (e : EnumeratorOf). lacks_name e.name) enumerators
+has_own_bad_name kinds (declared_subject word name) = lacks_name name
+has_own_bad_name kinds _ = false
 
--- ---- kinds of entries, and types of other languages
-
--- the declared entry is no typedef, variable, structure, union or enumeration
-abbrev pub is_other_kind : SubjectOf → Bool
-is_other_kind (tag_subject name (tagged word tag)) = false
-is_other_kind (tag_subject name (nameless word)) = false
-is_other_kind (tag_subject name (body word odd members)) = false
-is_other_kind (tag_subject name (enumeration odd enumerators)) = false
-is_other_kind (tag_subject name _) = true
-is_other_kind _ = false
+-- ---- types of other languages
 
 -- the third refusal, at an entry that is reached: of another language or unspecified, or a body with a child that C
 -- does not have
@@ -163,7 +161,8 @@ is_foreign _ = false
 
 -- the same of the declared entry: its body has a child that C does not have
 abbrev pub is_own_foreign : SubjectOf → Bool
-is_own_foreign (tag_subject name shape) = is_foreign shape
+is_own_foreign (aggregate_subject word name odd members) = odd
+is_own_foreign (enumeration_subject name odd enumerators) = odd
 is_own_foreign _ = false
 
 -- ---- what C has no words for
@@ -183,17 +182,20 @@ abbrev pub is_wrong_enumeration : List EnumeratorOf → Bool
 is_wrong_enumeration [] = true
 is_wrong_enumeration enumerators = list_any lacks_value enumerators
 
+-- the member is a function, or its bit size is wrong
+abbrev pub is_wrong_member : (TypeAt → TypeKind) → MemberOf → Bool
+is_wrong_member kinds m = is_function (kinds m.type_at) || is_wrong_bits (kinds m.type_at) m.bits
+
 -- by the kinds of the types that it names, C has no such array: a child, a stride or a count that C has no words for,
 -- or elements that are functions or arrays whose first count is unknown; no such function: its result is an array or a
--- function, or unspecified parameters are not last or are alone; no such body: a member is a function, or its bit size
--- is wrong; or no such enumeration
+-- function, or unspecified parameters are not last or are alone; no such body: it has a wrong member; or no such
+-- enumeration
 abbrev pub is_wrong : (TypeAt → TypeKind) → ShapeOf → Bool
 is_wrong kinds (array counts strange at) =
     strange || (is_miscounted counts || (is_function (kinds at) || is_open (kinds at)))
 is_wrong kinds (function at None) = is_bracketed (kinds at)
 is_wrong kinds (function at (Some parameters)) = is_bracketed (kinds at) || is_misplaced parameters
-is_wrong kinds (body word odd members) =
-    list_any (λ (m : MemberOf). is_function (kinds m.type_at) || is_wrong_bits (kinds m.type_at) m.bits) members
+is_wrong kinds (body word odd members) = list_any (is_wrong_member kinds) members
 is_wrong kinds (enumeration odd enumerators) = is_wrong_enumeration enumerators
 is_wrong kinds _ = false
 
@@ -209,12 +211,6 @@ abbrev pub is_wrong_row : Qualifier → TypeKind → Bool
 is_wrong_row Restrict k = not (is_restrictable k)
 is_wrong_row _ k = is_bracketed k
 
--- an enumeration that is only declared
-abbrev pub is_declared_enumeration : ShapeOf → Bool
-is_declared_enumeration (tagged Enum name) = true
-is_declared_enumeration (nameless Enum) = true
-is_declared_enumeration _ = false
-
 -- the fourth refusal, at an entry that is reached
 pub data IsUnspeakable (shapes : ℕ → ShapeOf) : ShapeOf → Type 0 where
   wrong : {shape : ShapeOf} → is_wrong (kind_at shapes) shape ≡ true → IsUnspeakable shapes shape
@@ -226,7 +222,9 @@ pub data IsUnspeakable (shapes : ℕ → ShapeOf) : ShapeOf → Type 0 where
 pub data IsOwnUnspeakable (shapes : ℕ → ShapeOf) : SubjectOf → Type 0 where
   void_variable : {name : Name} {at : TypeAt} → IsVoidLike shapes at
       → IsOwnUnspeakable shapes (variable_subject name at)
-  unspeakable : {name : Name} {shape : ShapeOf} → IsUnspeakable shapes shape
-      → IsOwnUnspeakable shapes (tag_subject name shape)
-  declared_enumeration : {name : Name} {shape : ShapeOf} → is_declared_enumeration shape ≡ true
-      → IsOwnUnspeakable shapes (tag_subject name shape)
+  unspeakable : {word : AggregateKeyword} {name : Name} {odd : Bool} {members : List MemberOf}
+      → IsUnspeakable shapes (body word odd members)
+      → IsOwnUnspeakable shapes (aggregate_subject word name odd members)
+  wrong_enumeration : {name : Name} {odd : Bool} {enumerators : List EnumeratorOf}
+      → is_wrong_enumeration enumerators ≡ true → IsOwnUnspeakable shapes (enumeration_subject name odd enumerators)
+  declared_enumeration : {name : Name} → IsOwnUnspeakable shapes (declared_subject Enum name)

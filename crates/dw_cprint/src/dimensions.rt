@@ -12,9 +12,8 @@ ghost use Rattle.dw_cprint.specs.Lengths.{capped};
 ghost use Rattle.dw_cprint.specs.Writing.{count_tokens};
 ghost use Rattle.dw_cprint.specs.Wrong.{starts_open};
 
-use crate::lengths::{digit_count, plus};
 use crate::source::tag_at;
-use crate::text::Draft;
+use crate::text::{Draft, digit_count, plus};
 use dw_entries::constants::*;
 use dw_image::{EntryId, Image};
 use std::alloc::AllocError;

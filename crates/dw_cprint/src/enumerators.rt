@@ -11,11 +11,10 @@ ghost use Rattle.dw_cprint.specs.Lengths.{capped, enumerator_bytes, enumerators_
 ghost use Rattle.dw_cprint.specs.Shapes.{EnumeratorOf, view_enumerator};
 ghost use Rattle.dw_cprint.specs.Wrong.{is_wrong_enumeration, lacks_name, lacks_value};
 
-use crate::lengths::{name_length, plus, value_length};
-use crate::refusals::lacks_name;
-use crate::shape::Name;
+use crate::names::lacks_name;
 use crate::source::{Source, integer_at, tag_at};
-use crate::text::{Draft, put_comma, put_name, put_value};
+use crate::text::{Draft, name_length, plus, put_comma, put_name, put_value, value_length};
+use crate::words::Name;
 use dw_entries::constants::*;
 use dw_image::EntryId;
 use std::alloc::AllocError;

@@ -5,7 +5,6 @@ ghost use Rattle.dw_cprint.specs.Declarations.{declaration_of};
 ghost use Rattle.dw_cprint.specs.EntryShapes.{shape_in, subject_in};
 ghost use Rattle.dw_cprint.specs.Listings.{HoldsByValue, IsListing};
 ghost use Rattle.dw_cprint.specs.Refusals.{HasOneReading, HoldsNoneBelow, IsPrinted, Refuses};
-ghost use Rattle.dw_cprint.specs.Regular.{AreRegular};
 ghost use Rattle.dw_cprint.specs.Shapes.{ShapeOf, SubjectOf};
 ghost use Rattle.dw_cprint.specs.SameShapes.{AreSameFor};
 ghost use Rattle.dw_cprint.specs.Steps.{steps_reached};
@@ -46,9 +45,9 @@ pub fn declared_if_not_refused()
     ensures there { (shapes : ℕ → ShapeOf) (subject : SubjectOf) → HoldsNoneBelow 6 shapes subject
         → IsSome (declaration_of shapes subject) }
     ensures legible { (shapes : ℕ → ShapeOf) (subject : SubjectOf) → HoldsNoneBelow 5 shapes subject
-        → AreRegular shapes subject → (d : Declaration) → declaration_of shapes subject ≡ Some d → IsDeclaration d }
+        → (d : Declaration) → declaration_of shapes subject ≡ Some d → IsDeclaration d }
     ensures one { (shapes : ℕ → ShapeOf) (subject : SubjectOf) → HoldsNoneBelow 5 shapes subject
-        → AreRegular shapes subject → HasOneReading shapes subject }
+        → HasOneReading shapes subject }
 {}
 
 /// A declaration that is printed of an image has one reading: no other legible declaration has its text.

@@ -1,32 +1,20 @@
 //! How many bytes the text of a type has, from those of the types that it names. A number above the limit is kept as
 //! the limit plus one.
 
-ghost use Rattle.std.specs.Prelude.{◌≡◌, ◌+◌, false, length, map, if◌then◌else◌};
-ghost use Rattle.dw_cprint.specs.Digits.{numeral};
+ghost use Rattle.std.specs.Prelude.{◌≡◌, false, map};
 ghost use Rattle.dw_cprint.specs.Lengths.{bytes_around, byte_count, capped, declared_bytes};
-ghost use Rattle.dw_cprint.specs.Lengths.{has_gap, member_bytes, members_bytes, name_bytes};
+ghost use Rattle.dw_cprint.specs.Lengths.{has_gap, member_bytes, members_bytes};
 ghost use Rattle.dw_cprint.specs.Lengths.{named_bytes, parameter_bytes, parameters_bytes, qualifier_bytes, shape_bytes};
-ghost use Rattle.dw_cprint.specs.Lengths.{space, tag_bytes, value_bytes};
-ghost use Rattle.dw_cprint.specs.Shapes.{tag_subject, view_member, view_name, view_shape};
-ghost use Rattle.dw_cprint.specs.Shapes.{view_subject};
+ghost use Rattle.dw_cprint.specs.Lengths.{space, tag_bytes};
+ghost use Rattle.dw_cprint.specs.Shapes.{view_member, view_name, view_shape, view_subject};
 ghost use Rattle.dw_cprint.specs.Summaries.{known_of};
-ghost use Rattle.dw_cprint.specs.Tokens.{qualifier_spelling};
 ghost use Rattle.dw_cprint.specs.Writing.{bits_tokens};
 
-use crate::refusals::TypeKind;
-use crate::shape::{Member, Name, Parameter, Shape, Subject, TypeAt};
-use crate::summary::Summary;
-use crate::survey::Survey;
-use crate::text::LIMIT;
-use crate::words::{Qualifier, TagKeyword};
-
-/// The sum of two numbers of bytes, or the limit plus one if it is above the limit.
-#[inline]
-pub fn plus(one: usize, other: usize) -> usize
-    ensures { result ≡ capped (one + other) }
-{
-    one.saturating_add(other).min(LIMIT + 1)
-}
+use crate::shape::{Member, Parameter, Shape, Subject, TypeKind};
+use crate::source::TypeAt;
+use crate::survey::{Summary, Survey};
+use crate::text::{LIMIT, digit_count, name_length, plus};
+use crate::words::{Name, Qualifier, TagKeyword};
 
 /// The bytes of a space, if there is one.
 #[inline]
@@ -78,31 +66,11 @@ fn named_length(survey: &Survey<'_>, at: TypeAt, name: Name<'_>) -> usize
     }
 }
 
-/// The bytes of a name, if there is one.
-#[inline]
-pub fn name_length(name: Name<'_>) -> usize
-    ensures { result ≡ name_bytes (view_name name.entry) }
-{
-    name.map_or(0, |name| name.bytes.len())
-}
-
 /// The bytes of the word before a tag, a space, and the tag.
 fn tag_length(word: TagKeyword, name: Name<'_>) -> usize
     ensures { result ≡ capped (tag_bytes word (view_name name.entry)) }
 {
     plus(word.text().len() + 1, name_length(name))
-}
-
-/// How many decimal digits a number has.
-#[tactic(auto, using(crate::proofs::LexingLemmas::numeral_low))]
-pub fn digit_count(n: u128) -> usize
-    ensures { result ≡ capped (length (numeral n)) }
-{
-    if n < 10 {
-        1
-    } else {
-        plus(digit_count(n / 10), 1)
-    }
 }
 
 /// The bytes of a member's size in bits, if it has one.
@@ -134,19 +102,6 @@ fn members_length(survey: &Survey<'_>, members: &[Member<'_>]) -> usize
         bytes = plus(bytes, member_length(survey, member));
     }
     bytes
-}
-
-/// The bytes of an enumerator's value.
-pub fn value_length(value: Option<i128>) -> usize
-    ensures { result ≡ capped (value_bytes value) }
-{
-    match value {
-        None => 0,
-        Some(value) => {
-            let digits = digit_count(value.unsigned_abs());
-            if value < 0 { plus(1, digits) } else { digits }
-        }
-    }
 }
 
 /// The bytes of a parameter, and of the comma and the space or the parentheses around the first.
@@ -188,7 +143,11 @@ pub fn length_of(survey: &Survey<'_>, shape: &Shape<'_>) -> usize
             let star = if kind.is_bracketed() { 3 } else { 1 };
             plus(length_around(survey, *to), star)
         }
-        Shape::Array(counts, _, at) => plus(length_around(survey, *at), counts.length()),
+        Shape::Array {
+            dimensions,
+            element,
+            ..
+        } => plus(length_around(survey, *element), dimensions.length()),
         Shape::Function(at, None) => plus(length_around(survey, *at), 2),
         Shape::Function(at, Some(parameters)) => {
             plus(
@@ -197,31 +156,11 @@ pub fn length_of(survey: &Survey<'_>, shape: &Shape<'_>) -> usize
             )
         }
         Shape::Tagged(word, name) => tag_length(*word, Some(*name)),
-        Shape::Body(word, _, members) => {
-            plus(tag_length(*word, None), members_length(survey, members))
+        Shape::Body { word, members, .. } => {
+            let tag = tag_length(TagKeyword::OfAggregate(*word), None);
+            plus(tag, members_length(survey, members))
         }
-        Shape::Enumeration(_, enumerators) => plus(5, enumerators.length()),
-        _ => 0,
-    }
-}
-
-/// The bytes of the declaration of a structure, union or enumeration.
-fn tag_declaration_length(survey: &Survey<'_>, name: Name<'_>, shape: &Shape<'_>) -> usize
-    ensures { result
-        ≡ capped (declared_bytes (known_of survey.now) (tag_subject (view_name name.entry) (view_shape shape.now))) }
-{
-    match shape {
-        Shape::Body(word, _, members) => {
-            plus(
-                plus(tag_length(*word, name), 2),
-                members_length(survey, members),
-            )
-        }
-        Shape::Enumeration(_, enumerators) => {
-            let tag = plus(tag_length(TagKeyword::Enum, name), 2);
-            plus(tag, enumerators.length())
-        }
-        Shape::Tagged(word, name) => plus(tag_length(*word, Some(*name)), 1),
+        Shape::Enumeration { enumerators, .. } => plus(5, enumerators.length()),
         _ => 0,
     }
 }
@@ -233,6 +172,24 @@ pub fn length_declared(survey: &Survey<'_>, subject: &Subject<'_>) -> usize
     match subject {
         Subject::Typedef(name, at) => plus(named_length(survey, *at, *name), 9),
         Subject::Variable(name, at) => plus(named_length(survey, *at, *name), 1),
-        Subject::Tag(name, shape) => tag_declaration_length(survey, *name, shape),
+        Subject::Aggregate {
+            word,
+            name,
+            members,
+            ..
+        } => {
+            let tag = plus(tag_length(TagKeyword::OfAggregate(*word), *name), 2);
+            plus(tag, members_length(survey, members))
+        }
+        Subject::Enumeration {
+            name,
+            enumerators,
+            ..
+        } => {
+            let tag = plus(tag_length(TagKeyword::Enum, *name), 2);
+            plus(tag, enumerators.length())
+        }
+        Subject::Declared(word, name) => plus(tag_length(*word, *name), 1),
+        Subject::Other => 0,
     }
 }

@@ -5,6 +5,7 @@ mod digits;
 mod dimensions;
 mod enumerators;
 mod fault;
+mod judging;
 mod laws;
 mod lengths;
 mod listing;

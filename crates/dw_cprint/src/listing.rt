@@ -6,11 +6,10 @@ ghost use Rattle.std.specs.List.{filter_map, range_with_len};
 ghost use Rattle.dw_image.specs.Images.{entries_in};
 ghost use Rattle.dw_cprint.specs.EntryShapes.{shape_in, subject_in};
 ghost use Rattle.dw_cprint.specs.Judgements.{IsAdded, IsJudgedMore, IsJudgement, refused_number};
-ghost use Rattle.dw_cprint.specs.Kept.{WritesDeclaration};
 ghost use Rattle.dw_cprint.specs.Listings.{AreLevels, AreNamedTypes, AreRanked, IsListing, StandsBefore, listing_text};
 ghost use Rattle.dw_cprint.specs.Listings.{refused_line, refused_line_in};
 ghost use Rattle.dw_cprint.specs.Refusals.{AppendsDeclaration, HasOneReading, IsPrinted, Refuses};
-ghost use Rattle.dw_cprint.specs.Shapes.{tag_subject, view_name, view_shape, view_subject};
+ghost use Rattle.dw_cprint.specs.Shapes.{view_subject};
 ghost use Rattle.dw_cprint.specs.Steps.{first_steps};
 ghost use Rattle.dw_cprint.specs.Surveys.{BySurvey};
 ghost use Rattle.dw_cprint.specs.declared.fault.PrintFault.{PrintFault as PrintFaultOf};
@@ -20,81 +19,18 @@ use crate::digits::put_hex;
 use crate::fault::PrintFault;
 use crate::reaching::put_declared_types;
 use crate::rows::{all_types, named_types, subject_at};
-use crate::shape::{Name, Shape, Subject};
+use crate::shape::Subject;
 use crate::shape_reader::subject_of;
 use crate::source::Source;
 use crate::survey::Survey;
-use crate::text::{Draft, put_tag};
-use crate::words::TagKeyword;
+use crate::text::Draft;
 use dw_image::{EntryId, Image, NoMemory};
 use dw_types::{Numbers, clear_nodes, longest_at, longest_rows};
 use indexmap::IndexSet;
 use std::alloc::{AllocError, Global};
 
-/// The most types on a path that is printed: 64 entries, and void after the last.
-const DEPTH: usize = 65;
-
-impl<'a> Survey<'a> {
-    /// The declaration of a structure, union or enumeration.
-    #[tactic(auto, unfolding(crate::specs::Declarations::declaration_of))]
-    fn put_tag_declaration(
-        &self,
-        alloc: Global,
-        out: &mut Draft,
-        name: Name<'_>,
-        shape: &Shape<'a>,
-    ) -> Result<(), AllocError>
-        ensures { OnOk result (WritesDeclaration self.now
-            (tag_subject (view_name name.entry) (view_shape shape.now)) out.old out.new) }
-    {
-        match shape {
-            Shape::Body(tag, _, members) => {
-                put_tag(out, *tag, name)?;
-                out.put(b" ")?;
-                self.put_members(alloc, out, members, DEPTH)?;
-                out.put(b";")
-            }
-            Shape::Enumeration(_, enumerators) => {
-                put_tag(out, TagKeyword::Enum, name)?;
-                out.put(b" ")?;
-                enumerators.write(out)?;
-                out.put(b";")
-            }
-            Shape::Tagged(tag, name) => {
-                put_tag(out, *tag, Some(*name))?;
-                out.put(b";")
-            }
-            _ => Ok(()),
-        }
-    }
-
-    /// A declaration.
-    #[tactic(auto, unfolding(crate::specs::Declarations::declaration_of))]
-    pub fn put_declaration(
-        &self,
-        alloc: Global,
-        out: &mut Draft,
-        subject: &Subject<'a>,
-    ) -> Result<(), AllocError>
-        ensures { OnOk result (WritesDeclaration self.now (view_subject subject.now) out.old out.new) }
-    {
-        match subject {
-            Subject::Typedef(name, at) => {
-                out.put(b"typedef ")?;
-                self.put_named(alloc, out, *at, *name, DEPTH)?;
-                out.put(b";")
-            }
-            Subject::Variable(name, at) => {
-                self.put_named(alloc, out, *at, *name, DEPTH)?;
-                out.put(b";")
-            }
-            Subject::Tag(name, shape) => self.put_tag_declaration(alloc, out, *name, shape),
-        }
-    }
-}
-
-/// Why the declaration of an entry is refused, if it is. Otherwise its text is written to the draft.
-fn refusal_of(
+/// Judges the declaration of an entry: writes its text to the draft, or returns why it is refused.
+fn judge_entry(
     alloc: Global,
     source: &Source<'_>,
     id: EntryId,
@@ -107,7 +43,7 @@ fn refusal_of(
     let mut types = Vec::new(alloc);
     put_declared_types(&mut types, &subject)?;
     let survey = Survey::new(alloc, source, types)?;
-    survey.refusal(alloc, &subject, draft)
+    survey.judge(alloc, &subject, draft)
 }
 
 /// Appends the C declaration of an entry (DWARF 5, chapter 5): a typedef, a variable, a structure, a union or an
@@ -133,7 +69,7 @@ pub fn declare(
 {
     let source = Source::read(alloc, image)?;
     let mut draft = Draft::new(alloc);
-    if let Some(fault) = refusal_of(alloc, &source, id, &mut draft)? {
+    if let Some(fault) = judge_entry(alloc, &source, id, &mut draft)? {
         return Err(fault);
     }
     out.extend_from_slice(draft.bytes())?;
@@ -189,7 +125,7 @@ impl Judgements {
 }
 
 /// Judges a named type: writes its declaration and a line feed, or keeps why it is refused.
-fn judge<'a>(
+fn judge_named<'a>(
     alloc: Global,
     judged: &mut Judgements,
     text: &mut Vec<u8>,
@@ -202,7 +138,7 @@ fn judge<'a>(
     ensures { OnOk result (BySurvey survey.now (first_steps (view_subject subject.now)) (λ shapes.
         IsAdded shapes number (view_subject subject.now) judged.old judged.new text.old.items text.new.items)) }
 {
-    let refusal = survey.refusal(alloc, subject, draft)?;
+    let refusal = survey.judge(alloc, subject, draft)?;
     if refusal.is_none() {
         text.extend_from_slice(draft.bytes())?;
         text.push(b'\n')?;
@@ -381,7 +317,7 @@ pub fn declare_all(alloc: Global, image: &Image<'_>) -> Result<Listing, NoMemory
         let id = named.ids[number as usize];
         let row = named.rows[number as usize];
         let subject = subject_at(alloc, &source, id, row)?;
-        judge(
+        judge_named(
             alloc,
             &mut judged,
             &mut text,

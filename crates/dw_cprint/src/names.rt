@@ -1,61 +1,13 @@
 //! Names that may be printed.
 
-ghost use Rattle.std.specs.Prelude.{◌≡◌, ◌==◌, is_some, bytes_eq, position};
-ghost use Rattle.std.specs.List.{list_any, list_all};
+ghost use Rattle.std.specs.Prelude.{◌≡◌, ◌==◌, is_some, position};
+ghost use Rattle.std.specs.List.{list_all};
 ghost use Rattle.dw_cprint.specs.Declarations.{parts_of, word_of, words_of};
-ghost use Rattle.dw_cprint.specs.Legible.{is_identifier, is_keyword, is_word_byte};
-ghost use Rattle.dw_cprint.specs.Wrong.{is_base_name};
+ghost use Rattle.dw_cprint.specs.Legible.{is_word_byte};
+ghost use Rattle.dw_cprint.specs.Shapes.{view_name};
+ghost use Rattle.dw_cprint.specs.Wrong.{is_base_name, lacks_name};
 
-use crate::words::Text;
-
-/// Whether the text is a keyword of C11. It is compared with those that have as many bytes.
-fn is_keyword_text(word: &[u8]) -> bool
-    ensures { result ≡ is_keyword word.now }
-{
-    match word.len() {
-        2 => is_one_of(word, &["do", "if"]),
-        3 => is_one_of(word, &["for", "int"]),
-        4 => is_one_of(
-            word,
-            &[
-                "auto", "case", "char", "else", "enum", "goto", "long", "void",
-            ],
-        ),
-        5 => is_one_of(
-            word,
-            &[
-                "break", "const", "float", "short", "union", "while", "_Bool",
-            ],
-        ),
-        6 => is_one_of(
-            word,
-            &[
-                "double", "extern", "inline", "return", "signed", "sizeof", "static", "struct",
-                "switch",
-            ],
-        ),
-        7 => is_one_of(word, &["default", "typedef", "_Atomic"]),
-        8 => is_one_of(
-            word,
-            &[
-                "continue", "register", "restrict", "unsigned", "volatile", "_Alignas", "_Alignof",
-                "_Complex", "_Generic",
-            ],
-        ),
-        9 => is_one_of(word, &["_Noreturn"]),
-        10 => is_one_of(word, &["_Imaginary"]),
-        13 => is_one_of(word, &["_Thread_local"]),
-        14 => is_one_of(word, &["_Static_assert"]),
-        _ => false,
-    }
-}
-
-/// Whether the text is one of these.
-fn is_one_of(word: &[u8], words: &[&str]) -> bool
-    ensures { result ≡ list_any (λ k. bytes_eq word.now k.now) words.now }
-{
-    words.iter().any(|k| word == k.as_bytes())
-}
+use crate::words::{Name, Text, is_one_of};
 
 /// Whether all bytes are letters, digits or underscores.
 pub fn are_words(bytes: &[u8]) -> bool
@@ -66,16 +18,14 @@ pub fn are_words(bytes: &[u8]) -> bool
         .all(|b| b.is_ascii_alphanumeric() || *b == b'_')
 }
 
-/// Whether the name is an identifier of C, by whether all its bytes are letters, digits or underscores.
-#[tactic(auto, unfolding(crate::specs::Legible::is_identifier))]
-pub fn is_name(name: &[u8], words: bool) -> bool
-    requires { words ≡ list_all is_word_byte name.now }
-    ensures { result ≡ is_identifier name.now }
+/// Whether a name is absent, or no identifier.
+pub fn lacks_name(name: Name<'_>) -> bool
+    ensures { result ≡ lacks_name (view_name name.entry) }
 {
-    let Some(first) = name.first() else {
-        return false;
-    };
-    !first.is_ascii_digit() && words && !is_keyword_text(name)
+    match name {
+        None => true,
+        Some(name) => !name.is_name,
+    }
 }
 
 /// The words of which names of base types are made. This project's choice.

@@ -1,16 +1,16 @@
 //! The entries that are reached by spelling steps.
 
-ghost use Rattle.std.specs.Prelude.{◌≡◌, ◌++◌, ◌^◌, ◌<◌, [], ◌∷◌, length, map, flat_map, All, IfOk, OnOk, option_map};
+ghost use Rattle.std.specs.Prelude.{◌≡◌, ◌++◌, ◌^◌, ◌<◌, [], ◌∷◌, length, map, All, IfOk, OnOk, option_map};
 ghost use Rattle.dw_cprint.specs.Reach.{AddsRow, ArePlaces, FindsAll, HasReached};
 ghost use Rattle.dw_image.specs.Images.{entries_in};
-ghost use Rattle.dw_cprint.specs.EntryShapes.{member_at, members_in, shape_in, subject_in};
+ghost use Rattle.dw_cprint.specs.EntryShapes.{member_at, members_in, shape_in};
 ghost use Rattle.dw_cprint.specs.Shapes.{view_member, view_shape, view_subject};
-ghost use Rattle.dw_cprint.specs.Steps.{entries_of, first_steps};
+ghost use Rattle.dw_cprint.specs.Steps.{entries_of};
 ghost use Rattle.dw_cprint.specs.Steps.{member_types, parameter_types, types_declared, types_reached};
 
-use crate::shape::{Member, Parameter, Shape, Subject, TypeAt};
+use crate::shape::{Member, Parameter, Shape, Subject};
 use crate::shape_reader::shape_of;
-use crate::source::{Source, flag_at, tag_at, type_at};
+use crate::source::{Source, TypeAt, flag_at, tag_at, type_at};
 use crate::survey::Survey;
 use dw_entries::constants::*;
 use dw_image::{EntryId, Image};
@@ -59,7 +59,7 @@ fn push_row(
 }
 
 /// Appends the type of each member.
-fn put_member_types(types: &mut Vec<TypeAt>, members: &[Member<'_>]) -> Result<(), AllocError>
+pub fn put_member_types(types: &mut Vec<TypeAt>, members: &[Member<'_>]) -> Result<(), AllocError>
     ensures { OnOk result (types.new.items ≡ types.old.items ++ member_types (map view_member members.now)) }
 {
     for member in members {
@@ -85,13 +85,14 @@ pub fn put_reached_types(types: &mut Vec<TypeAt>, shape: &Shape<'_>) -> Result<(
     ensures { OnOk result (types.new.items ≡ types.old.items ++ types_reached (view_shape shape.now)) }
 {
     match shape {
-        Shape::Qualified(_, at) | Shape::Pointer(at) | Shape::Array(_, _, at) => types.push(*at)?,
+        Shape::Qualified(_, at) | Shape::Pointer(at) => types.push(*at)?,
+        Shape::Array { element, .. } => types.push(*element)?,
         Shape::Function(at, None) => types.push(*at)?,
         Shape::Function(at, Some(parameters)) => {
             types.push(*at)?;
             put_parameter_types(types, parameters)?;
         }
-        Shape::Body(_, _, members) => put_member_types(types, members)?,
+        Shape::Body { members, .. } => put_member_types(types, members)?,
         _ => {}
     }
     Ok(())
@@ -103,7 +104,8 @@ pub fn put_declared_types(types: &mut Vec<TypeAt>, subject: &Subject<'_>) -> Res
 {
     match subject {
         Subject::Typedef(_, at) | Subject::Variable(_, at) => types.push(*at)?,
-        Subject::Tag(_, shape) => put_reached_types(types, shape)?,
+        Subject::Aggregate { members, .. } => put_member_types(types, members)?,
+        Subject::Enumeration { .. } | Subject::Declared(_, _) | Subject::Other => {}
     }
     Ok(())
 }

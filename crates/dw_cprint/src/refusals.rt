@@ -1,71 +1,18 @@
 //! The second and the fourth refusal (P2 and P4): what is no name in C, and what C has no declaration for.
 
-ghost use Rattle.std.specs.Prelude.{◌≡◌, Some, ◌||◌};
-ghost use Rattle.std.specs.List.{list_any};
+ghost use Rattle.std.specs.Prelude.{◌≡◌, map};
 ghost use Rattle.dw_cprint.specs.Declarations.{is_misplaced};
-ghost use Rattle.dw_cprint.specs.Shapes.{view_shape, view_name};
-ghost use Rattle.dw_cprint.specs.Steps.{types_reached};
-ghost use Rattle.dw_cprint.specs.Summaries.{base_known, is_unspeakable, kind_known};
-ghost use Rattle.dw_cprint.specs.Wrong.{has_bad_name, is_bracketed, is_function, is_void, is_wrong_bits, kind_in};
-ghost use Rattle.dw_cprint.specs.Wrong.{lacks_member_name, lacks_name};
+ghost use Rattle.dw_cprint.specs.Shapes.{view_member, view_shape, view_name};
+ghost use Rattle.dw_cprint.specs.Steps.{member_types, types_reached};
+ghost use Rattle.dw_cprint.specs.Summaries.{are_unspeakable, has_void, is_unspeakable, kind_known};
+ghost use Rattle.dw_cprint.specs.Wrong.{has_bad_name, is_wrong_member};
+ghost use Rattle.dw_cprint.specs.Wrong.{lack_names, lacks_member_name};
 
-use crate::names::is_base_name;
-use crate::shape::{Member, Name, Parameter, Shape, TypeAt};
+use crate::names::{is_base_name, lacks_name};
+use crate::shape::{Member, Parameter, Shape, TypeKind};
+use crate::source::TypeAt;
 use crate::survey::Survey;
-use crate::words::{Qualifier, TagKeyword};
-
-/// A kind of type.
-#[derive(Clone, Copy, Debug, PartialEq, Eq)]
-pub enum TypeKind {
-    Void,
-    Qualified,
-    Pointer,
-    Typedef,
-    /// An array; whether its first count is unknown.
-    Array { open: bool },
-    Function,
-    /// A structure or union without a name.
-    UnnamedAggregate,
-    Other,
-}
-
-impl TypeKind {
-    /// Whether it is an array or a function, whose brackets bind before a star.
-    pub fn is_bracketed(self) -> bool
-        ensures { result ≡ is_bracketed self }
-    {
-        matches!(self, TypeKind::Array { .. } | TypeKind::Function)
-    }
-}
-
-/// The kind of a shape.
-pub fn kind_of(shape: &Shape<'_>) -> TypeKind
-    ensures { result ≡ kind_in (Some (view_shape shape.now)) }
-{
-    match shape {
-        Shape::Typedef(_) => TypeKind::Typedef,
-        Shape::Qualified(_, _) => TypeKind::Qualified,
-        Shape::Pointer(_) => TypeKind::Pointer,
-        Shape::Array(counts, _, _) => TypeKind::Array {
-            open: counts.start_open(),
-        },
-        Shape::Function(_, _) => TypeKind::Function,
-        Shape::Nameless(TagKeyword::Struct | TagKeyword::Union) | Shape::Body(_, _, _) => {
-            TypeKind::UnnamedAggregate
-        }
-        _ => TypeKind::Other,
-    }
-}
-
-/// Whether a name is absent, or no identifier.
-pub fn lacks_name(name: Name<'_>) -> bool
-    ensures { result ≡ lacks_name (view_name name.entry) }
-{
-    match name {
-        None => true,
-        Some(name) => !name.is_name,
-    }
-}
+use crate::words::Qualifier;
 
 /// Whether a member needs a name and has none, or has one that is no identifier.
 fn lacks_member_name(survey: &Survey<'_>, member: &Member<'_>) -> bool
@@ -81,6 +28,15 @@ fn lacks_member_name(survey: &Survey<'_>, member: &Member<'_>) -> bool
     }
 }
 
+/// Whether one of the members needs a name and has none, or has one that is no identifier.
+pub fn lack_names(survey: &Survey<'_>, members: &[Member<'_>]) -> bool
+    ensures { result ≡ lack_names (kind_known survey.now) (map view_member members.now) }
+{
+    members
+        .iter()
+        .any(|member| lacks_member_name(survey, member))
+}
+
 /// Whether the second refusal holds for an entry that is reached.
 pub fn has_bad_name(survey: &Survey<'_>, shape: &Shape<'_>) -> bool
     ensures { result ≡ has_bad_name (kind_known survey.now) (view_shape shape.now) }
@@ -90,17 +46,15 @@ pub fn has_bad_name(survey: &Survey<'_>, shape: &Shape<'_>) -> bool
         Shape::Base(Some(name)) => !is_base_name(*name),
         Shape::Typedef(name) => lacks_name(*name),
         Shape::Tagged(_, name) => !name.is_name,
-        Shape::Body(_, _, members) => members
-            .iter()
-            .any(|member| lacks_member_name(survey, member)),
-        Shape::Enumeration(_, enumerators) => enumerators.lack_name(),
+        Shape::Body { members, .. } => lack_names(survey, members),
+        Shape::Enumeration { enumerators, .. } => enumerators.lack_name(),
         _ => false,
     }
 }
 
 /// Whether one of some types is void, or a row of qualifiers over void.
 pub fn has_void(survey: &Survey<'_>, types: &[TypeAt]) -> bool
-    ensures { result ≡ list_any (λ at. is_void (base_known survey.now at)) types.now }
+    ensures { result ≡ has_void survey.now types.now }
 {
     types
         .iter()
@@ -109,8 +63,7 @@ pub fn has_void(survey: &Survey<'_>, types: &[TypeAt]) -> bool
 
 /// Whether a member is a function, or its size in bits is no number of 1 or more, or that of an array or a pointer.
 fn is_wrong_member(survey: &Survey<'_>, member: &Member<'_>) -> bool
-    ensures { result ≡ (is_function (kind_known survey.now member.now.type_at)
-        || is_wrong_bits (kind_known survey.now member.now.type_at) member.now.bits) }
+    ensures { result ≡ is_wrong_member (kind_known survey.now) (view_member member.now) }
 {
     let kind = survey.known(member.type_at).kind;
     match member.bits {
@@ -118,6 +71,14 @@ fn is_wrong_member(survey: &Survey<'_>, member: &Member<'_>) -> bool
         Some(0) => true,
         Some(_) => { kind.is_bracketed() || matches!(kind, TypeKind::Pointer) }
     }
+}
+
+/// Whether C has no such members: one is void, or wrong. `types` are theirs.
+pub fn are_unspeakable(survey: &Survey<'_>, members: &[Member<'_>], types: &[TypeAt]) -> bool
+    requires { types.now ≡ member_types (map view_member members.now) }
+    ensures { result ≡ are_unspeakable survey.now (map view_member members.now) }
+{
+    has_void(survey, types) || members.iter().any(|member| is_wrong_member(survey, member))
 }
 
 /// Whether unspecified parameters come before another parameter, or alone.
@@ -151,23 +112,25 @@ pub fn is_unspeakable(survey: &Survey<'_>, shape: &Shape<'_>, types: &[TypeAt]) 
             )
         }
         Shape::Qualified(_, at) => survey.known(*at).base.is_bracketed(),
-        Shape::Array(counts, strange, at) => {
-            let kind = survey.known(*at).kind;
-            *strange
-                || counts.are_miscounted()
+        Shape::Array {
+            dimensions,
+            strange,
+            element,
+        } => {
+            let kind = survey.known(*element).kind;
+            has_void(survey, types)
+                || *strange
+                || dimensions.are_miscounted()
                 || matches!(kind, TypeKind::Function | TypeKind::Array { open: true })
-                || has_void(survey, types)
         }
         Shape::Function(at, None) => survey.known(*at).kind.is_bracketed(),
         Shape::Function(at, Some(parameters)) => {
-            survey.known(*at).kind.is_bracketed()
+            has_void(survey, &types[1..])
+                || survey.known(*at).kind.is_bracketed()
                 || has_misplaced(parameters)
-                || has_void(survey, &types[1..])
         }
-        Shape::Body(_, _, members) => {
-            has_void(survey, types) || members.iter().any(|member| is_wrong_member(survey, member))
-        }
-        Shape::Enumeration(_, enumerators) => enumerators.is_wrong(),
+        Shape::Body { members, .. } => are_unspeakable(survey, members, types),
+        Shape::Enumeration { enumerators, .. } => enumerators.is_wrong(),
         _ => false,
     }
 }

@@ -6,14 +6,16 @@ ghost use Rattle.dw_image.specs.Images.{entries_in};
 ghost use Rattle.dw_cprint.specs.EntryShapes.{subject_in, tag_in};
 ghost use Rattle.dw_cprint.specs.Listings.{AreNamedTypes, is_named_type, named_number};
 ghost use Rattle.dw_cprint.specs.LookUps.{name_at, type_at};
-ghost use Rattle.dw_cprint.specs.Rows.{AreRows, IsWithin, Tells, TellsOf, place_in, row_at, text_at};
+ghost use Rattle.dw_cprint.specs.Rows.{AreRows, IsWithin, Tells, TellsOf, place_in, row_at, row_text};
 ghost use Rattle.dw_cprint.specs.Shapes.{typedef_subject, view_subject};
 ghost use Rattle.dw_cprint.specs.Steps.{entries_of, first_steps, types_declared};
 
 use crate::reaching::put_types_of_members;
-use crate::shape::{Subject, TypeAt};
-use crate::shape_reader::body_at;
-use crate::source::{Source, flag_at, tag_at, type_at};
+use crate::shape::Subject;
+use crate::shape_reader::defined_at;
+use crate::source::{Source, TypeAt, flag_at, tag_at, type_at};
+use crate::words::AggregateKeyword::{Struct, Union};
+use crate::words::TagKeyword::OfAggregate;
 use crate::words::{TagKeyword, Text};
 use dw_entries::constants::*;
 use dw_image::{EntryId, Image, TextPlace};
@@ -81,7 +83,7 @@ impl Row {
 #[tactic(auto, unfolding(crate::specs::LookUps::name_at), using(crate::proofs::RowLemmas::sections_short))]
 fn name_place(image: &Image<'_>, id: EntryId) -> Option<Place>
     requires { id < length (entries_in image.now) }
-    ensures text { option_map (text_at image.now) result ≡ name_at image.now id }
+    ensures text { option_map (row_text image.now) result ≡ name_at image.now id }
     ensures within { IfSome result (IsWithin image.now) }
 {
     match image.name_place(id) {
@@ -104,7 +106,7 @@ fn name_place(image: &Image<'_>, id: EntryId) -> Option<Place>
 /// The text at a place.
 fn text_of<'a>(source: &Source<'a>, place: Place) -> Text<'a>
     requires { IsWithin source.now.image.now place }
-    ensures { result.bytes.now ≡ text_at source.now.image.now place }
+    ensures { result.bytes.now ≡ row_text source.now.image.now place }
 {
     let offset = place.offset as usize;
     match place.section {
@@ -151,8 +153,8 @@ fn row_of(image: &Image<'_>, id: EntryId) -> Option<Row>
 {
     match tag_at(image, id) {
         DW_TAG_typedef => typedef_row(image, id),
-        DW_TAG_structure_type => tag_row(image, id, TagKeyword::Struct),
-        DW_TAG_union_type => tag_row(image, id, TagKeyword::Union),
+        DW_TAG_structure_type => tag_row(image, id, OfAggregate(Struct)),
+        DW_TAG_union_type => tag_row(image, id, OfAggregate(Union)),
         DW_TAG_enumeration_type => tag_row(image, id, TagKeyword::Enum),
         _ => None,
     }
@@ -226,9 +228,8 @@ fn put_types_of(
 {
     match row.kind {
         RowKind::Typedef => types.push(row.to)?,
+        RowKind::Tag(OfAggregate(_)) => put_types_of_members(types, image, id)?,
         RowKind::Tag(TagKeyword::Enum) => {}
-        RowKind::Tag(TagKeyword::Struct) => put_types_of_members(types, image, id)?,
-        RowKind::Tag(TagKeyword::Union) => put_types_of_members(types, image, id)?,
     }
     Ok(())
 }
@@ -261,9 +262,10 @@ pub fn subject_at<'a>(
     requires row { Tells source.now.image.now id row }
     ensures { IfOk result (λ subject. view_subject subject ≡ subject_in source.now.image.now id) }
 {
+    let (kind, to) = (row.kind, row.to);
     let name = text_of(source, row.place());
-    match row.kind {
-        RowKind::Typedef => Ok(Subject::Typedef(Some(name), row.to)),
-        RowKind::Tag(word) => Ok(Subject::Tag(Some(name), body_at(alloc, source, id, word)?)),
+    match kind {
+        RowKind::Typedef => Ok(Subject::Typedef(Some(name), to)),
+        RowKind::Tag(word) => defined_at(alloc, source, id, word, Some(name)),
     }
 }

@@ -1,19 +1,21 @@
 //! The shapes of entries, and the entry that is declared, read from an image.
 
-ghost use Rattle.std.specs.Prelude.{◌≡◌, ◌<◌, ℕ, length, IfOk, option_map};
+ghost use Rattle.std.specs.Prelude.{◌≡◌, ◌<◌, ℕ, length, map, IfOk, option_map};
 ghost use Rattle.dw_image.specs.Images.{entries_in};
 ghost use Rattle.dw_cprint.specs.Children.{AreKept, TellsAny};
-ghost use Rattle.dw_cprint.specs.EntryShapes.{body_in, counts_in, has_stride, member_at, parameter_at};
-ghost use Rattle.dw_cprint.specs.EntryShapes.{parameters_in, shape_in, subject_in, tag_in};
-ghost use Rattle.dw_cprint.specs.EntryShapes.{is_strange, tag_shape};
+ghost use Rattle.dw_cprint.specs.EntryShapes.{counts_in, defined_in, has_stride, is_odd, is_strange, member_at};
+ghost use Rattle.dw_cprint.specs.EntryShapes.{members_in, parameter_at, parameters_in, shape_in, subject_in, tag_in};
+ghost use Rattle.dw_cprint.specs.EntryShapes.{tag_shape};
 ghost use Rattle.dw_cprint.specs.LookUps.{children_at, name_at, type_at};
-ghost use Rattle.dw_cprint.specs.Shapes.{array, function, view_member, view_shape, view_subject};
+ghost use Rattle.dw_cprint.specs.Shapes.{array, function, view_member, view_name, view_shape, view_subject};
 
 use crate::dimensions::Dimensions;
 use crate::enumerators::Enumerators;
 use crate::shape::{Member, Parameter, Shape, Subject};
 use crate::source::{Source, bits_at, flag_at, tag_at, type_at, value_at};
-use crate::words::{Qualifier, TagKeyword};
+use crate::words::AggregateKeyword::{Struct, Union};
+use crate::words::TagKeyword::OfAggregate;
+use crate::words::{Name, Qualifier, TagKeyword};
 use dw_entries::constants::*;
 use dw_image::{EntryId, Image};
 use std::alloc::{AllocError, Global};
@@ -77,8 +79,11 @@ fn array_shape<'a>(image: &'a Image<'a>, id: EntryId) -> Shape<'a>
             DW_TAG_enumeration_type | DW_TAG_generic_subrange
         )
     });
-    let strange = has_stride(image, id) || strided || other;
-    Shape::Array(Dimensions::read(image, id), strange, type_at(image, id))
+    Shape::Array {
+        dimensions: Dimensions::read(image, id),
+        strange: has_stride(image, id) || strided || other,
+        element: type_at(image, id),
+    }
 }
 
 /// A child that is a parameter, or unspecified parameters.
@@ -125,28 +130,29 @@ fn member_at<'a>(source: &Source<'a>, id: EntryId) -> Option<Member<'a>>
     })
 }
 
-/// A structure, union or enumeration with its body. An inheritance or a variant part cannot be in a body of C.
-pub fn body_at<'a>(
+/// The plain members of a structure or union.
+fn members_at<'a>(
     alloc: Global,
-    source: &'a Source<'a>,
+    source: &Source<'a>,
     id: EntryId,
-    word: TagKeyword,
-) -> Result<Shape<'a>, AllocError>
+) -> Result<Vec<Member<'a>>, AllocError>
     requires { id < length (entries_in source.now.image.now) }
-    ensures { IfOk result (λ shape. view_shape shape ≡ body_in source.now.image.now id word) }
+    ensures { IfOk result (λ members. map view_member members.items ≡ members_in source.now.image.now id) }
 {
-    let image = source.image;
-    let odd = any_child(image, id, |child| {
+    read_children(alloc, source.image, id, |child| member_at(source, child))
+}
+
+/// Whether a child is an inheritance or a variant part: neither can be in a body of C.
+fn is_odd(image: &Image<'_>, id: EntryId) -> bool
+    requires { id < length (entries_in image.now) }
+    ensures { result ≡ is_odd image.now id }
+{
+    any_child(image, id, |child| {
         matches!(
             tag_at(image, child),
             DW_TAG_inheritance | DW_TAG_variant_part
         )
-    });
-    if word == TagKeyword::Enum {
-        return Ok(Shape::Enumeration(odd, Enumerators::read(source, id)));
-    }
-    let members = read_children(alloc, image, id, |child| member_at(source, child))?;
-    Ok(Shape::Body(word, odd, members))
+    })
 }
 
 /// A structure, union or enumeration by its name; without one as it is declared, or with its body.
@@ -166,7 +172,18 @@ fn tag_shape<'a>(
     if flag_at(source.image, id, DW_AT_declaration) {
         return Ok(Shape::Nameless(word));
     }
-    body_at(alloc, source, id, word)
+    let odd = is_odd(source.image, id);
+    match word {
+        OfAggregate(word) => Ok(Shape::Body {
+            word,
+            odd,
+            members: members_at(alloc, source, id)?,
+        }),
+        TagKeyword::Enum => Ok(Shape::Enumeration {
+            odd,
+            enumerators: Enumerators::read(source, id),
+        }),
+    }
 }
 
 /// The shape of an entry that is reached.
@@ -191,8 +208,8 @@ pub fn shape_of<'a>(
         DW_TAG_pointer_type => Ok(Shape::Pointer(type_at(image, id))),
         DW_TAG_array_type => Ok(array_shape(image, id)),
         DW_TAG_subroutine_type => function_shape(alloc, image, id),
-        DW_TAG_structure_type => tag_shape(alloc, source, id, TagKeyword::Struct),
-        DW_TAG_union_type => tag_shape(alloc, source, id, TagKeyword::Union),
+        DW_TAG_structure_type => tag_shape(alloc, source, id, OfAggregate(Struct)),
+        DW_TAG_union_type => tag_shape(alloc, source, id, OfAggregate(Union)),
         DW_TAG_enumeration_type => tag_shape(alloc, source, id, TagKeyword::Enum),
         _ => Ok(if tag.is_type() {
             Shape::Foreign
@@ -202,7 +219,35 @@ pub fn shape_of<'a>(
     }
 }
 
-/// A structure, union or enumeration that is declared to C: one that is only a declaration by its name.
+/// A structure, union or enumeration with its body, and this name.
+pub fn defined_at<'a>(
+    alloc: Global,
+    source: &'a Source<'a>,
+    id: EntryId,
+    word: TagKeyword,
+    name: Name<'a>,
+) -> Result<Subject<'a>, AllocError>
+    requires { id < length (entries_in source.now.image.now) }
+    ensures { IfOk result (λ subject. view_subject subject
+        ≡ defined_in source.now.image.now id word (view_name name.entry)) }
+{
+    let odd = is_odd(source.image, id);
+    match word {
+        OfAggregate(word) => Ok(Subject::Aggregate {
+            word,
+            name,
+            odd,
+            members: members_at(alloc, source, id)?,
+        }),
+        TagKeyword::Enum => Ok(Subject::Enumeration {
+            name,
+            odd,
+            enumerators: Enumerators::read(source, id),
+        }),
+    }
+}
+
+/// A structure, union or enumeration: only declared, or with its body.
 fn tag_subject<'a>(
     alloc: Global,
     source: &'a Source<'a>,
@@ -212,10 +257,11 @@ fn tag_subject<'a>(
     requires { id < length (entries_in source.now.image.now) }
     ensures { IfOk result (λ subject. view_subject subject ≡ tag_in source.now.image.now id word) }
 {
+    let name = source.name(id);
     if flag_at(source.image, id, DW_AT_declaration) {
-        return Ok(Subject::Tag(source.name(id), tag_shape(alloc, source, id, word)?));
+        return Ok(Subject::Declared(word, name));
     }
-    Ok(Subject::Tag(source.name(id), body_at(alloc, source, id, word)?))
+    defined_at(alloc, source, id, word, name)
 }
 
 /// What is declared at an entry.
@@ -231,9 +277,9 @@ pub fn subject_of<'a>(
     match tag_at(source.image, id) {
         DW_TAG_typedef => Ok(Subject::Typedef(source.name(id), type_at(source.image, id))),
         DW_TAG_variable => Ok(Subject::Variable(source.name(id), type_at(source.image, id))),
-        DW_TAG_structure_type => tag_subject(alloc, source, id, TagKeyword::Struct),
-        DW_TAG_union_type => tag_subject(alloc, source, id, TagKeyword::Union),
+        DW_TAG_structure_type => tag_subject(alloc, source, id, OfAggregate(Struct)),
+        DW_TAG_union_type => tag_subject(alloc, source, id, OfAggregate(Union)),
         DW_TAG_enumeration_type => tag_subject(alloc, source, id, TagKeyword::Enum),
-        _ => Ok(Subject::Tag(None, Shape::Other)),
+        _ => Ok(Subject::Other),
     }
 }

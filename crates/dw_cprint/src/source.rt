@@ -13,10 +13,9 @@ ghost use Rattle.dw_cprint.specs.StringSpans.{AreSpans, IsSpan};
 ghost use Rattle.dw_cprint.specs.EntryShapes.{bits_in};
 
 use crate::names::are_words;
-use crate::shape::{Name, TypeAt};
-use crate::words::Text;
+use crate::words::{Name, Text};
 use dw_entries::constants::*;
-use dw_entries::{Attribute, Tag, Value};
+use dw_entries::{Attribute, OptionalId, Tag, Value};
 use dw_image::{EntryId, Image, TextPlace, string_from};
 use std::alloc::{AllocError, Global};
 
@@ -148,6 +147,9 @@ impl<'a> Source<'a> {
         }
     }
 }
+
+/// The number of a type's entry, in four bytes. A type that is absent is void.
+pub type TypeAt = OptionalId;
 
 /// The tag of an entry.
 #[tactic(auto, unfolding(crate::specs::LookUps::tag_at))]

@@ -1,18 +1,18 @@
-//! The text of a declaration as it is written, up to the limit.
+//! The text of a declaration as it is written, up to the limit, and how many bytes its parts have.
 
-ghost use Rattle.std.specs.Prelude.{◌≡◌, ℕ, if◌then◌else◌, List, [], Option, None, Some, IfSome, OnOk, is_none, ◌++◌};
-ghost use Rattle.std.specs.Prelude.{◌∷◌};
+ghost use Rattle.std.specs.Prelude.{◌≡◌, ℕ, if◌then◌else◌, List, [], Option, None, Some, IfSome, OnOk, is_none};
+ghost use Rattle.std.specs.Prelude.{◌∷◌, length, ◌+◌};
 ghost use Rattle.dw_cprint.specs.Drafts.{appended};
 ghost use Rattle.dw_cprint.specs.Declarators.{comma, gap, pointer_row};
 ghost use Rattle.dw_cprint.specs.Digits.{numeral};
 ghost use Rattle.dw_cprint.specs.Kept.{Writes};
+ghost use Rattle.dw_cprint.specs.Lengths.{capped, name_bytes, value_bytes};
 ghost use Rattle.dw_cprint.specs.Shapes.{view_name};
 ghost use Rattle.dw_cprint.specs.Tokens.{Blank, TagWord};
 ghost use Rattle.dw_cprint.specs.Writing.{qualifying, name_tokens, value_tokens, bits_tokens};
 
 use crate::digits::put_decimal;
-use crate::shape::Name;
-use crate::words::{Qualifier, TagKeyword};
+use crate::words::{Name, Qualifier, TagKeyword};
 use std::alloc::{AllocError, Global};
 use std::marker::Model;
 
@@ -180,4 +180,45 @@ pub fn put_bits(out: &mut Draft, bits: Option<u64>) -> Result<(), AllocError>
             out.put_number(u128::from(n))
         }
     }
+}
+
+/// The sum of two numbers of bytes, or the limit plus one if it is above the limit.
+#[inline]
+pub fn plus(one: usize, other: usize) -> usize
+    ensures { result ≡ capped (one + other) }
+{
+    one.saturating_add(other).min(LIMIT + 1)
+}
+
+/// How many decimal digits a number has.
+#[tactic(auto, using(crate::proofs::LexingLemmas::numeral_low))]
+pub fn digit_count(n: u128) -> usize
+    ensures { result ≡ capped (length (numeral n)) }
+{
+    if n < 10 {
+        1
+    } else {
+        plus(digit_count(n / 10), 1)
+    }
+}
+
+/// The bytes of an enumerator's value.
+pub fn value_length(value: Option<i128>) -> usize
+    ensures { result ≡ capped (value_bytes value) }
+{
+    match value {
+        None => 0,
+        Some(value) => {
+            let digits = digit_count(value.unsigned_abs());
+            if value < 0 { plus(1, digits) } else { digits }
+        }
+    }
+}
+
+/// The bytes of a name, if there is one.
+#[inline]
+pub fn name_length(name: Name<'_>) -> usize
+    ensures { result ≡ name_bytes (view_name name.entry) }
+{
+    name.map_or(0, |name| name.bytes.len())
 }

@@ -1,19 +1,22 @@
-//! The text of a type: what is before its declarator, and what is after it.
+//! The text of a declaration, and of a type: what is before its declarator, and what is after it.
 
 ghost use Rattle.std.specs.Prelude.{◌≡◌, ◌<◌, Some, None, map, OnOk, IfSome, MatchOption};
 ghost use Rattle.dw_cprint.specs.Declarations.{term_by};
 ghost use Rattle.dw_cprint.specs.Kept.{kept, kept_term, WritesBefore, WritesAfter, WritesOpened, WritesClosed};
 ghost use Rattle.dw_cprint.specs.Kept.{WritesNamed, WritesCore, WritesMember, WritesMembers, WritesParameter};
-ghost use Rattle.dw_cprint.specs.Kept.{WritesParameters};
-ghost use Rattle.dw_cprint.specs.Shapes.{other, view_name, view_shape, view_member};
+ghost use Rattle.dw_cprint.specs.Kept.{WritesDeclaration, WritesParameters};
+ghost use Rattle.dw_cprint.specs.Shapes.{other, view_name, view_shape, view_subject, view_member};
 ghost use Rattle.dw_cprint.specs.Wrong.{is_bracketed, kind_at};
 
-use crate::refusals::kind_of;
-use crate::shape::{Member, Name, Parameter, Shape, TypeAt};
+use crate::shape::{Member, Parameter, Shape, Subject, kind_of};
+use crate::source::TypeAt;
 use crate::survey::Survey;
 use crate::text::{Draft, put_bits, put_gap, put_joined, put_name, put_qualifiers, put_tag};
-use crate::words::Qualifier;
+use crate::words::{Name, Qualifier, TagKeyword};
 use std::alloc::{AllocError, Global};
+
+/// The most types on a path that is printed: 64 entries, and void after the last.
+const DEPTH: usize = 65;
 
 impl<'a> Survey<'a> {
     /// The shape that is kept of an entry.
@@ -76,7 +79,7 @@ impl<'a> Survey<'a> {
 
     /// A type with a declarator that is a name, or with none.
     #[cycle(writing)]
-    pub fn put_named(
+    fn put_named(
         &self,
         alloc: Global,
         out: &mut Draft,
@@ -109,7 +112,7 @@ impl<'a> Survey<'a> {
 
     /// The members of a body, in braces.
     #[cycle(writing)]
-    pub fn put_members(
+    fn put_members(
         &self,
         alloc: Global,
         out: &mut Draft,
@@ -186,12 +189,12 @@ impl<'a> Survey<'a> {
             Shape::Base(name) => put_name(out, *name),
             Shape::Typedef(name) => put_name(out, *name),
             Shape::Tagged(tag, name) => put_tag(out, *tag, Some(*name)),
-            Shape::Body(tag, _, members) => {
-                out.put(tag.text())?;
+            Shape::Body { word, members, .. } => {
+                out.put(TagKeyword::OfAggregate(*word).text())?;
                 out.put(b" ")?;
                 self.put_members(alloc, out, members, depth)
             }
-            Shape::Enumeration(_, enumerators) => {
+            Shape::Enumeration { enumerators, .. } => {
                 out.put(b"enum ")?;
                 enumerators.write(out)
             }
@@ -234,7 +237,7 @@ impl<'a> Survey<'a> {
                 out.put(b"*")?;
                 put_joined(out, &qualifiers, inside)
             }
-            Shape::Array(_, _, element) => {
+            Shape::Array { element, .. } => {
                 self.put_before(alloc, out, *element, Vec::new(alloc), true, below)
             }
             Shape::Function(returned, _) => {
@@ -274,8 +277,12 @@ impl<'a> Survey<'a> {
                 self.put_closed(out, *to)?;
                 self.put_after(alloc, out, *to, below)
             }
-            Shape::Array(counts, _, element) => {
-                counts.write(out)?;
+            Shape::Array {
+                dimensions,
+                element,
+                ..
+            } => {
+                dimensions.write(out)?;
                 self.put_after(alloc, out, *element, below)
             }
             Shape::Function(returned, None) => {
@@ -289,6 +296,55 @@ impl<'a> Survey<'a> {
                 self.put_after(alloc, out, *returned, below)
             }
             _ => Ok(()),
+        }
+    }
+
+    /// A declaration.
+    #[tactic(auto, unfolding(crate::specs::Declarations::declaration_of))]
+    pub fn put_declaration(
+        &self,
+        alloc: Global,
+        out: &mut Draft,
+        subject: &Subject<'a>,
+    ) -> Result<(), AllocError>
+        ensures { OnOk result (WritesDeclaration self.now (view_subject subject.now) out.old out.new) }
+    {
+        match subject {
+            Subject::Typedef(name, at) => {
+                out.put(b"typedef ")?;
+                self.put_named(alloc, out, *at, *name, DEPTH)?;
+                out.put(b";")
+            }
+            Subject::Variable(name, at) => {
+                self.put_named(alloc, out, *at, *name, DEPTH)?;
+                out.put(b";")
+            }
+            Subject::Aggregate {
+                word,
+                name,
+                members,
+                ..
+            } => {
+                put_tag(out, TagKeyword::OfAggregate(*word), *name)?;
+                out.put(b" ")?;
+                self.put_members(alloc, out, members, DEPTH)?;
+                out.put(b";")
+            }
+            Subject::Enumeration {
+                name,
+                enumerators,
+                ..
+            } => {
+                put_tag(out, TagKeyword::Enum, *name)?;
+                out.put(b" ")?;
+                enumerators.write(out)?;
+                out.put(b";")
+            }
+            Subject::Declared(word, name) => {
+                put_tag(out, *word, *name)?;
+                out.put(b";")
+            }
+            Subject::Other => Ok(()),
         }
     }
 }

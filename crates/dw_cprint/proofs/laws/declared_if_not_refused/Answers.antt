@@ -14,10 +14,10 @@ returns-clause-there c =
 pub returns-clause-legible : goal.returns-clause-legible
 unfolding declaration_of
 returns-clause-legible c =
-    λ shapes subject none regular. subject_legible 65 shapes subject none regular.own regular.reached
+    λ shapes subject none. subject_legible 65 shapes subject none
 
 pub returns-clause-one : goal.returns-clause-one
 unfolding declaration_of
 returns-clause-one c =
-    λ shapes subject none regular d another e legible text. one_text another d legible
-    (subject_legible 65 shapes subject none regular.own regular.reached d e) text
+    λ shapes subject none d another e legible text. one_text another d legible
+    (subject_legible 65 shapes subject none d e) text

@@ -6,5 +6,5 @@ use Rattle.dw_cprint.proofs.lengths.length_of.Goals as goal
 pub returns-in-Array : goal.returns-in-Array
 returns-in-Array c =
     let long : c.length.result
-    ≡ capped (sum_by (λ (n : Option ℕ). byte_count (count_tokens n)) c.in-Array.counts) = c.length.ensures in
+    ≡ capped (sum_by (λ (n : Option ℕ). byte_count (count_tokens n)) c.in-Array.dimensions) = c.length.ensures in
     rw c.in-Array.is (omega (arith, c.plus-in-Array.ensures, c.length_around-in-Array.ensures, long))

@@ -83,8 +83,8 @@ subject_at-requires-clause-row c =
     let row = get_or_read rows number read there c.index-row.ensures read in
     rw (c.in_ok-source.ensures, at, row) (c.in_ok-named.ensures.rows.each number read there)
 
-pub judge-requires : goal.judge-requires
-judge-requires c =
+pub judge_named-requires : goal.judge_named-requires
+judge_named-requires c =
     let within : c.loop-place.place
     < length c.in_ok-numbers.numbers.items = omega (arith, c.loop-place-test.true, c.len-place-end.ensures) in
     let inside = number-inside c.args.image.now c.in_ok-named.named.ids.items c.in_ok-numbers.numbers.items
@@ -109,12 +109,14 @@ loop-place-preserved c =
     let roots = c.in_ok-types.ensures in
     let among : AreAmong (f entry) (entries_of c.in_ok-types.types.items) = rw (at, roots)
     (steps-among f named number inside) in
+    let more = c.judge_named.new in
     let B : SubjectOf → Type 0 = λ s. BySurvey c.in_ok-survey.survey (first_steps s) (λ shapes.
-    IsAdded shapes number s c.loop-place.judged c.judge.new.judged c.loop-place.text.items c.judge.new.text.items) in
-    let added = subst B (rw c.in_ok-source.ensures at c.in_ok-subject.ensures) c.in_ok-judge.ensures (shape_in image)
-    (entries_of c.in_ok-types.types.items) (rw c.in_ok-source.ensures at c.in_ok-survey.ensures) among in
-    judged-more image named numbers place number entry c.loop-place.judged c.judge.new.judged
-    c.loop-place.text.items c.judge.new.text.items ranks within (sym is) inside (sym at) added c.loop-place.invariant
+    IsAdded shapes number s c.loop-place.judged more.judged c.loop-place.text.items more.text.items) in
+    let added = subst B (rw c.in_ok-source.ensures at c.in_ok-subject.ensures) c.in_ok-judge_named.ensures
+    (shape_in image) (entries_of c.in_ok-types.types.items) (rw c.in_ok-source.ensures at c.in_ok-survey.ensures) among
+    in
+    judged-more image named numbers place number entry c.loop-place.judged more.judged
+    c.loop-place.text.items more.text.items ranks within (sym is) inside (sym at) added c.loop-place.invariant
 
 pub put_all_refused-requires : goal.put_all_refused-requires
 put_all_refused-requires c =

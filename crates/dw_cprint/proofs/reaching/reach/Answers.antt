@@ -22,7 +22,7 @@ pub push_row-requires-in-loop-found-clause-within : goal.push_row-requires-in-lo
 push_row-requires-in-loop-found-clause-within c =
     let steps : entries_of c.deref.result.now
     ≡ steps_reached (shape_in c.args.source.now.image.now) c.get.result = search rules in
-    rw (steps, c.loop-found.invariant.2) (shape_within c.args.source.now.image.now c.get.result).all.all
+    rw (steps, c.loop-found.invariant.2) (shape_within c.args.source.now.image.now c.get.result).all
 
 pub loop-found-init : goal.loop-found-init
 loop-found-init c =

@@ -19,9 +19,9 @@ returns c = λ shapes entry is known.
     (c.findings_under.ensures shapes) known in
     let both = c.with-all.ensures.either in
     entry_summary shapes entry shape _ is c.kind_of.ensures (c.base_of.ensures.under shapes entry is known)
-    (found-shape shapes s entry c.own_findings.result c.findings_under.result _ (rw (← is) at known)
-    (rw (← is) at c.own_findings.ensures) (rw (← is) at rest)
+    (found-shape shapes s entry c.wrong_in_shape.result c.findings_under.result _ (rw (← is) at known)
+    (rw (← is) at c.wrong_in_shape.ensures) (rw (← is) at rest)
     (record { bad_name = both.bad_name; foreign_type = both.foreign_type; unspeakable = both.unspeakable })
-    (omega (arith, c.own_findings.ensures.shallow, c.with-all.ensures.depth, c.saturating_add.ensures)))
+    (omega (arith, c.wrong_in_shape.ensures.shallow, c.with-all.ensures.depth, c.saturating_add.ensures)))
     (λ k t e. same-length t _ _ _ _ _ _ c.kind_of.ensures c.base_of.ensures.same c.length_of.ensures
     (shape-length (term_at k shapes) (known_of s) shape t (knows-lengths shapes s k (types_reached shape) known) e))

@@ -1,16 +1,15 @@
 use Rattle.std.proofs.lemmas.Grind.{common_steps}
 use Rattle.std.proofs.Common.{arith, ◌≡◌, [], ◌∷◌, Bool, List, Some, None, true, refl, ap, sym, ◌∙◌, subst, get_or, map, append-nil, rules}
-use Rattle.std.specs.Prelude.{flat_map}
 use Rattle.std.proofs.lemmas.List.{drop_more, drop_all, get_or_read}
 use Rattle.dw_cprint.specs.Declarations.{term_at}
 use Rattle.dw_cprint.specs.Declarators.{before, gap, pointer_row}
 use Rattle.dw_cprint.specs.Drafts.{appended}
 use Rattle.dw_cprint.specs.Kept.{kept, Writes, WritesBefore, WritesCore, WritesMembers, WritesParameters}
-use Rattle.dw_cprint.specs.Shapes.{Qualifier, Parameter, Typed, MemberOf, ShapeOf, function, view_name, view_shape, view_member}
+use Rattle.dw_cprint.specs.Shapes.{OfAggregate, Qualifier, Parameter, Typed, MemberOf, ShapeOf, function, view_name, view_shape, view_member}
 use Rattle.dw_cprint.specs.Terms.{Term}
 use Rattle.dw_cprint.specs.declared.words.Text.{Text}
 use Rattle.dw_cprint.specs.Tokens.{VoidWord, TagWord, RightBrace, spelling, text_of}
-use Rattle.dw_cprint.specs.Writing.{count_tokens, qualifying}
+use Rattle.dw_cprint.specs.Writing.{qualifying}
 use Rattle.dw_cprint.proofs.OptionLemmas.{ok_then}
 use Rattle.dw_cprint.proofs.WriterLemmas.{both, as_tokens, step-at, void-at, pointer_before, array_before, specifier_before, array_after, prototype_after, named_written, base_core, body_core, enumeration_core, pointer_after, specifier-shape, some-mapped}
 use Rattle.dw_cprint.proofs.ItemWriterLemmas.{IsLeft, next-of, left-over, members_left, members_next, parameters_left, parameters_next, parameters_done, members_done}
@@ -23,7 +22,7 @@ put_after-returns-in_ok-write-in-Array t c =
     let is = sym c.get.ensures ∙ c.in-Some.is in
     let step = step-at _ _ _ _ _ _ _ is seen.ensures.found (ap view_shape c.in-Array.is) in
     ok_then _ _ _
-    (array_after (term_at seen.below (kept c.args.self.now)) _ _ _ _ _ c.in-Array.field-1 c.in-Array.element step
+    (array_after (term_at seen.below (kept c.args.self.now)) _ _ _ _ _ c.in-Array.strange c.in-Array.element step
     c.in_ok-write-in-Array.ensures)
     c.put_after-in-Array.ensures
 
@@ -91,7 +90,7 @@ put_before-returns-in-Array t c =
     let P : List Qualifier → Type 0 = λ us. WritesBefore s seen.below a.element us true c.args.out.now
     c.put_before-in-Array.new.out in
     ok_then _ _ _ (λ inner. array_before (term_at seen.below (kept s)) _ _ _ c.args.qualifiers.items c.args.inside
-    a.field-0 a.field-1 a.element step (subst P c.new-in-Array.ensures.items inner))
+    a.dimensions a.strange a.element step (subst P c.new-in-Array.ensures.items inner))
     c.put_before-in-Array.ensures
 
 pub put_before-returns-in_ok-put_core-in_default-shape : goal.put_before-returns-in_ok-put_core-in_default-shape
@@ -121,13 +120,13 @@ put_core-returns-in_ok-put-in-Body-2 t c =
     let s = c.args.self.now in
     let b = c.in-Body in
     let tag = c.in_ok-put-in-Body.ensures
-    ∙ ap (appended c.args.out.now) (c.text.ensures ∙ sym (append-nil (spelling (TagWord b.tag)))) in
+    ∙ ap (appended c.args.out.now) (c.text.ensures ∙ sym (append-nil (spelling (TagWord (OfAggregate b.word))))) in
     let P : ShapeOf → Type 0 = λ shape. WritesCore s c.args.depth shape c.args.out.now c.put_members.new.out in
     let Q : List MemberOf → Type 0 = λ us. WritesMembers s c.args.depth us c.put-in-Body.new.self c.put_members.new.out
     in
     ok_then _ _ _
     (λ inner. subst P (sym (ap view_shape b.is))
-    (body_core (term_at c.args.depth (kept s)) _ _ _ _ b.tag b.field-1 (map view_member b.members.items) tag
+    (body_core (term_at c.args.depth (kept s)) _ _ _ _ b.word b.odd (map view_member b.members.items) tag
     c.in_ok-put-in-Body-2.ensures (subst Q (ap (map view_member) c.deref.ensures.value) inner)))
     c.put_members.ensures
 

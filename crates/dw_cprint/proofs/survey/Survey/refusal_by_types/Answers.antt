@@ -4,17 +4,17 @@ use Rattle.dw_cprint.specs.Refusals.{other_kind, cycle}
 use Rattle.dw_cprint.specs.Shapes.{view_subject}
 use Rattle.dw_cprint.specs.Steps.{ReachACycle, first_steps, types_declared}
 use Rattle.dw_cprint.specs.Surveys.{lacks_summary}
-use Rattle.dw_cprint.proofs.RefusalLemmas.{none-first, printable}
+use Rattle.dw_cprint.proofs.RefusalLemmas.{is-other, none-first, printable}
 use Rattle.dw_cprint.proofs.SurveyLemmas.{cycle-told, types-known}
 use Rattle.dw_cprint.proofs.survey.Survey.refusal_by_types.Goals as goal
 
 apart : {b : Bool} → b ≡ true → b ≡ false → ⊥
 apart t f = (let e : true ≡ false = sym t ∙ f in absurd (cc))
 
-pub returns-then-is_other_kind : goal.returns-then-is_other_kind
-returns-then-is_other_kind c = λ shapes roots survey among.
+pub returns-in-Other : goal.returns-in-Other
+returns-in-Other c = λ shapes roots survey among.
     record {
-      holds = other_kind (sym c.is_other_kind.ensures ∙ c.if-is_other_kind.true);
+      holds = other_kind (ap view_subject c.in-Other.is);
       least = none-first shapes (view_subject c.args.subject.now);
     }
 
@@ -33,7 +33,7 @@ returns c = λ shapes roots survey among.
     ∙ c.if-reaches_cycle.false in
     let clear : ReachACycle shapes (first_steps x)
     → ⊥ = λ r. apart ((cycle-told shapes roots s survey (types_declared x) among).1 r) none in
-    c.refusal.ensures shapes x (printable shapes x
-    (λ e. apart e (sym c.is_other_kind.ensures ∙ c.if-is_other_kind.false)) clear)
-    ((rw c.requires at c.findings_declared.ensures) shapes
+    c.first.ensures shapes x (printable shapes x
+    (λ e. c.in_default.not-Other (is-other c.args.subject.now e)) clear)
+    ((rw c.requires at c.findings_of.ensures) shapes
     (types-known shapes roots s survey (types_declared x) among clear))

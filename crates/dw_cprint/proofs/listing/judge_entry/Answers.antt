@@ -6,13 +6,13 @@ use Rattle.dw_cprint.specs.Refusals.{PrintFault}
 use Rattle.dw_cprint.specs.Shapes.{SubjectOf}
 use Rattle.dw_cprint.specs.Steps.{first_steps, types_declared}
 use Rattle.dw_cprint.proofs.WithinLemmas.{subject_within}
-use Rattle.dw_cprint.proofs.listing.refusal_of.Goals as goal
+use Rattle.dw_cprint.proofs.listing.judge_entry.Goals as goal
 
 pub new-requires : goal.new-requires
 new-requires c =
     let image = c.args.source.now.image.now in
     let types : c.put_declared_types.new.types.items ≡ types_declared (subject_in image c.args.id) = search rules in
-    rw types (subject_within image c.args.id).all.all
+    rw types (subject_within image c.args.id).all
 
 pub returns : goal.returns
 returns c =
@@ -20,9 +20,9 @@ returns c =
     let shapes = shape_in image in
     let types : c.put_declared_types.new.types.items ≡ types_declared (subject_in image c.args.id) = search rules in
     let surveyed = rw types at c.in_ok-survey.ensures in
-    let J : Option PrintFault → SubjectOf → Type 0 = λ r s. IsJudgement shapes s c.refusal.new.draft r in
-    IfOk-weaker c.refusal.result _ (λ r. J r (subject_in image c.args.id))
+    let J : Option PrintFault → SubjectOf → Type 0 = λ r s. IsJudgement shapes s c.judge.new.draft r in
+    IfOk-weaker c.judge.result _ (λ r. J r (subject_in image c.args.id))
     (λ r judged. subst (J r) c.in_ok-subject.ensures
     (judged shapes (first_steps (subject_in image c.args.id)) surveyed
     (λ entry has. rw c.in_ok-subject.ensures at has)))
-    c.refusal.ensures.judged
+    c.judge.ensures.judged

@@ -2,7 +2,7 @@ use Rattle.std.proofs.Common.{◌/◌, ◌%◌, ◌+◌, ◌∙◌, ap, length, 
 use Rattle.std.proofs.lemmas.List.{length_push}
 use Rattle.dw_cprint.specs.Digits.{numeral}
 use Rattle.dw_cprint.proofs.LexingLemmas.{numeral_step}
-use Rattle.dw_cprint.proofs.lengths.+digit_count.Goals as goal
+use Rattle.dw_cprint.proofs.text.+digit_count.Goals as goal
 
 pub returns-else-n-lt10 : goal.returns-else-n-lt10
 returns-else-n-lt10 t c =

@@ -4,7 +4,7 @@ use Rattle.std.proofs.lemmas.Bool.{eq-eqb}
 use Rattle.std.proofs.lemmas.Bool.Decides.{nat_tests}
 use Rattle.dw_cprint.specs.Legible.{is_keyword, keywords}
 use Rattle.dw_cprint.proofs.NameLemmas.{by_length}
-use Rattle.dw_cprint.proofs.names.is_keyword_text.Goals as goal
+use Rattle.dw_cprint.proofs.words.is_keyword_text.Goals as goal
 
 -- no keyword is so long
 abbrev is_other_length : ℕ → Bool

@@ -1,4 +1,4 @@
-use Rattle.dw_cprint.proofs.lengths.+digit_count.Given as goal
+use Rattle.dw_cprint.proofs.text.+digit_count.Given as goal
 
 abbrev pub decreases-digit_count : goal.decreases-digit_count
 decreases-digit_count l = l.n

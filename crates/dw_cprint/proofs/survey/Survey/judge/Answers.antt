@@ -5,7 +5,7 @@ use Rattle.dw_cprint.specs.Shapes.{view_subject}
 use Rattle.dw_cprint.specs.Steps.{types_declared}
 use Rattle.dw_cprint.proofs.RefusalLemmas.{too-long, not-too-long}
 use Rattle.dw_cprint.proofs.SurveyLemmas.{types-known}
-use Rattle.dw_cprint.proofs.survey.Survey.refusal.Goals as goal
+use Rattle.dw_cprint.proofs.survey.Survey.judge.Goals as goal
 
 pub returns-in-Some-clause-judged : goal.returns-in-Some-clause-judged
 returns-in-Some-clause-judged c = λ shapes roots survey among.
