@@ -112,6 +112,7 @@ class Prover:
     """Checks copies of one crate, each over what a check of the crate as it stands proved."""
 
     def __init__(self, name, jobs):
+        began = seconds()
         self.name, self.folder, self.below = name, TOP / "crates" / name, {}
         uses = re.findall(r"(?m)^((\w+)(?: staticlib)?:(.*))$", (TOP / "crates.txt").read_text())
         uses = {name: (line, words.split()) for line, name, words in uses}
@@ -122,6 +123,8 @@ class Prover:
                 wanted += uses[it][1]
         if checked(self.folder, jobs).returncode:
             raise SystemExit(f"{name} is not proved as it stands")
+        self.spent = seconds() - began
+        print(f"{name}: proved as it stands ({self.spent:.0f} s)", flush=True)
 
     def copy(self, top, texts):
         """Copies the crate with other texts in some files, and the crates below it, each with what its check kept."""
@@ -151,13 +154,17 @@ def checked(folder, jobs):
 
 
 def linked(one, other):
-    """Links a proof that is kept, which a check replaces and never changes, and copies any other file."""
+    """Links a proof that is kept, which a check replaces and never changes, and copies any other file.
+
+    A proof that a check has removed meanwhile is left out: it is proved once more.
+    """
+    if not one.endswith(".oantt"):
+        return shutil.copy2(one, other)
     try:
-        if one.endswith(".oantt"):
-            return os.link(one, other)
+        os.link(one, other)
     except OSError:
-        pass
-    return shutil.copy2(one, other)
+        with contextlib.suppress(FileNotFoundError):
+            shutil.copy2(one, other)
 
 
 @contextlib.contextmanager
@@ -204,11 +211,9 @@ def seconds():
     return used.ru_utime + used.ru_stime
 
 
-def try_crate(name, edits, jobs):
+def try_crate(prover, edits, jobs):
     """Tries the edits and controls of a crate, and returns what came of each, and the processor seconds."""
-    began, found = seconds(), []
-    prover = Prover(name, jobs)
-    print(f"{name}: proved as it stands ({seconds() - began:.0f} s)", flush=True)
+    began, found, name = seconds() - prover.spent, [], prover.name
     rest = [it for kind in (False, True) for it in batches_of([e for e in edits if e.is_control == kind])]
     with concurrent.futures.ThreadPoolExecutor(jobs) as pool:
         while rest:
@@ -259,9 +264,11 @@ def main():
                 tally.add(edit.label, edit.why)
             else:
                 chosen[edit.crate.name].append(edit)
+    # A check writes into the folders of all crates below: no copy is made of one before the last of them is over.
+    provers = [Prover(name, given.jobs) for name in chosen]
     with concurrent.futures.ProcessPoolExecutor(min(given.jobs, max(len(chosen), 1))) as pool:
         jobs = max(given.jobs // max(len(chosen), 1), 1)
-        tried = {name: pool.submit(try_crate, name, chosen[name], jobs) for name in chosen}
+        tried = {it.name: pool.submit(try_crate, it, chosen[it.name], jobs) for it in provers}
         table({name: it.result() for name, it in tried.items()}, tally)
     return tally.end()
 
