@@ -5,8 +5,9 @@ usage: make-rules.py [--count]
 
 The table has a line for each rule: its code, its name, the sentence that says what violates it, which place a fault of
 it names, whether it names an attribute, and how a valid file has it. From it come the tables of RULES.md and REPORTS.md,
-the lists of dwv.1, the texts of `explain` and of SARIF (contrib/dwv_tools/rules.txt), those of the Rust crate, and the
-comments of the code and of specs/ that say what a rule is. In a comment the sentence is the first paragraph.
+the lists of dwv.1, the texts of `explain` and of SARIF (contrib/dwv_tools/rules.txt), those of the Rust crate, the enums
+of rules in the code with their codes, names and groups, what specs/ say of these, and the comments of specs/ that say
+what a rule is. In a comment the sentence is the first paragraph.
 
 With --count it writes nothing, and prints for each rule how many wordings it has in how many places.
 """
@@ -18,8 +19,17 @@ import textwrap
 TOP = pathlib.Path(__file__).resolve().parent.parent
 COLUMNS = "code name sentence place attribute remedy".split()
 WIDTH = 120
-# Files of the code whose comments on the variants of an enum say what a rule is, and those of specs/ that name a rule.
-FAULTS = [f"crates/dw_{file}.rt" for file in ("elf/src/fault", "forms/src/fault", "entries/src/rule", "cprint/src/fault")]
+# The groups of rules on sections, by their letters, in the order in which they are checked.
+GROUPS = ["A U G", "K", "S", "R", "Y", "C", "Z"]
+# The enums of rules: the file, the letters of the rules that are its variants, and the chapter that has their texts.
+ENUMS = {
+    "ElfRule": ("crates/dw_elf/src/fault.rt", "E", "crates/dw_elf/specs/RuleTexts.antt"),
+    "AbbrevRule": ("crates/dw_forms/src/fault.rt", "A", "crates/dw_forms/specs/Rules.antt"),
+    "Rule": ("crates/dw_entries/src/rule.rt", "U G K S R Y C Z", "crates/dw_entries/specs/Rules.antt"),
+    "PrintFault": ("crates/dw_cprint/src/fault.rt", "P", "crates/dw_cprint/specs/Listings.antt"),
+}
+FAULTS = [file for file, _, _ in ENUMS.values()]
+# Chapters that name a rule above a definition.
 SPECS = [f"crates/dw_links/specs/{chapter}.antt" for chapter in ("Classes", "References")]
 
 
@@ -28,7 +38,9 @@ class Rule:
 
     def __init__(self, line):
         self.__dict__.update(zip(COLUMNS, line.split("\t"), strict=True))
-        self.group, self.text = self.code[0], self.sentence[0].upper() + self.sentence[1:] + "."
+        self.letter, self.number = self.code[0], self.code[1:]
+        self.group = next((k for k, letters in enumerate(GROUPS, 1) if self.letter in letters), 0)
+        self.text = self.sentence[0].upper() + self.sentence[1:] + "."
 
 
 def table():
@@ -40,7 +52,7 @@ def table():
 
 def of(rules, groups):
     """The rules of some groups, which are given by their letters."""
-    return [rule for rule in rules if rule.group in groups.split()]
+    return [rule for rule in rules if rule.letter in groups.split()]
 
 
 def plain(text):
@@ -107,11 +119,68 @@ def comment(indent, mark, text):
 
 
 def with_variants(text, rules):
-    """A file of the code, where the first paragraph above each rule's variant says what the rule is."""
-    for rule in rules:
-        made = "\n".join(comment("    ", "///", f"{rule.code}: {rule.sentence}."))
-        text = re.sub(rf"(?m)(?:^    /// .*\n)+((?:^    ///(?: .*)?\n)*)(?=^    {rule.name},$)",
-                      lambda it: f"{made}\n{it[1]}", text)
+    """A file of the code with a variant for each rule. The first paragraph above it says what the rule is."""
+    names = "|".join(rule.name for rule in rules)
+    found = list(re.finditer(rf"(?m)(?:^    /// .*\n)+((?:^    ///(?: .*)?\n)*)^    ({names}),\n", text))
+    more = {it[2]: it[1] for it in found}
+    made = "".join("\n".join([*comment("    ", "///", f"{rule.code}: {rule.sentence}."),
+                              f"{more.get(rule.name, '')}    {rule.name},\n"]) for rule in rules)
+    return text[:found[0].start()] + made + text[found[-1].end():]
+
+
+def with_lines(text, rules, form):
+    """A text in which each run of lines of this form, one a rule, has a line for each of the rules."""
+    line = re.escape(form).replace(r"\{name\}", f"(?:{'|'.join(rule.name for rule in rules)})")
+    line = line.replace(r"\{code\}", r"[A-Z]\d+").replace(r"\{number\}", r"\d+").replace(r"\{group\}", r"\d+")
+    made = "".join(f"{form.format_map(vars(rule))}\n" for rule in rules)
+    return re.sub(rf"(?m)(?:^{line}\n)+", lambda it: made, text)
+
+
+def with_arms(text, rules, enum):
+    """A file of the code in which a `match` on a rule for its code, its name or its group has an arm for each."""
+    for value in ('"{code}"', '"{name}"', "{group}"):
+        text = with_lines(text, rules, f"            {enum}::{{name}} => {value},")
+    return text
+
+
+def with_equations(text, rules, enum):
+    """A chapter of specs/ that says each rule's code, name, group and number, and takes their names from the enum."""
+    for word, value in (("code_text", 'codes "{code}"'), ("name_text", 'codes "{name}"'), ("group_of", "{group}"),
+                        ("number_of", "{number}")):
+        text = with_lines(text, rules, f"{word} {{name}} = {value}")
+    return with_names(text, rules, enum, WIDTH)
+
+
+def with_names(text, rules, enum, width):
+    """A chapter that takes the names of the rules from the enum, on lines of this width, after those of other variants."""
+    others = lambda names: [it for it in names if it not in {rule.name for rule in rules}]
+
+    def lines(it):
+        names = others(re.findall(r"\w+", " ".join(re.findall(r"\{(.*)\}", it[0])))) + [rule.name for rule in rules]
+        while names:
+            much = next((k for k in range(len(names), 1, -1) if len(f"{it[1]}{', '.join(names[:k])}}}") <= width), 1)
+            yield f"{it[1]}{', '.join(names[:much])}}}\n"
+            names = names[much:]
+
+    return re.sub(rf"(?m)^(use \S+\.{enum}\.TheVariants\.\{{).*\}}\n(?:\1.*\}}\n)*", lambda it: "".join(lines(it)), text)
+
+
+def with_choices(text, rules):
+    """A file of lemmas that finds a rule by its number among those of a letter."""
+    for word, letter in (("string_rule", "S"), ("reference_rule", "R"), ("type_rule", "Y"), ("size_rule", "Z")):
+        *those, last = of(rules, letter)
+        tests = [f"if number == {rule.number} then {rule.name} else" for rule in those]
+        made = "\n    (".join([f"{word} number =\n    {tests[0]}", *tests[1:]]) + f" {last.name}{')' * len(tests[1:])}\n"
+        text = re.sub(rf"(?m)^{word} number =\n(?:    .*\n)+", lambda it: made, text)
+    return with_names(text, [rule for rule in rules if rule.group > 1], "Rule", 10000)
+
+
+def with_tables(text, rules):
+    """The tests of codes and names, which have a table for each enum."""
+    for enum, (_, letters, _) in ENUMS.items():
+        those = of(rules, letters)
+        text = with_lines(text, those, f'    ({enum}::{{name}}, "{{code}}", "{{name}}"),')
+        text = re.sub(rf"(?m)^(const \w+: \[\({enum}, &str, &str\); )\d+", lambda it: f"{it[1]}{len(those)}", text)
     return text
 
 
@@ -126,7 +195,7 @@ def with_definitions(text, rules):
 def made():
     """Each file that says what rules are, and what makes its text of the one that it has."""
     rules = table()
-    faults = [rule for rule in rules if rule.group != "P"]
+    faults = [rule for rule in rules if rule.letter != "P"]
     yield "docs/RULES.md", lambda text: put(text, "<!-- made by docs/make-rules.py:", "<!-- end -->",
                                             lambda groups: page_table(of(rules, groups)))
     yield "docs/REPORTS.md", lambda text: with_cells(text, of(rules, "P"))
@@ -135,8 +204,12 @@ def made():
     yield "contrib/dwv_tools/rules.txt", lambda text: "\n".join([*list_text(faults), ""])
     yield "rust/dwv/src/rule.rs", lambda text: re.sub(
         r"(?s)(\nrules! \{\n).*?(\n\}\n)", lambda it: it[1] + "\n".join(rust_lines(faults)) + it[2], text)
-    for path in FAULTS:
-        yield path, lambda text: with_variants(text, rules)
+    for enum, (file, letters, chapter) in ENUMS.items():
+        those = of(rules, letters)
+        yield file, lambda text: with_arms(with_variants(text, those), those, enum)
+        yield chapter, lambda text: with_equations(text, those, enum)
+    yield "crates/dw_image/proofs/RuleLemmas.antt", lambda text: with_choices(text, rules)
+    yield "crates/dw_tests/src/rules.rt", lambda text: with_tables(text, rules)
     for path in SPECS:
         yield path, lambda text: with_definitions(text, rules)
 

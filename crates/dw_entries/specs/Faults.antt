@@ -1,15 +1,11 @@
 -- Chapter: the first place at which .debug_info stops being a list of units, and the rule that fails there.
 use Rattle.std.specs.Prelude.{◌≡◌, ◌≢◌, ℕ, zero, suc, true, false, ◌+◌, List, [], ◌∷◌, ◌++◌, length, Some, Result, Ok}
 use Rattle.std.specs.Prelude.{Err}
-use Rattle.dw_forms.specs.declared.fault.AbbrevRule.{AbbrevRule}
-use Rattle.dw_forms.specs.declared.fault.AbbrevRule.TheVariants as table
 use Rattle.dw_forms.specs.declared.fault.AbbrevFault.{AbbrevFault}
 use Rattle.dw_forms.specs.Abbrev.{Declaration}
 use Rattle.dw_forms.specs.AbbrevReading.{table_at}
 use Rattle.dw_entries.specs.declared.rule.Rule.{Rule}
-use Rattle.dw_entries.specs.declared.rule.Rule.TheVariants.{AbbrevCut, AbbrevNumber, CodeTwice, BadTag, BadChildren}
-use Rattle.dw_entries.specs.declared.rule.Rule.TheVariants.{BadPair, UnknownForm, AttributeTwice, NoUnitEntry}
-use Rattle.dw_entries.specs.declared.rule.Rule.TheVariants.{LeftOver}
+use Rattle.dw_entries.specs.declared.rule.Rule.TheVariants.{Table, NoUnitEntry, LeftOver}
 use Rattle.dw_entries.specs.declared.fault.Section.TheVariants.{Abbrev, Info}
 use Rattle.dw_entries.specs.declared.fault.Failing.{Failing}
 use Rattle.dw_entries.specs.declared.fault.PlainFault.{PlainFault}
@@ -21,20 +17,9 @@ use Rattle.dw_entries.specs.Items.{Item, entry, null, AreItems, items_bytes, tre
 use Rattle.dw_entries.specs.Reading.{code_at, next_at, null_first}
 use Rattle.dw_entries.specs.Units.{DebugUnit, context_by, AreUnits, units_bytes}
 
--- the rule of a table's fault, among all rules
-abbrev pub rule_of : AbbrevRule → Rule
-rule_of table.AbbrevCut = AbbrevCut
-rule_of table.AbbrevNumber = AbbrevNumber
-rule_of table.CodeTwice = CodeTwice
-rule_of table.BadTag = BadTag
-rule_of table.BadChildren = BadChildren
-rule_of table.BadPair = BadPair
-rule_of table.UnknownForm = UnknownForm
-rule_of table.AttributeTwice = AttributeTwice
-
 -- the fault of a table
 abbrev pub in_table : AbbrevFault → PlainFault
-in_table f = record { rule = rule_of f.rule; section = Abbrev; at = f.at; attribute = f.attribute }
+in_table f = record { rule = Table f.rule; section = Abbrev; at = f.at; attribute = f.attribute }
 
 -- the fault of a header at this offset
 abbrev pub in_header : Rule → ℕ → PlainFault

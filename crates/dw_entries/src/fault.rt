@@ -16,10 +16,10 @@ pub enum Section {
 }
 
 impl Section {
-    ghost use Rattle.dw_entries.specs.RuleTexts.{section_text};
+    ghost use Rattle.dw_entries.specs.Rules.{section_text};
 
     /// The section's name in the file.
-    #[tactic(auto, unfolding(crate::specs::RuleTexts::section_text))]
+    #[tactic(auto, unfolding(crate::specs::Rules::section_text))]
     pub fn name(self) -> &'static str
         ensures { result.now ≡ section_text self }
     {

@@ -21,7 +21,7 @@ mod values;
 
 pub use cursor::Cursor;
 pub use dw_elf::Sections;
-pub use dw_forms::{Attribute, Stop, Tag, Value, constants};
+pub use dw_forms::{AbbrevRule, Attribute, Stop, Tag, Value, constants};
 pub use entries::Entries;
 pub use entry::{EntryAt, EntryHead, Head};
 pub use fault::{Fault, PlainFault, Section};

@@ -2,25 +2,13 @@
 
 ghost use Rattle.std.specs.Prelude.{◌≡◌};
 
+use dw_forms::AbbrevRule;
+
 /// A rule. The letter of its code names the group that it belongs to, and the number its place there.
 #[derive(Clone, Copy, Debug, PartialEq, Eq)]
 pub enum Rule {
-    /// A1: a part of a declaration, or the end of the table, passes the end of `.debug_abbrev`.
-    AbbrevCut,
-    /// A2: a number in a table has more than 10 bytes or more than 64 bits.
-    AbbrevNumber,
-    /// A3: an earlier declaration of the table has the code.
-    CodeTwice,
-    /// A4: a tag is 0 or above 0xffff.
-    BadTag,
-    /// A5: the byte that says whether there are children is neither 0 nor 1.
-    BadChildren,
-    /// A6: one of an attribute and its form alone is 0, or the attribute is above 0xffff.
-    BadPair,
-    /// A7: no form has the code.
-    UnknownForm,
-    /// A8: a declaration has an attribute twice.
-    AttributeTwice,
+    /// A1 to A8: a rule of an abbreviation table.
+    Table(AbbrevRule),
     /// U1: a unit passes the end of `.debug_info`, or its header passes the unit's end.
     UnitCut,
     /// U2: the unit's length is 0xfffffff0 or more, which means 64-bit DWARF or is reserved.
@@ -97,22 +85,15 @@ pub enum Rule {
 }
 
 impl Rule {
-    ghost use Rattle.dw_entries.specs.RuleTexts.{code_text, name_text};
+    ghost use Rattle.dw_entries.specs.Rules.{code_text, group_of, name_text};
 
     /// The code of the rule: the letter of its group and its number there.
-    #[tactic(auto, unfolding(crate::specs::RuleTexts::code_text))]
+    #[tactic(auto, unfolding(crate::specs::Rules::code_text))]
     pub fn code(self) -> &'static str
         ensures { result.now ≡ code_text self }
     {
         match self {
-            Rule::AbbrevCut => "A1",
-            Rule::AbbrevNumber => "A2",
-            Rule::CodeTwice => "A3",
-            Rule::BadTag => "A4",
-            Rule::BadChildren => "A5",
-            Rule::BadPair => "A6",
-            Rule::UnknownForm => "A7",
-            Rule::AttributeTwice => "A8",
+            Rule::Table(rule) => rule.code(),
             Rule::UnitCut => "U1",
             Rule::Not32Bit => "U2",
             Rule::BadVersion => "U3",
@@ -150,19 +131,12 @@ impl Rule {
     }
 
     /// The name of the rule, which is its variant's.
-    #[tactic(auto, unfolding(crate::specs::RuleTexts::name_text))]
+    #[tactic(auto, unfolding(crate::specs::Rules::name_text))]
     pub fn name(self) -> &'static str
         ensures { result.now ≡ name_text self }
     {
         match self {
-            Rule::AbbrevCut => "AbbrevCut",
-            Rule::AbbrevNumber => "AbbrevNumber",
-            Rule::CodeTwice => "CodeTwice",
-            Rule::BadTag => "BadTag",
-            Rule::BadChildren => "BadChildren",
-            Rule::BadPair => "BadPair",
-            Rule::UnknownForm => "UnknownForm",
-            Rule::AttributeTwice => "AttributeTwice",
+            Rule::Table(rule) => rule.name(),
             Rule::UnitCut => "UnitCut",
             Rule::Not32Bit => "Not32Bit",
             Rule::BadVersion => "BadVersion",
@@ -196,6 +170,50 @@ impl Rule {
             Rule::SizeTooGreat => "SizeTooGreat",
             Rule::MemberOutside => "MemberOutside",
             Rule::EnumSize => "EnumSize",
+        }
+    }
+
+    /// The group of the rule. A group is checked only where no rule of an earlier one fails: 1 for units with their
+    /// tables and items (A, U, G), 2 for classes (K), 3 for strings and addresses (S), 4 for references (R), 5 for types
+    /// and counts (Y), 6 for containment (C), 7 for sizes (Z).
+    pub fn group(self) -> u8
+        ensures { result ≡ group_of self }
+    {
+        match self {
+            Rule::Table(_) => 1,
+            Rule::UnitCut => 1,
+            Rule::Not32Bit => 1,
+            Rule::BadVersion => 1,
+            Rule::BadUnitType => 1,
+            Rule::BadAddressSize => 1,
+            Rule::BadAbbrevOffset => 1,
+            Rule::NoUnitEntry => 1,
+            Rule::WrongUnitTag => 1,
+            Rule::LeftOver => 1,
+            Rule::UndeclaredCode => 1,
+            Rule::Cut => 1,
+            Rule::BadNumber => 1,
+            Rule::BadIndirect => 1,
+            Rule::FormVersion => 1,
+            Rule::WrongClass => 2,
+            Rule::BadStrBase => 3,
+            Rule::StrIndex => 3,
+            Rule::StringEnd => 3,
+            Rule::BadAddrBase => 3,
+            Rule::AddrIndex => 3,
+            Rule::NoEntry => 4,
+            Rule::WrongKind => 4,
+            Rule::NotNextSibling => 4,
+            Rule::NoSignature => 4,
+            Rule::SignatureTwice => 4,
+            Rule::BadTypeOffset => 4,
+            Rule::MissingType => 5,
+            Rule::BadCount => 5,
+            Rule::ContainsItself => 6,
+            Rule::NoSize => 7,
+            Rule::SizeTooGreat => 7,
+            Rule::MemberOutside => 7,
+            Rule::EnumSize => 7,
         }
     }
 }

@@ -6,7 +6,7 @@ ghost use Rattle.dw_forms.specs.AbbrevReading.{table_at};
 ghost use Rattle.dw_forms.specs.AbbrevTables.{AreSearchable, AreTablesOf, tables_in};
 ghost use Rattle.dw_forms.specs.Stops.{IfFault};
 ghost use Rattle.dw_forms.specs.TableStarts.{IsTableIn};
-ghost use Rattle.dw_entries.specs.Faults.{Fails, FailsHere, rule_of};
+ghost use Rattle.dw_entries.specs.Faults.{Fails, FailsHere};
 ghost use Rattle.dw_entries.specs.Scanned.{Scanned};
 ghost use Rattle.dw_entries.specs.Stopped.{BreaksBy, IfPlainFault, MoreTables, UnitTaken};
 ghost use Rattle.dw_entries.specs.Units.{DebugUnit, Spells, SpellsInfo};
@@ -19,24 +19,8 @@ use crate::records::{Kept, UnitContext, UnitRecord};
 use crate::rule::Rule;
 use crate::tree::walk_unit;
 use dw_elf::Sections;
-use dw_forms::{AbbrevRule, AbbrevTables, Stop};
+use dw_forms::{AbbrevTables, Stop};
 use std::alloc::Global;
-
-/// The rule of a table's fault, among all rules.
-fn table_rule(rule: AbbrevRule) -> Rule
-    ensures { result ≡ rule_of rule }
-{
-    match rule {
-        AbbrevRule::AbbrevCut => Rule::AbbrevCut,
-        AbbrevRule::AbbrevNumber => Rule::AbbrevNumber,
-        AbbrevRule::CodeTwice => Rule::CodeTwice,
-        AbbrevRule::BadTag => Rule::BadTag,
-        AbbrevRule::BadChildren => Rule::BadChildren,
-        AbbrevRule::BadPair => Rule::BadPair,
-        AbbrevRule::UnknownForm => Rule::UnknownForm,
-        AbbrevRule::AttributeTwice => Rule::AttributeTwice,
-    }
-}
 
 /// The number of the table that begins at an offset of .debug_abbrev.
 pub fn unit_table(
@@ -56,7 +40,7 @@ pub fn unit_table(
         Ok(table) => Ok(table),
         Err(Stop::Memory) => Err(Stop::Memory),
         Err(Stop::Fault(broken)) => Err(Stop::Fault(PlainFault {
-            rule: table_rule(broken.rule),
+            rule: Rule::Table(broken.rule),
             section: Section::Abbrev,
             at: broken.at as u32,
             attribute: broken.attribute,

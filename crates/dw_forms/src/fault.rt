@@ -53,6 +53,44 @@ pub enum AbbrevRule {
     AttributeTwice,
 }
 
+impl AbbrevRule {
+    ghost use Rattle.dw_forms.specs.Rules.{code_text, name_text};
+
+    /// The code of the rule: A and its number.
+    #[tactic(auto, unfolding(crate::specs::Rules::code_text))]
+    pub fn code(self) -> &'static str
+        ensures { result.now ≡ code_text self }
+    {
+        match self {
+            AbbrevRule::AbbrevCut => "A1",
+            AbbrevRule::AbbrevNumber => "A2",
+            AbbrevRule::CodeTwice => "A3",
+            AbbrevRule::BadTag => "A4",
+            AbbrevRule::BadChildren => "A5",
+            AbbrevRule::BadPair => "A6",
+            AbbrevRule::UnknownForm => "A7",
+            AbbrevRule::AttributeTwice => "A8",
+        }
+    }
+
+    /// The name of the rule.
+    #[tactic(auto, unfolding(crate::specs::Rules::name_text))]
+    pub fn name(self) -> &'static str
+        ensures { result.now ≡ name_text self }
+    {
+        match self {
+            AbbrevRule::AbbrevCut => "AbbrevCut",
+            AbbrevRule::AbbrevNumber => "AbbrevNumber",
+            AbbrevRule::CodeTwice => "CodeTwice",
+            AbbrevRule::BadTag => "BadTag",
+            AbbrevRule::BadChildren => "BadChildren",
+            AbbrevRule::BadPair => "BadPair",
+            AbbrevRule::UnknownForm => "UnknownForm",
+            AbbrevRule::AttributeTwice => "AttributeTwice",
+        }
+    }
+}
+
 /// What is wrong with a declaration, and at which attribute, if the rule is about one.
 #[derive(Clone, Copy, Debug, PartialEq, Eq)]
 pub struct DeclFault {

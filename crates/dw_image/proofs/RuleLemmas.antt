@@ -8,14 +8,16 @@ abbrev string_rule : ℕ → Rule
 string_rule number =
     if number == 1 then BadStrBase else
     (if number == 2 then StrIndex else
-    (if number == 3 then StringEnd else (if number == 4 then BadAddrBase else AddrIndex)))
+    (if number == 3 then StringEnd else
+    (if number == 4 then BadAddrBase else AddrIndex)))
 
 abbrev reference_rule : ℕ → Rule
 reference_rule number =
     if number == 1 then NoEntry else
     (if number == 2 then WrongKind else
     (if number == 3 then NotNextSibling else
-    (if number == 4 then NoSignature else (if number == 5 then SignatureTwice else BadTypeOffset))))
+    (if number == 4 then NoSignature else
+    (if number == 5 then SignatureTwice else BadTypeOffset))))
 
 abbrev type_rule : ℕ → Rule
 type_rule number = if number == 1 then MissingType else BadCount
@@ -23,7 +25,8 @@ type_rule number = if number == 1 then MissingType else BadCount
 abbrev size_rule : ℕ → Rule
 size_rule number =
     if number == 1 then NoSize else
-    (if number == 2 then SizeTooGreat else (if number == 3 then MemberOutside else EnumSize))
+    (if number == 2 then SizeTooGreat else
+    (if number == 3 then MemberOutside else EnumSize))
 
 abbrev rule_at : (group number : ℕ) → Rule
 rule_at group number =

@@ -99,27 +99,6 @@ fn measure(alloc: Global, links: &Links<'_, '_>) -> Result<(ByValue, SizeTable),
     Ok((steps, sizes))
 }
 
-/// The number of a rule's group, in the order of the groups.
-fn group_of(rule: Rule) -> u8
-    ensures { result ≡ group_of rule }
-{
-    match rule {
-        Rule::WrongClass => 2,
-        Rule::BadStrBase | Rule::StrIndex | Rule::StringEnd | Rule::BadAddrBase | Rule::AddrIndex =>
-            3,
-        Rule::NoEntry
-        | Rule::WrongKind
-        | Rule::NotNextSibling
-        | Rule::NoSignature
-        | Rule::SignatureTwice
-        | Rule::BadTypeOffset => 4,
-        Rule::MissingType | Rule::BadCount => 5,
-        Rule::ContainsItself => 6,
-        Rule::NoSize | Rule::SizeTooGreat | Rule::MemberOutside | Rule::EnumSize => 7,
-        _ => 1,
-    }
-}
-
 /// Checks the groups of rules before a group, which is the one on references or an earlier one.
 fn check_values(alloc: Global, entries: &Entries<'_>, group: u8) -> Result<(), Stop<Fault>>
     requires { group ≤ 4 }
@@ -177,7 +156,7 @@ pub fn verify_before(
 ) -> Result<Option<Fault>, NoMemory>
     ensures { IfOk result (IsVerdictBefore (sections_of entries.now) (units_of entries.now) (group_of rule)) }
 {
-    match check_before(alloc, entries, group_of(rule)) {
+    match check_before(alloc, entries, rule.group()) {
         Ok(()) => Ok(None),
         Err(Stop::Fault(fault)) => Ok(Some(fault)),
         Err(Stop::Memory) => Err(NoMemory),
