@@ -3,10 +3,11 @@ use Rattle.std.proofs.Common.{rules, ◌≡◌, ℕ, zero, suc, ℤ, ◌<◌, Bo
 use Rattle.std.specs.Prelude.{IsSome, ◌==◌, option_map, option_and_then, Any, Contains, if◌then◌else◌}
 use Rattle.std.specs.List.{list_any}
 use Rattle.std.proofs.lemmas.List.Splits.{length-slice_split}
+use Rattle.dw_types.specs.Paths.{Leads}
 use Rattle.dw_cprint.specs.Declarations.{words_of, parts_of, is_miscounted, is_misplaced, base_term, arrays, constants_of, has_more, parameters_by, members_by, term_by, term_at}
 use Rattle.dw_cprint.specs.Legible.{is_identifier, IsIdentifier, IsQualifiable, IsPresent, IsLegible}
 use Rattle.dw_cprint.specs.Shapes.{Parameter, Typed, More, Name, TypeAt, MemberOf, EnumeratorOf, ShapeOf, base, typedef, qualified, pointer, array, function, tagged, nameless, body, enumeration, foreign, other}
-use Rattle.dw_cprint.specs.Steps.{entries_of, parameter_types, member_types, types_reached, steps_reached, Leads}
+use Rattle.dw_cprint.specs.Steps.{entries_of, parameter_types, member_types, types_reached, steps_reached, StepsTo}
 use Rattle.dw_cprint.specs.Terms.{TypeWord, Constant, Valued, Term, Named, Basic, Body, Enumeration, Qualified, Pointer, Function, Unprototyped, Prototyped, Parameters}
 use Rattle.dw_cprint.specs.Wrong.{lacks_name, lacks_base_name, HasBadName, is_foreign, lacks_value, is_wrong_enumeration, IsUnspeakable, wrong}
 use Rattle.dw_cprint.proofs.NameLemmas.{words-length}
@@ -176,7 +177,7 @@ pub record AreKept (shapes : ℕ → ShapeOf) (Good : ℕ → Type 0) : Type 0 w
   pub on : (from to : ℕ) → Good from → Contains (steps_reached shapes from) to → Good to
 
 pub entry_some : (shapes : ℕ → ShapeOf) (Good : ℕ → Type 0) → AreKept shapes Good → (k n : ℕ) → Good n
-    → ((to : ℕ) → Leads shapes k n to → ⊥) → IsSome (term_at (suc k) shapes (Some n))
+    → ((to : ℕ) → Leads (StepsTo shapes) k n to → ⊥) → IsSome (term_at (suc k) shapes (Some n))
 entry_some shapes Good kept zero n good none = absurd (none n refl)
 entry_some shapes Good kept (suc k) n good none =
     shape_some (term_at (suc k) shapes) refl shapes (shapes n) (kept.fine n good)

@@ -9,7 +9,8 @@ use lib.Dec.{eqb}
 use Rattle.std.proofs.lemmas.List.Elements.{Contains-get_or}
 use Rattle.dw_entries.proofs.FindLaws.{entries_counted}
 use Rattle.dw_entries.proofs.OrderLaws.{scanned_few}
-use Rattle.dw_types.specs.Cycles.{AreClear, Leads, IsOnCycle}
+use Rattle.dw_types.specs.Paths.{Leads, IsOnCycle}
+use Rattle.dw_types.specs.Cycles.{AreClear}
 use Rattle.dw_types.specs.Graphs.{Graph, FollowsSteps, HasNoCycle, IsStep}
 use Rattle.dw_types.proofs.LongestLemmas.{row-after}
 use Rattle.dw_types.proofs.StepLemmas.{length-by_value}
@@ -54,7 +55,7 @@ follows-more graph from next nodes step follows (suc k) within =
     rw e (follows k (omega arith))
 
 -- the nodes that steps lead through
-passed : (graph : Graph) (k from to : ℕ) → Leads graph k from to
+passed : (graph : Graph) (k from to : ℕ) → Leads (IsStep graph) k from to
     → (nodes : List ℕ) × (length nodes ≡ k) × FollowsSteps graph (from ∷ nodes) × (get_or (from ∷ nodes) k 0 ≡ to)
 passed graph zero from to same = ([], refl, λ j within. absurd (omega arith), same)
 passed graph (suc k) from to (next, step, led) =
@@ -62,7 +63,7 @@ passed graph (suc k) from to (next, step, led) =
     (next ∷ nodes, ap suc long, follows-more graph from next nodes step follows, ends)
 
 -- a graph without closed lists has no node on a cycle
-none-on_cycle : (graph : Graph) (node : ℕ) → HasNoCycle graph → IsOnCycle graph node → ⊥
+none-on_cycle : (graph : Graph) (node : ℕ) → HasNoCycle graph → IsOnCycle (IsStep graph) node → ⊥
 none-on_cycle graph node none (k, led) =
     let (nodes, long, follows, ends) = passed graph (suc k) node node led in
     let last : length (node ∷ nodes) - 1 ≡ suc k = omega (arith, long) in

@@ -2,11 +2,12 @@
 use Rattle.std.proofs.Common.{◌≡◌, ℕ, zero, suc, List, [], ◌∷◌, Option, Some, None, refl, sym, ◌∙◌, ap, subst, arith}
 use Rattle.std.specs.Prelude.{option_map, All, Any, Contains, if◌then◌else◌}
 use Rattle.std.proofs.lemmas.List.Elements.{All-nil, All-cons}
+use Rattle.dw_types.specs.Paths.{Leads}
 use Rattle.dw_cprint.specs.Declarations.{arrays, is_miscounted, parameters_by, members_by, term_by, declaration_by, term_at, declaration_of}
 use Rattle.dw_cprint.specs.Refusals.{PrintFault, Holds, other_kind, cycle, own_name, name_reached, own_child, foreign_reached, own_shape, shape_reached, deep, long, number_of, HoldsNoneBelow, Refuses, HasOneReading, IsPrinted}
 use Rattle.dw_cprint.specs.SameShapes.{AreSameFor}
 use Rattle.dw_cprint.specs.Shapes.{Parameter, Typed, More, TypeAt, MemberOf, ShapeOf, base, typedef, qualified, pointer, array, function, body, SubjectOf, typedef_subject, variable_subject, aggregate_subject, enumeration_subject, declared_subject, other_subject}
-use Rattle.dw_cprint.specs.Steps.{entries_of, parameter_types, member_types, types_reached, types_declared, first_steps, root, further, IsReached, Leads}
+use Rattle.dw_cprint.specs.Steps.{entries_of, parameter_types, member_types, types_reached, types_declared, first_steps, root, further, IsReached, StepsTo}
 use Rattle.dw_cprint.specs.Terms.{Term, Qualified, Pointer, Function, Unprototyped, Body, Typedef, Variable, Aggregate}
 use Rattle.dw_cprint.specs.Wrong.{shape_of, StandsUnder, nothing, itself, below, HasBadName, is_wrong_row, kind_at, kind_in, object_types, IsVoidLike, IsUnspeakable, wrong, void_object, row, IsOwnUnspeakable, void_variable, unspeakable, wrong_enumeration, declared_enumeration}
 use Rattle.dw_cprint.specs.Kept.{kept}
@@ -36,7 +37,7 @@ module _ (shapes others : ℕ → ShapeOf) (subject : SubjectOf) (same : AreSame
   good-rest : (at : TypeAt) (ats : List TypeAt) → GoodAmong (at ∷ ats) → GoodAmong ats
   good-rest at ats h = rest_of GoodAt tt at ats h
 
-  leads-same : (k from to : ℕ) → Good from → Leads shapes k from to → Leads others k from to
+  leads-same : (k from to : ℕ) → Good from → Leads (StepsTo shapes) k from to → Leads (StepsTo others) k from to
   leads-same zero from to good e = e
   leads-same (suc k) from to good (next, c, path) =
       (next, rw (same from good) at c, leads-same k next to (further good c) path)

@@ -7,12 +7,13 @@ use Rattle.std.proofs.lemmas.Option.{slice_get-get_or, slice_get-map, slice_get_
 use Rattle.std.proofs.lemmas.List.{get_or_default, length-map}
 use Rattle.std.proofs.lemmas.List.Elements.{Contains-append_right}
 use Rattle.std.proofs.lemmas.List.Folds.{Any-from_list_any, list_any-from_Any}
+use Rattle.dw_types.specs.Paths.{Leads, ReachesCycle}
 use Rattle.dw_types.specs.Graphs.{Graph, steps_of, step_at, IsStep}
-use Rattle.dw_types.specs.Cycles.{AreClear, Leads as NodeLeads, ReachesCycle as NodeReachesCycle}
+use Rattle.dw_types.specs.Cycles.{AreClear}
 use Rattle.dw_cprint.specs.Kept.{kept}
 use Rattle.dw_cprint.specs.Reach.{IsReachOf}
 use Rattle.dw_cprint.specs.Shapes.{ShapeOf, other, view_shape}
-use Rattle.dw_cprint.specs.Steps.{entries_of, steps_reached, IsReachedFrom, root, further, Leads, ReachesCycle, ReachACycle}
+use Rattle.dw_cprint.specs.Steps.{entries_of, steps_reached, IsReachedFrom, root, further, ReachACycle, StepsTo}
 use Rattle.dw_cprint.specs.Summaries.{Knows, AreNodes, AreRight}
 use Rattle.dw_cprint.specs.Surveys.{found_at, AreAmong, HaveSummaries, lacks_summary, IsSurveyOf}
 use Rattle.dw_cprint.specs.declared.shape.Shape.{Shape}
@@ -68,8 +69,8 @@ module _ (shapes : ℕ → ShapeOf) (roots places found : List ℕ) (graph : Gra
       (m, v, f)
 
   -- steps between nodes are steps between their entries
-  nodes-lead : (n node to : ℕ) → node < length found → NodeLeads graph n node to
-      → Leads shapes n (get_or found node 0) (get_or found to 0) × (to < length found)
+  nodes-lead : (n node to : ℕ) → node < length found → Leads (IsStep graph) n node to
+      → Leads (StepsTo shapes) n (get_or found node 0) (get_or found to 0) × (to < length found)
   nodes-lead zero node to w same =
       (ap (λ k. get_or found k 0) same, (let P : ℕ → Type 0 = λ k. k < length found in subst P same w))
   nodes-lead (suc n) node to w (next, step, led) =
@@ -78,8 +79,8 @@ module _ (shapes : ℕ → ShapeOf) (roots places found : List ℕ) (graph : Gra
       ((get_or found next 0, c, l), u)
 
   -- and the other way
-  entries-lead : (n node to : ℕ) → node < length found → Leads shapes n (get_or found node 0) to
-      → (last : ℕ) × (last < length found) × (get_or found last 0 ≡ to) × NodeLeads graph n node last
+  entries-lead : (n node to : ℕ) → node < length found → Leads (StepsTo shapes) n (get_or found node 0) to
+      → (last : ℕ) × (last < length found) × (get_or found last 0 ≡ to) × Leads (IsStep graph) n node last
   entries-lead zero node to w same = (node, w, same, refl)
   entries-lead (suc n) node to w (next, c, l) =
       let (m, v, f, s) = step-node node next w c in
@@ -87,15 +88,15 @@ module _ (shapes : ℕ → ShapeOf) (roots places found : List ℕ) (graph : Gra
       (last, u, e, (m, s, led))
 
   -- cycles
-  pub node-cycle : (node : ℕ) → node < length found → NodeReachesCycle graph node
-      → ReachesCycle shapes (get_or found node 0)
+  pub node-cycle : (node : ℕ) → node < length found → ReachesCycle (IsStep graph) node
+      → ReachesCycle (StepsTo shapes) (get_or found node 0)
   node-cycle node w (k, to, led, (n, around)) =
       let (l, u) = nodes-lead k node to w led in
       let (a, v) = nodes-lead (suc n) to to u around in
       (k, get_or found to 0, l, (n, a))
 
-  pub entry-cycle : (node : ℕ) → node < length found → ReachesCycle shapes (get_or found node 0)
-      → NodeReachesCycle graph node
+  pub entry-cycle : (node : ℕ) → node < length found → ReachesCycle (StepsTo shapes) (get_or found node 0)
+      → ReachesCycle (IsStep graph) node
   entry-cycle node w (k, to, l, (n, around)) =
       let (m, v, e, led) = entries-lead k node to w l in
       let (last, u, f, back) = entries-lead (suc n) m (get_or found m 0) v (rw (← e) at around) in
@@ -179,10 +180,10 @@ module _ (shapes : ℕ → ShapeOf) (roots places found : List ℕ) (graph : Gra
           clear-node node entry w e has = (summarized node).1 (sym (summary-same node entry w e) ∙ has)
 
           clear-of : (entry : ℕ) → IsReachedFrom shapes roots entry
-              → (lacks_summary s (Some entry) ≡ true) ↔ ReachesCycle shapes entry
+              → (lacks_summary s (Some entry) ≡ true) ↔ ReachesCycle (StepsTo shapes) entry
           clear-of entry r =
               let (node, w, e) = found-all r in
-              let C : ℕ → Type 0 = λ x. ReachesCycle shapes x in
+              let C : ℕ → Type 0 = λ x. ReachesCycle (StepsTo shapes) x in
               let nodes = h.nodes in (
                 λ lacks. subst C e (node-cycle node w
                     (sorted.others node (omega arith)
@@ -204,19 +205,19 @@ module _ (shapes : ℕ → ShapeOf) (roots places found : List ℕ) (graph : Gra
 
 -- steps lead from what is reached to what is reached
 pub reached-on : (shapes : ℕ → ShapeOf) (roots : List ℕ) (k from to : ℕ) → IsReachedFrom shapes roots from
-    → Leads shapes k from to → IsReachedFrom shapes roots to
+    → Leads (StepsTo shapes) k from to → IsReachedFrom shapes roots to
 reached-on shapes roots zero from to r same = let P : ℕ → Type 0 = λ x. IsReachedFrom shapes roots x in subst P same r
 reached-on shapes roots (suc k) from to r (next, step, led) = reached-on shapes roots k next to (further r step) led
 
-lead-more : (shapes : ℕ → ShapeOf) (k from at to : ℕ) → Leads shapes k from at → Contains (steps_reached shapes at) to
-    → Leads shapes (suc k) from to
+lead-more : (shapes : ℕ → ShapeOf) (k from at to : ℕ) → Leads (StepsTo shapes) k from at → Contains (steps_reached shapes at) to
+    → Leads (StepsTo shapes) (suc k) from to
 lead-more shapes zero from at to same step =
     let P : ℕ → Type 0 = λ x. Contains (steps_reached shapes x) to in (to, subst P (sym same) step, refl)
 lead-more shapes (suc k) from at to (next, first, led) step = (next, first, lead-more shapes k next at to led step)
 
 -- what is reached is reached from one of the entries
 pub reached-from-one : {shapes : ℕ → ShapeOf} {roots : List ℕ} {to : ℕ} → IsReachedFrom shapes roots to
-    → (from k : ℕ) × Contains roots from × Leads shapes k from to
+    → (from k : ℕ) × Contains roots from × Leads (StepsTo shapes) k from to
 reached-from-one (root {to} has) = (to, 0, has, refl)
 reached-from-one {shapes = shapes} (further {from} {to} r step) =
     let (first, k, has, led) = reached-from-one r in

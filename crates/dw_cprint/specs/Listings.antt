@@ -6,8 +6,8 @@ use Rattle.std.specs.List.{range_with_len}
 use Rattle.dw_entries.specs.ByNumber.{entry_of}
 use Rattle.dw_image.specs.declared.image.Image.{Image}
 use Rattle.dw_image.specs.Images.{entries_in, steps_in}
-use Rattle.dw_types.specs.Cycles.{Leads}
-use Rattle.dw_types.specs.Graphs.{Graph}
+use Rattle.dw_types.specs.Paths.{Leads}
+use Rattle.dw_types.specs.Graphs.{Graph, IsStep}
 use Rattle.dw_types.specs.LongestRows.{IsLongest}
 use Rattle.dw_cprint.specs.Declarations.{declaration_of}
 use Rattle.dw_cprint.specs.Digits.{places}
@@ -45,7 +45,7 @@ AreLevels image level = (entry : ℕ) → entry < length (entries_in image) → 
 
 -- some steps, at least one, lead from one node to another; if the steps are by value, the one holds the other
 abbrev pub HoldsByValue : Graph → ℕ → ℕ → Type 0
-HoldsByValue graph from to = (k : ℕ) × Leads graph (suc k) from to
+HoldsByValue graph from to = (k : ℕ) × Leads (IsStep graph) (suc k) from to
 
 -- one entry is before another: by rising level, then by rising offset
 abbrev pub StandsBefore : (ℕ → ℕ) → ℕ → ℕ → Type 0

@@ -1,9 +1,10 @@
 -- Chapter: why an entry is not printed: the first of the six refusals that holds.
 use Rattle.std.specs.Prelude.{◌≡◌, ℕ, ◌<◌, true, List, ◌++◌, Some, length}
+use Rattle.dw_types.specs.Paths.{IsOnCycle}
 use Rattle.dw_cprint.specs.Declarations.{declaration_of}
 use Rattle.dw_cprint.specs.Legible.{IsDeclaration}
 use Rattle.dw_cprint.specs.Shapes.{ShapeOf, SubjectOf, other_subject}
-use Rattle.dw_cprint.specs.Steps.{IsReached, IsOnCycle, HasPath}
+use Rattle.dw_cprint.specs.Steps.{IsReached, HasPath, StepsTo}
 use Rattle.dw_cprint.specs.Terms.{Declaration}
 use Rattle.dw_cprint.specs.Writing.{written}
 use Rattle.dw_cprint.specs.Wrong.{HasBadName, kind_at, has_own_bad_name, is_foreign, is_own_foreign}
@@ -20,7 +21,8 @@ IsLonger limit shapes subject =
 -- the condition of each refusal
 pub data Holds (shapes : ℕ → ShapeOf) (subject : SubjectOf) : PrintFault → Type 0 where
   other_kind : subject ≡ other_subject → Holds shapes subject NotPrintable
-  cycle : (entry : ℕ) → IsReached shapes subject entry → IsOnCycle shapes entry → Holds shapes subject NotPrintable
+  cycle : (entry : ℕ) → IsReached shapes subject entry → IsOnCycle (StepsTo shapes) entry
+      → Holds shapes subject NotPrintable
   own_name : has_own_bad_name (kind_at shapes) subject ≡ true → Holds shapes subject BadName
   name_reached : (entry : ℕ) → IsReached shapes subject entry → HasBadName shapes (shapes entry)
       → Holds shapes subject BadName

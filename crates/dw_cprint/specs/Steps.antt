@@ -1,6 +1,7 @@
 -- Chapter: spelling steps from an entry that is reached, and from the one that is declared. The latter are not the
 -- steps of the same entry where it is reached.
 use Rattle.std.specs.Prelude.{◌≡◌, ℕ, zero, suc, List, [], ◌∷◌, Option, Some, None, Contains, map}
+use Rattle.dw_types.specs.Paths.{Leads, IsOnCycle}
 use Rattle.dw_cprint.specs.Shapes.{Parameter, Typed, More, MemberOf}
 use Rattle.dw_cprint.specs.Shapes.{ShapeOf, qualified, pointer, array, function, body}
 use Rattle.dw_cprint.specs.Shapes.{SubjectOf, typedef_subject, variable_subject, aggregate_subject}
@@ -42,6 +43,10 @@ types_declared _ = []
 abbrev pub steps_reached : (ℕ → ShapeOf) → ℕ → List ℕ
 steps_reached shapes entry = entries_of (types_reached (shapes entry))
 
+-- a spelling step leads from an entry that is reached to another
+abbrev pub StepsTo : (ℕ → ShapeOf) → ℕ → ℕ → Type 0
+StepsTo shapes from to = Contains (steps_reached shapes from) to
+
 -- the spelling steps of the entry that is declared
 abbrev pub first_steps : SubjectOf → List ℕ
 first_steps subject = entries_of (types_declared subject)
@@ -56,27 +61,14 @@ pub data IsReachedFrom (shapes : ℕ → ShapeOf) (roots : List ℕ) : ℕ → T
 abbrev pub IsReached : (ℕ → ShapeOf) → SubjectOf → ℕ → Type 0
 IsReached shapes subject entry = IsReachedFrom shapes (first_steps subject) entry
 
--- so many steps lead from an entry that is reached to another
-abbrev pub Leads : (ℕ → ShapeOf) → ℕ → ℕ → ℕ → Type 0
-Leads shapes zero from to = from ≡ to
-Leads shapes (suc k) from to = (next : ℕ) × Contains (steps_reached shapes from) next × Leads shapes k next to
-
--- some steps, at least one, lead from an entry to itself
-abbrev pub IsOnCycle : (ℕ → ShapeOf) → ℕ → Type 0
-IsOnCycle shapes entry = (k : ℕ) × Leads shapes (suc k) entry entry
-
--- some steps lead from an entry to one on a cycle
-abbrev pub ReachesCycle : (ℕ → ShapeOf) → ℕ → Type 0
-ReachesCycle shapes entry = (k to : ℕ) × Leads shapes k entry to × IsOnCycle shapes to
-
 -- an entry on a cycle is reached from some others
 abbrev pub ReachACycle : (ℕ → ShapeOf) → List ℕ → Type 0
-ReachACycle shapes roots = (entry : ℕ) × IsReachedFrom shapes roots entry × IsOnCycle shapes entry
+ReachACycle shapes roots = (entry : ℕ) × IsReachedFrom shapes roots entry × IsOnCycle (StepsTo shapes) entry
 
 -- a path of so many steps begins with a step to one of some entries
 abbrev pub HasPathFrom : (ℕ → ShapeOf) → List ℕ → ℕ → Type 0
 HasPathFrom shapes roots zero = Unit {0}
-HasPathFrom shapes roots (suc k) = (next to : ℕ) × Contains roots next × Leads shapes k next to
+HasPathFrom shapes roots (suc k) = (next to : ℕ) × Contains roots next × Leads (StepsTo shapes) k next to
 
 -- a path of so many steps begins at the declared entry
 abbrev pub HasPath : (ℕ → ShapeOf) → SubjectOf → ℕ → Type 0

@@ -1,8 +1,9 @@
 -- State: what a survey of some declarations keeps of the entries that they reach.
 use Rattle.std.specs.Prelude.{◌≡◌, ◌↔◌, ℕ, Bool, true, false, List, Some, Contains, is_none}
+use Rattle.dw_types.specs.Paths.{ReachesCycle}
 use Rattle.dw_cprint.specs.Kept.{kept}
 use Rattle.dw_cprint.specs.Shapes.{ShapeOf, TypeAt}
-use Rattle.dw_cprint.specs.Steps.{IsReachedFrom, ReachesCycle}
+use Rattle.dw_cprint.specs.Steps.{IsReachedFrom, StepsTo}
 use Rattle.dw_cprint.specs.declared.survey.Survey.{Survey}
 use Rattle.dw_cprint.specs.declared.survey.TheConstants.{VOID}
 pub use Rattle.dw_cprint.specs.Summaries.{found_at, HaveSummaries, summary_at}
@@ -21,7 +22,7 @@ lacks_summary s at = is_none (summary_at VOID s.places.items s.summaries.items a
 pub record IsSurveyOf (shapes : ℕ → ShapeOf) (roots : List ℕ) (s : Survey) : Type 0 where
   pub keeps : (entry : ℕ) → IsReachedFrom shapes roots entry → kept s entry ≡ shapes entry
   pub clear : (entry : ℕ) → IsReachedFrom shapes roots entry
-      → (lacks_summary s (Some entry) ≡ true) ↔ ReachesCycle shapes entry
+      → (lacks_summary s (Some entry) ≡ true) ↔ ReachesCycle (StepsTo shapes) entry
   pub known : (entry : ℕ) → IsReachedFrom shapes roots entry → lacks_summary s (Some entry) ≡ false
       → Knows shapes s (Some entry)
 

@@ -10,7 +10,6 @@ pub mod Items
 pub mod Reading
 pub mod Faults
 pub mod Rules
-pub mod RuleTexts
 pub mod Places
 pub mod Failures
 pub mod EntryRules

@@ -5,6 +5,7 @@ pub mod Codes
 pub mod FormCodes
 pub mod ValueFaults
 pub mod AbbrevFaults
+pub mod Rules
 pub mod Steps
 pub mod LebReading
 -- Laws.

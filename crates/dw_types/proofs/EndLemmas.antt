@@ -5,7 +5,8 @@ use Rattle.std.proofs.lemmas.Bool.{cases_lt}
 use Rattle.std.proofs.lemmas.List.{length-replicate, get_or-replicate, get_or_past, get_or_default}
 use Rattle.std.proofs.lemmas.List.Sums.{sum_by-cons}
 use Rattle.std.specs.Prelude.{Contains}
-use Rattle.dw_types.specs.Cycles.{ReachesCycle, Leads, AreClear}
+use Rattle.dw_types.specs.Paths.{ReachesCycle, Leads}
+use Rattle.dw_types.specs.Cycles.{AreClear}
 use Rattle.dw_types.specs.declared.walk.Mark.{Mark}
 use Rattle.dw_types.specs.declared.walk.Mark.TheVariants.{Fresh, Open, Ranked}
 use Rattle.dw_types.specs.Graphs.{Graph, FallsAlong, IsStep, FollowsSteps, step_at}
@@ -60,13 +61,13 @@ start-kept graph few =
 
 -- with an empty stack, a node that was taken up was ranked, or given up
 end-by_mark : (graph : Graph) (s : State) (node : ℕ) → IsWalk graph s → s.stack ≡ [] → mark_of s node ≢ Fresh
-    → (m : Mark) → mark_of s node ≡ m → (m ≡ Ranked) ⊎ ((s.gave_up ≡ true) × ReachesCycle graph node)
+    → (m : Mark) → mark_of s node ≡ m → (m ≡ Ranked) ⊎ ((s.gave_up ≡ true) × ReachesCycle (IsStep graph) node)
 end-by_mark graph s node h empty taken Fresh e = absurd (taken e)
 end-by_mark graph s node h empty taken Open e = search (rules)
 end-by_mark graph s node h empty taken Ranked e = inl refl
 
 end-of_taken : (graph : Graph) (s : State) (node : ℕ) → IsWalk graph s → s.stack ≡ [] → mark_of s node ≢ Fresh
-    → (mark_of s node ≡ Ranked) ⊎ ((s.gave_up ≡ true) × ReachesCycle graph node)
+    → (mark_of s node ≡ Ranked) ⊎ ((s.gave_up ≡ true) × ReachesCycle (IsStep graph) node)
 end-of_taken graph s node h empty taken = end-by_mark graph s node h empty taken (mark_of s node) refl
 
 -- so it was ranked, if none was given up
@@ -104,38 +105,38 @@ order-at_end graph it h empty kept taken =
     }
 
 -- one step more at the end
-leads-more : (graph : Graph) (k a b c : ℕ) → Leads graph k a b → IsStep graph b c → Leads graph (suc k) a c
+leads-more : (graph : Graph) (k a b c : ℕ) → Leads (IsStep graph) k a b → IsStep graph b c → Leads (IsStep graph) (suc k) a c
 leads-more graph zero a b c same step = (c, subst (λ (x : ℕ). IsStep graph x c) (sym same) step, refl)
 leads-more graph (suc k) a b c (next, first, rest) step = (next, first, leads-more graph k next b c rest step)
 
 -- what leads to a node that reaches a cycle reaches it
-reaches-back : (graph : Graph) (k from to : ℕ) → Leads graph k from to → ReachesCycle graph to → ReachesCycle graph from
-reaches-back graph zero from to same reaches = subst (λ (x : ℕ). ReachesCycle graph x) (sym same) reaches
+reaches-back : (graph : Graph) (k from to : ℕ) → Leads (IsStep graph) k from to → ReachesCycle (IsStep graph) to → ReachesCycle (IsStep graph) from
+reaches-back graph zero from to same reaches = subst (λ (x : ℕ). ReachesCycle (IsStep graph) x) (sym same) reaches
 reaches-back graph (suc k) from to (next, step, led) reaches =
     let (n, end, way, cycle) = reaches-back graph k next to led reaches in
     (suc n, end, (next, step, way), cycle)
 
 -- from a node of the stack to a later one
 along : (graph : Graph) (stack : List ℕ) (d i : ℕ) → FollowsSteps graph stack → i + d < length stack
-    → Leads graph d (get_or stack i 0) (get_or stack (i + d) 0)
+    → Leads (IsStep graph) d (get_or stack i 0) (get_or stack (i + d) 0)
 along graph stack zero i chain within = ap (λ (n : ℕ). get_or stack n 0) (let e : i ≡ i + 0 = omega arith in e)
 along graph stack (suc d) i chain within =
     let there : i + 1 + d ≡ i + suc d = omega arith in
-    let rest : Leads graph d (get_or stack (i + 1) 0) (get_or stack (i + 1 + d) 0) = along graph stack d (i + 1) chain
+    let rest : Leads (IsStep graph) d (get_or stack (i + 1) 0) (get_or stack (i + 1 + d) 0) = along graph stack d (i + 1) chain
     (omega arith) in (
       get_or stack (i + 1) 0,
       chain i (omega arith),
       subst
-          (λ (n : ℕ). Leads graph d (get_or stack (i + 1) 0) (get_or stack n 0)) there rest,
+          (λ (n : ℕ). Leads (IsStep graph) d (get_or stack (i + 1) 0) (get_or stack n 0)) there rest,
     )
 
 module _ (graph : Graph) (s : State) (to : ℕ) (h : IsAtCycle graph s to) where
   -- each node of the stack leads to the one that the step goes to
-  leads-on : (k : ℕ) → k < length s.stack → Leads graph (suc (length s.stack - 1 - k)) (get_or s.stack k 0) to
+  leads-on : (k : ℕ) → k < length s.stack → Leads (IsStep graph) (suc (length s.stack - 1 - k)) (get_or s.stack k 0) to
   leads-on k within =
       let top = length s.stack - 1 in
       let sum : k + (top - k) ≡ top = omega arith in
-      let way : Leads graph (top - k) (get_or s.stack k 0) (get_or s.stack (k + (top - k)) 0) = along graph s.stack
+      let way : Leads (IsStep graph) (top - k) (get_or s.stack k 0) (get_or s.stack (k + (top - k)) 0) = along graph s.stack
       (top - k) k h.coherent.stack.steps (omega arith) in
       leads-more graph (top - k) (get_or s.stack k 0) (get_or s.stack top 0) to (rw sum at way) h.closes
 
@@ -143,7 +144,7 @@ module _ (graph : Graph) (s : State) (to : ℕ) (h : IsAtCycle graph s to) where
   pub on-stack : s.gave_up ≡ false → Contains s.stack to
   on-stack kept = search (rules, get_or_default)
 
-  to-reaches : ReachesCycle graph to
+  to-reaches : ReachesCycle (IsStep graph) to
   to-reaches = elim (h.coherent.stack.stacked to h.opened) [
     | inl (i, within, same) ↦
         let led = leads-on i within in (
@@ -152,14 +153,14 @@ module _ (graph : Graph) (s : State) (to : ℕ) (h : IsAtCycle graph s to) where
           refl,
           (
             length s.stack - 1 - i,
-            subst (λ (x : ℕ). Leads graph (suc (length s.stack - 1 - i)) x to) same
+            subst (λ (x : ℕ). Leads (IsStep graph) (suc (length s.stack - 1 - i)) x to) same
                 led,
           ),
         )
     | inr lost ↦ lost.1
   ]
 
-  stacked-reaches : (k : ℕ) → k < length s.stack → ReachesCycle graph (get_or s.stack k 0)
+  stacked-reaches : (k : ℕ) → k < length s.stack → ReachesCycle (IsStep graph) (get_or s.stack k 0)
   stacked-reaches k within =
       reaches-back graph (suc (length s.stack - 1 - k)) (get_or s.stack k 0) to (leads-on k within) to-reaches
 
@@ -171,7 +172,7 @@ module _ (graph : Graph) (s : State) (to : ℕ) (h : IsAtCycle graph s to) where
         stacked = λ node opened. inr (
           refl,
           elim (old.stack.stacked node opened) [
-            | inl (k, within, same) ↦ subst (λ (x : ℕ). ReachesCycle graph x) same (stacked-reaches k within)
+            | inl (k, within, same) ↦ subst (λ (x : ℕ). ReachesCycle (IsStep graph) x) same (stacked-reaches k within)
             | inr lost ↦ lost.1
           ],
         );

@@ -4,8 +4,9 @@ use Rattle.std.specs.Prelude.{◌⊎◌, Contains}
 use Rattle.std.proofs.lemmas.Bool.{cases_eq, cases_lt}
 use Rattle.std.proofs.lemmas.List.{get_or_default}
 use Rattle.dw_types.proofs.ListLemmas.{at_set}
-use Rattle.dw_types.specs.Cycles.{AreClear, Leads, IsOnCycle, ReachesCycle}
-use Rattle.dw_types.specs.Graphs.{Graph, steps_of, step_at}
+use Rattle.dw_types.specs.Paths.{Leads, IsOnCycle, ReachesCycle}
+use Rattle.dw_types.specs.Cycles.{AreClear}
+use Rattle.dw_types.specs.Graphs.{Graph, steps_of, step_at, IsStep}
 use Rattle.dw_types.specs.LongestRows.{HasRow, IsLongest, AreLongest, IsOneMore}
 
 -- a node by the nodes that its steps lead to
@@ -91,7 +92,7 @@ module _ (graph : Graph) (clear : List ℕ) (h : AreClear graph clear) (counts :
       subst P same (known k (omega arith))
 
 -- a row that goes on where some steps lead
-pub row-after : (graph : Graph) (k n from to : ℕ) → Leads graph k from to → HasRow graph to n
+pub row-after : (graph : Graph) (k n from to : ℕ) → Leads (IsStep graph) k from to → HasRow graph to n
     → HasRow graph from (k + n)
 row-after graph zero n from to same row = search (rules)
 row-after graph (suc k) n from to (next, step, led) row =
@@ -103,25 +104,25 @@ row-after graph (suc k) n from to (next, step, led) row =
 
 module _ (graph : Graph) (clear : List ℕ) (h : AreClear graph clear) where
   -- steps from one of them lead to one that is at least as many places before it
-  led-before : (k place to : ℕ) → place < length clear → Leads graph k (get_or clear place 0) to
+  led-before : (k place to : ℕ) → place < length clear → Leads (IsStep graph) k (get_or clear place 0) to
       → (before : ℕ) × (before + k ≤ place) × (get_or clear before 0 ≡ to)
   led-before zero place to within same = (place, omega arith, same)
   led-before (suc k) place to within (next, (m, below, is), led) =
       let (before, less, same) = h.ordered place m within below in
-      let P : ℕ → Type 0 = λ n. Leads graph k n to in
+      let P : ℕ → Type 0 = λ n. Leads (IsStep graph) k n to in
       let (last, fits, ends) = led-before k before to (omega arith) (subst P (sym (same ∙ is)) led) in
       (last, omega (arith, fits), ends)
 
-  off-cycle : (most place : ℕ) → place < most → place < length clear → IsOnCycle graph (get_or clear place 0) → ⊥
+  off-cycle : (most place : ℕ) → place < most → place < length clear → IsOnCycle (IsStep graph) (get_or clear place 0) → ⊥
   off-cycle zero place less within cycle = absurd (omega arith)
   off-cycle (suc most) place less within (k, led) =
       let (before, fits, same) = led-before (suc k) place (get_or clear place 0) within led in
-      off-cycle most before (omega arith) (omega arith) (subst (IsOnCycle graph) (sym same) (k, led))
+      off-cycle most before (omega arith) (omega arith) (subst (IsOnCycle (IsStep graph)) (sym same) (k, led))
 
   -- no step from one of them leads to a cycle
-  pub clear-free : (node : ℕ) → Contains clear node → ReachesCycle graph node → ⊥
+  pub clear-free : (node : ℕ) → Contains clear node → ReachesCycle (IsStep graph) node → ⊥
   clear-free node (place, within, is) (k, to, led, cycle) =
       let here : get_or clear place 0 ≡ node = get_or_default clear place 0 node within ∙ is in
-      let P : ℕ → Type 0 = λ n. Leads graph k n to in
+      let P : ℕ → Type 0 = λ n. Leads (IsStep graph) k n to in
       let (before, fits, same) = led-before k place to within (subst P (sym here) led) in
-      off-cycle (suc before) before (omega arith) (omega arith) (subst (IsOnCycle graph) (sym same) cycle)
+      off-cycle (suc before) before (omega arith) (omega arith) (subst (IsOnCycle (IsStep graph)) (sym same) cycle)

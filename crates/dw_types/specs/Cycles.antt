@@ -1,19 +1,7 @@
 -- Chapter: which nodes of a graph reach a cycle, and an order of the others.
-use Rattle.std.specs.Prelude.{◌≡◌, ℕ, zero, suc, ◌<◌, List, length, slice_index, Contains}
+use Rattle.std.specs.Prelude.{◌≡◌, ℕ, ◌<◌, List, length, slice_index, Contains}
 use Rattle.dw_types.specs.Graphs.{Graph, steps_of, step_at, IsStep}
-
--- so many steps lead from one node to another
-abbrev pub Leads : Graph → ℕ → ℕ → ℕ → Type 0
-Leads graph zero from to = from ≡ to
-Leads graph (suc k) from to = (next : ℕ) × IsStep graph from next × Leads graph k next to
-
--- some steps, at least one, lead from a node to itself
-abbrev pub IsOnCycle : Graph → ℕ → Type 0
-IsOnCycle graph node = (k : ℕ) × Leads graph (suc k) node node
-
--- some steps lead from a node to one on a cycle
-abbrev pub ReachesCycle : Graph → ℕ → Type 0
-ReachesCycle graph node = (k to : ℕ) × Leads graph k node to × IsOnCycle graph to
+use Rattle.dw_types.specs.Paths.{ReachesCycle}
 
 -- each node of the list comes after those that its steps lead to
 abbrev pub ComeInOrder : Graph → List ℕ → Type 0
@@ -25,4 +13,4 @@ ComeInOrder graph nodes =
 pub record AreClear (graph : Graph) (nodes : List ℕ) : Type 0 where
   pub within : (place : ℕ) → place < length nodes → slice_index nodes place < length graph
   pub ordered : ComeInOrder graph nodes
-  pub others : (node : ℕ) → node < length graph → (Contains nodes node → ⊥) → ReachesCycle graph node
+  pub others : (node : ℕ) → node < length graph → (Contains nodes node → ⊥) → ReachesCycle (IsStep graph) node

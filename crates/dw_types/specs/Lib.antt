@@ -7,6 +7,7 @@ pub mod Counts
 pub mod TypeFailures
 pub mod Shapes
 pub mod Graphs
+pub mod Paths
 pub mod Cycles
 pub mod Steps
 pub mod Orders

@@ -2,7 +2,7 @@
 use Rattle.std.specs.Prelude.{◌≡◌, ◌≢◌, ℕ, ◌+◌, ◌-◌, ◌^◌, ◌<◌, ◌≤◌, ◌⊎◌, Bool, true, false, List, [], length}
 use Rattle.std.specs.Prelude.{slice_index}
 use Rattle.std.specs.Prelude.{Option, Some, None, sum, count_by}
-use Rattle.dw_types.specs.Cycles.{ReachesCycle}
+use Rattle.dw_types.specs.Paths.{ReachesCycle}
 use Rattle.dw_types.specs.declared.walk.Mark.{Mark}
 use Rattle.dw_types.specs.declared.walk.Mark.TheVariants.{Fresh, Open, Ranked}
 use Rattle.dw_types.specs.Graphs.{Graph, steps_of, step_at, FollowsSteps, IsStep}
@@ -23,7 +23,8 @@ IsStacked s node = (k : ℕ) × (k < length s.stack) × (slice_index s.stack k �
 -- the first is a step from the one below
 pub record HasStack (graph : Graph) (s : State) : Type 0 where
   pub opened : (k : ℕ) → k < length s.stack → mark_of s (slice_index s.stack k) ≡ Open
-  pub stacked : (node : ℕ) → mark_of s node ≡ Open → IsStacked s node ⊎ ((s.gave_up ≡ true) × ReachesCycle graph node)
+  pub stacked : (node : ℕ) → mark_of s node ≡ Open
+      → IsStacked s node ⊎ ((s.gave_up ≡ true) × ReachesCycle (IsStep graph) node)
   pub once : (i j : ℕ) → i < j → j < length s.stack → slice_index s.stack i ≢ slice_index s.stack j
   pub steps : FollowsSteps graph s.stack
 
