@@ -15,8 +15,6 @@ from common import TOP, tell
 LEFT_OUT = re.compile(r"//.*|\bghost use [^;]*;")
 PATH = re.compile(r"\bcrate::(\w+)")
 BRACES = re.compile(r"\bcrate::\{((?:[^{}]|\{[^{}]*\})*)\}")
-# Crates that still have a circle. One of them that has none any more is no longer to be named here.
-EXCEPTED = ["dw_types"]
 
 
 def imports(path):
@@ -42,9 +40,7 @@ def main():
     for source in sorted(TOP.glob("crates/*/src")):
         tried += 1
         crate, names = source.parent.name, circle(source)
-        if crate in EXCEPTED and not names:
-            found.append(f"{crate}: it has no circle: take it out of EXCEPTED in tests/imports.py")
-        elif crate not in EXCEPTED and names:
+        if names:
             found.append(f"{crate}: {' imports '.join(f'{name}.rt' for name in names)}")
     sys.exit(tell(found, tried, 12))
 

@@ -3,7 +3,7 @@ use Rattle.dw_types.specs.Held.{units_held}
 use Rattle.dw_types.specs.SizeTables.{size_at}
 use Rattle.dw_types.proofs.SizeLineLemmas.{capped_line}
 use Rattle.dw_types.proofs.SizeRankLemmas.{last-obeys, next-filled, next-typed, next_sizes, node-in}
-use Rattle.dw_types.proofs.size_table.measure_all.Goals as goal
+use Rattle.dw_types.proofs.measuring.measure_all.Goals as goal
 
 pub measure-requires-clause-places : goal.measure-requires-clause-places
 measure-requires-clause-places c =

@@ -9,7 +9,7 @@ use Rattle.dw_types.specs.StoredSizes.{ObeysCappedLines}
 use Rattle.dw_types.specs.TypeFailures.{plain_fault_at, IsFirstAt, PassBefore}
 use Rattle.dw_types.proofs.FirstLemmas.{none-of_entries, plain-fault}
 use Rattle.dw_types.proofs.SizeFaultLemmas.{first-is_first, found-is_table}
-use Rattle.dw_types.proofs.size_table.sizes.Goals as goal
+use Rattle.dw_types.proofs.measuring.sizes.Goals as goal
 
 pub new-linked-requires : goal.new-linked-requires
 new-linked-requires c = rw (← c.requires.entries) c.tables.ensures

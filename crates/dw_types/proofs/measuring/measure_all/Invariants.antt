@@ -4,7 +4,7 @@ use Rattle.dw_types.specs.SizeTables.{size_at, OnlyTypesAreSized}
 use Rattle.dw_types.specs.Steps.{by_value}
 use Rattle.dw_types.proofs.SizeLineLemmas.{capped_line}
 use Rattle.dw_types.proofs.TableLemmas.{HasFilled}
-use Rattle.dw_types.proofs.size_table.measure_all.Given as goal
+use Rattle.dw_types.proofs.measuring.measure_all.Given as goal
 
 abbrev pub invariant-loop-rank : goal.invariant-loop-rank
 invariant-loop-rank l =
