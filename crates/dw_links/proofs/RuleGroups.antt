@@ -1,6 +1,5 @@
 -- Which rules fail at strings and addresses, and which at references: they are of two groups.
-use Rattle.std.proofs.Common.{rules, ◌≡◌, ℕ, true, false, List, Option, sym, ap, ◌∙◌, arith, inl, inr, ◌==◌, eq-eqb}
-use Rattle.std.proofs.lemmas.Bool.{eqb-true}
+use Rattle.std.proofs.Common.{rules, ◌≡◌, ℕ, List, Option, ap, ◌∙◌, arith, inl, inr}
 use Rattle.dw_elf.specs.declared.sections.Sections.{Sections}
 use Rattle.dw_forms.specs.Value.{Datum, str}
 use Rattle.dw_entries.specs.declared.header.UnitHeader.{UnitHeader}
@@ -28,21 +27,13 @@ reference_failures us f fails = search rules
 -- ---- the first of its group, by its rule
 
 pub string_first : (s : Sections) (us : List DebugUnit) (broken : PlainFault) → IsFirstOfGroup s us broken
-    → (group_of broken.rule == 3) ≡ true → IsFirst (StringFailures s us) broken
+    → group_of broken.rule ≡ 3 → IsFirst (StringFailures s us) broken
 string_first s us broken (inl first) is = first
 string_first s us broken (inr first) is =
-    absurd (omega (
-      arith,
-      eqb-true (group_of broken.rule) 3 is,
-      ap group_of first.named.rule,
-      reference_failures us
-          first.failure first.fails,
-    ))
+    absurd (omega (arith, is, ap group_of first.named.rule, reference_failures us first.failure first.fails))
 
 pub reference_first : (s : Sections) (us : List DebugUnit) (broken : PlainFault) → IsFirstOfGroup s us broken
-    → (group_of broken.rule == 3) ≡ false → IsFirst (ReferenceFailures us) broken
+    → (group_of broken.rule ≡ 3 → ⊥) → IsFirst (ReferenceFailures us) broken
 reference_first s us broken (inl first) is =
-    absurd (let both : true ≡ false = sym
-    (eq-eqb (group_of broken.rule) 3 (ap group_of first.named.rule ∙ string_failures s us first.failure first.fails))
-    ∙ is in cc)
+    absurd (is (ap group_of first.named.rule ∙ string_failures s us first.failure first.fails))
 reference_first s us broken (inr first) is = first

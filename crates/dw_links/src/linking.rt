@@ -1,10 +1,9 @@
 //! The rules on strings, addresses and references, checked in one pass over the values of all entries, and what is kept
 //! of it: the bases and languages of units, and the targets of types.
 
-ghost use Rattle.std.specs.Prelude.{◌≡◌, ◌==◌, ◌<◌, length, Some, IfSome, IfOk, IfErr};
+ghost use Rattle.std.specs.Prelude.{◌≡◌, ◌<◌, length, Some, IfSome, IfOk, IfErr};
 ghost use Rattle.dw_entries.specs.Views.{sections_of, all_entries, all_units, units_of};
-ghost use Rattle.dw_entries.specs.Failures.{HasNone, IsFirst};
-ghost use Rattle.dw_entries.specs.Rules.{group_of};
+ghost use Rattle.dw_entries.specs.Failures.{HasNone, IsFirst, IsPlainFault};
 ghost use Rattle.dw_entries.specs.Stopped.{IfPlainFault};
 ghost use Rattle.dw_links.specs.DeclaredEntries.{KeepsDeclared};
 ghost use Rattle.dw_links.specs.EntryLinks.{kept_after, IsEntryLinked, IsFirstAtEntry, IsFirstOfGroup};
@@ -20,7 +19,7 @@ use crate::references::UnitLinks;
 use crate::strings::check_strings;
 use crate::tables::LinkTables;
 use dw_entries::constants::*;
-use dw_entries::{Entries, EntryId, Fault, Hints, OptionalId, PlainFault, Rule, Stop, UnitHeader};
+use dw_entries::{Entries, EntryId, Fault, Hints, OptionalId, PlainFault, Stop, UnitHeader};
 use dw_forms::{Attribute, Lead};
 use std::alloc::Global;
 use std::collections::BTreeMap;
@@ -85,39 +84,26 @@ impl UnitLinks<'_, '_, '_> {
 
 /// The fault of a reference, or of a string or an address, if there is one in any entry. These come first.
 #[inline(never)]
-pub(crate) fn strings_first(
-    alloc: Global,
-    entries: &Entries<'_>,
-    reference: Stop<Fault>,
-) -> Stop<Fault>
-    requires { IfPlainFault (IsFirst (ReferenceFailures (units_of entries.now))) reference }
-    ensures { IfPlainFault (IsFirstOfTargets (sections_of entries.now) (units_of entries.now)) result }
+pub(crate) fn strings_first(alloc: Global, entries: &Entries<'_>, reference: Fault) -> Fault
+    requires { IsPlainFault (IsFirst (ReferenceFailures (units_of entries.now))) reference }
+    ensures { IsPlainFault (IsFirstOfTargets (sections_of entries.now) (units_of entries.now)) result }
 {
     match check_strings(alloc, entries) {
         Ok(()) => reference,
-        Err(fault) => Stop::Fault(fault),
+        Err(fault) => fault,
     }
 }
 
-/// Whether a rule is one on strings and addresses.
-fn is_string_rule(rule: Rule) -> bool
-    ensures { result ≡ (group_of rule == 3) }
-{
-    matches!(
-        rule,
-        Rule::BadStrBase | Rule::StrIndex | Rule::StringEnd | Rule::BadAddrBase | Rule::AddrIndex
-    )
-}
-
-/// The fault of a failure, if it is the first of its group.
-fn stop_of(alloc: Global, entries: &Entries<'_>, broken: PlainFault) -> Stop<Fault>
+/// The first fault, by a failure that is the first of its group.
+fn first_fault(alloc: Global, entries: &Entries<'_>, broken: PlainFault) -> Fault
     requires { IsFirstOfGroup (sections_of entries.now) (units_of entries.now) broken }
-    ensures { IfPlainFault (IsFirstOfTargets (sections_of entries.now) (units_of entries.now)) result }
+    ensures { IsPlainFault (IsFirstOfTargets (sections_of entries.now) (units_of entries.now)) result }
 {
-    if is_string_rule(broken.rule) {
-        return Stop::Fault(broken.into_fault(alloc));
+    let fault = broken.into_fault(alloc);
+    if broken.rule.group() == 3 {
+        return fault;
     }
-    strings_first(alloc, entries, Stop::Fault(broken.into_fault(alloc)))
+    strings_first(alloc, entries, fault)
 }
 
 /// The tables of entries, or the first failure at a string or an address, or if there is none, at a reference. What is
@@ -156,7 +142,7 @@ pub(crate) fn link_entries(
             let id = entries.id(number);
             match references.link_entry(known.as_mut_slice(), id, header) {
                 Ok(target) => types[number] = target,
-                Err(broken) => return Err(stop_of(alloc, entries, broken)),
+                Err(broken) => return Err(Stop::Fault(first_fault(alloc, entries, broken))),
             }
         }
     }

@@ -43,7 +43,8 @@ pub fn link<'r, 'a>(alloc: Global, entries: &'r Entries<'a>) -> Result<Links<'r,
     check_classes(alloc, entries)?;
     let signatures = match read_signatures(alloc, entries) {
         Ok(signatures) => signatures,
-        Err(stop) => return Err(strings_first(alloc, entries, stop)),
+        Err(Stop::Memory) => return Err(Stop::Memory),
+        Err(Stop::Fault(fault)) => return Err(Stop::Fault(strings_first(alloc, entries, fault))),
     };
     let hints = entries.hints(alloc)?;
     let tables = link_entries(alloc, entries, signatures, &hints)?;

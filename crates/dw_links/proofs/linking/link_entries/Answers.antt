@@ -66,8 +66,8 @@ link_entry-requires-clause-may c =
 pub link_entry-requires-clause-kept : goal.link_entry-requires-clause-kept
 link_entry-requires-clause-kept c = search (rules)
 
-pub stop_of-requires : goal.stop_of-requires
-stop_of-requires c =
+pub first_fault-requires : goal.first_fault-requires
+first_fault-requires c =
     let entries = c.args.entries.now in
     let i = c.loop-number.invariant in
     let us = units_of entries in

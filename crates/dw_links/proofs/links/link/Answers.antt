@@ -1,7 +1,11 @@
-use Rattle.std.proofs.Common.{rules, inr}
+use Rattle.std.proofs.Common.{rules, subst, inr}
 use Rattle.std.proofs.lemmas.Result.{err_from_is_err_and}
 use Rattle.dw_entries.specs.Entries.{entries_of, placed}
+use Rattle.dw_entries.specs.declared.fault.PlainFault.{PlainFault}
+use Rattle.dw_entries.specs.Failures.{plain_fault_of, IsFirst, IsPlainFault}
+use Rattle.dw_entries.specs.Stopped.{IfPlainFault}
 use Rattle.dw_entries.specs.Views.{units_of}
+use Rattle.dw_links.specs.References.{HeaderFailures}
 use Rattle.dw_links.proofs.HeaderLemmas.{first_by_header}
 use Rattle.dw_links.proofs.UnitToAll.{if_fault}
 use Rattle.dw_links.proofs.links.link.Goals as goal
@@ -12,12 +16,19 @@ returns-in_err-check_classes-clause-fault c = search (rules, err_from_is_err_and
 pub strings_first-requires : goal.strings_first-requires
 strings_first-requires c =
     let us = units_of c.args.entries.now in
-    if_fault (first_by_header (entries_of us) (placed us)) c.in-Err.stop c.in-Err.ensures.fault
+    let Starts : PlainFault → Type 0 = IsFirst (HeaderFailures (entries_of us) (placed us)) in
+    let first : IsPlainFault Starts c.in-Err-Fault.fault =
+    subst (IfPlainFault Starts) c.in-Err-Fault.field-0-is c.in-Err-Fault.ensures.fault in
+    record {
+      holds = first_by_header (entries_of us) (placed us) (plain_fault_of c.in-Err-Fault.fault) first.holds;
+      cycle = first.cycle;
+    }
 
-pub returns-in-Err-clause-fault : goal.returns-in-Err-clause-fault
-returns-in-Err-clause-fault c =
-    if_fault (λ broken first. inr (c.in_ok-check_classes.ensures.ok, first)) c.strings_first.result
-    c.strings_first.ensures
+pub returns-in-Err-Fault-clause-fault : goal.returns-in-Err-Fault-clause-fault
+returns-in-Err-Fault-clause-fault c = record {
+  holds = inr (c.in_ok-check_classes.ensures.ok, c.strings_first.ensures.holds);
+  cycle = c.strings_first.ensures.cycle;
+}
 
 pub returns-in_err-tables-clause-fault : goal.returns-in_err-tables-clause-fault
 returns-in_err-tables-clause-fault c =
