@@ -11,6 +11,7 @@ use Rattle.std.proofs.lemmas.List.Folds.{list_all-append}
 use Rattle.std.proofs.Math.Nat.{div-add-mod}
 use Rattle.std.proofs.lemmas.Bool.{cases_lt}
 use Rattle.dw_image.specs.Contributions.{string_at}
+use Rattle.dw_image.proofs.FrontLemmas.{before-joined, before-front}
 use Rattle.dw_cprint.specs.Declarations.{parts_of, word_of, words_of}
 use Rattle.dw_cprint.specs.Legible.{is_word_byte}
 use Rattle.dw_cprint.specs.Terms.{TypeWord}
@@ -157,25 +158,6 @@ no_words name long = by_words (words_of 4 (parts_of name)) refl
         absurd (omega (arith, ap length (words-text name ws is), words-bytes ws, words-few 4 (parts_of name) ws is))
 
 -- ---- the string at the front of some bytes, by the bytes before an offset and by the string there
-
-module _ {X : Type 0} (p : X → Bool) where
-  before-stop : (x : X) (xs : List X) → p x ≡ true → before_first p (x ∷ xs) ≡ []
-  before-stop x xs is = rw is refl
-
-  before-more : (x : X) (xs : List X) → p x ≡ false → before_first p (x ∷ xs) ≡ x ∷ before_first p xs
-  before-more x xs is = search (rules)
-
-  -- no element of the front passes
-  before-joined : (xs ys : List X) → length xs ≤ length (before_first p xs)
-      → before_first p (xs ++ ys) ≡ xs ++ before_first p ys
-  before-joined [] ys long = refl
-  before-joined (x ∷ xs) ys long = search (rules, before-stop, before-more, (before-joined xs ys))
-
-  -- an element of the front passes
-  before-front : (xs ys : List X) → length (before_first p xs) < length xs
-      → before_first p (xs ++ ys) ≡ before_first p xs
-  before-front [] ys short = absurd (omega arith)
-  before-front (x ∷ xs) ys short = search (rules, before-stop, before-more, (before-front xs ys))
 
 -- a string that ends before the offset
 pub span-front : (bytes : List ℕ) (offset : ℕ) (front : List ℕ) (words : Bool) → offset ≤ length bytes

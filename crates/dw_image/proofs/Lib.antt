@@ -6,3 +6,4 @@ pub mod OneFirst
 pub mod JoinLemmas
 pub mod LookupLemmas
 pub mod LinkedLemmas
+pub mod FrontLemmas

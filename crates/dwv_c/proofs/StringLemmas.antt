@@ -7,28 +7,10 @@ use Rattle.std.proofs.lemmas.List.{length-append, take-append-drop, length-take-
 use Rattle.std.proofs.lemmas.Option.{get_or_from_slice_get, slice_get-get_or, slice_get_within}
 use Rattle.std.proofs.Math.Nat.{div-add-mod}
 use Rattle.dw_image.specs.Contributions.{string_at}
+use Rattle.dw_image.proofs.FrontLemmas.{before-joined, before-front}
 use Rattle.dwv_c.specs.Strings.{AreLengths, front_length}
 
 -- ---- the string at the front of some bytes, by the bytes before an offset and by the string there
-
-module _ (p : ℕ → Bool) where
-  before-stop : (x : ℕ) (xs : List ℕ) → p x ≡ true → before_first p (x ∷ xs) ≡ []
-  before-stop x xs is = rw is refl
-
-  before-more : (x : ℕ) (xs : List ℕ) → p x ≡ false → before_first p (x ∷ xs) ≡ x ∷ before_first p xs
-  before-more x xs is = search (rules)
-
-  -- no byte of the front passes
-  before-joined : (xs ys : List ℕ) → length xs ≤ length (before_first p xs)
-      → before_first p (xs ++ ys) ≡ xs ++ before_first p ys
-  before-joined [] ys long = refl
-  before-joined (x ∷ xs) ys long = search (rules, before-stop, before-more, (before-joined xs ys))
-
-  -- a byte of the front passes
-  before-front : (xs ys : List ℕ) → length (before_first p xs) < length xs
-      → before_first p (xs ++ ys) ≡ before_first p xs
-  before-front [] ys short = absurd (omega arith)
-  before-front (x ∷ xs) ys short = search (rules, before-stop, before-more, (before-front xs ys))
 
 -- a string that ends before the offset
 pub ends_before : (bytes : List ℕ) (offset : ℕ) (front : List ℕ) → offset ≤ length bytes
