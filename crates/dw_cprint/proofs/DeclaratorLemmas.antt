@@ -5,8 +5,8 @@ use Rattle.std.proofs.lemmas.List.{append-nil}
 use Rattle.dw_types.specs.Sizes.{has_elements}
 use Rattle.dw_cprint.specs.Terms.{Qualifier, OfAggregate, Enum, Term, Void, Named, Basic, Tagged, Body, Enumeration, Qualified, Pointer, Array, Function}
 use Rattle.dw_cprint.specs.Tokens.{Token, Blank, Star, Open, Close, LeftBrace, RightBrace, VoidWord, TagWord, QualifierWord, Identifier, LeftBracket, RightBracket, Number}
-use Rattle.dw_cprint.specs.Writing.{spell, spaced, qualifying, joined, basic, enclosed, count_tokens, constants, signature_tokens, members_tokens}
-use Rattle.dw_cprint.specs.Declarators.{gap, pointer_row, opened, closed, before, after}
+use Rattle.dw_cprint.specs.Writing.{spell, spaced, qualifying, qualified_declarator, basic, enclosed, count_tokens, constants, signature_tokens, members_tokens}
+use Rattle.dw_cprint.specs.Declarators.{gap, pointer_row, opening, closing, before, after}
 
 spaced-gap : (d : List Token) → spaced d ≡ gap (has_elements d) ++ d
 spaced-gap [] = refl
@@ -20,18 +20,19 @@ there-row : (qs : List Qualifier) (inside : Bool) → has_elements (pointer_row 
 there-row [] inside = refl
 there-row (q ∷ qs) inside = refl
 
-joined-row : (qs : List Qualifier) (d : List Token) → joined qs d ≡ pointer_row qs (has_elements d) ++ d
-joined-row [] d = refl
-joined-row (q ∷ qs) d =
-    let inner = joined-row qs d in
-    let outer : spaced (joined qs d)
+qualified-row : (qs : List Qualifier) (d : List Token)
+    → qualified_declarator qs d ≡ pointer_row qs (has_elements d) ++ d
+qualified-row [] d = refl
+qualified-row (q ∷ qs) d =
+    let inner = qualified-row qs d in
+    let outer : spaced (qualified_declarator qs d)
     ≡ gap (has_elements qs || has_elements d) ++ (pointer_row qs (has_elements d) ++ d) =
     rw inner (spaced-gap (pointer_row qs (has_elements d) ++ d)
     ∙ rw (there-append (pointer_row qs (has_elements d)) d, there-row qs (has_elements d)) refl) in
     ap (λ (u : List Token). QualifierWord q ∷ u) (outer
     ∙ sym (append_assoc (gap (has_elements qs || has_elements d)) (pointer_row qs (has_elements d)) d))
 
-enclosed-open : (t : Term) (d : List Token) → enclosed t d ≡ opened t ++ (d ++ closed t)
+enclosed-open : (t : Term) (d : List Token) → enclosed t d ≡ opening t ++ (d ++ closing t)
 enclosed-open (Array n t) d = refl
 enclosed-open (Function t s) d = refl
 enclosed-open _ d = sym (append-nil d)
@@ -59,10 +60,15 @@ parts-body : (front begin core close d : List Token)
 parts-body front begin core close d = rw (spaced-gap d) (simp (append_assoc, append-nil))
 
 pointed : (t : Term) (qs : List Qualifier) (d : List Token) (b : Bool → List Token) (a : List Token)
-    → b (has_elements (enclosed t (Star ∷ joined qs d))) ++ (enclosed t (Star ∷ joined qs d) ++ a)
-    ≡ (b true ++ (opened t ++ Star ∷ pointer_row qs (has_elements d))) ++ (d ++ (closed t ++ a))
+    → b (has_elements (enclosed t (Star ∷ qualified_declarator qs d)))
+    ++ (enclosed t (Star ∷ qualified_declarator qs d) ++ a)
+    ≡ (b true ++ (opening t ++ Star ∷ pointer_row qs (has_elements d))) ++ (d ++ (closing t ++ a))
 pointed t qs d b a =
-    rw (there-enclosed t Star (joined qs d), enclosed-open t (Star ∷ joined qs d), joined-row qs d) (simp append_assoc)
+    rw (
+      there-enclosed t Star (qualified_declarator qs d),
+      enclosed-open t (Star ∷ qualified_declarator qs d),
+      qualified-row qs d,
+    ) (simp append_assoc)
 
 counted : (n : Option ℕ) (b : Bool → List Token) (a d : List Token)
     → b (has_elements (d ++ count_tokens n)) ++ ((d ++ count_tokens n) ++ a) ≡ b true ++ (d ++ (count_tokens n ++ a))
@@ -88,7 +94,7 @@ in_parts qs (Enumeration cs) d =
     d
 in_parts qs (Qualified q t) d = in_parts (qs ++ q ∷ []) t d
 in_parts qs (Pointer t) d =
-    let inner = in_parts [] t (enclosed t (Star ∷ joined qs d)) in
+    let inner = in_parts [] t (enclosed t (Star ∷ qualified_declarator qs d)) in
     inner ∙ pointed t qs d (before [] t) (after t)
 in_parts qs (Array n t) d =
     let inner = in_parts [] t (d ++ count_tokens n) in

@@ -3,9 +3,9 @@ use Rattle.std.proofs.Common.{rules, arith, ◌≡◌, ℕ, Bool, true, false, L
 use Rattle.std.proofs.lemmas.Grind.{common_steps}
 use Rattle.dw_cprint.specs.Terms.{Qualifier, TypeWord, Term, Basic, Qualified, Pointer, Array, Function, Signature}
 use Rattle.dw_cprint.specs.Tokens.{Token, Blank, Star, Open, Close, LeftBracket, RightBracket, Semicolon, Colon, Comma, Identifier, Number}
-use Rattle.dw_cprint.specs.Writing.{spaced, qualifying, joined, basic, enclosed, count_tokens, name_tokens, signature_tokens}
+use Rattle.dw_cprint.specs.Writing.{spaced, qualifying, qualified_declarator, basic, enclosed, count_tokens, name_tokens, signature_tokens}
 use Rattle.dw_cprint.specs.Legible.{IsIdentifier, IsName, IsQualifiable}
-use Rattle.dw_cprint.specs.Reading.{Shape, same, Place, OfFirst, After, Grouped, Before, Inside, Behind, AtCount, End, AtClose, AtComma, AtSemicolon, AtColon, ended, finished, behind}
+use Rattle.dw_cprint.specs.Reading.{Shape, same, ReaderPlace, OfFirst, After, Grouped, Before, Inside, Behind, AtCount, End, AtClose, AtComma, AtSemicolon, AtColon, ended, finished, behind}
 use Rattle.dw_cprint.proofs.CheckedLemmas.{checked, checked-name, checked-number}
 
 -- the tokens at which a declarator ends
@@ -24,7 +24,7 @@ qualified (q ∷ qs) t = Qualified q (qualified qs t)
 
 -- The declarator d reads as this name and shape, where it ends,
 abbrev pub Ends : List Token → Option (List ℕ) → Shape → Type 0
-Ends d name shape = (q p : Shape) (place : Place) (end : End) (r : List Token)
+Ends d name shape = (q p : Shape) (place : ReaderPlace) (end : End) (r : List Token)
     → checked false (Inside q p place) (d ++ (end_tokens end ++ r))
     ≡ checked false (finished end name (λ t. shape (q (p t))) place) r
 
@@ -34,16 +34,16 @@ bracket true = LeftBracket
 bracket false = Open
 
 abbrev pub GoesOn : List Token → Option (List ℕ) → Shape → Type 0
-GoesOn d name shape = (q p : Shape) (place : Place) (square : Bool) (r : List Token)
+GoesOn d name shape = (q p : Shape) (place : ReaderPlace) (square : Bool) (r : List Token)
     → checked false (Inside q p place) (d ++ bracket square ∷ r)
     ≡ checked false (behind name (λ t. q (p t)) shape place (bracket square)) r
 
 -- and wherever it stands.
 abbrev pub Closed : List Token → Option (List ℕ) → Shape → Type 0
-Closed d name shape = (q p : Shape) (place : Place) (r : List Token)
+Closed d name shape = (q p : Shape) (place : ReaderPlace) (r : List Token)
     → checked false (Inside q p place) (d ++ r) ≡ checked false (Behind name (λ t. q (p t)) shape place) r
 
-closed_end : (touching : Bool) (name : Option (List ℕ)) (p s : Shape) (place : Place) (end : End) (r : List Token)
+closed_end : (touching : Bool) (name : Option (List ℕ)) (p s : Shape) (place : ReaderPlace) (end : End) (r : List Token)
     → checked touching (Behind name p s place) (end_tokens end ++ r)
     ≡ checked false (finished end name (λ t. s (p t)) place) r
 closed_end touching name p s place AtClose r = refl
@@ -110,7 +110,7 @@ stands_qualifiable _ d name shape h e = e
 closed_group : (d : List Token) (name : Option (List ℕ)) (shape : Shape) → Ends (Star ∷ d) name shape
     → Closed (Open ∷ (Star ∷ d ++ Close ∷ [])) name shape
 closed_group d name shape h q p place r =
-    let inner : Place = Grouped (λ t. q (p t)) place in
+    let inner : ReaderPlace = Grouped (λ t. q (p t)) place in
     ap (λ (ts : List Token). checked false (Inside same (λ t. Pointer t) inner) ts) (append_assoc d (Close ∷ []) r)
     ∙ h same same inner AtClose r
 
@@ -127,7 +127,7 @@ closed_count (Some n) d name shape h q p place r =
 
 -- The signature's tokens read as the signature.
 abbrev pub ReadsSignature : Signature → Type 0
-ReadsSignature signature = (name : Option (List ℕ)) (p s : Shape) (place : Place) (r : List Token)
+ReadsSignature signature = (name : Option (List ℕ)) (p s : Shape) (place : ReaderPlace) (r : List Token)
     → checked false (Before same (OfFirst name p s place)) (signature_tokens signature ++ Close ∷ r)
     ≡ checked false (Behind name p (λ t. s (Function t signature)) place) r
 
@@ -145,7 +145,7 @@ closed_signature signature d name shape reads h q p place r =
 -- SPACES AND QUALIFIERS
 
 -- a space before a declarator changes nothing
-spaced_end : (d : List Token) (touching : Bool) (q p : Shape) (place : Place) (end : End) (r : List Token)
+spaced_end : (d : List Token) (touching : Bool) (q p : Shape) (place : ReaderPlace) (end : End) (r : List Token)
     → checked touching (Inside q p place) (spaced d ++ (end_tokens end ++ r))
     ≡ checked false (Inside q p place) (d ++ (end_tokens end ++ r))
 spaced_end [] touching q p place AtClose r = refl
@@ -154,24 +154,25 @@ spaced_end (t ∷ ts) touching q p place end r = refl
 
 -- after the type that a declarator stands around
 pub core_end : (d : List Token) (name : Option (List ℕ)) (shape : Shape) → Ends d name shape
-    → (touching : Bool) (q : Shape) (t : Term) (place : Place) (end : End) (r : List Token)
+    → (touching : Bool) (q : Shape) (t : Term) (place : ReaderPlace) (end : End) (r : List Token)
     → checked touching (Inside same same (After q t place)) (spaced d ++ (end_tokens end ++ r))
     ≡ checked false (ended end name (shape (q t)) place) r
 core_end d name shape h touching q t place end r =
     spaced_end d touching same same (After q t place) end r ∙ h same same (After q t place) end r
 
-joined_end : (qs : List Qualifier) (d : List Token) (name : Option (List ℕ)) (shape : Shape) → Ends d name shape
-    → (q p : Shape) (place : Place) (end : End) (r : List Token)
-    → checked false (Inside q p place) (joined qs d ++ (end_tokens end ++ r))
+qualified_end : (qs : List Qualifier) (d : List Token) (name : Option (List ℕ)) (shape : Shape) → Ends d name shape
+    → (q p : Shape) (place : ReaderPlace) (end : End) (r : List Token)
+    → checked false (Inside q p place) (qualified_declarator qs d ++ (end_tokens end ++ r))
     ≡ checked false (finished end name (λ t. shape (q (qualified qs (p t)))) place) r
-joined_end [] d name shape h q p place end r = h q p place end r
-joined_end (x ∷ qs) d name shape h q p place end r =
-    spaced_end (joined qs d) true (λ t. q (Qualified x t)) p place end r
-    ∙ joined_end qs d name shape h (λ t. q (Qualified x t)) p place end r
+qualified_end [] d name shape h q p place end r = h q p place end r
+qualified_end (x ∷ qs) d name shape h q p place end r =
+    spaced_end (qualified_declarator qs d) true (λ t. q (Qualified x t)) p place end r
+    ∙ qualified_end qs d name shape h (λ t. q (Qualified x t)) p place end r
 
 pub ends_pointer : (qs : List Qualifier) (d : List Token) (name : Option (List ℕ)) (shape : Shape) → Ends d name shape
-    → Ends (Star ∷ joined qs d) name (λ t. shape (qualified qs (Pointer t)))
-ends_pointer qs d name shape h q p place end r = joined_end qs d name shape h same (λ t. Pointer (q (p t))) place end r
+    → Ends (Star ∷ qualified_declarator qs d) name (λ t. shape (qualified qs (Pointer t)))
+ends_pointer qs d name shape h q p place end r =
+    qualified_end qs d name shape h same (λ t. Pointer (q (p t))) place end r
 
 pub stands_enclosed : (t : Term) (d : List Token) (name : Option (List ℕ)) (shape : Shape) → Ends (Star ∷ d) name shape
     → Stands t (enclosed t (Star ∷ d)) name shape
@@ -181,13 +182,13 @@ stands_enclosed (Function t signature) d name shape h =
     goes_on_closed (Open ∷ (Star ∷ d ++ Close ∷ [])) name shape (closed_group d name shape h)
 stands_enclosed _ d name shape h = h
 
-qualifying_read : (qs : List Qualifier) (q : Shape) (place : Place) (r : List Token)
+qualifying_read : (qs : List Qualifier) (q : Shape) (place : ReaderPlace) (r : List Token)
     → checked false (Before q place) (qualifying qs ++ r) ≡ checked false (Before (λ t. q (qualified qs t)) place) r
 qualifying_read [] q place r = refl
 qualifying_read (x ∷ qs) q place r = qualifying_read qs (λ t. q (Qualified x t)) place r
 
 -- the qualifiers before the tokens ts of a type
-pub after_qualifiers : (qs : List Qualifier) (place : Place) (ts r : List Token)
+pub after_qualifiers : (qs : List Qualifier) (place : ReaderPlace) (ts r : List Token)
     → checked false (Before same place) ((qualifying qs ++ ts) ++ r)
     ≡ checked false (Before (qualified qs) place) (ts ++ r)
 after_qualifiers qs place ts r = grind (arith, common_steps, checked, append_assoc, qualifying_read)
@@ -198,7 +199,7 @@ qualified-snoc [] x t = refl
 qualified-snoc (q ∷ qs) x t = ap (Qualified q) (qualified-snoc qs x t)
 
 -- further words of a basic type
-pub words_read : (words : List TypeWord) (before : List TypeWord) (q : Shape) (place : Place) (d : List Token)
+pub words_read : (words : List TypeWord) (before : List TypeWord) (q : Shape) (place : ReaderPlace) (d : List Token)
     (name : Option (List ℕ)) (shape : Shape)
     → Ends d name shape → (end : End) (r : List Token)
     → checked true (Inside same same (After q (Basic before) place))

@@ -8,7 +8,7 @@ use Rattle.std.proofs.lemmas.List.Folds.{Any-from_list_any, list_any-from_Any}
 use Rattle.dw_cprint.specs.Declarations.{is_cut_short, is_misplaced}
 use Rattle.dw_cprint.specs.Shapes.{Parameter, TypeAt, ShapeOf, array, qualified, function, body, Enum, SubjectOf, variable_subject, aggregate_subject, enumeration_subject, declared_subject}
 use Rattle.dw_cprint.specs.Steps.{parameter_types, types_declared, types_reached}
-use Rattle.dw_cprint.specs.Summaries.{IsBase, Knows, base_known, has_void, is_own_unspeakable, is_unspeakable, kind_known}
+use Rattle.dw_cprint.specs.Summaries.{IsBase, KnowsType, base_known, has_void, is_own_unspeakable, is_unspeakable, kind_known}
 use Rattle.dw_cprint.specs.declared.survey.Survey.{Survey}
 use Rattle.dw_cprint.specs.Wrong.{TypeKind, kind_at, StandsUnder, nothing, itself, below, IsVoidLike, has_bad_name, has_own_bad_name, is_void, is_wrong, is_wrong_row, object_types, IsUnspeakable, wrong, void_object, row, IsOwnUnspeakable, void_variable, unspeakable, wrong_enumeration, declared_enumeration}
 use Rattle.dw_cprint.proofs.KindLemmas.{first-of, names-alike, others-of, own-names-alike, wrong-alike}
@@ -72,46 +72,46 @@ objects-of P (body word odd ms) all = all
 objects-of P _ all = All-nil P
 
 module _ (shapes : ℕ → ShapeOf) (s : Survey) where
-  kinds-known : (types : List TypeAt) → All (Knows shapes s) types
+  kinds-known : (types : List TypeAt) → All (KnowsType shapes s) types
       → All (λ at. kind_known s at ≡ kind_at shapes at) types
   kinds-known types all =
-      All-weaker (Knows shapes s) (λ at. kind_known s at ≡ kind_at shapes at) (λ at known. known.is_kind) types all
+      All-weaker (KnowsType shapes s) (λ at. kind_known s at ≡ kind_at shapes at) (λ at known. known.is_kind) types all
 
-  pub names-known : (shape : ShapeOf) → All (Knows shapes s) (types_reached shape)
+  pub names-known : (shape : ShapeOf) → All (KnowsType shapes s) (types_reached shape)
       → has_bad_name (kind_known s) shape ≡ has_bad_name (kind_at shapes) shape
   names-known shape all = names-alike (kind_known s) (kind_at shapes) shape (kinds-known (types_reached shape) all)
 
-  pub own-names-known : (subject : SubjectOf) → All (Knows shapes s) (types_declared subject)
+  pub own-names-known : (subject : SubjectOf) → All (KnowsType shapes s) (types_declared subject)
       → has_own_bad_name (kind_known s) subject ≡ has_own_bad_name (kind_at shapes) subject
   own-names-known subject all =
       own-names-alike (kind_known s) (kind_at shapes) subject (kinds-known (types_declared subject) all)
 
-  void-known : (at : TypeAt) → Knows shapes s at → IsTrue (is_void (base_known s at)) ↔ IsVoidLike shapes at
+  void-known : (at : TypeAt) → KnowsType shapes s at → IsTrue (is_void (base_known s at)) ↔ IsVoidLike shapes at
   void-known at known = void-like shapes at (base_known s at) known.is_base
 
-  voids-known : (shape : ShapeOf) → All (Knows shapes s) (types_reached shape)
+  voids-known : (shape : ShapeOf) → All (KnowsType shapes s) (types_reached shape)
       → IsTrue (has_void s (object_types shape))
       ↔ Any (IsVoidLike shapes) (object_types shape)
   voids-known shape all = search (rules, any-iff, void-known, objects-of)
 
-  wrong-known : (shape : ShapeOf) → All (Knows shapes s) (types_reached shape)
+  wrong-known : (shape : ShapeOf) → All (KnowsType shapes s) (types_reached shape)
       → is_wrong (kind_known s) shape ≡ is_wrong (kind_at shapes) shape
   wrong-known shape all = wrong-alike (kind_known s) (kind_at shapes) shape (kinds-known (types_reached shape) all)
 
-  unspeakable-told : (shape : ShapeOf) → All (Knows shapes s) (types_reached shape) → is_unspeakable s shape ≡ true
+  unspeakable-told : (shape : ShapeOf) → All (KnowsType shapes s) (types_reached shape) → is_unspeakable s shape ≡ true
       → IsUnspeakable shapes shape
   unspeakable-told (qualified q at) all h =
-      let base = (first-of (Knows shapes s) at [] all).is_base in
+      let base = (first-of (KnowsType shapes s) at [] all).is_base in
       row base.0 base.1 (ap (is_wrong_row q) (sym base.2) ∙ h)
   unspeakable-told shape all t = elim (or_cases (has_void s (object_types shape)) _ t) [
     | inl h ↦ void_object ((voids-known shape all).0 h)
     | inr h ↦ wrong (sym (wrong-known shape all) ∙ h)
   ]
 
-  unspeakable-tells : (shape : ShapeOf) → All (Knows shapes s) (types_reached shape) → IsUnspeakable shapes shape
+  unspeakable-tells : (shape : ShapeOf) → All (KnowsType shapes s) (types_reached shape) → IsUnspeakable shapes shape
       → is_unspeakable s shape ≡ true
   unspeakable-tells (qualified q at) all (row under stands h) =
-      let base = (first-of (Knows shapes s) at [] all).is_base in
+      let base = (first-of (KnowsType shapes s) at [] all).is_base in
       ap (is_wrong_row q) (base-kind shapes at (base_known s at) base under stands) ∙ h
   unspeakable-tells (qualified q at) all (wrong h) = absurd (cc)
   unspeakable-tells (qualified q at) all (void_object some) = absurd (omega (arith, some.2))
@@ -120,14 +120,14 @@ module _ (shapes : ℕ → ShapeOf) (s : Survey) where
   unspeakable-tells shape all (void_object some) =
       or_left (has_void s (object_types shape)) (is_wrong (kind_known s) shape) ((voids-known shape all).1 some)
 
-  pub unspeakable-known : (shape : ShapeOf) → All (Knows shapes s) (types_reached shape)
+  pub unspeakable-known : (shape : ShapeOf) → All (KnowsType shapes s) (types_reached shape)
       → IsTrue (is_unspeakable s shape) ↔ IsUnspeakable shapes shape
   unspeakable-known shape all = (unspeakable-told shape all, unspeakable-tells shape all)
 
-  pub own-unspeakable-known : (subject : SubjectOf) → All (Knows shapes s) (types_declared subject)
+  pub own-unspeakable-known : (subject : SubjectOf) → All (KnowsType shapes s) (types_declared subject)
       → IsTrue (is_own_unspeakable s subject) ↔ IsOwnUnspeakable shapes subject
   own-unspeakable-known (variable_subject name at) all =
-      let void = void-known at (first-of (Knows shapes s) at [] all) in
+      let void = void-known at (first-of (KnowsType shapes s) at [] all) in
       (λ h. void_variable (void.0 h), λ h. elim h [ void_variable v ↦ void.1 v ])
   own-unspeakable-known (aggregate_subject word name odd ms) all =
       let known = unspeakable-known (body word odd ms) all in

@@ -4,8 +4,8 @@ use Rattle.std.proofs.lemmas.Bool.{cases_lt}
 use Rattle.std.specs.Prelude.{IsTrue, All, ◌↔◌, Contains}
 use Rattle.std.proofs.lemmas.List.Elements.{Contains-append_left, Contains-append_right, Contains-append_cases}
 use Rattle.dw_cprint.specs.Shapes.{TypeAt, ShapeOf, SubjectOf}
-use Rattle.dw_cprint.specs.Steps.{types_declared, types_reached, entries_of, steps_reached, IsReachedFrom, root, further, HasPathFrom}
-use Rattle.dw_cprint.specs.Summaries.{IsSummary, Knows, is_own_unspeakable, is_unspeakable, kind_known, Findings, Summary, ReachesOne, IsForeign, AreFound, AreFoundOf, IsDepth, IsEither, IsOwn}
+use Rattle.dw_cprint.specs.Steps.{types_declared, types_reached, entries_among, steps_reached, IsReachedFrom, root, further, HasPathFrom}
+use Rattle.dw_cprint.specs.Summaries.{IsSummary, KnowsType, is_own_unspeakable, is_unspeakable, kind_known, Findings, Summary, ReachesOne, IsForeign, AreFindings, AreFindingsOf, IsDepth, IsEither, IsOwn}
 use Rattle.dw_cprint.specs.declared.survey.Survey.{Survey}
 use Rattle.dw_cprint.specs.Wrong.{has_bad_name, has_own_bad_name, IsUnspeakable, HasBadName, is_foreign, is_own_foreign}
 use Rattle.dw_cprint.specs.Refusals.{own_name, name_reached, own_child, foreign_reached, own_shape, shape_reached, deep}
@@ -62,19 +62,19 @@ module _ (P : ShapeOf → Type 0) (shapes : ℕ → ShapeOf) where
       forth (inl (entry, r, p)) = (
         entry,
         subst (R entry) (sym (entries-append us bs))
-            (reached-wider (Contains-append_left (entries_of us) (entries_of bs)) r),
+            (reached-wider (Contains-append_left (entries_among us) (entries_among bs)) r),
         p,
       )
       forth (inr (entry, r, p)) = (
         entry,
         subst (R entry) (sym (entries-append us bs))
-            (reached-wider (Contains-append_right (entries_of us) (entries_of bs)) r),
+            (reached-wider (Contains-append_right (entries_among us) (entries_among bs)) r),
         p,
       )
 
       back : ReachesOne P shapes (us ++ bs) → ReachesOne P shapes us ⊎ ReachesOne P shapes bs
       back (entry, r, p) =
-          elim (reached-cases (entries_of us) (entries_of bs) (subst (R entry) (entries-append us bs) r))
+          elim (reached-cases (entries_among us) (entries_among bs) (subst (R entry) (entries-append us bs) r))
           [ inl x ↦ inl (entry, x, p) | inr y ↦ inr (entry, y, p) ]
 
   pub one-entry : (first : ℕ)
@@ -144,7 +144,7 @@ module _ (shapes : ℕ → ShapeOf) where
 
 module _ (shapes : ℕ → ShapeOf) where
   pub found-none : (f : Findings) → f.bad_name ≡ false → f.foreign ≡ false → f.unspeakable ≡ false → f.depth ≡ 0
-      → AreFound shapes [] f
+      → AreFindings shapes [] f
   found-none f a b c d = record {
     bad_name = test-same f.bad_name false a (one-none (HasBadName shapes) shapes);
     foreign_type = test-same f.foreign false b (one-none IsForeign shapes);
@@ -152,8 +152,8 @@ module _ (shapes : ℕ → ShapeOf) where
     deep = subst (IsDepth shapes []) (sym d) (depth-none shapes);
   }
 
-  pub found-join : (us bs : List TypeAt) (f g all : Findings) → AreFound shapes us f → AreFound shapes bs g
-      → IsEither f g all → all.depth ≡ max f.depth g.depth → AreFound shapes (us ++ bs) all
+  pub found-join : (us bs : List TypeAt) (f g all : Findings) → AreFindings shapes us f → AreFindings shapes bs g
+      → IsEither f g all → all.depth ≡ max f.depth g.depth → AreFindings shapes (us ++ bs) all
   found-join us bs f g all one two is depth = record {
     bad_name =
         either f.bad_name g.bad_name all.bad_name one.bad_name two.bad_name is.bad_name
@@ -165,18 +165,18 @@ module _ (shapes : ℕ → ShapeOf) where
         either f.unspeakable g.unspeakable all.unspeakable one.unspeakable two.unspeakable is.unspeakable
         (one-join (IsUnspeakable shapes) shapes us bs);
     deep =
-        let joined = depth-join shapes (entries_of us) (entries_of bs) f.depth g.depth one.deep two.deep in
+        let joined = depth-join shapes (entries_among us) (entries_among bs) f.depth g.depth one.deep two.deep in
         rw (depth, entries-append us bs) joined;
   }
 
   -- of an entry, by its own shape and by what is known of the types that it names
   pub found-shape : (known : Survey) (first : ℕ) (own under all : Findings)
-      → All (Knows shapes known) (types_reached (shapes first))
+      → All (KnowsType shapes known) (types_reached (shapes first))
       → IsOwn (has_bad_name (kind_known known) (shapes first)) (is_foreign (shapes first))
       (is_unspeakable known (shapes first)) own
-      → AreFound shapes (types_reached (shapes first)) under → IsEither own under all
+      → AreFindings shapes (types_reached (shapes first)) under → IsEither own under all
       → all.depth ≡ min (under.depth + 1) 255
-      → AreFound shapes (Some first ∷ []) all
+      → AreFindings shapes (Some first ∷ []) all
   found-shape known first own under all knows mine rest both depth = record {
     bad_name =
         either own.bad_name under.bad_name all.bad_name
@@ -193,11 +193,11 @@ module _ (shapes : ℕ → ShapeOf) where
   }
 
   pub found-subject : (known : Survey) (subject : SubjectOf) (own under all : Findings)
-      → All (Knows shapes known) (types_declared subject)
+      → All (KnowsType shapes known) (types_declared subject)
       → IsOwn (has_own_bad_name (kind_known known) subject) (is_own_foreign subject) (is_own_unspeakable known subject)
       own
-      → AreFound shapes (types_declared subject) under → IsEither own under all → all.depth ≡ under.depth
-      → AreFoundOf shapes subject all
+      → AreFindings shapes (types_declared subject) under → IsEither own under all → all.depth ≡ under.depth
+      → AreFindingsOf shapes subject all
   found-subject known subject own under all knows mine rest is depth = record {
     bad_name =
         either own.bad_name under.bad_name all.bad_name

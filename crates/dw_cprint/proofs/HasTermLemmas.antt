@@ -4,10 +4,10 @@ use Rattle.std.specs.Prelude.{IsSome, ◌==◌, option_map, option_and_then, Any
 use Rattle.std.specs.List.{list_any}
 use Rattle.std.proofs.lemmas.List.Splits.{length-slice_split}
 use Rattle.dw_types.specs.Paths.{Leads}
-use Rattle.dw_cprint.specs.Declarations.{words_of, parts_of, is_miscounted, is_misplaced, base_term, arrays, constants_of, has_more, parameters_by, members_by, term_by, term_at}
+use Rattle.dw_cprint.specs.Declarations.{words_of, parts_of, is_miscounted, is_misplaced, base_term, nested_arrays, constants_of, has_more, parameters_by, members_by, term_by, term_at}
 use Rattle.dw_cprint.specs.Legible.{is_identifier, IsIdentifier, IsQualifiable, IsPresent, IsLegible}
 use Rattle.dw_cprint.specs.Shapes.{Parameter, Typed, More, Name, TypeAt, MemberOf, EnumeratorOf, ShapeOf, base, typedef, qualified, pointer, array, function, tagged, nameless, body, enumeration, foreign, other}
-use Rattle.dw_cprint.specs.Steps.{entries_of, parameter_types, member_types, types_reached, steps_reached, StepsTo}
+use Rattle.dw_cprint.specs.Steps.{entries_among, parameter_types, member_types, types_reached, steps_reached, StepsTo}
 use Rattle.dw_cprint.specs.Terms.{TypeWord, Constant, Valued, Term, Named, Basic, Body, Enumeration, Qualified, Pointer, Function, Unprototyped, Prototyped, Parameters}
 use Rattle.dw_cprint.specs.Wrong.{lacks_name, lacks_base_name, HasBadName, is_foreign, lacks_value, is_wrong_enumeration, IsUnspeakable, wrong}
 use Rattle.dw_cprint.proofs.NameLemmas.{words-length}
@@ -30,14 +30,15 @@ among_there m n ns (k, w, e) = (suc k, omega arith, e)
 -- ---- what holds of each entry among types, and of void
 
 module _ (P : TypeAt → Type 0) (void : P None) where
-  pub head_of : (at : TypeAt) (ats : List TypeAt) → ((n : ℕ) → Contains (entries_of (at ∷ ats)) n → P (Some n)) → P at
+  pub head_of : (at : TypeAt) (ats : List TypeAt) → ((n : ℕ) → Contains (entries_among (at ∷ ats)) n → P (Some n))
+      → P at
   head_of None ats h = void
-  head_of (Some n) ats h = h n (among_here n (entries_of ats))
+  head_of (Some n) ats h = h n (among_here n (entries_among ats))
 
-  pub rest_of : (at : TypeAt) (ats : List TypeAt) → ((n : ℕ) → Contains (entries_of (at ∷ ats)) n → P (Some n))
-      → (n : ℕ) → Contains (entries_of ats) n → P (Some n)
+  pub rest_of : (at : TypeAt) (ats : List TypeAt) → ((n : ℕ) → Contains (entries_among (at ∷ ats)) n → P (Some n))
+      → (n : ℕ) → Contains (entries_among ats) n → P (Some n)
   rest_of None ats h = h
-  rest_of (Some m) ats h = λ n c. h n (among_there m n (entries_of ats) c)
+  rest_of (Some m) ats h = λ n c. h n (among_there m n (entries_among ats) c)
 
 -- ---- names
 
@@ -115,7 +116,8 @@ module _ (term : TypeAt → Option Term) (void : IsSome (term None)) where
   abbrev pub HasTerm : TypeAt → Type 0
   HasTerm at = IsSome (term at)
 
-  parameters_some : (ps : List Parameter) → ((n : ℕ) → Contains (entries_of (parameter_types ps)) n → HasTerm (Some n))
+  parameters_some : (ps : List Parameter)
+      → ((n : ℕ) → Contains (entries_among (parameter_types ps)) n → HasTerm (Some n))
       → IsSome (parameters_by term ps)
   parameters_some [] h = refl
   parameters_some (Typed at ∷ ps) h =
@@ -129,7 +131,7 @@ module _ (term : TypeAt → Option Term) (void : IsSome (term None)) where
       )
   parameters_some (More ∷ ps) h = parameters_some ps h
 
-  pub members_some : (ms : List MemberOf) → ((n : ℕ) → Contains (entries_of (member_types ms)) n → HasTerm (Some n))
+  pub members_some : (ms : List MemberOf) → ((n : ℕ) → Contains (entries_among (member_types ms)) n → HasTerm (Some n))
       → IsSome (members_by term ms)
   members_some [] h = refl
   members_some (m ∷ ms) h =
@@ -143,16 +145,16 @@ module _ (term : TypeAt → Option Term) (void : IsSome (term None)) where
       )
 
   shape_some : (shapes : ℕ → ShapeOf) (s : ShapeOf) → IsFine shapes s
-      → ((n : ℕ) → Contains (entries_of (types_reached s)) n → HasTerm (Some n)) → IsSome (term_by term s)
+      → ((n : ℕ) → Contains (entries_among (types_reached s)) n → HasTerm (Some n)) → IsSome (term_by term s)
   shape_some shapes (base name) fine h = base_some name term fine.named
   shape_some shapes (typedef None) fine h = absurd (fine.named refl)
   shape_some shapes (typedef (Some n)) fine h = refl
   shape_some shapes (qualified q at) fine h = map_some (Qualified q) (term at) (head_of HasTerm void at [] h)
   shape_some shapes (pointer at) fine h = map_some Pointer (term at) (head_of HasTerm void at [] h)
   shape_some shapes (array counts strange at) fine h =
-      unless_some (is_miscounted counts) (option_map (arrays counts) (term at))
+      unless_some (is_miscounted counts) (option_map (nested_arrays counts) (term at))
       (λ w. fine.speakable (wrong (or_right strange _ (or_left (is_miscounted counts) _ w))))
-      (map_some (arrays counts) (term at) (head_of HasTerm void at [] h))
+      (map_some (nested_arrays counts) (term at) (head_of HasTerm void at [] h))
   shape_some shapes (function at None) fine h =
       map_some (λ (t : Term). Function t Unprototyped) (term at) (head_of HasTerm void at [] h)
   shape_some shapes (function at (Some ps)) fine h =

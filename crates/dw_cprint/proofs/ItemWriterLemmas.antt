@@ -12,7 +12,7 @@ use Rattle.dw_cprint.specs.Kept.{Writes, EnumeratorsLeft, constants_left, Writes
 use Rattle.dw_cprint.specs.Shapes.{Parameter, Typed, More, Name, TypeAt, MemberOf, EnumeratorOf}
 use Rattle.dw_cprint.specs.Terms.{Constant, Valued, Term, Parameters, Parameter as ParameterTerm, Members, Member as MemberTerm}
 use Rattle.dw_cprint.specs.Tokens.{Token, Blank, LeftBrace, RightBrace, Semicolon, Comma, Dot, text_of}
-use Rattle.dw_cprint.specs.Writing.{spell, name_tokens, bits_tokens, ellipsis, constant, constants, more_constants, more_parameters, members_tokens, written}
+use Rattle.dw_cprint.specs.Writing.{spell, name_tokens, bits_tokens, ellipsis, constant_tokens, constants, more_constants, more_parameters, members_tokens, written}
 use Rattle.dw_cprint.specs.declared.survey.Survey.{Survey}
 use Rattle.dw_cprint.proofs.OptionLemmas.{both_hold, map_holds, map_inverted, then_inverted, unless_holds}
 use Rattle.dw_cprint.proofs.DraftLemmas.{appended-nil, appended-twice, over-before}
@@ -128,7 +128,7 @@ enumerators_next all left x begin out mid out' others so_far first written = rec
       λ us is.
       let (vs, are, so_far) = so_far.rest us is in
       let m = more-constants x left vs are in
-      let c = constant (Valued m.name m.value) in (
+      let c = constant_tokens (Valued m.name m.value) in (
         m.others,
         m.are_others,
         moved (comma others ++ c) (more_constants m.others) (constants_left others vs) begin out out'
@@ -139,7 +139,7 @@ enumerators_next all left x begin out mid out' others so_far first written = rec
 }
   where
     parts : (others : Bool) (cs : List Constant) (one : Constant)
-        → (comma others ++ constant one) ++ more_constants cs ≡ constants_left others (one ∷ cs)
+        → (comma others ++ constant_tokens one) ++ more_constants cs ≡ constants_left others (one ∷ cs)
     parts false cs one = refl
     parts true cs one = refl
 

@@ -5,7 +5,7 @@ use Rattle.std.specs.List.{list_any}
 use Rattle.dw_cprint.specs.Declarations.{is_miscounted, is_misplaced}
 use Rattle.dw_cprint.specs.Shapes.{TypeAt, MemberOf, ShapeOf, array, function, body, SubjectOf, aggregate_subject}
 use Rattle.dw_cprint.specs.Steps.{member_types, parameter_types, types_declared, types_reached}
-use Rattle.dw_cprint.specs.Wrong.{TypeKind, has_bad_name, has_own_bad_name, is_bracketed, is_function, is_open, is_wrong, is_wrong_bits, lacks_member_name, lacks_name}
+use Rattle.dw_cprint.specs.Wrong.{TypeKind, has_bad_name, has_own_bad_name, is_bracketed, is_function, is_open_array, is_wrong, is_wrong_bits, lacks_member_name, lacks_name}
 
 pub first-of : (P : TypeAt → Type 0) (at : TypeAt) (ats : List TypeAt) → All P (at ∷ ats) → P at
 first-of P at ats all = all 0 at (omega arith)
@@ -38,7 +38,7 @@ module _ (f g : TypeAt → TypeKind) where
 
   pub wrong-alike : (shape : ShapeOf) → All Same (types_reached shape) → is_wrong f shape ≡ is_wrong g shape
   wrong-alike (array counts strange at) same =
-      ap (λ (k : TypeKind). strange || (is_miscounted counts || (is_function k || is_open k)))
+      ap (λ (k : TypeKind). strange || (is_miscounted counts || (is_function k || is_open_array k)))
       (first-of Same at [] same)
   wrong-alike (function at None) same = ap is_bracketed (first-of Same at [] same)
   wrong-alike (function at (Some ps)) same =

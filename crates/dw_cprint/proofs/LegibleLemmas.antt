@@ -3,11 +3,11 @@ use Rattle.std.proofs.Common.{rules, ◌≡◌, ℕ, zero, suc, Bool, true, fals
 use Rattle.std.specs.Prelude.{option_map, option_and_then, Any, Contains, IsSome, not}
 use Rattle.std.specs.List.{list_any}
 use Rattle.std.proofs.lemmas.Option.{same_Some}
-use Rattle.dw_cprint.specs.Declarations.{is_miscounted, is_misplaced, arrays, constants_of, has_more, parameters_by, members_by, term_by, term_at, declaration_by}
-use Rattle.dw_cprint.specs.Legible.{is_identifier, IsIdentifier, IsName, AreConstants, IsQualifiable, IsPresent, IsLegible, IsSignature, AreParameters, AreMembers, IsDeclaration}
+use Rattle.dw_cprint.specs.Declarations.{is_miscounted, is_misplaced, nested_arrays, constants_of, has_more, parameters_by, members_by, term_by, term_at, declaration_by}
+use Rattle.dw_cprint.specs.Legible.{is_identifier, IsIdentifier, IsName, AreConstants, IsQualifiable, IsPresent, IsLegible, IsSignature, AreParameters, AreMembers, IsLegibleDeclaration}
 use Rattle.dw_cprint.specs.Shapes.{Parameter, Typed, More, Name, TypeAt, MemberOf, EnumeratorOf, ShapeOf, base, typedef, Qualifier, Restrict, qualified, pointer, array, function, tagged, body, enumeration, SubjectOf, typedef_subject, variable_subject, aggregate_subject, enumeration_subject, declared_subject, other_subject}
-use Rattle.dw_cprint.specs.Steps.{entries_of, parameter_types, member_types, types_reached, first_steps, root, further, IsReached, HasPath}
-use Rattle.dw_cprint.specs.Terms.{Constant, Term, Void, Named, Tagged, Body, Enumeration, Qualified, Pointer, Function, Unprototyped, Prototyped, Parameters, NoParameter, Parameter as ParameterTerm, Members, NoMember, Member as MemberTerm, Declaration, Typedef, Variable, Aggregate, Constants, Declared}
+use Rattle.dw_cprint.specs.Steps.{entries_among, parameter_types, member_types, types_reached, first_steps, root, further, IsReached, HasPath}
+use Rattle.dw_cprint.specs.Terms.{Constant, Term, Void, Named, Tagged, Body, Enumeration, Qualified, Pointer, Function, Unprototyped, Prototyped, Parameters, NoParameter, Parameter as ParameterTerm, Members, NoMember, Member as MemberTerm, CDeclaration, Typedef, Variable, Aggregate, Constants, Declared}
 use Rattle.dw_cprint.specs.Wrong.{TypeKind, StandsUnder, nothing, itself, IsVoidLike, is_bracketed, is_wrong_row, kind_at, kind_in, lacks_member_name, row, void_object, has_own_bad_name, wrong_enumeration}
 use Rattle.dw_cprint.specs.Refusals.{other_kind, own_name, own_shape, name_reached, foreign_reached, shape_reached, HoldsNoneBelow, NotPrintable, BadName, Foreign, Unspeakable}
 use Rattle.dw_cprint.specs.declared.shape.TypeKind.TheVariants as kind
@@ -44,7 +44,7 @@ module _ (term : TypeAt → Option Term) where
 
   module _ (void : ReadsAt None) where
     parameters_legible : (ps : List Parameter)
-        → ((n : ℕ) → Contains (entries_of (parameter_types ps)) n → ReadsAt (Some n)) → (us : Parameters)
+        → ((n : ℕ) → Contains (entries_among (parameter_types ps)) n → ReadsAt (Some n)) → (us : Parameters)
         → parameters_by term ps ≡ Some us → AreParameters us
     parameters_legible [] h us e = let same : NoParameter ≡ us = cc in subst AreParameters same tt
     parameters_legible (Typed at ∷ ps) h us e =
@@ -58,8 +58,9 @@ module _ (term : TypeAt → Option Term) where
 
     signature_legible : (shapes : ℕ → ShapeOf) (ps : List Parameter)
         → (Any (IsVoidLike shapes) (parameter_types ps) → ⊥) → is_misplaced ps ≡ false
-        → ((n : ℕ) → Contains (entries_of (parameter_types ps)) n → (t : Term) → term (Some n) ≡ Some t → IsPresent t)
-        → ((n : ℕ) → Contains (entries_of (parameter_types ps)) n → ReadsAt (Some n)) → (us : Parameters)
+        → ((n : ℕ) → Contains (entries_among (parameter_types ps)) n → (t : Term) → term (Some n) ≡ Some t
+        → IsPresent t)
+        → ((n : ℕ) → Contains (entries_among (parameter_types ps)) n → ReadsAt (Some n)) → (us : Parameters)
         → parameters_by term ps ≡ Some us → IsSignature (Prototyped us (has_more ps))
     signature_legible shapes [] voids placed there h us e =
         let same : NoParameter ≡ us = cc in
@@ -68,7 +69,7 @@ module _ (term : TypeAt → Option Term) where
     signature_legible shapes (Typed None ∷ ps) voids placed there h us e =
         absurd (voids (any_here (IsVoidLike shapes) None (parameter_types ps) nothing))
     signature_legible shapes (Typed (Some n) ∷ ps) voids placed there h us e =
-        let here = among_here n (entries_of (parameter_types ps)) in
+        let here = among_here n (entries_among (parameter_types ps)) in
         both_hold (λ (vs : Parameters). IsSignature (Prototyped vs (has_more ps))) ParameterTerm (term (Some n))
         (parameters_by term ps)
         (λ t is vs are. (
@@ -80,7 +81,7 @@ module _ (term : TypeAt → Option Term) where
 
     pub members_legible : (shapes : ℕ → ShapeOf) (ms : List MemberOf)
         → (list_any (nameless_member shapes) ms ≡ true → ⊥)
-        → ((n : ℕ) → Contains (entries_of (member_types ms)) n → ReadsAt (Some n)) → (us : Members)
+        → ((n : ℕ) → Contains (entries_among (member_types ms)) n → ReadsAt (Some n)) → (us : Members)
         → members_by term ms ≡ Some us → AreMembers us
     members_legible shapes [] named h us e = let same : NoMember ≡ us = cc in subst AreMembers same tt
     members_legible shapes (m ∷ ms) named h us e =
@@ -94,7 +95,7 @@ module _ (term : TypeAt → Option Term) where
               (rest_of ReadsAt void m.type_at (member_types ms) h) vs are,
         )) us e
 
-arrays_legible : (counts : List (Option ℕ)) (t : Term) → IsLegible t → IsLegible (arrays counts t)
+arrays_legible : (counts : List (Option ℕ)) (t : Term) → IsLegible t → IsLegible (nested_arrays counts t)
 arrays_legible [] t h = h
 arrays_legible (c ∷ cs) t h = arrays_legible cs t h
 
@@ -151,9 +152,9 @@ void_legible (suc k) shapes t e = let same : Void ≡ t = cc in subst IsLegible 
 
 module _ (shapes : ℕ → ShapeOf) (k : ℕ) where
   shape_legible : (s : ShapeOf) → IsFine shapes s
-      → ((n : ℕ) → Contains (entries_of (types_reached s)) n → (t : Term) → term_at k shapes (Some n) ≡ Some t
+      → ((n : ℕ) → Contains (entries_among (types_reached s)) n → (t : Term) → term_at k shapes (Some n) ≡ Some t
       → IsPresent t)
-      → ((n : ℕ) → Contains (entries_of (types_reached s)) n → ReadsAt (term_at k shapes) (Some n)) → (t : Term)
+      → ((n : ℕ) → Contains (entries_among (types_reached s)) n → ReadsAt (term_at k shapes) (Some n)) → (t : Term)
       → term_by (term_at k shapes) s ≡ Some t → IsLegible t
   shape_legible (base (Some n)) fine there h t e = IsBaseTerm.legible (base_is n t e)
   shape_legible (typedef (Some n)) fine there h t e =
@@ -168,8 +169,8 @@ module _ (shapes : ℕ → ShapeOf) (k : ℕ) where
       map_holds IsLegible Pointer (term_at k shapes at)
       (λ u is. head_of (ReadsAt (term_at k shapes)) (void_legible k shapes) at [] h u is) t e
   shape_legible (array counts strange at) fine there h t e =
-      unless_holds IsLegible (is_miscounted counts) (option_map (arrays counts) (term_at k shapes at))
-      (λ placed. map_holds IsLegible (arrays counts) (term_at k shapes at)
+      unless_holds IsLegible (is_miscounted counts) (option_map (nested_arrays counts) (term_at k shapes at))
+      (λ placed. map_holds IsLegible (nested_arrays counts) (term_at k shapes at)
       (λ u is. arrays_legible counts u (head_of (ReadsAt (term_at k shapes)) (void_legible k shapes) at [] h u is))) t e
   shape_legible (function at None) fine there h t e =
       map_holds IsLegible (λ (t : Term). Function t Unprototyped) (term_at k shapes at)
@@ -186,10 +187,10 @@ module _ (shapes : ℕ → ShapeOf) (k : ℕ) where
             (rest_of (ReadsAt term) (void_legible k shapes) at (parameter_types ps) h) us are,
       ))) t e
     where
-      further_in : (at : TypeAt) (ats : List TypeAt) (n : ℕ) → Contains (entries_of ats) n
-          → Contains (entries_of (at ∷ ats)) n
+      further_in : (at : TypeAt) (ats : List TypeAt) (n : ℕ) → Contains (entries_among ats) n
+          → Contains (entries_among (at ∷ ats)) n
       further_in None ats n c = c
-      further_in (Some m) ats n c = among_there m n (entries_of ats) c
+      further_in (Some m) ats n c = among_there m n (entries_among ats) c
   shape_legible (tagged word name) fine there h t e =
       let same : Tagged word name ≡ t = cc in subst IsLegible same (not_refuted (is_identifier name) fine.named)
   shape_legible (body word odd ms) fine there h t e =
@@ -255,7 +256,7 @@ subject_some k shapes subject none short =
 
 -- where nothing is wrong, the declaration can be read back
 pub subject_legible : (k : ℕ) (shapes : ℕ → ShapeOf) (subject : SubjectOf) → HoldsNoneBelow 5 shapes subject
-    → (d : Declaration) → declaration_by (term_at k shapes) subject ≡ Some d → IsDeclaration d
+    → (d : CDeclaration) → declaration_by (term_at k shapes) subject ≡ Some d → IsLegibleDeclaration d
 subject_legible k shapes subject none d e =
     by_subject subject none (λ n leads. entry_legible shapes (IsReached shapes subject)
     (kept_reached shapes subject none) k n (root leads)) e
@@ -266,33 +267,33 @@ subject_legible k shapes subject none d e =
 
     by_subject : (s : SubjectOf) → HoldsNoneBelow 5 shapes s
         → ((n : ℕ) → Contains (first_steps s) n → ReadsAt (term_at k shapes) (Some n))
-        → declaration_by (term_at k shapes) s ≡ Some d → IsDeclaration d
+        → declaration_by (term_at k shapes) s ≡ Some d → IsLegibleDeclaration d
     by_subject (typedef_subject (Some n) at) none h e =
-        map_holds IsDeclaration (Typedef n) (term_at k shapes at)
+        map_holds IsLegibleDeclaration (Typedef n) (term_at k shapes at)
         (λ u is. (
           identifier (typedef_subject (Some n) at) n none (λ w. w),
           head_of (ReadsAt (term_at k shapes))
               (void_legible k shapes) at [] h u is,
         )) d e
     by_subject (variable_subject (Some n) at) none h e =
-        map_holds IsDeclaration (Variable n) (term_at k shapes at)
+        map_holds IsLegibleDeclaration (Variable n) (term_at k shapes at)
         (λ u is. (
           identifier (variable_subject (Some n) at) n none (λ w. w),
           head_of (ReadsAt (term_at k shapes))
               (void_legible k shapes) at [] h u is,
         )) d e
     by_subject (aggregate_subject word (Some n) odd ms) none h e =
-        map_holds IsDeclaration (Aggregate word n) (members_by (term_at k shapes) ms) (λ us are. (
+        map_holds IsLegibleDeclaration (Aggregate word n) (members_by (term_at k shapes) ms) (λ us are. (
           identifier (aggregate_subject word (Some n) odd ms) n none (λ w. or_left _ _ w),
           members_legible (term_at k shapes) (void_legible k shapes) shapes ms
               (λ w. none BadName (omega arith) (own_name (or_right _ _ w))) h us are,
         )) d e
     by_subject (enumeration_subject (Some n) odd es) none h e =
-        map_holds IsDeclaration (Constants n) (constants_of es) (λ cs are. (
+        map_holds IsLegibleDeclaration (Constants n) (constants_of es) (λ cs are. (
           identifier (enumeration_subject (Some n) odd es) n none (λ w. or_left _ _ w),
           constants_legible es (λ w. none BadName (omega arith) (own_name (or_right _ _ w))) cs are,
         )) d e
     by_subject (declared_subject word (Some n)) none h e =
         let same : Declared word n ≡ d = cc in
-        subst IsDeclaration same (identifier (declared_subject word (Some n)) n none (λ w. w))
+        subst IsLegibleDeclaration same (identifier (declared_subject word (Some n)) n none (λ w. w))
     by_subject _ none h e = absurd (cc)

@@ -3,13 +3,13 @@ use Rattle.std.proofs.Common.{◌≡◌, ℕ, ◌+◌, Bool, true, false, List, 
 use Rattle.std.specs.Prelude.{All, sum_by, flat_map, if◌then◌else◌, ◌||◌, not}
 use Rattle.std.proofs.lemmas.List.Sums.{sum_by-cons}
 use Rattle.dw_types.specs.Sizes.{has_elements}
-use Rattle.dw_cprint.specs.Declarations.{arrays, constants_of, declaration_by, has_more, is_miscounted, members_by, term_by}
-use Rattle.dw_cprint.specs.Declarators.{gap, opened, closed, pointer_row, before, after, core}
-use Rattle.dw_cprint.specs.Lengths.{byte_count, capped, type_bytes, space, has_gap, qualifier_bytes, IsLength, tag_bytes, bytes_around, named_bytes, member_bytes, parameters_bytes, shape_bytes, base_in, declared_bytes}
+use Rattle.dw_cprint.specs.Declarations.{nested_arrays, constants_of, declaration_by, has_more, is_miscounted, members_by, term_by}
+use Rattle.dw_cprint.specs.Declarators.{gap, opening, closing, pointer_row, before, after, core}
+use Rattle.dw_cprint.specs.Lengths.{byte_count, capped, type_bytes, space, has_gap, qualifier_bytes, IsLength, tag_bytes, bytes_around, named_bytes, member_bytes, parameters_bytes, shape_bytes, base_kind, declared_bytes}
 use Rattle.dw_cprint.specs.Shapes.{Qualifier, OfAggregate, Enum, TypeAt, ShapeOf, base, typedef, qualified, pointer, array, function, tagged, body, enumeration, SubjectOf, typedef_subject, variable_subject, aggregate_subject, enumeration_subject, declared_subject}
 use Rattle.dw_cprint.specs.Steps.{parameter_types, types_declared, types_reached}
 use Rattle.dw_cprint.specs.Summaries.{Summary}
-use Rattle.dw_cprint.specs.Terms.{Term, Void, Body, Enumeration, Qualified, Pointer, Function, Unprototyped, Prototyped, Declaration, Typedef, Variable, Aggregate, Constants}
+use Rattle.dw_cprint.specs.Terms.{Term, Void, Body, Enumeration, Qualified, Pointer, Function, Unprototyped, Prototyped, CDeclaration, Typedef, Variable, Aggregate, Constants}
 use Rattle.dw_cprint.specs.Tokens.{Token, Blank, Star, Open, Close, LeftBrace, RightBrace, Semicolon, TypedefWord, TagWord, QualifierWord, Identifier, qualifier_spelling}
 use Rattle.dw_cprint.specs.Writing.{spell, qualifying, constants, count_tokens, members_tokens, signature_tokens, written}
 use Rattle.dw_cprint.specs.Wrong.{TypeKind, is_bracketed, is_pointer, kind_in}
@@ -120,19 +120,19 @@ pointer-length u k b n is = record {
 
     front : (qs : List Qualifier) (inside : Bool)
         → byte_count (before qs (Pointer u) inside)
-        ≡ byte_count (before [] u true) + (byte_count (opened u) + (1 + byte_count (pointer_row qs inside)))
+        ≡ byte_count (before [] u true) + (byte_count (opening u) + (1 + byte_count (pointer_row qs inside)))
     front qs inside =
         omega (
           arith,
-          count-append (before [] u true) (opened u ++ Star ∷ pointer_row qs inside),
+          count-append (before [] u true) (opening u ++ Star ∷ pointer_row qs inside),
           count-append
-              (opened u) (Star ∷ pointer_row qs inside),
+              (opening u) (Star ∷ pointer_row qs inside),
           count-cons Star (pointer_row qs inside),
         )
 
     whole : (inside : Bool) → type_bytes (Pointer u) inside ≡ type_bytes u true + (if is_bracketed k then 3 else 1)
     whole inside =
-        omega (arith, front [] inside, count-append (closed u) (after u), is.parentheses, star (is_bracketed k))
+        omega (arith, front [] inside, count-append (closing u) (after u), is.parentheses, star (is_bracketed k))
 
     row : (q : Qualifier) (qs : List Qualifier) (inside : Bool)
         → byte_count (before (q ∷ qs) (Pointer u) inside)
@@ -156,7 +156,7 @@ pointer-length u k b n is = record {
 bracketed-length : (t u : Term) (k b m : TypeKind) (n more : ℕ) → IsLength u k b n → is_bracketed m ≡ true
     → ((qs : List Qualifier) (inside : Bool) → before qs t inside ≡ before [] u true)
     → byte_count (after t) ≡ byte_count (after u) + more
-    → byte_count (opened t) + byte_count (closed t) ≡ 2 → (bytes : ℕ)
+    → byte_count (opening t) + byte_count (closing t) ≡ 2 → (bytes : ℕ)
     → capped bytes ≡ capped (n + space (has_gap k b) + more) → IsLength t m m (capped bytes)
 bracketed-length t u k b m n more is is_bracket same behind parens bytes counted = record {
   bare = bare-length t _
@@ -178,7 +178,7 @@ abbrev core-count : Option Term → ℕ
 core-count None = 0
 core-count (Some t) = byte_count (core t)
 
-abbrev written-count : Option Declaration → ℕ
+abbrev written-count : Option CDeclaration → ℕ
 written-count None = 0
 written-count (Some d) = length (written d)
 
@@ -193,7 +193,7 @@ counts-length (c ∷ cs) =
 module _ (term : TypeAt → Option Term) (known : TypeAt → Summary) where
   -- what is counted for a shape is right
   pub shape-length : (s : ShapeOf) (t : Term) → All (Tells term known) (types_reached s) → term_by term s ≡ Some t
-      → IsLength t (kind_in (Some s)) (base_in known s) (capped (shape_bytes known s))
+      → IsLength t (kind_in (Some s)) (base_kind known s) (capped (shape_bytes known s))
   shape-length (base (Some name)) t all e =
       core-length t kind.Other (length name) (specifier-of term (base (Some name)) t refl e)
       (sym (ap (λ (u : List ℕ). length u) (base-core name t e)) ∙ omega (arith, count-cons (Identifier name) []))
@@ -214,8 +214,8 @@ module _ (term : TypeAt → Option Term) (known : TypeAt → Summary) where
   shape-length (array (c ∷ cs) strange at) t all e =
       let m = kind_in (Some (array (c ∷ cs) strange at)) in
       let P : Term → Type 0 = λ x. IsLength x m m (capped (shape_bytes known (array (c ∷ cs) strange at))) in
-      unless_holds P (is_miscounted (c ∷ cs)) _ (λ placed. map_holds P (arrays (c ∷ cs)) (term at) (λ u is.
-      bracketed-length (arrays (c ∷ cs) u) u (known at).kind (known at).base m (known at).length
+      unless_holds P (is_miscounted (c ∷ cs)) _ (λ placed. map_holds P (nested_arrays (c ∷ cs)) (term at) (λ u is.
+      bracketed-length (nested_arrays (c ∷ cs) u) u (known at).kind (known at).base m (known at).length
       (sum_by (λ (n : Option ℕ). byte_count (count_tokens n)) (c ∷ cs))
       (first-of (Tells term known) at [] all u is) refl (λ qs inside. before-arrays cs u)
       (omega (
@@ -292,11 +292,11 @@ module _ (term : TypeAt → Option Term) (known : TypeAt → Summary) where
   shape-length _ t all e = absurd (cc)
 
   -- and for a declaration
-  pub declared-length : (subject : SubjectOf) (d : Declaration) → All (Tells term known) (types_declared subject)
+  pub declared-length : (subject : SubjectOf) (d : CDeclaration) → All (Tells term known) (types_declared subject)
       → declaration_by term subject ≡ Some d
       → capped (declared_bytes known subject) ≡ capped (length (written d))
   declared-length (typedef_subject (Some name) at) d all e =
-      map_holds (λ (d : Declaration). capped (declared_bytes known (typedef_subject (Some name) at))
+      map_holds (λ (d : CDeclaration). capped (declared_bytes known (typedef_subject (Some name) at))
       ≡ capped (length (written d))) (Typedef name) (term at) (λ t is.
       let text = spell [] t (Identifier name ∷ []) in
       let own = named-length term known t at (Some name) (first-of (Tells term known) at [] all t is) in
@@ -304,7 +304,7 @@ module _ (term : TypeAt → Option Term) (known : TypeAt → Summary) where
       capped-plus (named_bytes known at (Some name)) 9 (byte_count text) 9 own refl
       ∙ ap (λ (n : ℕ). capped n) (omega (arith, a, count-append text (Semicolon ∷ [])))) d e
   declared-length (variable_subject (Some name) at) d all e =
-      map_holds (λ (d : Declaration). capped (declared_bytes known (variable_subject (Some name) at))
+      map_holds (λ (d : CDeclaration). capped (declared_bytes known (variable_subject (Some name) at))
       ≡ capped (length (written d))) (Variable name) (term at) (λ t is.
       let text = spell [] t (Identifier name ∷ []) in
       let own = named-length term known t at (Some name) (first-of (Tells term known) at [] all t is) in
@@ -312,7 +312,7 @@ module _ (term : TypeAt → Option Term) (known : TypeAt → Summary) where
       ∙ ap (λ (n : ℕ). capped n) (omega (arith, count-append text (Semicolon ∷ [])))) d e
   declared-length (aggregate_subject word (Some name) odd ms) d all e =
       let tag = OfAggregate word in
-      map_holds (λ (d : Declaration). capped (declared_bytes known (aggregate_subject word (Some name) odd ms))
+      map_holds (λ (d : CDeclaration). capped (declared_bytes known (aggregate_subject word (Some name) odd ms))
       ≡ capped (length (written d))) (Aggregate word name) (members_by term ms) (λ us are.
       let rest = Blank ∷ LeftBrace ∷ Blank ∷ (members_tokens us ++ RightBrace ∷ Semicolon ∷ []) in
       let a = count-cons (TagWord tag) (Blank ∷ Identifier name ∷ rest) in
@@ -331,7 +331,7 @@ module _ (term : TypeAt → Option Term) (known : TypeAt → Summary) where
             (members_tokens us) (RightBrace ∷ Semicolon ∷ []),
       ))) d e
   declared-length (enumeration_subject (Some name) odd es) d all e =
-      map_holds (λ (d : Declaration). capped (declared_bytes known (enumeration_subject (Some name) odd es))
+      map_holds (λ (d : CDeclaration). capped (declared_bytes known (enumeration_subject (Some name) odd es))
       ≡ capped (length (written d))) (Constants name) (constants_of es) (λ cs are.
       let rest = Blank ∷ LeftBrace ∷ Blank ∷ (constants cs ++ Blank ∷ RightBrace ∷ Semicolon ∷ []) in
       let a = count-cons (TagWord Enum) (Blank ∷ Identifier name ∷ rest) in
@@ -350,5 +350,5 @@ module _ (term : TypeAt → Option Term) (known : TypeAt → Summary) where
       let a = count-cons (TagWord word) (Blank ∷ Identifier name ∷ Semicolon ∷ []) in
       ap (λ (n : ℕ). capped n) (omega
       (arith, a, count-cons Blank (Identifier name ∷ Semicolon ∷ []), count-cons (Identifier name) (Semicolon ∷ [])))
-      ∙ ap (λ (o : Option Declaration). capped (written-count o)) e
+      ∙ ap (λ (o : Option CDeclaration). capped (written-count o)) e
   declared-length _ d all e = absurd (cc)

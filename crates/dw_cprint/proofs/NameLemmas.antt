@@ -17,7 +17,7 @@ use Rattle.dw_cprint.specs.Legible.{is_word_byte}
 use Rattle.dw_cprint.specs.Terms.{TypeWord}
 use Rattle.dw_cprint.specs.Tokens.{type_word_spelling, text_of}
 use Rattle.dw_cprint.specs.Writing.{basic}
-use Rattle.dw_cprint.specs.StringSpans.{AreSpans, IsSpan}
+use Rattle.dw_cprint.specs.StringSpans.{AreSpans, IsStringSpan}
 use Rattle.dw_cprint.specs.declared.source.Span.{Span}
 use Rattle.dw_cprint.proofs.OptionLemmas.{both_hold}
 
@@ -162,7 +162,7 @@ no_words name long = by_words (words_of 4 (parts_of name)) refl
 -- a string that ends before the offset
 pub span-front : (bytes : List ℕ) (offset : ℕ) (front : List ℕ) (words : Bool) → offset ≤ length bytes
     → front ≡ string_at (take offset bytes) 0 → words ≡ list_all is_word_byte front → length front < offset
-    → IsSpan bytes (record { len = length front; words = words })
+    → IsStringSpan bytes (record { len = length front; words = words })
 span-front bytes offset front words within is means short =
     let all = length-take-le offset bytes within in
     let same : before_first (λ (byte : ℕ). byte == 0) bytes ≡ front =
@@ -173,10 +173,10 @@ span-front bytes offset front words within is means short =
 
 -- one that goes on there
 pub span-joined : (bytes : List ℕ) (offset : ℕ) (next : Span) (front : List ℕ) (words both : Bool)
-    → offset ≤ length bytes → IsSpan (drop offset bytes) next
+    → offset ≤ length bytes → IsStringSpan (drop offset bytes) next
     → front ≡ string_at (take offset bytes) 0 → words ≡ list_all is_word_byte front → offset ≤ length front
     → both ≡ (words && next.words)
-    → IsSpan bytes (record { len = offset + next.len; words = both })
+    → IsStringSpan bytes (record { len = offset + next.len; words = both })
 span-joined bytes offset next front words both within known is means long split =
     let zero : ℕ → Bool = λ byte. byte == 0 in
     let start = take offset bytes in
@@ -198,13 +198,13 @@ span-joined bytes offset next front words both within known is means long split 
 pub record SpansTo (section : List ℕ) (k : ℕ) (spans : List Span) (last : Span) : Type 0 where
   pub count : length spans ≡ k + 1
   pub each : (j : ℕ) (span : Span) → slice_get spans j ≡ Some span
-      → IsSpan (drop (length section - 64 * j) section) span
-  pub newest : IsSpan (drop (length section - 64 * k) section) last
+      → IsStringSpan (drop (length section - 64 * j) section) span
+  pub newest : IsStringSpan (drop (length section - 64 * k) section) last
 
 -- the string at the start of the next block goes on where the last one starts
 pub span-before : (section bytes : List ℕ) (k : ℕ) (spans : List Span) (last : Span) → SpansTo section k spans last
     → k < length section / 64
-    → bytes ≡ drop (length section - (k + 1) * 64) section → IsSpan (drop 64 bytes) last
+    → bytes ≡ drop (length section - (k + 1) * 64) section → IsStringSpan (drop 64 bytes) last
 span-before section bytes k spans last known below is =
     let place : length section - (k + 1) * 64 + 64 ≡ length section - 64 * k = omega arith in
     let same : drop 64 bytes ≡ drop (length section - 64 * k) section =
@@ -214,11 +214,11 @@ span-before section bytes k spans last known below is =
 -- one block more
 pub spans-more : (section bytes : List ℕ) (k : ℕ) (spans more : List Span) (last span : Span)
     → SpansTo section k spans last
-    → bytes ≡ drop (length section - (k + 1) * 64) section → IsSpan bytes span → more ≡ spans ++ span ∷ []
+    → bytes ≡ drop (length section - (k + 1) * 64) section → IsStringSpan bytes span → more ≡ spans ++ span ∷ []
     → SpansTo section (k + 1) more span
 spans-more section bytes k spans more last span known is new grown =
     let place : length section - (k + 1) * 64 ≡ length section - 64 * (k + 1) = omega arith in
-    let P : List ℕ → Type 0 = λ xs. IsSpan xs span in
+    let P : List ℕ → Type 0 = λ xs. IsStringSpan xs span in
     let newest = subst P (is ∙ ap (λ (n : ℕ). drop n section) place) new in
     record {
       count = ap length grown ∙ length_push spans span ∙ ap (λ (n : ℕ). n + 1) known.count;
@@ -227,8 +227,8 @@ spans-more section bytes k spans more last span known is new grown =
     }
   where
     by_place : (j : ℕ) (found : Span) → slice_get more j ≡ Some found → (j < length spans) ⊎ (length spans ≤ j)
-        → IsSpan (drop (length section - 64 * (k + 1)) section) span
-        → IsSpan (drop (length section - 64 * j) section) found
+        → IsStringSpan (drop (length section - 64 * (k + 1)) section) span
+        → IsStringSpan (drop (length section - 64 * j) section) found
     by_place j found at (inl below) newest =
         let same = sym (get_or_from_slice_get more j found found at) ∙ ap (λ (xs : List Span). get_or xs j found) grown
         ∙ get_or_append_left spans (span ∷ []) found j below in
@@ -241,12 +241,12 @@ spans-more section bytes k spans more last span known is new grown =
         let place : k + 1 ≡ j = omega arith in
         let same = sym (get_or_from_slice_get more j found found at) ∙ ap (λ (xs : List Span). get_or xs j found) grown
         ∙ get_or_push spans span found j here in
-        let P : ℕ → Span → Type 0 = λ n one. IsSpan (drop (length section - 64 * n) section) one in
+        let P : ℕ → Span → Type 0 = λ n one. IsStringSpan (drop (length section - 64 * n) section) one in
         subst (λ (n : ℕ). P n found) place (subst (P (k + 1)) (sym same) newest)
 
 -- what is known where fewer than 64 bytes more are left
 pub text-next : (section : List ℕ) (spans : List Span) (offset : ℕ) (bytes : List ℕ) (span d : Span)
     → AreSpans section spans → offset ≤ length section → bytes ≡ drop offset section
-    → span ≡ get_or spans (length bytes / 64) d → IsSpan (drop (length bytes % 64) bytes) span
+    → span ≡ get_or spans (length bytes / 64) d → IsStringSpan (drop (length bytes % 64) bytes) span
 text-next section spans offset bytes span d known offset_within is found =
     search (rules, length-drop, div-add-mod, drop-drop, slice_get-get_or)

@@ -12,7 +12,7 @@ use Rattle.dw_cprint.specs.Steps.{member_types, parameter_types}
 use Rattle.dw_cprint.specs.Summaries.{Summary}
 use Rattle.dw_cprint.specs.Terms.{Constant, Valued, Term, Prototyped, Parameters, NoParameter, Parameter as ParameterTerm, Members, NoMember, Member as MemberTerm}
 use Rattle.dw_cprint.specs.Tokens.{Token, Blank, Semicolon, Comma, Equals, Identifier, spelling, text_of}
-use Rattle.dw_cprint.specs.Writing.{spell, bits_tokens, constant, constants, ellipsis, members_tokens, more_constants, more_parameters, name_tokens, signature_tokens, value_tokens}
+use Rattle.dw_cprint.specs.Writing.{spell, bits_tokens, constant_tokens, constants, ellipsis, members_tokens, more_constants, more_parameters, name_tokens, signature_tokens, value_tokens}
 use Rattle.dw_cprint.specs.Wrong.{TypeKind}
 use Rattle.dw_cprint.proofs.DeclaratorLemmas.{in_parts}
 use Rattle.dw_cprint.proofs.ItemWriterLemmas.{more-constants}
@@ -173,7 +173,7 @@ constants-length [] cs e = (let same : [] ≡ cs = cc in ap (λ (u : List Consta
 constants-length (x ∷ es) cs e =
     let m = more-constants x es cs e in
     let inner = constants-length es m.others m.are_others in
-    let one = constant (Valued m.name m.value) in
+    let one = constant_tokens (Valued m.name m.value) in
     let whole = ap (λ (u : List Constant). byte_count (more_constants u)) m.is in
     let named = ap name_bytes m.is_name in
     let valued = ap value_bytes m.is_value in
@@ -193,9 +193,9 @@ more-length : (c : Constant) (cs : List Constant)
 more-length c cs =
     omega (
       arith,
-      count-cons Comma (Blank ∷ (constant c ++ more_constants cs)),
+      count-cons Comma (Blank ∷ (constant_tokens c ++ more_constants cs)),
       count-cons Blank
-          (constant c ++ more_constants cs),
+          (constant_tokens c ++ more_constants cs),
     )
 
 pub enumerators-length : (es : List EnumeratorOf) (cs : List Constant) → constants_of es ≡ Some cs

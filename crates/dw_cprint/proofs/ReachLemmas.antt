@@ -16,8 +16,8 @@ use Rattle.dw_types.specs.Graphs.{Graph, steps_of}
 use Rattle.dw_types.specs.Packing.{cut, LeadsBelow}
 use Rattle.dw_types.specs.PackingLaws.{cut-more}
 use Rattle.dw_types.proofs.PackingLemmas.{AreEnds, ends-more}
-use Rattle.dw_cprint.specs.Steps.{entries_of, member_types, steps_reached, IsReachedFrom, root, further}
-use Rattle.dw_cprint.specs.Reach.{ArePlaces, Grows, IsRow, FindsAll, HasReached}
+use Rattle.dw_cprint.specs.Steps.{entries_among, member_types, steps_reached, IsReachedFrom, root, further}
+use Rattle.dw_cprint.specs.Reach.{ArePlaces, Grows, IsRowOfPlaces, FindsAll, HasReached}
 use Rattle.dw_cprint.specs.Shapes.{MemberOf, ShapeOf, view_shape}
 use Rattle.dw_cprint.specs.declared.survey.Survey.{Survey}
 use lib.Dec.{eqb}
@@ -50,7 +50,8 @@ map-same f g [] same = refl
 map-same f g (x ∷ xs) same = rw (same 0 (omega arith), map-same f g xs (λ k below. same (suc k) (omega arith))) refl
 
 -- a row stays one
-pub row-grows : (steps more old new row : List ℕ) → Grows more old new → IsRow old steps row → IsRow new steps row
+pub row-grows : (steps more old new row : List ℕ) → Grows more old new → IsRowOfPlaces old steps row
+    → IsRowOfPlaces new steps row
 row-grows steps more old new row grows r = grind (arith, common_steps, map-same, keeps-places, no-shorter)
 
 grows-both : (a b o m n : List ℕ) → Grows a o m → Grows b m n → Grows (a ++ b) o n
@@ -62,7 +63,8 @@ grows-both a b o m n x y = record {
       [ inl p ↦ Contains-append_left a b v (x.among v p) | inr q ↦ Contains-append_right a b v (y.among v q) ];
 }
 
-row-both : (found a b p q : List ℕ) → IsRow found a p → IsRow found b q → IsRow found (a ++ b) (p ++ q)
+row-both : (found a b p q : List ℕ) → IsRowOfPlaces found a p → IsRowOfPlaces found b q
+    → IsRowOfPlaces found (a ++ b) (p ++ q)
 row-both found a b p q x y = grind (arith, common_steps, map-append)
 
 pub finds-both : (a b p0 p1 p2 f0 f1 f2 r s : List ℕ) → FindsAll a p0 p1 f0 f1 r → FindsAll b p1 p2 f1 f2 s
@@ -71,24 +73,24 @@ finds-both a b p0 p1 p2 f0 f1 f2 r s x y = search (rules, grows-both, row-both, 
 
 -- ---- entries among types
 
-pub entries-append : (xs ys : List (Option ℕ)) → entries_of (xs ++ ys) ≡ entries_of xs ++ entries_of ys
+pub entries-append : (xs ys : List (Option ℕ)) → entries_among (xs ++ ys) ≡ entries_among xs ++ entries_among ys
 entries-append [] ys = refl
 entries-append (None ∷ xs) ys = entries-append xs ys
 entries-append (Some x ∷ xs) ys = ap (λ (u : List ℕ). x ∷ u) (entries-append xs ys)
 
 pub entries-take : (types : List (Option ℕ)) (i : ℕ) → i < length types
-    → entries_of (take (i + 1) types) ≡ entries_of (take i types) ++ entries_of (get_or types i None ∷ [])
+    → entries_among (take (i + 1) types) ≡ entries_among (take i types) ++ entries_among (get_or types i None ∷ [])
 entries-take types i w =
-    ap entries_of (take_more types i None w) ∙ entries-append (take i types) (get_or types i None ∷ [])
+    ap entries_among (take_more types i None w) ∙ entries-append (take i types) (get_or types i None ∷ [])
 
 pub entry-among : (types : List (Option ℕ)) (entry : ℕ) → Contains types (Some entry)
-    → Contains (entries_of types) entry
+    → Contains (entries_among types) entry
 entry-among [] entry (k, w, e) = absurd (omega arith)
 entry-among (None ∷ types) entry (zero, w, e) = absurd (cc)
 entry-among (None ∷ types) entry (suc k, w, e) = entry-among types entry (k, (omega arith), e)
 entry-among (Some x ∷ types) entry (zero, w, e) = (0, (omega arith), same_Some x entry e)
 entry-among (Some x ∷ types) entry (suc k, w, e) =
-    Contains-append_right (x ∷ []) (entries_of types) entry (entry-among types entry (k, (omega arith), e))
+    Contains-append_right (x ∷ []) (entries_among types) entry (entry-among types entry (k, (omega arith), e))
 
 -- ---- one entry
 
@@ -116,7 +118,8 @@ pub finds-as : (steps steps' p0 p p' f0 f f' r r' : List ℕ) → steps ≡ step
 finds-as steps steps' p0 p p' f0 f f' r r' es ep ef er h = rw (← es, ← ep, ← ef, ← er) h
 
 -- the steps of a row are found
-pub found-in-row : (found steps row : List ℕ) → IsRow found steps row → (to : ℕ) → Contains steps to → Contains found to
+pub found-in-row : (found steps row : List ℕ) → IsRowOfPlaces found steps row → (to : ℕ) → Contains steps to
+    → Contains found to
 found-in-row found steps row r to has =
     let (k, w, is) = from-map found row steps to r.leads has in
     subst (λ (x : ℕ). Contains found x) is (Contains-get_or found (get_or row k 0) 0 (r.below k 0 w))
@@ -130,7 +133,7 @@ pub record IsSoFar (shapes : ℕ → ShapeOf) (roots places found : List ℕ) (r
     pub made : length rows ≤ length found
     pub shapes_are : read ≡ map shapes (take (length rows) found)
     pub rows_are : (node : ℕ) → node < length rows
-        → IsRow found (steps_reached shapes (get_or found node 0)) (steps_of rows node)
+        → IsRowOfPlaces found (steps_reached shapes (get_or found node 0)) (steps_of rows node)
     pub roots_found : (to : ℕ) → Contains roots to → Contains found to
     pub reached : (entry : ℕ) → Contains found entry → IsReachedFrom shapes roots entry
 
@@ -180,16 +183,16 @@ module _ (shapes : ℕ → ShapeOf) (roots places places' found found' : List �
           (sym (map-append shapes (take (length rows) found) (get_or found (length rows) 0 ∷ [])))
 
       moved : (node : ℕ) → node < length found → (row : List ℕ)
-          → IsRow found' (steps_reached shapes (get_or found node 0)) row
-          → IsRow found' (steps_reached shapes (get_or found' node 0)) row
+          → IsRowOfPlaces found' (steps_reached shapes (get_or found node 0)) row
+          → IsRowOfPlaces found' (steps_reached shapes (get_or found' node 0)) row
       moved node w row i =
-          let P : ℕ → Type 0 = λ x. IsRow found' (steps_reached shapes x) row in
+          let P : ℕ → Type 0 = λ x. IsRowOfPlaces found' (steps_reached shapes x) row in
           subst P (sym (keeps-places steps found found' f.grows node w)) i
 
       rows_are : (node : ℕ) → node < length (rows ++ r ∷ [])
-          → IsRow found' (steps_reached shapes (get_or found' node 0)) (steps_of (rows ++ r ∷ []) node)
+          → IsRowOfPlaces found' (steps_reached shapes (get_or found' node 0)) (steps_of (rows ++ r ∷ []) node)
       rows_are node w =
-          let Goal : List ℕ → Type 0 = λ row. IsRow found' (steps_reached shapes (get_or found' node 0)) row in
+          let Goal : List ℕ → Type 0 = λ row. IsRowOfPlaces found' (steps_reached shapes (get_or found' node 0)) row in
           elim (cases_lt node (length rows)) [
             | inl before ↦
                 subst Goal (sym (get_or_append_left rows (r ∷ []) [] node before))
@@ -198,7 +201,7 @@ module _ (shapes : ℕ → ShapeOf) (roots places places' found found' : List �
                 (s.rows_are node before)))
             | inr after ↦
                 let e : node ≡ length rows = omega (arith, length-append rows (r ∷ [])) in
-                let P : ℕ → Type 0 = λ m. IsRow found' (steps_reached shapes (get_or found m 0)) r in
+                let P : ℕ → Type 0 = λ m. IsRowOfPlaces found' (steps_reached shapes (get_or found m 0)) r in
                 subst Goal (sym (get_or_push rows r [] node (sym e)))
                 (moved node (omega arith) r (subst P (sym e) f.is_row))
           ]

@@ -9,9 +9,9 @@ use Rattle.dw_cprint.specs.Kept.{WritesDeclaration}
 use Rattle.dw_cprint.specs.Refusals.{PrintFault, NotPrintable, TooDeep, TooLong, Memory, IsLonger, Holds, other_kind, cycle, deep, long, HoldsNoneBelow, Refuses, IsPrinted, number_of}
 use Rattle.dw_cprint.specs.Shapes.{ShapeOf, SubjectOf, other_subject, view_subject}
 use Rattle.dw_cprint.specs.Steps.{first_steps, types_declared, ReachACycle}
-use Rattle.dw_cprint.specs.Summaries.{Knows, known_of}
+use Rattle.dw_cprint.specs.Summaries.{KnowsType, known_of}
 use Rattle.dw_cprint.specs.Surveys.{AreAmong, IsSurveyOf}
-use Rattle.dw_cprint.specs.Terms.{Declaration}
+use Rattle.dw_cprint.specs.Terms.{CDeclaration}
 use Rattle.dw_cprint.specs.Writing.{written}
 use Rattle.dw_cprint.specs.declared.shape.Subject.{Subject}
 use Rattle.dw_cprint.specs.declared.shape.Subject.TheVariants as subject
@@ -68,7 +68,7 @@ module _ (shapes : ℕ → ShapeOf) (subject : SubjectOf) where
       (λ h. elim h [ other_kind e ↦ kind e | cycle entry r round ↦ none (entry, r, round) ])
 
   -- there is a declaration, where none of the first five refusals holds
-  there-declared : HoldsNoneBelow 6 shapes subject → (d : Declaration) × (declaration_of shapes subject ≡ Some d)
+  there-declared : HoldsNoneBelow 6 shapes subject → (d : CDeclaration) × (declaration_of shapes subject ≡ Some d)
   unfolding declaration_of
   there-declared none =
       let there = subject_some 64 shapes subject (λ rule below holds. none rule (omega arith) holds)
@@ -78,8 +78,8 @@ module _ (shapes : ℕ → ShapeOf) (subject : SubjectOf) where
   -- ---- the length of its text
 
   -- the text has as many bytes as are counted, up to the limit
-  counted : (s : Survey) → All (Knows shapes s) (types_declared subject) → HoldsNoneBelow 6 shapes subject
-      → (d : Declaration) × (declaration_of shapes subject ≡ Some d)
+  counted : (s : Survey) → All (KnowsType shapes s) (types_declared subject) → HoldsNoneBelow 6 shapes subject
+      → (d : CDeclaration) × (declaration_of shapes subject ≡ Some d)
       × (capped (declared_bytes (known_of s) subject) ≡ capped (length (written d)))
   unfolding declaration_of
   counted s known none =
@@ -91,7 +91,7 @@ module _ (shapes : ℕ → ShapeOf) (subject : SubjectOf) where
       )
 
   -- it is too long, if a number of bytes above the limit is counted
-  pub too-long : (s : Survey) (n : ℕ) → All (Knows shapes s) (types_declared subject)
+  pub too-long : (s : Survey) (n : ℕ) → All (KnowsType shapes s) (types_declared subject)
       → n ≡ capped (declared_bytes (known_of s) subject) → 65536 < n
       → HoldsNoneBelow 6 shapes subject → Refuses shapes subject TooLong
   too-long s n known same over none =
@@ -101,7 +101,7 @@ module _ (shapes : ℕ → ShapeOf) (subject : SubjectOf) where
   -- and else it is written
   pub not-too-long : (roots : List ℕ) (s : Survey) (n : ℕ) (old new : Option (List ℕ)) → IsSurveyOf shapes roots s
       → AreAmong (first_steps subject) roots
-      → All (Knows shapes s) (types_declared subject) → n ≡ capped (declared_bytes (known_of s) subject) → n ≤ 65536
+      → All (KnowsType shapes s) (types_declared subject) → n ≡ capped (declared_bytes (known_of s) subject) → n ≤ 65536
       → HoldsNoneBelow 6 shapes subject
       → old ≡ Some [] → WritesDeclaration s subject old new → IsPrinted shapes subject × IsDrafted shapes subject new
   not-too-long roots s n old new survey among known same under none empty writes =
@@ -113,8 +113,8 @@ module _ (shapes : ℕ → ShapeOf) (subject : SubjectOf) where
         (d, is, text ∙ appended-fits [] (written d) (omega arith)),
       )
     where
-      fits : (d : Declaration) → declaration_of shapes subject ≡ Some d → length (written d) ≤ 65536
+      fits : (d : CDeclaration) → declaration_of shapes subject ≡ Some d → length (written d) ≤ 65536
           → IsLonger 65536 shapes subject → ⊥
       fits d is short (e, is_e, over) =
           let same : d ≡ e = cc in
-          omega (arith, short, over, ap (λ (x : Declaration). length (written x)) same)
+          omega (arith, short, over, ap (λ (x : CDeclaration). length (written x)) same)

@@ -9,7 +9,7 @@ use Rattle.dw_image.specs.declared.image.Image.{Image}
 use Rattle.dw_image.specs.Images.{entries_in, sections_in}
 use Rattle.dw_cprint.specs.EntryShapes.{defined_in, members_in, subject_in, tag_in}
 use Rattle.dw_cprint.specs.Listings.{AreNamedTypes, is_named_type, named_number}
-use Rattle.dw_cprint.specs.LookUps.{declared_at, name_at, type_at}
+use Rattle.dw_cprint.specs.LookUps.{is_declared_at, name_at, type_at}
 use Rattle.dw_cprint.specs.Rows.{AreRows, IsWithin, Place, Row, RowKind, Tag, Tells, TellsOf, Typedef, place_in, row_at, subject_of, row_text}
 use Rattle.dw_cprint.specs.Shapes.{Name, AggregateKeyword, TagKeyword, OfAggregate, Enum, typedef_subject}
 use Rattle.dw_cprint.specs.Steps.{member_types, types_declared}
@@ -77,11 +77,12 @@ module _ (image : Image) where
 
   module _ (id : ℕ) where
     -- one that is declared is no named type
-    pub tag_declared : (word : TagKeyword) → declared_at image id ≡ true → is_named_type (tag_in image id word) ≡ false
+    pub tag_declared : (word : TagKeyword) → is_declared_at image id ≡ true
+        → is_named_type (tag_in image id word) ≡ false
     tag_declared word is = rw is refl
 
     -- another one has its body
-    tag_body : (word : TagKeyword) → declared_at image id ≡ false
+    tag_body : (word : TagKeyword) → is_declared_at image id ≡ false
         → tag_in image id word ≡ defined_in image id word (name_at image id)
     tag_body word is = rw is refl
 
@@ -90,11 +91,11 @@ module _ (image : Image) where
     body_named Enum name = refl
 
     -- and is a named type if it has a name
-    pub tag_named : (word : TagKeyword) → declared_at image id ≡ false
+    pub tag_named : (word : TagKeyword) → is_declared_at image id ≡ false
         → is_named_type (tag_in image id word) ≡ is_some (name_at image id)
     tag_named word is = ap is_named_type (tag_body word is) ∙ body_named word (name_at image id)
 
-    pub tells_tag : (word : TagKeyword) (place : Place) → declared_at image id ≡ false
+    pub tells_tag : (word : TagKeyword) (place : Place) → is_declared_at image id ≡ false
         → Some (row_text image place) ≡ name_at image id → IsWithin image place
         → TellsOf image id (tag_in image id word) (row_at (Tag word) place None)
     tells_tag word place is name within =

@@ -3,11 +3,11 @@ use Rattle.std.proofs.Common.{◌≡◌, ℕ, zero, suc, List, [], ◌∷◌, Op
 use Rattle.std.specs.Prelude.{option_map, All, Any, Contains, if◌then◌else◌}
 use Rattle.std.proofs.lemmas.List.Elements.{All-nil, All-cons}
 use Rattle.dw_types.specs.Paths.{Leads}
-use Rattle.dw_cprint.specs.Declarations.{arrays, is_miscounted, parameters_by, members_by, term_by, declaration_by, term_at, declaration_of}
+use Rattle.dw_cprint.specs.Declarations.{nested_arrays, is_miscounted, parameters_by, members_by, term_by, declaration_by, term_at, declaration_of}
 use Rattle.dw_cprint.specs.Refusals.{PrintFault, Holds, other_kind, cycle, own_name, name_reached, own_child, foreign_reached, own_shape, shape_reached, deep, long, number_of, HoldsNoneBelow, Refuses, HasOneReading, IsPrinted}
 use Rattle.dw_cprint.specs.SameShapes.{AreSameFor}
 use Rattle.dw_cprint.specs.Shapes.{Parameter, Typed, More, TypeAt, MemberOf, ShapeOf, base, typedef, qualified, pointer, array, function, body, SubjectOf, typedef_subject, variable_subject, aggregate_subject, enumeration_subject, declared_subject, other_subject}
-use Rattle.dw_cprint.specs.Steps.{entries_of, parameter_types, member_types, types_reached, types_declared, first_steps, root, further, IsReached, StepsTo}
+use Rattle.dw_cprint.specs.Steps.{entries_among, parameter_types, member_types, types_reached, types_declared, first_steps, root, further, IsReached, StepsTo}
 use Rattle.dw_cprint.specs.Terms.{Term, Qualified, Pointer, Function, Unprototyped, Body, Typedef, Variable, Aggregate}
 use Rattle.dw_cprint.specs.Wrong.{shape_of, StandsUnder, nothing, itself, below, HasBadName, is_wrong_row, kind_at, kind_in, object_types, IsVoidLike, IsUnspeakable, wrong, void_object, row, IsOwnUnspeakable, void_variable, unspeakable, wrong_enumeration, declared_enumeration}
 use Rattle.dw_cprint.specs.Kept.{kept}
@@ -29,7 +29,7 @@ module _ (shapes others : ℕ → ShapeOf) (subject : SubjectOf) (same : AreSame
 
   -- each entry among the types of a shape is reached
   abbrev GoodAmong : List TypeAt → Type 0
-  GoodAmong ats = (n : ℕ) → Contains (entries_of ats) n → Good n
+  GoodAmong ats = (n : ℕ) → Contains (entries_among ats) n → Good n
 
   good-first : (at : TypeAt) (ats : List TypeAt) → GoodAmong (at ∷ ats) → GoodAt at
   good-first at ats h = head_of GoodAt tt at ats h
@@ -103,7 +103,7 @@ module _ (shapes others : ℕ → ShapeOf) (subject : SubjectOf) (same : AreSame
     SameTerm at = one at ≡ two at
 
     parameters-same : (ps : List Parameter)
-        → ((n : ℕ) → Contains (entries_of (parameter_types ps)) n → SameTerm (Some n))
+        → ((n : ℕ) → Contains (entries_among (parameter_types ps)) n → SameTerm (Some n))
         → parameters_by one ps ≡ parameters_by two ps
     parameters-same [] h = refl
     parameters-same (Typed at ∷ ps) h =
@@ -112,7 +112,7 @@ module _ (shapes others : ℕ → ShapeOf) (subject : SubjectOf) (same : AreSame
         rw (first, rest) refl
     parameters-same (More ∷ ps) h = parameters-same ps h
 
-    members-same : (ms : List MemberOf) → ((n : ℕ) → Contains (entries_of (member_types ms)) n → SameTerm (Some n))
+    members-same : (ms : List MemberOf) → ((n : ℕ) → Contains (entries_among (member_types ms)) n → SameTerm (Some n))
         → members_by one ms ≡ members_by two ms
     members-same [] h = refl
     members-same (m ∷ ms) h =
@@ -120,14 +120,14 @@ module _ (shapes others : ℕ → ShapeOf) (subject : SubjectOf) (same : AreSame
         let rest = members-same ms (rest_of SameTerm void m.type_at (member_types ms) h) in
         rw (first, rest) refl
 
-    by-shape-same : (shape : ShapeOf) → ((n : ℕ) → Contains (entries_of (types_reached shape)) n → SameTerm (Some n))
+    by-shape-same : (shape : ShapeOf) → ((n : ℕ) → Contains (entries_among (types_reached shape)) n → SameTerm (Some n))
         → term_by one shape ≡ term_by two shape
     by-shape-same (base None) h = refl
     by-shape-same (typedef None) h = refl
     by-shape-same (qualified q at) h = ap (option_map (Qualified q)) (head_of SameTerm void at [] h)
     by-shape-same (pointer at) h = ap (option_map Pointer) (head_of SameTerm void at [] h)
     by-shape-same (array counts strange at) h =
-        ap (λ (o : Option Term). if is_miscounted counts then None else option_map (arrays counts) o)
+        ap (λ (o : Option Term). if is_miscounted counts then None else option_map (nested_arrays counts) o)
         (head_of SameTerm void at [] h)
     by-shape-same (function at None) h =
         ap (option_map (λ (t : Term). Function t Unprototyped)) (head_of SameTerm void at [] h)

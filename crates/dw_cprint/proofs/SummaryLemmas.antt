@@ -7,9 +7,9 @@ use Rattle.std.proofs.lemmas.List.{take_more, get_or-set_same, get_or-set_other}
 use Rattle.std.proofs.lemmas.List.Elements.{Contains-push, Contains-append_left, Contains-push_cases, All-weaker}
 use Rattle.dw_cprint.specs.Declarations.{term_at, term_by}
 use Rattle.dw_cprint.specs.Shapes.{Qualifier, TypeAt, ShapeOf, qualified, view_shape}
-use Rattle.dw_cprint.specs.Steps.{entries_of, types_reached}
-use Rattle.dw_cprint.specs.Lengths.{IsLength, base_in}
-use Rattle.dw_cprint.specs.Summaries.{TypeKind, Summary, AreFound, IsBase, IsSummary, known_of, Knows, AreNodes, HaveSummaries, summary_at}
+use Rattle.dw_cprint.specs.Steps.{entries_among, types_reached}
+use Rattle.dw_cprint.specs.Lengths.{IsLength, base_kind}
+use Rattle.dw_cprint.specs.Summaries.{TypeKind, Summary, AreFindings, IsBase, IsSummary, known_of, KnowsType, AreNodes, HaveSummaries, summary_at}
 use Rattle.dw_cprint.specs.Terms.{Term, Void}
 use Rattle.dw_cprint.specs.declared.survey.Survey.{Survey}
 use Rattle.dw_cprint.specs.Wrong.{kind_in, nothing, itself, below}
@@ -47,7 +47,7 @@ void_summary shapes =
 
 -- a fact of types holds of void, and of each entry among them
 pub all-types : (P : TypeAt → Type 0) → P None → (types : List TypeAt)
-    → ((to : ℕ) → Contains (entries_of types) to → P (Some to)) → All P types
+    → ((to : ℕ) → Contains (entries_among types) to → P (Some to)) → All P types
 all-types P void [] each k d w = absurd (omega arith)
 all-types P void (None ∷ types) each zero d w = void
 all-types P void (None ∷ types) each (suc k) d w = all-types P void types each k d (omega arith)
@@ -78,7 +78,7 @@ base_itself shapes entry s b is plain same = (
 
 -- it is the base of its shape too
 pub base_plain : (known : TypeAt → Summary) (s : Shape) → ((q : Qualifier) (at : TypeAt) → s ≡ shape.Qualified q at → ⊥)
-    → kind_in (Some (view_shape s)) ≡ base_in known (view_shape s)
+    → kind_in (Some (view_shape s)) ≡ base_kind known (view_shape s)
 base_plain known (shape.Qualified q at) plain = absurd (plain q at refl)
 base_plain known _ plain = refl
 
@@ -86,7 +86,7 @@ base_plain known _ plain = refl
 
 pub entry_summary : (shapes : ℕ → ShapeOf) (entry : ℕ) (s : ShapeOf) (known : Summary) → shapes entry ≡ s
     → known.kind ≡ kind_in (Some s) → IsBase shapes (Some entry) known.base
-    → AreFound shapes (Some entry ∷ []) known.findings
+    → AreFindings shapes (Some entry ∷ []) known.findings
     → ((k : ℕ) (t : Term) → term_by (term_at k shapes) s ≡ Some t → IsLength t known.kind known.base known.length)
     → IsSummary shapes (Some entry) known
 entry_summary shapes entry s known is kind base found long =
@@ -103,10 +103,11 @@ entry_summary shapes entry s known is kind base found long =
     of_term (suc k) t e = long k t (ap (term_by (term_at k shapes)) (sym is) ∙ e)
 
 -- what is known of the lengths of some types is right
-pub knows-lengths : (shapes : ℕ → ShapeOf) (s : Survey) (k : ℕ) (types : List TypeAt) → All (Knows shapes s) types
+pub knows-lengths : (shapes : ℕ → ShapeOf) (s : Survey) (k : ℕ) (types : List TypeAt) → All (KnowsType shapes s) types
     → All (Tells (term_at k shapes) (known_of s)) types
 knows-lengths shapes s k types all =
-    All-weaker (Knows shapes s) (Tells (term_at k shapes) (known_of s)) (λ at known t is. known.is_length k t is) types
+    All-weaker (KnowsType shapes s) (Tells (term_at k shapes) (known_of s)) (λ at known t is. known.is_length k t is)
+    types
     all
 
 -- ---- all nodes

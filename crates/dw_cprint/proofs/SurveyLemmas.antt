@@ -13,8 +13,8 @@ use Rattle.dw_types.specs.Cycles.{AreClear}
 use Rattle.dw_cprint.specs.Kept.{kept}
 use Rattle.dw_cprint.specs.Reach.{IsReachOf}
 use Rattle.dw_cprint.specs.Shapes.{ShapeOf, other, view_shape}
-use Rattle.dw_cprint.specs.Steps.{entries_of, steps_reached, IsReachedFrom, root, further, ReachACycle, StepsTo}
-use Rattle.dw_cprint.specs.Summaries.{Knows, AreNodes, AreRight}
+use Rattle.dw_cprint.specs.Steps.{entries_among, steps_reached, IsReachedFrom, root, further, ReachACycle, StepsTo}
+use Rattle.dw_cprint.specs.Summaries.{KnowsType, AreNodes, AreRight}
 use Rattle.dw_cprint.specs.Surveys.{found_at, AreAmong, HaveSummaries, lacks_summary, IsSurveyOf}
 use Rattle.dw_cprint.specs.declared.shape.Shape.{Shape}
 use Rattle.dw_cprint.specs.declared.survey.Survey.{Survey}
@@ -194,7 +194,7 @@ module _ (shapes : ℕ → ShapeOf) (roots places found : List ℕ) (graph : Gra
               )
 
           known-of : (entry : ℕ) → IsReachedFrom shapes roots entry → lacks_summary s (Some entry) ≡ false
-              → Knows shapes s (Some entry)
+              → KnowsType shapes s (Some entry)
           known-of entry r summarized_here =
               let (node, w, e) = found-all r in
               let (i, v, at) = clear-node node entry w e summarized_here in
@@ -209,7 +209,8 @@ pub reached-on : (shapes : ℕ → ShapeOf) (roots : List ℕ) (k from to : ℕ)
 reached-on shapes roots zero from to r same = let P : ℕ → Type 0 = λ x. IsReachedFrom shapes roots x in subst P same r
 reached-on shapes roots (suc k) from to r (next, step, led) = reached-on shapes roots k next to (further r step) led
 
-lead-more : (shapes : ℕ → ShapeOf) (k from at to : ℕ) → Leads (StepsTo shapes) k from at → Contains (steps_reached shapes at) to
+lead-more : (shapes : ℕ → ShapeOf) (k from at to : ℕ) → Leads (StepsTo shapes) k from at
+    → Contains (steps_reached shapes at) to
     → Leads (StepsTo shapes) (suc k) from to
 lead-more shapes zero from at to same step =
     let P : ℕ → Type 0 = λ x. Contains (steps_reached shapes x) to in (to, subst P (sym same) step, refl)
@@ -226,7 +227,7 @@ reached-from-one {shapes = shapes} (further {from} {to} r step) =
 -- ---- what a survey tells of some types
 
 -- the type of an entry is one of the types
-type-among : (types : List (Option ℕ)) (entry : ℕ) → Contains (entries_of types) entry → Contains types (Some entry)
+type-among : (types : List (Option ℕ)) (entry : ℕ) → Contains (entries_among types) entry → Contains types (Some entry)
 type-among [] entry (k, w, e) = absurd (omega arith)
 type-among (None ∷ types) entry has = Contains-append_right (None ∷ []) types (Some entry) (type-among types entry has)
 type-among (Some x ∷ types) entry (zero, w, e) = (0, (omega arith), ap (λ (n : ℕ). Some n) e)
@@ -239,35 +240,35 @@ any-type : (test : Option ℕ → Bool) (types : List (Option ℕ)) (at : Option
 any-type test types at (k, w, e) t = list_any-from_Any test types (k, at, w, e, t)
 
 module _ (shapes : ℕ → ShapeOf) (roots : List ℕ) (s : Survey) (survey : IsSurveyOf shapes roots s)
-    (types : List (Option ℕ)) (among : AreAmong (entries_of types) roots) where
-  cycle-from : (entry : ℕ) → Contains (entries_of types) entry → lacks_summary s (Some entry) ≡ true
-      → ReachACycle shapes (entries_of types)
+    (types : List (Option ℕ)) (among : AreAmong (entries_among types) roots) where
+  cycle-from : (entry : ℕ) → Contains (entries_among types) entry → lacks_summary s (Some entry) ≡ true
+      → ReachACycle shapes (entries_among types)
   cycle-from entry has lacks =
       let (n, to, led, cycle) = (survey.clear entry (root (among entry has))).0 lacks in
-      (to, reached-on shapes (entries_of types) n entry to (root has) led, cycle)
+      (to, reached-on shapes (entries_among types) n entry to (root has) led, cycle)
 
   -- a cycle is reached from the types, if one of them has no summary
-  pub cycle-told : (list_any (lacks_summary s) types ≡ true) ↔ ReachACycle shapes (entries_of types)
+  pub cycle-told : (list_any (lacks_summary s) types ≡ true) ↔ ReachACycle shapes (entries_among types)
   cycle-told =
       (λ t. (let (k, at, w, e, lacks) = Any-from_list_any (lacks_summary s) types t in forth at (k, w, e) lacks), back)
     where
-      forth : (at : Option ℕ) → Contains types at → lacks_summary s at ≡ true → ReachACycle shapes (entries_of types)
+      forth : (at : Option ℕ) → Contains types at → lacks_summary s at ≡ true → ReachACycle shapes (entries_among types)
       forth None has lacks = absurd (cc)
       forth (Some entry) has lacks = cycle-from entry (entry-among types entry has) lacks
 
-      back : ReachACycle shapes (entries_of types) → list_any (lacks_summary s) types ≡ true
+      back : ReachACycle shapes (entries_among types) → list_any (lacks_summary s) types ≡ true
       back (entry, r, cycle) =
           let (from, n, has, led) = reached-from-one r in
           any-type (lacks_summary s) types (Some from) (type-among types from has)
           ((survey.clear from (root (among from has))).1 (n, entry, led, cycle))
 
-  clear-there : (entry : ℕ) → Contains (entries_of types) entry → (ReachACycle shapes (entries_of types) → ⊥)
+  clear-there : (entry : ℕ) → Contains (entries_among types) entry → (ReachACycle shapes (entries_among types) → ⊥)
       → lacks_summary s (Some entry) ≡ false
   clear-there entry has none =
       false_from_ne_true (lacks_summary s (Some entry)) (λ lacks. none (cycle-from entry has lacks))
 
   -- what is known of each of the types, if they reach no cycle
-  pub types-known : (ReachACycle shapes (entries_of types) → ⊥) → All (Knows shapes s) types
+  pub types-known : (ReachACycle shapes (entries_among types) → ⊥) → All (KnowsType shapes s) types
   types-known none =
-      all-types (Knows shapes s) (void_summary shapes) types
+      all-types (KnowsType shapes s) (void_summary shapes) types
       (λ to has. survey.known to (root (among to has)) (clear-there to has none))

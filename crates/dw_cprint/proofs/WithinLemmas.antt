@@ -9,10 +9,10 @@ use Rattle.dw_image.specs.declared.image.Image.{Image}
 use Rattle.dw_image.specs.Images.{entries_in, type_in}
 use Rattle.dw_image.specs.Lookups.{type_number}
 use Rattle.dw_forms.specs.Codes.{DW_AT_prototyped, DW_TAG_array_type, DW_TAG_atomic_type, DW_TAG_base_type, DW_TAG_const_type, DW_TAG_enumeration_type, DW_TAG_pointer_type, DW_TAG_restrict_type, DW_TAG_structure_type, DW_TAG_subroutine_type, DW_TAG_typedef, DW_TAG_union_type, DW_TAG_variable, DW_TAG_volatile_type, is_type_tag}
-use Rattle.dw_cprint.specs.EntryShapes.{member_at, parameter_at, parameters_in, shape_in, subject_in, body_in, defined_in, tag_in, tag_shape, counts_in, is_strange}
-use Rattle.dw_cprint.specs.LookUps.{tag_at, type_at, name_at, flag_at, declared_at, children_at}
+use Rattle.dw_cprint.specs.EntryShapes.{member_at, parameter_at, parameters_in, shape_in, subject_in, body_in, defined_in, tag_in, tag_shape, dimension_counts, is_strange}
+use Rattle.dw_cprint.specs.LookUps.{tag_at, type_at, name_at, flag_at, is_declared_at, children_at}
 use Rattle.dw_cprint.specs.Shapes.{Parameter, Typed, More, TagKeyword, OfAggregate, Struct, Union, Enum, Const, Volatile, Restrict, Atomic, base, typedef, qualified, pointer, array, function, foreign, other, Name, TypeAt, MemberOf, ShapeOf, nameless, SubjectOf, typedef_subject, variable_subject, declared_subject, other_subject}
-use Rattle.dw_cprint.specs.Steps.{entries_of, parameter_types, member_types, types_reached, types_declared, first_steps}
+use Rattle.dw_cprint.specs.Steps.{entries_among, parameter_types, member_types, types_reached, types_declared, first_steps}
 
 one_within : (b : Bool) (n id to : ℕ) → id < n → (if b then Some id else None) ≡ Some to → to < n
 one_within true n id to below is = (let same : id ≡ to = cc in omega arith)
@@ -33,7 +33,7 @@ type_within image id to is = search (rules, named_within)
 
 -- the types are entries
 pub record AreWithin (n : ℕ) (types : List (Option ℕ)) : Type 0 where
-  pub all : All (λ to. to < n) (entries_of types)
+  pub all : All (λ to. to < n) (entries_among types)
 
 -- those that a shape names are entries
 abbrev pub NamesWithin : ℕ → ShapeOf → Type 0
@@ -46,7 +46,7 @@ more_within : (n : ℕ) (at : Option ℕ) (types : List (Option ℕ)) → ((to :
     → AreWithin n (at ∷ types)
 more_within n None types below rest = record { all = rest.all }
 more_within n (Some to) types below rest =
-    record { all = All-cons (λ to. to < n) to (entries_of types) (below to refl) rest.all }
+    record { all = All-cons (λ to. to < n) to (entries_among types) (below to refl) rest.all }
 
 type_more : (image : Image) (id : ℕ) (types : List (Option ℕ)) → AreWithin (length (entries_in image)) types
     → AreWithin (length (entries_in image)) (type_at image id ∷ types)
@@ -101,7 +101,7 @@ tag_within : (image : Image) (id : ℕ) (word : TagKeyword) (name : Name)
 tag_within image id word (Some name) = none_within (length (entries_in image))
 tag_within image id word None =
     let n = length (entries_in image) in
-    either (NamesWithin n) (declared_at image id) (nameless word) (body_in image id word)
+    either (NamesWithin n) (is_declared_at image id) (nameless word) (body_in image id word)
     (none_within n) (body_within image id word)
 
 -- those that a shape of an image names
@@ -114,7 +114,7 @@ shape_within image id =
     (test DW_TAG_restrict_type (qualified Restrict at) _ one
     (test DW_TAG_atomic_type (qualified Atomic at) _ one
     (test DW_TAG_pointer_type (pointer at) _ one
-    (test DW_TAG_array_type (array (counts_in image id) (is_strange image id) at) _ one
+    (test DW_TAG_array_type (array (dimension_counts image id) (is_strange image id) at) _ one
     (test DW_TAG_subroutine_type (function at (parameters_in image id)) _
     (function_within image id (flag_at image id DW_AT_prototyped) (children_at image id))
     (test DW_TAG_structure_type (tag_shape image id (OfAggregate Struct) name) _
@@ -181,7 +181,7 @@ subject_within image id =
 
     tag : (word : TagKeyword) → DeclaresWithin n (tag_in image id word)
     tag word =
-        either (DeclaresWithin n) (declared_at image id) (declared_subject word name) (defined_in image id word name)
+        either (DeclaresWithin n) (is_declared_at image id) (declared_subject word name) (defined_in image id word name)
         (none_within n) (defined_within image id word name)
 
 -- and so are the roots of some declarations

@@ -4,12 +4,12 @@ use Rattle.std.proofs.Common.{arith, rules, ◌≡◌, ℕ, zero, suc, Bool, tru
 use Rattle.std.specs.Global.{Global}
 use Rattle.std.specs.Prelude.{is_some, Vec, flat_map, option_map}
 use Rattle.dw_types.specs.Sizes.{has_elements}
-use Rattle.dw_cprint.specs.Declarations.{base_term, arrays, is_miscounted, is_misplaced, has_more, constants_of, parameters_by, members_by, term_by, declaration_by, term_at}
-use Rattle.dw_cprint.specs.Declarators.{gap, pointer_row, opened, closed, before, after, core, body_tokens, enumeration_tokens}
+use Rattle.dw_cprint.specs.Declarations.{base_term, nested_arrays, is_miscounted, is_misplaced, has_more, constants_of, parameters_by, members_by, term_by, declaration_by, term_at}
+use Rattle.dw_cprint.specs.Declarators.{gap, pointer_row, opening, closing, before, after, core, body_tokens, enumeration_tokens}
 use Rattle.dw_cprint.specs.Drafts.{appended}
 use Rattle.dw_cprint.specs.Kept.{Writes}
 use Rattle.dw_cprint.specs.Shapes.{Qualifier, AggregateKeyword, OfAggregate, Parameter, Name, TypeAt, MemberOf, EnumeratorOf, ShapeOf, base, typedef, qualified, pointer, array, function, tagged, body, enumeration, typedef_subject, variable_subject, aggregate_subject, enumeration_subject, view_shape}
-use Rattle.dw_cprint.specs.Terms.{Enum, Term, Void, Named, Tagged, Body, Function, Prototyped, Parameters, Members, Constant, Declaration, Aggregate}
+use Rattle.dw_cprint.specs.Terms.{Enum, Term, Void, Named, Tagged, Body, Function, Prototyped, Parameters, Members, Constant, CDeclaration, Aggregate}
 use Rattle.dw_cprint.specs.Tokens.{Token, Blank, Star, Open, Close, LeftBrace, RightBrace, Semicolon, TypedefWord, TagWord, Identifier, spelling, text_of}
 use Rattle.dw_cprint.specs.Writing.{spell, qualifying, count_tokens, name_tokens, signature_tokens, members_tokens, declaration_tokens, written}
 use Rattle.dw_cprint.specs.declared.shape.Shape.{Shape}
@@ -53,8 +53,8 @@ is_specifier _ = true
 pub record IsSpecifier (t : Term) : Type 0 where
   pub front : (qs : List Qualifier) (inside : Bool) → qualifying qs ++ (core t ++ gap inside) ≡ before qs t inside
   pub back : after t ≡ []
-  pub not_opened : opened t ≡ []
-  pub not_closed : closed t ≡ []
+  pub not_opened : opening t ≡ []
+  pub not_closed : closing t ≡ []
 
 specifier-named : (name : List ℕ) → IsSpecifier (Named name)
 specifier-named name = record { front = λ qs inside. refl; back = refl; not_opened = refl; not_closed = refl }
@@ -74,12 +74,12 @@ specifier-of term (body word odd ms) t is e = search (rules, map_inverted, appen
 specifier-of term (enumeration odd es) t is e = search (rules, map_inverted, append_assoc)
 specifier-of term _ t is e = absurd (cc)
 
-pub before-arrays : (counts : List (Option ℕ)) (u : Term) → before [] (arrays counts u) true ≡ before [] u true
+pub before-arrays : (counts : List (Option ℕ)) (u : Term) → before [] (nested_arrays counts u) true ≡ before [] u true
 before-arrays [] u = refl
 before-arrays (c ∷ cs) u = before-arrays cs u
 
 pub after-arrays : (counts : List (Option ℕ)) (u : Term)
-    → flat_map count_tokens counts ++ after u ≡ after (arrays counts u)
+    → flat_map count_tokens counts ++ after u ≡ after (nested_arrays counts u)
 after-arrays [] u = refl
 after-arrays (c ∷ cs) u =
     append_assoc (count_tokens c) (flat_map count_tokens cs) (after u)
@@ -114,7 +114,7 @@ module _ (term : TypeAt → Option Term) (o : Option Term) (old new : Option (Li
   pub pointer_before : (mid mid2 mid3 : Option (List ℕ)) (qs : List Qualifier) (inside : Bool) (at : TypeAt)
       → o ≡ term_by term (pointer at)
       → ((t : Term) → term at ≡ Some t → Writes (before [] t true) old mid)
-      → ((t : Term) → term at ≡ Some t → Writes (opened t) mid mid2) → Writes (Star ∷ []) mid2 mid3
+      → ((t : Term) → term at ≡ Some t → Writes (opening t) mid mid2) → Writes (Star ∷ []) mid2 mid3
       → Writes (pointer_row qs inside) mid3 new → (t : Term) → o ≡ Some t → Writes (before qs t inside) old new
   pointer_before mid mid2 mid3 qs inside at step inner opens star row t e =
       grind (arith, common_steps, map_inverted, both)
@@ -145,13 +145,13 @@ module _ (term : TypeAt → Option Term) (o : Option Term) (old new : Option (Li
   array_after mid counts strange at step brackets inner t e =
       let P : Term → Type 0 = λ u. Writes (after u) old new in
       unless_holds P (is_miscounted counts) _
-      (λ placed. map_holds P (arrays counts) (term at)
-      (λ u is. as_tokens (flat_map count_tokens counts ++ after u) (after (arrays counts u)) old new
+      (λ placed. map_holds P (nested_arrays counts) (term at)
+      (λ u is. as_tokens (flat_map count_tokens counts ++ after u) (after (nested_arrays counts u)) old new
       (after-arrays counts u)
       (both (flat_map count_tokens counts) (after u) old mid new brackets (inner u is)))) t (sym step ∙ e)
 
   pub pointer_after : (mid : Option (List ℕ)) (at : TypeAt) → o ≡ term_by term (pointer at)
-      → ((t : Term) → term at ≡ Some t → Writes (closed t) old mid)
+      → ((t : Term) → term at ≡ Some t → Writes (closing t) old mid)
       → ((t : Term) → term at ≡ Some t → Writes (after t) mid new) → (t : Term) → o ≡ Some t → Writes (after t) old new
   pointer_after mid at step closes inner t e = search (rules, map_inverted, both)
 
@@ -213,14 +213,14 @@ module _ (term : TypeAt → Option Term) (old mid mid2 new : Option (List ℕ)) 
   pub typedef_done : (name : Name) (at : TypeAt) → Writes (TypedefWord ∷ Blank ∷ []) old mid
       → ((t : Term) → term at ≡ Some t → Writes (spell [] t (name_tokens name)) mid mid2)
       → Writes (Semicolon ∷ []) mid2 new
-      → (d : Declaration) → declaration_by term (typedef_subject name at) ≡ Some d → new ≡ appended old (written d)
+      → (d : CDeclaration) → declaration_by term (typedef_subject name at) ≡ Some d → new ≡ appended old (written d)
   typedef_done None at first inner last d e = absurd (cc)
   typedef_done (Some name) at first inner last d e = grind (arith, common_steps, map_inverted, both)
 
   pub variable_done : (name : Name) (at : TypeAt)
       → ((t : Term) → term at ≡ Some t → Writes (spell [] t (name_tokens name)) old mid)
       → Writes (Semicolon ∷ []) mid new
-      → (d : Declaration) → declaration_by term (variable_subject name at) ≡ Some d → new ≡ appended old (written d)
+      → (d : CDeclaration) → declaration_by term (variable_subject name at) ≡ Some d → new ≡ appended old (written d)
   variable_done None at inner last d e = absurd (cc)
   variable_done (Some name) at inner last d e = search (rules, map_inverted, both)
 
@@ -229,12 +229,12 @@ module _ (term : TypeAt → Option Term) (old mid mid2 new : Option (List ℕ)) 
       → Writes (TagWord (OfAggregate word) ∷ Blank ∷ name_tokens name) old mid → Writes (Blank ∷ []) mid mid2
       → ((us : Members) → members_by term ms ≡ Some us → Writes (body_tokens us) mid2 mid3)
       → Writes (Semicolon ∷ []) mid3 new
-      → (d : Declaration) → declaration_by term (aggregate_subject word name odd ms) ≡ Some d
+      → (d : CDeclaration) → declaration_by term (aggregate_subject word name odd ms) ≡ Some d
       → new ≡ appended old (written d)
   aggregate_done mid3 word None odd ms first gap inner last d e = absurd (cc)
   aggregate_done mid3 word (Some name) odd ms first gap inner last d e =
       let tag = TagWord (OfAggregate word) ∷ Blank ∷ Identifier name ∷ [] in
-      map_holds (λ (d : Declaration). new ≡ appended old (written d)) (Aggregate word name) (members_by term ms)
+      map_holds (λ (d : CDeclaration). new ≡ appended old (written d)) (Aggregate word name) (members_by term ms)
       (λ us are.
       let body = body_tokens us in
       let same : body ++ Semicolon ∷ [] ≡ LeftBrace ∷ Blank ∷ (members_tokens us ++ RightBrace ∷ Semicolon ∷ []) =
@@ -250,7 +250,7 @@ module _ (term : TypeAt → Option Term) (old mid mid2 new : Option (List ℕ)) 
       → Writes (TagWord Enum ∷ Blank ∷ name_tokens name) old mid → Writes (Blank ∷ []) mid mid2
       → ((cs : List Constant) → constants_of es ≡ Some cs → Writes (enumeration_tokens cs) mid2 mid3)
       → Writes (Semicolon ∷ []) mid3 new
-      → (d : Declaration) → declaration_by term (enumeration_subject name odd es) ≡ Some d
+      → (d : CDeclaration) → declaration_by term (enumeration_subject name odd es) ≡ Some d
       → new ≡ appended old (written d)
   constants_done mid3 None odd es first gap inner last d e = absurd (cc)
   constants_done mid3 (Some name) odd es first gap inner last d e =

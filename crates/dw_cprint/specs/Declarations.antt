@@ -7,7 +7,7 @@ use Rattle.dw_cprint.specs.Terms.{TypeWord, Char, Short, Int, Long, Signed, Unsi
 use Rattle.dw_cprint.specs.Terms.{Constant, Valued, Term, Void, Named, Basic, Tagged, Body, Enumeration, Qualified}
 use Rattle.dw_cprint.specs.Terms.{Pointer, Array as ArrayTerm, Function, Unprototyped, Prototyped, Parameters}
 use Rattle.dw_cprint.specs.Terms.{NoParameter, Parameter as ParameterTerm, Members, NoMember, Member as MemberTerm}
-use Rattle.dw_cprint.specs.Terms.{Declaration, Typedef, Variable, Aggregate, Constants, Declared}
+use Rattle.dw_cprint.specs.Terms.{CDeclaration, Typedef, Variable, Aggregate, Constants, Declared}
 use Rattle.dw_cprint.specs.Shapes.{Parameter, Typed, More, TypeAt, MemberOf, EnumeratorOf, ShapeOf, base}
 use Rattle.dw_cprint.specs.Shapes.{typedef, qualified, pointer, array, function, tagged, body, enumeration, SubjectOf}
 use Rattle.dw_cprint.specs.Shapes.{typedef_subject, variable_subject, aggregate_subject, enumeration_subject}
@@ -48,9 +48,9 @@ base_term name = if is_identifier name then Some (Named name) else option_map Ba
 -- ---- terms
 
 -- one array in another for each dimension, the first outermost
-abbrev pub arrays : List (Option ℕ) → Term → Term
-arrays [] element = element
-arrays (count ∷ counts) element = ArrayTerm count (arrays counts element)
+abbrev pub nested_arrays : List (Option ℕ) → Term → Term
+nested_arrays [] element = element
+nested_arrays (count ∷ counts) element = ArrayTerm count (nested_arrays counts element)
 
 -- a count after the first is unknown, or there is none
 abbrev pub is_miscounted : List (Option ℕ) → Bool
@@ -107,7 +107,7 @@ module _ (term : TypeAt → Option Term) where
   term_by (typedef (Some name)) = Some (Named name)
   term_by (qualified q at) = option_map (Qualified q) (term at)
   term_by (pointer at) = option_map Pointer (term at)
-  term_by (array counts strange at) = if is_miscounted counts then None else option_map (arrays counts) (term at)
+  term_by (array counts strange at) = if is_miscounted counts then None else option_map (nested_arrays counts) (term at)
   term_by (function at None) = option_map (λ (t : Term). Function t Unprototyped) (term at)
   term_by (function at (Some ps)) =
       if is_misplaced ps then None
@@ -120,7 +120,7 @@ module _ (term : TypeAt → Option Term) where
   term_by _ = None
 
   -- the declaration of the entry that is declared
-  abbrev pub declaration_by : SubjectOf → Option Declaration
+  abbrev pub declaration_by : SubjectOf → Option CDeclaration
   declaration_by (typedef_subject (Some name) at) = option_map (Typedef name) (term at)
   declaration_by (variable_subject (Some name) at) = option_map (Variable name) (term at)
   declaration_by (aggregate_subject word (Some name) odd members) =
@@ -137,5 +137,5 @@ term_at (suc k) shapes None = Some Void
 term_at (suc k) shapes (Some entry) = term_by (term_at k shapes) (shapes entry)
 
 -- the declaration of an entry, where no path of more than 64 steps begins at it; void may come after the last
-unfoldable pub declaration_of : (ℕ → ShapeOf) → SubjectOf → Option Declaration
+unfoldable pub declaration_of : (ℕ → ShapeOf) → SubjectOf → Option CDeclaration
 declaration_of shapes subject = declaration_by (term_at 65 shapes) subject

@@ -23,16 +23,16 @@ pointer_row [] inside = []
 pointer_row (q ∷ qs) inside = QualifierWord q ∷ (gap (has_elements qs || inside) ++ pointer_row qs inside)
 
 -- the parenthesis before the star of a pointer to t: an array's or a function's brackets would bind before the star
-abbrev pub opened : Term → List Token
-opened (Array n t) = Open ∷ []
-opened (Function t signature) = Open ∷ []
-opened _ = []
+abbrev pub opening : Term → List Token
+opening (Array n t) = Open ∷ []
+opening (Function t signature) = Open ∷ []
+opening _ = []
 
--- the parenthesis that closes the one of `opened`
-abbrev pub closed : Term → List Token
-closed (Array n t) = Close ∷ []
-closed (Function t signature) = Close ∷ []
-closed _ = []
+-- the parenthesis that closes the one of `opening`
+abbrev pub closing : Term → List Token
+closing (Array n t) = Close ∷ []
+closing (Function t signature) = Close ∷ []
+closing _ = []
 
 -- the members of a structure or a union, in braces
 abbrev pub body_tokens : Members → List Token
@@ -64,14 +64,14 @@ before qs (Body word members) inside =
 before qs (Enumeration cs) inside =
     qualifying qs ++ TagWord Enum ∷ Blank ∷ LeftBrace ∷ Blank ∷ (constants cs ++ Blank ∷ RightBrace ∷ gap inside)
 before qs (Qualified q t) inside = before (qs ++ q ∷ []) t inside
-before qs (Pointer t) inside = before [] t true ++ (opened t ++ Star ∷ pointer_row qs inside)
+before qs (Pointer t) inside = before [] t true ++ (opening t ++ Star ∷ pointer_row qs inside)
 before qs (Array n t) inside = before [] t true
 before qs (Function t signature) inside = before [] t true
 
 -- what comes after it
 abbrev pub after : Term → List Token
 after (Qualified q t) = after t
-after (Pointer t) = closed t ++ after t
+after (Pointer t) = closing t ++ after t
 after (Array n t) = count_tokens n ++ after t
 after (Function t signature) = Open ∷ (signature_tokens signature ++ Close ∷ after t)
 after _ = []

@@ -12,8 +12,9 @@ use Rattle.dw_forms.specs.Codes.{DW_TAG_unspecified_parameters, DW_TAG_variable,
 use Rattle.dw_forms.specs.Codes.{DW_TAG_volatile_type, is_type_tag}
 use Rattle.dw_forms.specs.Value.{Datum, unsigned, signed}
 use Rattle.dw_image.specs.declared.image.Image.{Image}
-use Rattle.dw_cprint.specs.LookUps.{tag_at, value_at, name_at, type_at, children_at, count_in, has_at, flag_at}
-use Rattle.dw_cprint.specs.LookUps.{declared_at, integer_at}
+use Rattle.dw_cprint.specs.LookUps.{tag_at, attribute_value_at, name_at, type_at, children_at, count_in, has_at}
+use Rattle.dw_cprint.specs.LookUps.{flag_at}
+use Rattle.dw_cprint.specs.LookUps.{is_declared_at, integer_at}
 use Rattle.dw_cprint.specs.Shapes.{Const, Volatile, Restrict, Atomic, TagKeyword, OfAggregate, Struct, Union, Enum}
 use Rattle.dw_cprint.specs.Shapes.{Parameter, Typed, More, Name, MemberOf, EnumeratorOf, ShapeOf, base}
 use Rattle.dw_cprint.specs.Shapes.{typedef, qualified, pointer, array, function, tagged, nameless, body, enumeration}
@@ -35,29 +36,29 @@ is_odd image id = has_child image DW_TAG_inheritance DW_TAG_variant_part id
 -- ---- arrays (DWARF 5, 5.5)
 
 -- a dimension of an array is a subrange
-abbrev pub is_dimension : Image → ℕ → Bool
-is_dimension image id = tag_at image id == DW_TAG_subrange_type
+abbrev pub is_dimension_at : Image → ℕ → Bool
+is_dimension_at image id = tag_at image id == DW_TAG_subrange_type
 
 -- the entry has a stride in bytes or in bits
-abbrev pub has_stride : Image → ℕ → Bool
-has_stride image id = has_at image id DW_AT_byte_stride || has_at image id DW_AT_bit_stride
+abbrev pub has_stride_at : Image → ℕ → Bool
+has_stride_at image id = has_at image id DW_AT_byte_stride || has_at image id DW_AT_bit_stride
 
 -- a dimension with a stride of its own
 abbrev pub is_strided_dimension : Image → ℕ → Bool
-is_strided_dimension image id = is_dimension image id && has_stride image id
+is_strided_dimension image id = is_dimension_at image id && has_stride_at image id
 
 -- the count of a child that is a dimension
 abbrev pub dimension_at : Image → ℕ → Option (Option ℕ)
-dimension_at image id = if is_dimension image id then Some (count_in image id) else None
+dimension_at image id = if is_dimension_at image id then Some (count_in image id) else None
 
 -- the counts of the dimensions
-abbrev pub counts_in : Image → ℕ → List (Option ℕ)
-counts_in image id = filter_map (dimension_at image) (children_at image id)
+abbrev pub dimension_counts : Image → ℕ → List (Option ℕ)
+dimension_counts image id = filter_map (dimension_at image) (children_at image id)
 
 -- a stride, or a dimension that is no subrange
 abbrev pub is_strange : Image → ℕ → Bool
 is_strange image id =
-    has_stride image id
+    has_stride_at image id
     || (list_any (is_strided_dimension image) (children_at image id)
     || has_child image DW_TAG_enumeration_type DW_TAG_generic_subrange id)
 
@@ -87,11 +88,11 @@ bits_in (Some _) = Some 0
 -- a child that is a member and not declared: its name, its type and its bit size
 abbrev pub member_at : Image → ℕ → Option MemberOf
 member_at image id =
-    if tag_at image id == DW_TAG_member && not (declared_at image id)
+    if tag_at image id == DW_TAG_member && not (is_declared_at image id)
     then Some (record {
       name = name_at image id;
       type_at = type_at image id;
-      bits = bits_in (value_at image id DW_AT_bit_size);
+      bits = bits_in (attribute_value_at image id DW_AT_bit_size);
     })
     else None
 
@@ -122,7 +123,7 @@ body_in image id Enum = enumeration (is_odd image id) (enumerators_in image id)
 -- one that is printed by a name; without a name one that is only declared, or its body
 abbrev pub tag_shape : Image → ℕ → TagKeyword → Name → ShapeOf
 tag_shape image id word (Some name) = tagged word name
-tag_shape image id word None = if declared_at image id then nameless word else body_in image id word
+tag_shape image id word None = if is_declared_at image id then nameless word else body_in image id word
 
 -- an entry that is reached, by its tag
 abbrev pub shape_by : Image → ℕ → (tag : ℕ) → ShapeOf
@@ -134,7 +135,7 @@ shape_by image id tag =
     else if tag == DW_TAG_restrict_type then qualified Restrict (type_at image id)
     else if tag == DW_TAG_atomic_type then qualified Atomic (type_at image id)
     else if tag == DW_TAG_pointer_type then pointer (type_at image id)
-    else if tag == DW_TAG_array_type then array (counts_in image id) (is_strange image id) (type_at image id)
+    else if tag == DW_TAG_array_type then array (dimension_counts image id) (is_strange image id) (type_at image id)
     else if tag == DW_TAG_subroutine_type then function (type_at image id) (parameters_in image id)
     else if tag == DW_TAG_structure_type then tag_shape image id (OfAggregate Struct) (name_at image id)
     else if tag == DW_TAG_union_type then tag_shape image id (OfAggregate Union) (name_at image id)
@@ -154,7 +155,7 @@ defined_in image id Enum name = enumeration_subject name (is_odd image id) (enum
 -- the same, or only by its name, if that is all that DWARF declares
 abbrev pub tag_in : Image → ℕ → TagKeyword → SubjectOf
 tag_in image id word =
-    if declared_at image id then declared_subject word (name_at image id)
+    if is_declared_at image id then declared_subject word (name_at image id)
     else defined_in image id word (name_at image id)
 
 -- the entry that is declared, by its tag

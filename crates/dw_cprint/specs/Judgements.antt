@@ -5,14 +5,14 @@ use Rattle.dw_cprint.specs.Declarations.{declaration_of}
 use Rattle.dw_cprint.specs.Listings.{text_if}
 use Rattle.dw_cprint.specs.Refusals.{PrintFault, HoldsNoneBelow, Refuses, IsPrinted}
 use Rattle.dw_cprint.specs.Shapes.{ShapeOf, SubjectOf}
-use Rattle.dw_cprint.specs.Terms.{Declaration}
+use Rattle.dw_cprint.specs.Terms.{CDeclaration}
 use Rattle.dw_cprint.specs.Writing.{written}
 use Rattle.dw_cprint.specs.declared.listing.Judgements.{Judgements}
 
 -- the draft has the text of the declaration
 abbrev pub IsDrafted : (ℕ → ShapeOf) → SubjectOf → Option (List ℕ) → Type 0
 IsDrafted shapes subject draft =
-    (d : Declaration) × (declaration_of shapes subject ≡ Some d) × (draft ≡ Some (written d))
+    (d : CDeclaration) × (declaration_of shapes subject ≡ Some d) × (draft ≡ Some (written d))
 
 -- why a declaration is refused; none if no rule with a smaller number holds
 abbrev pub IsRefusalBelow : ℕ → (ℕ → ShapeOf) → SubjectOf → Option PrintFault → Type 0

@@ -4,13 +4,13 @@ use Rattle.std.specs.Prelude.{option_and_then}
 use Rattle.std.specs.Option.{option_map_or}
 use Rattle.dw_cprint.specs.Declarations.{term_at, members_by, parameters_by, term_by, has_more, is_misplaced}
 use Rattle.dw_cprint.specs.Declarations.{constants_of, declaration_of}
-use Rattle.dw_cprint.specs.Declarators.{before, after, core, opened, closed, body_tokens, enumeration_tokens}
+use Rattle.dw_cprint.specs.Declarators.{before, after, core, opening, closing, body_tokens, enumeration_tokens}
 use Rattle.dw_cprint.specs.Drafts.{appended}
 use Rattle.dw_cprint.specs.Shapes.{Qualifier, Parameter, Typed, More, Name, TypeAt, MemberOf, EnumeratorOf, ShapeOf}
 use Rattle.dw_cprint.specs.Shapes.{other, SubjectOf, view_shape}
-use Rattle.dw_cprint.specs.Terms.{Term, Members, Parameters, Prototyped, Constant, Valued, Declaration}
+use Rattle.dw_cprint.specs.Terms.{Term, Members, Parameters, Prototyped, Constant, Valued, CDeclaration}
 use Rattle.dw_cprint.specs.Tokens.{Token, Semicolon, Blank, Dot, text_of}
-use Rattle.dw_cprint.specs.Writing.{spell, name_tokens, bits_tokens, constant, constants, more_constants}
+use Rattle.dw_cprint.specs.Writing.{spell, name_tokens, bits_tokens, constant_tokens, constants, more_constants}
 use Rattle.dw_cprint.specs.Writing.{signature_tokens, written}
 use Rattle.dw_cprint.specs.declared.survey.Survey.{Survey}
 
@@ -38,11 +38,11 @@ WritesAfter s k at old new = (t : Term) → kept_term s k at ≡ Some t → Writ
 
 -- the parenthesis before the star of a pointer to a type was written, if it takes one
 abbrev pub WritesOpened : Survey → TypeAt → Option (List ℕ) → Option (List ℕ) → Type 0
-WritesOpened s to old new = (k : ℕ) (t : Term) → kept_term s k to ≡ Some t → Writes (opened t) old new
+WritesOpened s to old new = (k : ℕ) (t : Term) → kept_term s k to ≡ Some t → Writes (opening t) old new
 
 -- the parenthesis that closes it was written
 abbrev pub WritesClosed : Survey → TypeAt → Option (List ℕ) → Option (List ℕ) → Type 0
-WritesClosed s to old new = (k : ℕ) (t : Term) → kept_term s k to ≡ Some t → Writes (closed t) old new
+WritesClosed s to old new = (k : ℕ) (t : Term) → kept_term s k to ≡ Some t → Writes (closing t) old new
 
 -- a type was written with a name inside, or with nothing
 abbrev pub WritesNamed : Survey → ℕ → TypeAt → Name → Option (List ℕ) → Option (List ℕ) → Type 0
@@ -68,7 +68,7 @@ WritesMembers s k ms old new =
 abbrev pub WritesEnumerator : EnumeratorOf → Option (List ℕ) → Option (List ℕ) → Type 0
 WritesEnumerator e old new =
     (name : List ℕ) (value : ℤ) → e.name ≡ Some name → e.value ≡ Some value
-    → Writes (constant (Valued name value)) old new
+    → Writes (constant_tokens (Valued name value)) old new
 
 -- the constants that are left, with a comma and a space before each; not before the first of all
 abbrev pub constants_left : (others : Bool) → List Constant → List Token
@@ -100,4 +100,4 @@ WritesParameters s k ps old new =
 -- the declaration of the declared entry was written
 abbrev pub WritesDeclaration : Survey → SubjectOf → Option (List ℕ) → Option (List ℕ) → Type 0
 WritesDeclaration s subject old new =
-    (d : Declaration) → declaration_of (kept s) subject ≡ Some d → new ≡ appended old (written d)
+    (d : CDeclaration) → declaration_of (kept s) subject ≡ Some d → new ≡ appended old (written d)

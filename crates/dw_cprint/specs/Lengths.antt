@@ -3,7 +3,7 @@
 use Rattle.std.specs.Prelude.{◌≡◌, ℕ, ℤ, ◌+◌, min, Bool, true, false, not, ◌||◌, List, [], ◌∷◌, Option, Some, None}
 use Rattle.std.specs.Prelude.{length, sum_by, if◌then◌else◌}
 use Rattle.dw_types.specs.Sizes.{has_elements}
-use Rattle.dw_cprint.specs.Declarators.{before, after, opened, closed}
+use Rattle.dw_cprint.specs.Declarators.{before, after, opening, closing}
 use Rattle.dw_cprint.specs.Shapes.{Qualifier, TagKeyword, OfAggregate, Enum, Name, Parameter, Typed, More, TypeAt}
 use Rattle.dw_cprint.specs.Shapes.{MemberOf, EnumeratorOf, ShapeOf, base, typedef, qualified, pointer, array, function}
 use Rattle.dw_cprint.specs.Shapes.{tagged, body, enumeration, SubjectOf, typedef_subject, variable_subject}
@@ -47,7 +47,7 @@ pub record IsLength (t : Term) (kind under : TypeKind) (n : ℕ) : Type 0 where
   pub qualifier : (q : Qualifier) (qs : List Qualifier) (inside : Bool)
       → byte_count (before (q ∷ qs) t inside)
       ≡ byte_count (before qs t inside) + qualifier_bytes kind under q (has_elements qs || inside)
-  pub parentheses : byte_count (opened t) + byte_count (closed t) ≡ (if is_bracketed kind then 2 else 0)
+  pub parentheses : byte_count (opening t) + byte_count (closing t) ≡ (if is_bracketed kind then 2 else 0)
 
 -- the bytes of a name, if there is one
 abbrev pub name_bytes : Name → ℕ
@@ -116,9 +116,9 @@ module _ (known : TypeAt → Summary) where
   shape_bytes _ = 0
 
   -- the kind of what is under a row of qualifiers that begins with the shape
-  abbrev pub base_in : ShapeOf → TypeKind
-  base_in (qualified q at) = (known at).base
-  base_in shape = kind_in (Some shape)
+  abbrev pub base_kind : ShapeOf → TypeKind
+  base_kind (qualified q at) = (known at).base
+  base_kind shape = kind_in (Some shape)
 
   -- the bytes of a declaration; a typedef has `typedef ` before and `;` after it
   abbrev pub declared_bytes : SubjectOf → ℕ

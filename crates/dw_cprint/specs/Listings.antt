@@ -15,7 +15,7 @@ use Rattle.dw_cprint.specs.EntryShapes.{shape_in, subject_in}
 use Rattle.dw_cprint.specs.Refusals.{PrintFault, NotPrintable, BadName, Foreign, Unspeakable, TooDeep, TooLong, Memory}
 use Rattle.dw_cprint.specs.Refusals.{Refuses, IsPrinted}
 use Rattle.dw_cprint.specs.Shapes.{SubjectOf, typedef_subject, aggregate_subject, enumeration_subject}
-use Rattle.dw_cprint.specs.Terms.{Declaration}
+use Rattle.dw_cprint.specs.Terms.{CDeclaration}
 use Rattle.dw_cprint.specs.Writing.{written}
 
 -- a typedef, or a structure, union or enumeration that is not declared, with a name
@@ -94,7 +94,7 @@ name_text TooLong = codes "TooLong"
 name_text Memory = codes "Memory"
 
 -- the text of a declaration, or nothing if there is none
-abbrev pub text_if : Option Declaration → List ℕ
+abbrev pub text_if : Option CDeclaration → List ℕ
 text_if None = []
 text_if (Some d) = written d
 
@@ -109,12 +109,12 @@ refused_line offset rule =
     ++ (codes " */" ++ 10 ∷ [])
 
 -- where an entry is
-abbrev pub offset_in : Image → ℕ → ℕ
-offset_in image id = (entry_of (entries_in image) id).at
+abbrev pub entry_offset : Image → ℕ → ℕ
+entry_offset image id = (entry_of (entries_in image) id).at
 
 -- the line of an entry that is refused
 abbrev pub refused_line_in : Image → ℕ × PrintFault → List ℕ
-refused_line_in image r = refused_line (offset_in image r.0) r.1
+refused_line_in image r = refused_line (entry_offset image r.0) r.1
 
 -- the lines of those that are printed, and then of those that are refused
 abbrev pub listing_text : Image → List ℕ → List (ℕ × PrintFault) → List ℕ

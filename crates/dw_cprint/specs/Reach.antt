@@ -17,7 +17,7 @@ pub record Grows (steps old new : List ℕ) : Type 0 where
   pub among : (entry : ℕ) → Contains more entry → Contains steps entry
 
 -- the places of some steps
-pub record IsRow (found steps row : List ℕ) : Type 0 where
+pub record IsRowOfPlaces (found steps row : List ℕ) : Type 0 where
   pub leads : map (slice_index found) row ≡ steps
   pub below : All (λ node. node < length found) row
 
@@ -26,7 +26,7 @@ pub record FindsAll (steps places places' found found' row : List ℕ) : Type 0 
   pub placed : ArePlaces places' found'
   pub len : length places' ≡ length places
   pub grows : Grows steps found found'
-  pub is_row : IsRow found' steps row
+  pub is_row : IsRowOfPlaces found' steps row
 
 -- the places of the steps are added to a list
 abbrev pub AddsRow : (steps places places' found found' list list' : List ℕ) → Type 0
@@ -38,7 +38,7 @@ pub record IsReachOf (shapes : ℕ → ShapeOf) (roots places found : List ℕ) 
   pub placed : ArePlaces places found
   pub nodes : length graph ≡ length found
   pub rows : (node : ℕ) → node < length found
-      → IsRow found (steps_reached shapes (slice_index found node)) (steps_of graph node)
+      → IsRowOfPlaces found (steps_reached shapes (slice_index found node)) (steps_of graph node)
   pub roots_found : (to : ℕ) → Contains roots to → Contains found to
   pub reached : (entry : ℕ) → Contains found entry → IsReachedFrom shapes roots entry
 

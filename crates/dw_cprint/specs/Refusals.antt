@@ -2,10 +2,10 @@
 use Rattle.std.specs.Prelude.{◌≡◌, ℕ, ◌<◌, true, List, ◌++◌, Some, length}
 use Rattle.dw_types.specs.Paths.{IsOnCycle}
 use Rattle.dw_cprint.specs.Declarations.{declaration_of}
-use Rattle.dw_cprint.specs.Legible.{IsDeclaration}
+use Rattle.dw_cprint.specs.Legible.{IsLegibleDeclaration}
 use Rattle.dw_cprint.specs.Shapes.{ShapeOf, SubjectOf, other_subject}
 use Rattle.dw_cprint.specs.Steps.{IsReached, HasPath, StepsTo}
-use Rattle.dw_cprint.specs.Terms.{Declaration}
+use Rattle.dw_cprint.specs.Terms.{CDeclaration}
 use Rattle.dw_cprint.specs.Writing.{written}
 use Rattle.dw_cprint.specs.Wrong.{HasBadName, kind_at, has_own_bad_name, is_foreign, is_own_foreign}
 use Rattle.dw_cprint.specs.Wrong.{IsUnspeakable, IsOwnUnspeakable}
@@ -16,7 +16,7 @@ pub use Rattle.dw_cprint.specs.declared.fault.PrintFault.TheVariants.{TooDeep, T
 -- the text of the entry's declaration has more than so many bytes
 abbrev pub IsLonger : ℕ → (ℕ → ShapeOf) → SubjectOf → Type 0
 IsLonger limit shapes subject =
-    (d : Declaration) × (declaration_of shapes subject ≡ Some d) × (limit < length (written d))
+    (d : CDeclaration) × (declaration_of shapes subject ≡ Some d) × (limit < length (written d))
 
 -- the condition of each refusal
 pub data Holds (shapes : ℕ → ShapeOf) (subject : SubjectOf) : PrintFault → Type 0 where
@@ -61,10 +61,10 @@ IsPrinted = HoldsNoneBelow 7
 -- the text of the entry's declaration comes after what was there
 abbrev pub AppendsDeclaration : (ℕ → ShapeOf) → SubjectOf → List ℕ → List ℕ → Type 0
 AppendsDeclaration shapes subject old new =
-    (d : Declaration) × (declaration_of shapes subject ≡ Some d) × (new ≡ old ++ written d)
+    (d : CDeclaration) × (declaration_of shapes subject ≡ Some d) × (new ≡ old ++ written d)
 
 -- no other declaration has the text of the entry's
 abbrev pub HasOneReading : (ℕ → ShapeOf) → SubjectOf → Type 0
 HasOneReading shapes subject =
-    (d another : Declaration) → declaration_of shapes subject ≡ Some d → IsDeclaration another
+    (d another : CDeclaration) → declaration_of shapes subject ≡ Some d → IsLegibleDeclaration another
     → written another ≡ written d → another ≡ d

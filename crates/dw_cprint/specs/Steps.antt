@@ -7,10 +7,10 @@ use Rattle.dw_cprint.specs.Shapes.{ShapeOf, qualified, pointer, array, function,
 use Rattle.dw_cprint.specs.Shapes.{SubjectOf, typedef_subject, variable_subject, aggregate_subject}
 
 -- the entries among types; void is none
-abbrev pub entries_of : List (Option ℕ) → List ℕ
-entries_of [] = []
-entries_of (None ∷ types) = entries_of types
-entries_of (Some entry ∷ types) = entry ∷ entries_of types
+abbrev pub entries_among : List (Option ℕ) → List ℕ
+entries_among [] = []
+entries_among (None ∷ types) = entries_among types
+entries_among (Some entry ∷ types) = entry ∷ entries_among types
 
 -- the types of parameters; unspecified parameters have none
 abbrev pub parameter_types : List Parameter → List (Option ℕ)
@@ -41,7 +41,7 @@ types_declared _ = []
 
 -- the spelling steps of an entry that is reached
 abbrev pub steps_reached : (ℕ → ShapeOf) → ℕ → List ℕ
-steps_reached shapes entry = entries_of (types_reached (shapes entry))
+steps_reached shapes entry = entries_among (types_reached (shapes entry))
 
 -- a spelling step leads from an entry that is reached to another
 abbrev pub StepsTo : (ℕ → ShapeOf) → ℕ → ℕ → Type 0
@@ -49,7 +49,7 @@ StepsTo shapes from to = Contains (steps_reached shapes from) to
 
 -- the spelling steps of the entry that is declared
 abbrev pub first_steps : SubjectOf → List ℕ
-first_steps subject = entries_of (types_declared subject)
+first_steps subject = entries_among (types_declared subject)
 
 -- an entry is reached from some others by spelling steps
 pub data IsReachedFrom (shapes : ℕ → ShapeOf) (roots : List ℕ) : ℕ → Type 0 where

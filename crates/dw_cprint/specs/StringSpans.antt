@@ -6,7 +6,7 @@ use Rattle.dw_cprint.specs.Legible.{is_word_byte}
 use Rattle.dw_cprint.specs.declared.source.Span.{Span}
 
 -- what is known of the string at the front of some bytes
-pub record IsSpan (bytes : List ℕ) (span : Span) : Type 0 where
+pub record IsStringSpan (bytes : List ℕ) (span : Span) : Type 0 where
   pub long : span.len ≡ length (string_at bytes 0)
   pub words : span.words ≡ list_all is_word_byte (string_at bytes 0)
 
@@ -14,4 +14,4 @@ pub record IsSpan (bytes : List ℕ) (span : Span) : Type 0 where
 pub record AreSpans (section : List ℕ) (spans : List Span) : Type 0 where
   pub count : length spans ≡ length section / 64 + 1
   pub each : (k : ℕ) (span : Span) → slice_get spans k ≡ Some span
-      → IsSpan (drop (length section - 64 * k) section) span
+      → IsStringSpan (drop (length section - 64 * k) section) span

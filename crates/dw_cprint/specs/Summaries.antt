@@ -9,7 +9,7 @@ use Rattle.dw_cprint.specs.Lengths.{IsLength}
 use Rattle.dw_cprint.specs.Refusals.{Holds, BadName, Foreign, Unspeakable, TooDeep}
 use Rattle.dw_cprint.specs.Shapes.{Enum, TypeAt, MemberOf, ShapeOf, qualified, SubjectOf, variable_subject}
 use Rattle.dw_cprint.specs.Shapes.{aggregate_subject, enumeration_subject, declared_subject, view_shape}
-use Rattle.dw_cprint.specs.Steps.{entries_of, member_types, steps_reached, IsReachedFrom, HasPathFrom}
+use Rattle.dw_cprint.specs.Steps.{entries_among, member_types, steps_reached, IsReachedFrom, HasPathFrom}
 use Rattle.dw_cprint.specs.Terms.{Term}
 use Rattle.dw_cprint.specs.Wrong.{kind_at, StandsUnder, is_void, HasBadName, is_foreign, IsUnspeakable}
 use Rattle.dw_cprint.specs.Wrong.{is_wrong, is_wrong_enumeration, is_wrong_member, is_wrong_row, object_types}
@@ -24,7 +24,7 @@ use Rattle.dw_cprint.specs.declared.survey.Survey.{Survey}
 
 -- one of these types, or an entry that is reached from them, has a property
 abbrev pub ReachesOne : (ShapeOf → Type 0) → (ℕ → ShapeOf) → List TypeAt → Type 0
-ReachesOne P shapes types = (entry : ℕ) × IsReachedFrom shapes (entries_of types) entry × P (shapes entry)
+ReachesOne P shapes types = (entry : ℕ) × IsReachedFrom shapes (entries_among types) entry × P (shapes entry)
 
 -- the third refusal holds for the shape
 abbrev pub IsForeign : ShapeOf → Type 0
@@ -36,14 +36,14 @@ IsDepth shapes roots depth = (k : ℕ) → k ≤ 65 → HasPathFrom shapes roots
 
 -- which of the second, third and fourth refusal holds for one of these types, or for an entry that is reached from
 -- them, and how long the longest path to them is
-pub record AreFound (shapes : ℕ → ShapeOf) (types : List TypeAt) (found : Findings) : Type 0 where
+pub record AreFindings (shapes : ℕ → ShapeOf) (types : List TypeAt) (found : Findings) : Type 0 where
   pub bad_name : IsTrue found.bad_name ↔ ReachesOne (HasBadName shapes) shapes types
   pub foreign_type : IsTrue found.foreign ↔ ReachesOne IsForeign shapes types
   pub unspeakable : IsTrue found.unspeakable ↔ ReachesOne (IsUnspeakable shapes) shapes types
-  pub deep : IsDepth shapes (entries_of types) found.depth
+  pub deep : IsDepth shapes (entries_among types) found.depth
 
 -- which of the second to the fifth refusal holds for the declared entry
-pub record AreFoundOf (shapes : ℕ → ShapeOf) (subject : SubjectOf) (found : Findings) : Type 0 where
+pub record AreFindingsOf (shapes : ℕ → ShapeOf) (subject : SubjectOf) (found : Findings) : Type 0 where
   pub bad_name : IsTrue found.bad_name ↔ Holds shapes subject BadName
   pub foreign_type : IsTrue found.foreign ↔ Holds shapes subject Foreign
   pub unspeakable : IsTrue found.unspeakable ↔ Holds shapes subject Unspeakable
@@ -72,7 +72,7 @@ IsBase shapes at own = (under : TypeAt) × StandsUnder shapes at under × (own �
 pub record IsSummary (shapes : ℕ → ShapeOf) (at : TypeAt) (known : Summary) : Type 0 where
   pub is_kind : known.kind ≡ kind_at shapes at
   pub is_base : IsBase shapes at known.base
-  pub are_found : AreFound shapes (at ∷ []) known.findings
+  pub are_found : AreFindings shapes (at ∷ []) known.findings
   pub is_length : (k : ℕ) (t : Term) → term_at k shapes at ≡ Some t → IsLength t known.kind known.base known.length
 
 -- what is listed for an entry, by the place of that entry
@@ -93,8 +93,8 @@ abbrev pub known_of : Survey → TypeAt → Summary
 known_of s at = unwrap_or (summary_at VOID s.places.items s.summaries.items at) UNKNOWN
 
 -- what a survey tells of a type is right
-abbrev pub Knows : (ℕ → ShapeOf) → Survey → TypeAt → Type 0
-Knows shapes s at = IsSummary shapes at (known_of s at)
+abbrev pub KnowsType : (ℕ → ShapeOf) → Survey → TypeAt → Type 0
+KnowsType shapes s at = IsSummary shapes at (known_of s at)
 
 -- the kind that it tells of a type
 abbrev pub kind_known : Survey → TypeAt → TypeKind
@@ -138,4 +138,4 @@ pub record AreNodes (shapes : ℕ → ShapeOf) (places found : List ℕ) (kept :
 -- the summaries of these nodes are right
 abbrev pub AreRight : (ℕ → ShapeOf) → (found clear : List ℕ) → Survey → Type 0
 AreRight shapes found clear s = (i : ℕ) → i < length clear
-    → Knows shapes s (Some (slice_index found (slice_index clear i)))
+    → KnowsType shapes s (Some (slice_index found (slice_index clear i)))

@@ -7,7 +7,7 @@ use Rattle.dw_cprint.specs.Steps.{IsReachedFrom, StepsTo}
 use Rattle.dw_cprint.specs.declared.survey.Survey.{Survey}
 use Rattle.dw_cprint.specs.declared.survey.TheConstants.{VOID}
 pub use Rattle.dw_cprint.specs.Summaries.{found_at, HaveSummaries, summary_at}
-use Rattle.dw_cprint.specs.Summaries.{Knows}
+use Rattle.dw_cprint.specs.Summaries.{KnowsType}
 
 -- each of some entries is one of others
 abbrev pub AreAmong : List ℕ → List ℕ → Type 0
@@ -24,7 +24,7 @@ pub record IsSurveyOf (shapes : ℕ → ShapeOf) (roots : List ℕ) (s : Survey)
   pub clear : (entry : ℕ) → IsReachedFrom shapes roots entry
       → (lacks_summary s (Some entry) ≡ true) ↔ ReachesCycle (StepsTo shapes) entry
   pub known : (entry : ℕ) → IsReachedFrom shapes roots entry → lacks_summary s (Some entry) ≡ false
-      → Knows shapes s (Some entry)
+      → KnowsType shapes s (Some entry)
 
 -- by the shapes of which this is a survey, if some entries are among those that it began with
 abbrev pub BySurvey : Survey → List ℕ → ((ℕ → ShapeOf) → Type 0) → Type 0

@@ -78,15 +78,15 @@ is_pointer kind.Pointer = true
 is_pointer _ = false
 
 -- an array or a pointer
-abbrev pub is_address : TypeKind → Bool
-is_address (kind.Array unknown) = true
-is_address kind.Pointer = true
-is_address _ = false
+abbrev pub is_array_or_pointer : TypeKind → Bool
+is_array_or_pointer (kind.Array unknown) = true
+is_array_or_pointer kind.Pointer = true
+is_array_or_pointer _ = false
 
 -- an array whose first count is unknown
-abbrev pub is_open : TypeKind → Bool
-is_open (kind.Array unknown) = unknown
-is_open _ = false
+abbrev pub is_open_array : TypeKind → Bool
+is_open_array (kind.Array unknown) = unknown
+is_open_array _ = false
 
 -- what restrict may qualify
 abbrev pub is_restrictable : TypeKind → Bool
@@ -171,7 +171,7 @@ is_own_foreign _ = false
 abbrev pub is_wrong_bits : TypeKind → Option ℕ → Bool
 is_wrong_bits k None = false
 is_wrong_bits k (Some zero) = true
-is_wrong_bits k (Some (suc n)) = is_address k
+is_wrong_bits k (Some (suc n)) = is_array_or_pointer k
 
 -- the enumerator has no number as its value
 abbrev pub lacks_value : EnumeratorOf → Bool
@@ -192,7 +192,7 @@ is_wrong_member kinds m = is_function (kinds m.type_at) || is_wrong_bits (kinds 
 -- enumeration
 abbrev pub is_wrong : (TypeAt → TypeKind) → ShapeOf → Bool
 is_wrong kinds (array counts strange at) =
-    strange || (is_miscounted counts || (is_function (kinds at) || is_open (kinds at)))
+    strange || (is_miscounted counts || (is_function (kinds at) || is_open_array (kinds at)))
 is_wrong kinds (function at None) = is_bracketed (kinds at)
 is_wrong kinds (function at (Some parameters)) = is_bracketed (kinds at) || is_misplaced parameters
 is_wrong kinds (body word odd members) = list_any (is_wrong_member kinds) members

@@ -6,7 +6,7 @@ ghost use Rattle.std.specs.List.{cons_option};
 ghost use Rattle.dw_image.specs.Images.{entries_in};
 ghost use Rattle.dw_cprint.specs.Counted.{AreDimensions, DimensionsSoFar, IsDimensionsStart, count_bytes, is_unknown};
 ghost use Rattle.dw_cprint.specs.Declarations.{is_miscounted};
-ghost use Rattle.dw_cprint.specs.EntryShapes.{counts_in, dimension_at};
+ghost use Rattle.dw_cprint.specs.EntryShapes.{dimension_counts, dimension_at};
 ghost use Rattle.dw_cprint.specs.Kept.{Writes};
 ghost use Rattle.dw_cprint.specs.Lengths.{capped};
 ghost use Rattle.dw_cprint.specs.Writing.{count_tokens};
@@ -126,7 +126,7 @@ impl DimensionTally {
 /// What a pass over the dimensions of an array finds.
 fn tally_of(image: &Image<'_>, id: EntryId) -> DimensionTally
     requires { id < length (entries_in image.now) }
-    ensures { AreDimensions (counts_in image.now id) result }
+    ensures { AreDimensions (dimension_counts image.now id) result }
 {
     let mut tally = DimensionTally::new();
     for child in image.children(id) {
@@ -138,7 +138,7 @@ fn tally_of(image: &Image<'_>, id: EntryId) -> DimensionTally
 /// Writes the brackets of the dimensions of an array.
 fn put_all(out: &mut Draft, image: &Image<'_>, id: EntryId) -> Result<(), AllocError>
     requires { id < length (entries_in image.now) }
-    ensures { OnOk result (Writes (flat_map count_tokens (counts_in image.now id)) out.old out.new) }
+    ensures { OnOk result (Writes (flat_map count_tokens (dimension_counts image.now id)) out.old out.new) }
 {
     for child in image.children(id) {
         put_next(out, dimension_at(image, child))?;
@@ -160,20 +160,20 @@ impl<'a> Model for Dimensions<'a> {
 
     ghost Value = { List (Option ℕ) };
 
-    ghost use Rattle.dw_cprint.specs.EntryShapes.{counts_in};
+    ghost use Rattle.dw_cprint.specs.EntryShapes.{dimension_counts};
     ghost use Rattle.dw_cprint.specs.Counted.{AreDimensions};
 
-    ghost view = { λ it. counts_in it.image.now it.id };
+    ghost view = { λ it. dimension_counts it.image.now it.id };
 
     ghost invariant = { λ it. (it.id < length (entries_in it.image.now))
-        × AreDimensions (counts_in it.image.now it.id) it.tally };
+        × AreDimensions (dimension_counts it.image.now it.id) it.tally };
 }
 
 impl<'a> Dimensions<'a> {
     /// Reads those of an array once.
     pub fn read(image: &'a Image<'a>, id: EntryId) -> Dimensions<'a>
         requires { id < length (entries_in image.now) }
-        ensures { result ≡ counts_in image.now id }
+        ensures { result ≡ dimension_counts image.now id }
     {
         Dimensions {
             image,

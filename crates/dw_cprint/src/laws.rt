@@ -14,16 +14,17 @@ ghost use Rattle.dw_image.specs.Images.{entries_in, steps_in};
 ghost use Rattle.dw_cprint.specs.LookUps.{type_at};
 ghost use Rattle.dw_types.specs.Sizes.{has_elements};
 ghost use Rattle.dw_cprint.specs.Declarators.{before, after};
-ghost use Rattle.dw_cprint.specs.Legible.{IsDeclaration};
-ghost use Rattle.dw_cprint.specs.Reading.{read};
-ghost use Rattle.dw_cprint.specs.Terms.{Declaration, Qualifier, Term};
+ghost use Rattle.dw_cprint.specs.Legible.{IsLegibleDeclaration};
+ghost use Rattle.dw_cprint.specs.Reading.{declaration_of_text};
+ghost use Rattle.dw_cprint.specs.Terms.{CDeclaration, Qualifier, Term};
 ghost use Rattle.dw_cprint.specs.Tokens.{Token};
 ghost use Rattle.dw_cprint.specs.Writing.{spell, written};
 
 /// Each text is read back as what it was written from, so no other declaration has that text.
 pub fn one_reading()
-    ensures read_back { (d : Declaration) → IsDeclaration d → read (written d) ≡ Some d }
-    ensures no_other { (d e : Declaration) → IsDeclaration d → IsDeclaration e → written d ≡ written e → d ≡ e }
+    ensures read_back { (d : CDeclaration) → IsLegibleDeclaration d → declaration_of_text (written d) ≡ Some d }
+    ensures no_other { (d e : CDeclaration) → IsLegibleDeclaration d → IsLegibleDeclaration e → written d ≡ written e
+        → d ≡ e }
 {}
 
 /// The text of a type is what is before its declarator, the declarator, and what is after it.
@@ -45,7 +46,7 @@ pub fn declared_if_not_refused()
     ensures there { (shapes : ℕ → ShapeOf) (subject : SubjectOf) → HoldsNoneBelow 6 shapes subject
         → IsSome (declaration_of shapes subject) }
     ensures legible { (shapes : ℕ → ShapeOf) (subject : SubjectOf) → HoldsNoneBelow 5 shapes subject
-        → (d : Declaration) → declaration_of shapes subject ≡ Some d → IsDeclaration d }
+        → (d : CDeclaration) → declaration_of shapes subject ≡ Some d → IsLegibleDeclaration d }
     ensures one { (shapes : ℕ → ShapeOf) (subject : SubjectOf) → HoldsNoneBelow 5 shapes subject
         → HasOneReading shapes subject }
 {}

@@ -5,7 +5,7 @@ ghost use Rattle.dw_cprint.specs.Reach.{AddsRow, ArePlaces, FindsAll, HasReached
 ghost use Rattle.dw_image.specs.Images.{entries_in};
 ghost use Rattle.dw_cprint.specs.EntryShapes.{member_at, members_in, shape_in};
 ghost use Rattle.dw_cprint.specs.Shapes.{view_member, view_shape, view_subject};
-ghost use Rattle.dw_cprint.specs.Steps.{entries_of};
+ghost use Rattle.dw_cprint.specs.Steps.{entries_among};
 ghost use Rattle.dw_cprint.specs.Steps.{member_types, parameter_types, types_declared, types_reached};
 
 use crate::shape::{Member, Parameter, Shape, Subject};
@@ -44,9 +44,9 @@ fn push_row(
     types: &[TypeAt],
 ) -> Result<(), AllocError>
     requires placed { ArePlaces places.old.items found.old }
-    requires within { All (λ to. to < length places.old.items) (entries_of types.now) }
+    requires within { All (λ to. to < length places.old.items) (entries_among types.now) }
     requires few { length places.old.items < 2 ^ 32 }
-    ensures row { OnOk result (AddsRow (entries_of types.now)
+    ensures row { OnOk result (AddsRow (entries_among types.now)
         places.old.items places.new.items found.old found.new steps.old steps.new) }
     ensures places { length places.new.items ≡ length places.old.items }
 {
@@ -160,8 +160,8 @@ pub fn reach<'a>(
     source: &'a Source<'a>,
     types: &[TypeAt],
 ) -> Result<(Survey<'a>, Packed), AllocError>
-    requires { All (λ to. to < length (entries_in source.now.image.now)) (entries_of types.now) }
-    ensures { IfOk result (λ r. HasReached (shape_in source.now.image.now) (entries_of types.now)
+    requires { All (λ to. to < length (entries_in source.now.image.now)) (entries_among types.now) }
+    ensures { IfOk result (λ r. HasReached (shape_in source.now.image.now) (entries_among types.now)
         r.0 (⟦<Packed as StepGraph>⟧.graph r.1)) }
 {
     let mut places = vec![in alloc; 0; source.image.entries()]?;

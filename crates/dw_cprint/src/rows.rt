@@ -8,7 +8,7 @@ ghost use Rattle.dw_cprint.specs.Listings.{AreNamedTypes, is_named_type, named_n
 ghost use Rattle.dw_cprint.specs.LookUps.{name_at, type_at};
 ghost use Rattle.dw_cprint.specs.Rows.{AreRows, IsWithin, Tells, TellsOf, place_in, row_at, row_text};
 ghost use Rattle.dw_cprint.specs.Shapes.{typedef_subject, view_subject};
-ghost use Rattle.dw_cprint.specs.Steps.{entries_of, first_steps, types_declared};
+ghost use Rattle.dw_cprint.specs.Steps.{entries_among, first_steps, types_declared};
 
 use crate::reaching::put_types_of_members;
 use crate::shape::Subject;
@@ -238,7 +238,7 @@ fn put_types_of(
 pub fn all_types(alloc: Global, image: &Image<'_>, named: &Named) -> Result<Vec<TypeAt>, AllocError>
     requires named { AreNamedTypes image.now named.now.ids.items }
     requires rows { AreRows image.now named.now.ids.items named.now.rows.items }
-    ensures { IfOk result (λ types. entries_of types.items
+    ensures { IfOk result (λ types. entries_among types.items
         ≡ flat_map (λ id. first_steps (subject_in image.now id)) named.now.ids.items) }
 {
     let mut types = Vec::new(alloc);

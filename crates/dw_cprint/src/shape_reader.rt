@@ -3,7 +3,8 @@
 ghost use Rattle.std.specs.Prelude.{◌≡◌, ◌<◌, ℕ, length, map, IfOk, option_map};
 ghost use Rattle.dw_image.specs.Images.{entries_in};
 ghost use Rattle.dw_cprint.specs.Children.{AreKept, TellsAny};
-ghost use Rattle.dw_cprint.specs.EntryShapes.{counts_in, defined_in, has_stride, is_odd, is_strange, member_at};
+ghost use Rattle.dw_cprint.specs.EntryShapes.{dimension_counts, defined_in, has_stride_at, is_odd, is_strange};
+ghost use Rattle.dw_cprint.specs.EntryShapes.{member_at};
 ghost use Rattle.dw_cprint.specs.EntryShapes.{members_in, parameter_at, parameters_in, shape_in, subject_in, tag_in};
 ghost use Rattle.dw_cprint.specs.EntryShapes.{tag_shape};
 ghost use Rattle.dw_cprint.specs.LookUps.{children_at, name_at, type_at};
@@ -58,7 +59,7 @@ fn read_children<T: Drop, F: Fn(EntryId) -> Option<T>>(
 /// Whether an entry has a stride.
 fn has_stride(image: &Image<'_>, id: EntryId) -> bool
     requires { id < length (entries_in image.now) }
-    ensures { result ≡ has_stride image.now id }
+    ensures { result ≡ has_stride_at image.now id }
 {
     value_at(image, id, DW_AT_byte_stride).is_some()
         || value_at(image, id, DW_AT_bit_stride).is_some()
@@ -68,7 +69,7 @@ fn has_stride(image: &Image<'_>, id: EntryId) -> bool
 fn array_shape<'a>(image: &'a Image<'a>, id: EntryId) -> Shape<'a>
     requires { id < length (entries_in image.now) }
     ensures { view_shape result
-        ≡ array (counts_in image.now id) (is_strange image.now id) (type_at image.now id) }
+        ≡ array (dimension_counts image.now id) (is_strange image.now id) (type_at image.now id) }
 {
     let strided = any_child(image, id, |child| {
         tag_at(image, child) == DW_TAG_subrange_type && has_stride(image, child)

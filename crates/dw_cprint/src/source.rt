@@ -7,9 +7,9 @@ ghost use Rattle.dw_image.specs.Contributions.{string_at};
 ghost use Rattle.dw_image.specs.Images.{entries_in, sections_in};
 ghost use Rattle.dw_image.specs.Slots.{IsTextPlace};
 ghost use Rattle.dw_image.specs.ValueTexts.{text_there};
-ghost use Rattle.dw_cprint.specs.LookUps.{name_at, tag_at, value_at, type_at, flag_at, integer_at};
+ghost use Rattle.dw_cprint.specs.LookUps.{name_at, tag_at, attribute_value_at, type_at, flag_at, integer_at};
 ghost use Rattle.dw_cprint.specs.Shapes.{view_name};
-ghost use Rattle.dw_cprint.specs.StringSpans.{AreSpans, IsSpan};
+ghost use Rattle.dw_cprint.specs.StringSpans.{AreSpans, IsStringSpan};
 ghost use Rattle.dw_cprint.specs.EntryShapes.{bits_in};
 
 use crate::names::are_words;
@@ -34,8 +34,8 @@ struct Span {
 /// What the string at the front of some bytes is, by that at an offset: no byte after the offset is read.
 fn span_of(bytes: &[u8], offset: usize, next: Span) -> Span
     requires within { offset ≤ length bytes.now }
-    requires next { IsSpan (drop offset bytes.now) next }
-    ensures { IsSpan bytes.now result }
+    requires next { IsStringSpan (drop offset bytes.now) next }
+    ensures { IsStringSpan bytes.now result }
 {
     let (before, _) = bytes.split_at(offset);
     let front = string_from(before, 0);
@@ -161,10 +161,10 @@ pub fn tag_at(image: &Image<'_>, id: EntryId) -> Tag
 }
 
 /// The value of an entry's attribute.
-#[tactic(auto, unfolding(crate::specs::LookUps::value_at))]
+#[tactic(auto, unfolding(crate::specs::LookUps::attribute_value_at))]
 pub fn value_at<'a>(image: &Image<'a>, id: EntryId, attribute: Attribute) -> Option<Value<'a>>
     requires { id < length (entries_in image.now) }
-    ensures { option_map view result ≡ value_at image.now id attribute }
+    ensures { option_map view result ≡ attribute_value_at image.now id attribute }
 {
     image.value(id, attribute)
 }
@@ -214,7 +214,7 @@ pub fn integer_at(image: &Image<'_>, id: EntryId, attribute: Attribute) -> Optio
 /// The size in bits of a member, if it has one. One that is no number of 1 or more gives 0.
 pub fn bits_at(image: &Image<'_>, id: EntryId) -> Option<u64>
     requires { id < length (entries_in image.now) }
-    ensures { result ≡ bits_in (value_at image.now id DW_AT_bit_size) }
+    ensures { result ≡ bits_in (attribute_value_at image.now id DW_AT_bit_size) }
 {
     match value_at(image, id, DW_AT_bit_size) {
         None => None,

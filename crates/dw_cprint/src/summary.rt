@@ -1,11 +1,12 @@
 //! The survey of some declarations: what is known of each type that reaches no cycle, by the types that it names.
 
 ghost use Rattle.std.specs.Prelude.{◌≡◌, ◌<◌, ℕ, List, Some, length, All, IfOk};
-ghost use Rattle.dw_cprint.specs.Lengths.{base_in};
+ghost use Rattle.dw_cprint.specs.Lengths.{base_kind};
 ghost use Rattle.dw_cprint.specs.Shapes.{ShapeOf, view_shape, view_subject};
-ghost use Rattle.dw_cprint.specs.Steps.{types_declared, types_reached, entries_of};
-ghost use Rattle.dw_cprint.specs.Summaries.{AreFound, AreFoundOf, AreNodes, AreRight, HaveSummaries, IsBase};
-ghost use Rattle.dw_cprint.specs.Summaries.{IsOwn, IsSummary, Knows, is_own_unspeakable, is_unspeakable, kind_known};
+ghost use Rattle.dw_cprint.specs.Steps.{types_declared, types_reached, entries_among};
+ghost use Rattle.dw_cprint.specs.Summaries.{AreFindings, AreFindingsOf, AreNodes, AreRight, HaveSummaries, IsBase};
+ghost use Rattle.dw_cprint.specs.Summaries.{IsOwn, IsSummary, KnowsType, is_own_unspeakable, is_unspeakable};
+ghost use Rattle.dw_cprint.specs.Summaries.{kind_known};
 ghost use Rattle.dw_cprint.specs.Summaries.{known_of};
 ghost use Rattle.dw_cprint.specs.Wrong.{has_bad_name, has_own_bad_name, is_foreign, is_own_foreign};
 ghost use Rattle.dw_cprint.specs.Surveys.{IsSurveyOf};
@@ -89,7 +90,8 @@ fn wrong_in_subject(survey: &Survey<'_>, subject: &Subject<'_>, types: &[TypeAt]
 
 /// What is found of some types.
 fn findings_under(survey: &Survey<'_>, types: &[TypeAt]) -> Findings
-    ensures { (shapes : ℕ → ShapeOf) → All (Knows shapes survey.now) types.now → AreFound shapes types.now result }
+    ensures { (shapes : ℕ → ShapeOf) → All (KnowsType shapes survey.now) types.now
+        → AreFindings shapes types.now result }
 {
     let mut findings = NOTHING;
     for at in types {
@@ -101,17 +103,17 @@ fn findings_under(survey: &Survey<'_>, types: &[TypeAt]) -> Findings
 /// What is found of the declared entry. `types` are those that it leads to.
 pub fn findings_of(survey: &Survey<'_>, subject: &Subject<'_>, types: &[TypeAt]) -> Findings
     requires { types.now ≡ types_declared (view_subject subject.now) }
-    ensures { (shapes : ℕ → ShapeOf) → All (Knows shapes survey.now) types.now
-        → AreFoundOf shapes (view_subject subject.now) result }
+    ensures { (shapes : ℕ → ShapeOf) → All (KnowsType shapes survey.now) types.now
+        → AreFindingsOf shapes (view_subject subject.now) result }
 {
     wrong_in_subject(survey, subject, types).with(findings_under(survey, types))
 }
 
 /// The kind of the type under the row of qualifiers that begins with this shape.
 fn base_of(survey: &Survey<'_>, shape: &Shape<'_>) -> TypeKind
-    ensures same { result ≡ base_in (known_of survey.now) (view_shape shape.now) }
+    ensures same { result ≡ base_kind (known_of survey.now) (view_shape shape.now) }
     ensures under { (shapes : ℕ → ShapeOf) (entry : ℕ) → shapes entry ≡ view_shape shape.now
-        → All (Knows shapes survey.now) (types_reached (view_shape shape.now)) → IsBase shapes (Some entry) result }
+        → All (KnowsType shapes survey.now) (types_reached (view_shape shape.now)) → IsBase shapes (Some entry) result }
 {
     match shape {
         Shape::Qualified(_, at) => survey.known(*at).base,
@@ -122,7 +124,7 @@ fn base_of(survey: &Survey<'_>, shape: &Shape<'_>) -> TypeKind
 /// The summary of a shape, by those of the types that it names.
 fn summary_of(alloc: Global, survey: &Survey<'_>, shape: &Shape<'_>) -> Result<Summary, AllocError>
     ensures { IfOk result (λ known. (shapes : ℕ → ShapeOf) (entry : ℕ) → shapes entry ≡ view_shape shape.now
-        → All (Knows shapes survey.now) (types_reached (view_shape shape.now))
+        → All (KnowsType shapes survey.now) (types_reached (view_shape shape.now))
         → IsSummary shapes (Some entry) known) }
 {
     let mut types = Vec::new(alloc);
@@ -169,8 +171,8 @@ impl<'a> Survey<'a> {
         source: &'a Source<'a>,
         types: Vec<TypeAt>,
     ) -> Result<Survey<'a>, AllocError>
-        requires { All (λ to. to < length (entries_in source.now.image.now)) (entries_of types.items) }
-        ensures { IfOk result (IsSurveyOf (shape_in source.now.image.now) (entries_of types.items)) }
+        requires { All (λ to. to < length (entries_in source.now.image.now)) (entries_among types.items) }
+        ensures { IfOk result (IsSurveyOf (shape_in source.now.image.now) (entries_among types.items)) }
     {
         let (survey, graph) = reach(alloc, source, &types)?;
         drop(types);

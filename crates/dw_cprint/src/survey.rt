@@ -4,7 +4,7 @@
 ghost use Rattle.std.specs.Prelude.{◌≡◌, max, ℕ};
 ghost use Rattle.std.specs.List.{list_any};
 ghost use Rattle.dw_cprint.specs.Judgements.{IsRefusalBelow};
-ghost use Rattle.dw_cprint.specs.Summaries.{known_of, summary_at, AreFoundOf, IsEither};
+ghost use Rattle.dw_cprint.specs.Summaries.{known_of, summary_at, AreFindingsOf, IsEither};
 ghost use Rattle.dw_cprint.specs.Surveys.{lacks_summary};
 ghost use Rattle.dw_cprint.specs.Refusals.{HoldsNoneBelow};
 ghost use Rattle.dw_cprint.specs.Shapes.{ShapeOf, SubjectOf};
@@ -53,7 +53,7 @@ impl Findings {
     /// The first refusal that they show of a declaration for which the first one does not hold.
     pub fn first(self) -> Option<PrintFault>
         ensures { (shapes : ℕ → ShapeOf) (subject : SubjectOf) → HoldsNoneBelow 2 shapes subject
-            → AreFoundOf shapes subject self → IsRefusalBelow 6 shapes subject result }
+            → AreFindingsOf shapes subject self → IsRefusalBelow 6 shapes subject result }
     {
         if self.bad_name {
             return Some(PrintFault::BadName);

@@ -6,7 +6,7 @@ use Rattle.dw_entries.specs.declared.tree.Level.{Level}
 use Rattle.dw_entries.specs.declared.fault.PlainFault.{PlainFault}
 use Rattle.dw_entries.specs.declared.header.HeaderKind.{HeaderKind}
 use Rattle.dw_forms.specs.Abbrev.{Declaration}
-use Rattle.dw_entries.specs.Header.{fits_tag, header_size}
+use Rattle.dw_entries.specs.Header.{fits_tag, unit_header_size}
 use Rattle.dw_entries.specs.declared.fault.Failing.{Failing}
 use Rattle.dw_entries.specs.Grammar.{Context, Head, head_bytes}
 use Rattle.dw_entries.specs.Tree.{Node, node_bytes, leaf, parent}
@@ -164,7 +164,7 @@ along_end t numbers kind at body old rest w a e =
 
 pub first_fault : (t : Context) (kind : HeaderKind) (header start : ℕ) (body : List ℕ) (f : Failing)
     (fault : PlainFault)
-    → start ≡ header + header_size kind → first_at t kind body ≡ Err f → fault ≡ in_unit f header start
+    → start ≡ header + unit_header_size kind → first_at t kind body ≡ Err f → fault ≡ in_unit f header start
     → BodyFails t kind header body fault
 first_fault t kind header start body f fault s read e = record {
   items = [];
@@ -174,7 +174,8 @@ first_fault t kind header start body f fault s read e = record {
   front = record { are = tt; fits = tt; at_depth = refl; parts = refl };
   stops = read;
   is =
-      e ∙ ap (in_unit f header) s ∙ (let z : header + header_size kind ≡ header + header_size kind + 0 = omega arith in
+      e ∙ ap (in_unit f header) s ∙ (let z : header + unit_header_size kind
+      ≡ header + unit_header_size kind + 0 = omega arith in
       ap (λ (k : ℕ). in_unit f header k) z);
 }
 

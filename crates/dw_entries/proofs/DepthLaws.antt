@@ -7,7 +7,7 @@ use Rattle.dw_forms.specs.KeptDecls.{Tables}
 use Rattle.dw_entries.specs.declared.records.Record.{Record}
 use Rattle.dw_entries.specs.declared.records.UnitRecord.{UnitRecord}
 use Rattle.dw_entries.specs.Grammar.{head_bytes}
-use Rattle.dw_entries.specs.Header.{header_size}
+use Rattle.dw_entries.specs.Header.{unit_header_size}
 use Rattle.dw_entries.specs.Tree.{Node, Nodes, leaf, parent, none, ◌then◌, node_bytes}
 use Rattle.dw_entries.specs.Units.{DebugUnit, unit_bytes}
 use Rattle.dw_entries.specs.Entries.{Entry, node_count, first_id, node_entries, nodes_entries, entries_from, entries_of}
@@ -132,13 +132,14 @@ units_below : (unit id at : ℕ) (us : List DebugUnit) (k : ℕ) (e : Entry)
 unfolding IsBelow
 units_below unit id at [] k e is = absurd cc
 units_below unit id at (u ∷ us) k e is =
-    let es : List Entry = node_entries unit None 0 None id (at + header_size u.header.kind) u.root in
+    let es : List Entry = node_entries unit None 0 None id (at + unit_header_size u.header.kind) u.root in
     let fs : List Entry = entries_from (suc unit) (id + node_count u.root) (at + length (unit_bytes u)) us in
-    let count = length-node_entries unit None 0 None id (at + header_size u.header.kind) u.root in
+    let count = length-node_entries unit None 0 None id (at + unit_header_size u.header.kind) u.root in
     elim (cases_lt k (length es)) [
       | inl lt ↦
           in_front es fs id None 0 k e lt
-          (node_below unit None 0 None id (at + header_size u.header.kind) u.root k e (sym (get_front es fs k lt) ∙ is))
+          (node_below unit None 0 None id (at + unit_header_size u.header.kind) u.root k e
+          (sym (get_front es fs k lt) ∙ is))
       | inr le ↦
           in_back es fs id (id + node_count u.root) None 0 k e (omega (arith, count)) le
           (units_below (suc unit) (id + node_count u.root) (at + length (unit_bytes u)) us (k - length es) e

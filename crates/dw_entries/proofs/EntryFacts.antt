@@ -4,7 +4,7 @@ use Rattle.std.specs.Prelude.{slice_get}
 use Rattle.std.proofs.lemmas.Option.{slice_get-map}
 use Rattle.dw_entries.specs.declared.records.Record.{Record}
 use Rattle.dw_entries.specs.Grammar.{head_bytes}
-use Rattle.dw_entries.specs.Header.{header_size}
+use Rattle.dw_entries.specs.Header.{unit_header_size}
 use Rattle.dw_entries.specs.Tree.{Node, Nodes, leaf, parent, none, ◌then◌, node_bytes}
 use Rattle.dw_entries.specs.Units.{DebugUnit, head_of, unit_bytes, AreUnits, units_bytes}
 use Rattle.dw_entries.specs.Entries.{Entry, node_count, nodes_count, first_id, node_entries, nodes_entries, entries_from, entries_of, PlacedUnit, placed_from, placed}
@@ -19,7 +19,7 @@ pub entries_based : (base unit id at : ℕ) (us : List DebugUnit)
     → entries_from unit id at (map (with_base base) us) ≡ entries_from unit id at us
 entries_based base unit id at [] = refl
 entries_based base unit id at (u ∷ us) =
-    ap (λ (es : List Entry). node_entries unit None 0 None id (at + header_size u.header.kind) u.root ++ es)
+    ap (λ (es : List Entry). node_entries unit None 0 None id (at + unit_header_size u.header.kind) u.root ++ es)
     (entries_based base (suc unit) (id + node_count u.root) (at + length (unit_bytes u)) us)
 
 -- ---- the entries stand in rising offset
@@ -90,7 +90,7 @@ length-placed_from at first (u ∷ us) =
 
 -- this entry is the first of the unit with this number and place
 pub record IsFirstEntry (number : ℕ) (p : PlacedUnit) (e : Entry) : Type 0 where
-  pub at : e.at ≡ p.at + header_size p.unit.header.kind
+  pub at : e.at ≡ p.at + unit_header_size p.unit.header.kind
   pub unit : e.unit ≡ number
   pub parent : e.parent ≡ None
   pub depth : e.depth ≡ 0
@@ -109,12 +109,12 @@ behind_first (x ∷ es) fs k =
     ∙ behind_first es fs k
 
 first_here : (unit id at : ℕ) (u : DebugUnit) (more : List Entry)
-    → HasFirst (node_entries unit None 0 None id (at + header_size u.header.kind) u.root ++ more) 0 unit
+    → HasFirst (node_entries unit None 0 None id (at + unit_header_size u.header.kind) u.root ++ more) 0 unit
     (record { at = at; first = id; unit = u })
 first_here unit id at u more = go u.root refl
   where
     go : (n : Node) → u.root ≡ n → HasFirst
-        (node_entries unit None 0 None id (at + header_size u.header.kind) n ++ more) 0 unit
+        (node_entries unit None 0 None id (at + unit_header_size u.header.kind) n ++ more) 0 unit
         (record { at = at; first = id; unit = u })
     go (leaf h) e =
         record {
@@ -148,9 +148,9 @@ first_from unit id at (u ∷ us) zero p is =
     )
 first_from unit id at (u ∷ us) (suc k) p is =
     let (j, first, has) = first_from (suc unit) (id + node_count u.root) (at + length (unit_bytes u)) us k p is in
-    let es : List Entry = node_entries unit None 0 None id (at + header_size u.header.kind) u.root in
+    let es : List Entry = node_entries unit None 0 None id (at + unit_header_size u.header.kind) u.root in
     let fs : List Entry = entries_from (suc unit) (id + node_count u.root) (at + length (unit_bytes u)) us in
-    let count = length-node_entries unit None 0 None id (at + header_size u.header.kind) u.root in
+    let count = length-node_entries unit None 0 None id (at + unit_header_size u.header.kind) u.root in
     let number : suc unit + k ≡ unit + suc k = omega arith in
     let P : ℕ → Type 0 = λ n. IsFirstEntry n p has.entry in (
       length es + j,

@@ -8,7 +8,7 @@ use Rattle.dw_entries.specs.Grammar.{Context}
 use Rattle.dw_entries.specs.Header.{fits_tag}
 use Rattle.dw_entries.specs.Tree.{Node, IsNode, node_bytes}
 use Rattle.dw_entries.specs.Items.{Item, entry, null, item_bytes, IsItem, AreItems, items_bytes, node_items, tree_depth}
-use Rattle.dw_entries.specs.Reading.{code_at, next_at, null_first}
+use Rattle.dw_entries.specs.Reading.{code_at, next_item_at, null_first}
 use Rattle.dw_entries.specs.Units.{DebugUnit, head_of, nulls_bytes, AreNulls, unit_bytes, IsUnit, units_bytes, Spells}
 use Rattle.dw_entries.specs.Faults.{FitsUnit, Stops, BodyFails, FailsHere, Fails}
 use Rattle.dw_entries.specs.Joined.{begins, append-is-nil}
@@ -22,7 +22,7 @@ use Rattle.dw_entries.proofs.ItemLaws.{items_bytes-append, node_spelled, node_ar
 
 -- the first of these items is the unit's first entry, or comes after others
 next_again : (t : Context) (kind : HeaderKind) (is : List Item) (i : Item) (js : List Item) (rest : List ℕ) → IsItem t i
-    → FitsUnit kind (is ++ i ∷ js) → next_at t kind is (item_bytes i ++ rest) ≡ Ok (i, rest)
+    → FitsUnit kind (is ++ i ∷ js) → next_item_at t kind is (item_bytes i ++ rest) ≡ Ok (i, rest)
 next_again t kind [] (entry h) js rest p fits = first_again t kind h rest p fits
 next_again t kind [] (null z) js rest p fits = absurd fits
 next_again t kind (j ∷ is) i js rest p fits = item_again t i rest p
@@ -120,7 +120,7 @@ stops_same : (t : Context) (kind : HeaderKind) (is : List Item) (rest : List ℕ
     → Stops t kind is rest d f → Stops t kind is rest d g → f ≡ g
 stops_same t kind is rest zero f g p q = p.2 ∙ sym q.2
 stops_same t kind is rest (suc d) f g p q =
-    let a : next_at t kind is rest ≡ Err f = p in let b : next_at t kind is rest ≡ Err g = q in cc
+    let a : next_item_at t kind is rest ≡ Err f = p in let b : next_item_at t kind is rest ≡ Err g = q in cc
 
 -- a front that stops is the longest one
 longest : (t : Context) (kind : HeaderKind) (header : ℕ) (body : List ℕ) (f g : PlainFault)

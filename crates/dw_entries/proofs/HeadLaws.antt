@@ -4,7 +4,7 @@ use Rattle.std.specs.Prelude.{slice_get}
 use Rattle.std.specs.List.{flat_map, AllByRecursion}
 use Rattle.std.proofs.lemmas.Option.{slice_get_within, get_or_from_slice_get}
 use Rattle.dw_entries.specs.Grammar.{Context, head_bytes, attribute_bytes, IsHead}
-use Rattle.dw_entries.specs.Header.{header_size}
+use Rattle.dw_entries.specs.Header.{unit_header_size}
 use Rattle.dw_entries.specs.UnitLaws.{header_long}
 use Rattle.dw_entries.specs.Items.{entry}
 use Rattle.dw_entries.specs.Reading.{seen, code_at}
@@ -105,7 +105,7 @@ stands_among all info unit u is e s =
 
 -- the bytes of a unit after its header
 pub behind_header : (a info : List ℕ) (at : ℕ) (u : DebugUnit) (after : List ℕ) → IsUnit a u
-    → drop at info ≡ unit_bytes u ++ after → drop (at + header_size u.header.kind) info ≡ body_bytes u ++ after
+    → drop at info ≡ unit_bytes u ++ after → drop (at + unit_header_size u.header.kind) info ≡ body_bytes u ++ after
 behind_header a info at u after p e =
     ap (λ (n : ℕ). drop (at + n) info) (sym (header_long a u p))
     ∙ behind info u.header_bytes (body_bytes u ++ after) at (e ∙ append_assoc u.header_bytes (body_bytes u) after)
@@ -117,16 +117,16 @@ units_stand all a info unit id at [] after p f e = tt
 units_stand all a info unit id at (u ∷ us) after p f e =
     let parts : drop at info ≡ unit_bytes u ++ (units_bytes us ++ after) = e
     ∙ append_assoc (unit_bytes u) (units_bytes us) after in
-    let root : drop (at + header_size u.header.kind) info
+    let root : drop (at + unit_header_size u.header.kind) info
     ≡ node_bytes u.root ++ (nulls_bytes u.nulls ++ (units_bytes us ++ after)) =
     behind_header a info at u (units_bytes us ++ after) p.0 parts
     ∙ append_assoc (node_bytes u.root) (nulls_bytes u.nulls) (units_bytes us ++ after) in
-    all-append (Stands all info) (node_entries unit None 0 None id (at + header_size u.header.kind) u.root)
+    all-append (Stands all info) (node_entries unit None 0 None id (at + unit_header_size u.header.kind) u.root)
     (entries_from (suc unit) (id + node_count u.root) (at + length (unit_bytes u)) us)
     (all_map (StandsIn (context_of u) unit info) (Stands all info)
-    (node_entries unit None 0 None id (at + header_size u.header.kind) u.root)
+    (node_entries unit None 0 None id (at + unit_header_size u.header.kind) u.root)
     (stands_among all info unit u (from_here all unit u us f))
-    (node_stands (context_of u) info unit None 0 None id (at + header_size u.header.kind) u.root
+    (node_stands (context_of u) info unit None 0 None id (at + unit_header_size u.header.kind) u.root
     (nulls_bytes u.nulls ++ (units_bytes us ++ after)) p.0.root root))
     (units_stand all a info (suc unit) (id + node_count u.root) (at + length (unit_bytes u)) us after p.1
     (from_next all unit u us f) (behind info (unit_bytes u) (units_bytes us ++ after) at parts))

@@ -27,7 +27,7 @@ use Rattle.dw_entries.specs.ReadingLaws.{ok_pair}
 use Rattle.dw_entries.specs.Units.{DebugUnit, head_of}
 use Rattle.dw_entries.specs.Entries.{Entry, entries_of, PlacedUnit, placed}
 use Rattle.dw_entries.specs.ByNumber.{no_entry, no_placed, no_unit, entry_of, placed_of, unit_of}
-use Rattle.dw_entries.specs.Scanned.{found_units, tables_among, table_of, numbers_of, record_of, IsKept, Scanned}
+use Rattle.dw_entries.specs.Scanned.{found_units, tables_among, table_of, numbers_of, record_of, IsRecordOfUnit, Scanned}
 use Rattle.dw_entries.specs.Lookups.{IsKeptIn, HasSpecsIn, unit_head}
 use Rattle.dw_entries.proofs.ScanLaws.{rest_of}
 use Rattle.dw_entries.proofs.HeadLaws.{Stands, head_stands, stands_code, stands_within}
@@ -49,13 +49,13 @@ table_is (q ∷ rs) zero r is =
 table_is (q ∷ rs) (suc n) r is = table_is rs n r is
 
 -- the record of the unit at this place
-pub unit_kept : (tables : Tables) (rs : List UnitRecord) (ps : List PlacedUnit) → AllZip (IsKept tables) rs ps
+pub unit_kept : (tables : Tables) (rs : List UnitRecord) (ps : List PlacedUnit) → AllZip (IsRecordOfUnit tables) rs ps
     → (k : ℕ) (p : PlacedUnit) → slice_get ps k ≡ Some p
-    → (r : UnitRecord) × (slice_get rs k ≡ Some r) × IsKept tables r p
+    → (r : UnitRecord) × (slice_get rs k ≡ Some r) × IsRecordOfUnit tables r p
 unit_kept tables rs ps zip k p is =
-    let m = AllZip-right (IsKept tables) rs ps zip k in
-    let at_p : IsSomeAnd (slice_get rs k) (λ r. IsKept tables r p) = rw is at m in
-    some_and (slice_get rs k) (λ r. IsKept tables r p) at_p
+    let m = AllZip-right (IsRecordOfUnit tables) rs ps zip k in
+    let at_p : IsSomeAnd (slice_get rs k) (λ r. IsRecordOfUnit tables r p) = rw is at m in
+    some_and (slice_get rs k) (λ r. IsRecordOfUnit tables r p) at_p
 
 -- the entry of a number, of those that were found
 abbrev pub found_entry : {base : ℕ} {a info : List ℕ} {tables : Tables} {rs : List UnitRecord} {records : List Record}
@@ -221,7 +221,7 @@ pub record KeptUnit {base : ℕ} (a info : List ℕ) (tables : Tables) (rs : Lis
   pub is_place : slice_get (placed (found_units s)) number ≡ Some (found_place s number)
   pub unit_record : UnitRecord
   pub is_unit_record : slice_get rs number ≡ Some unit_record
-  pub kept : IsKept tables unit_record (found_place s number)
+  pub kept : IsRecordOfUnit tables unit_record (found_place s number)
   pub first : HasFirst (entries_of (found_units s)) (found_place s number).first number (found_place s number)
 
 pub kept_unit : {base : ℕ} (a info : List ℕ) (tables : Tables) (rs : List UnitRecord) (records : List Record)
@@ -242,9 +242,9 @@ module _ {base : ℕ} {a info : List ℕ} {tables : Tables} {rs : List UnitRecor
   number_within = slice_get_within rs number k.unit_record k.is_unit_record
 
   module _ (u : UnitRecord) (read : u ≡ get_or rs number u) where
-    pub kept_is : IsKept tables u (found_place s number)
+    pub kept_is : IsRecordOfUnit tables u (found_place s number)
     kept_is =
-        let P : UnitRecord → Type 0 = λ q. IsKept tables q (found_place s number) in
+        let P : UnitRecord → Type 0 = λ q. IsRecordOfUnit tables q (found_place s number) in
         subst P (sym (read_is rs number k.unit_record u k.is_unit_record read)) k.kept
 
     first_is : slice_get (entries_of (found_units s)) u.first ≡ Some k.first.entry
@@ -273,4 +273,5 @@ module _ {base : ℕ} {a info : List ℕ} {tables : Tables} {rs : List UnitRecor
 pub units_counted : {base : ℕ} (a info : List ℕ) (tables : Tables) (rs : List UnitRecord) (records : List Record)
     (s : Scanned base a info tables rs records) → length rs ≡ length (found_units s)
 units_counted a info tables rs records s =
-    sym (AllZip-long (IsKept tables) rs (placed (found_units s)) s.1.kept) ∙ length-placed_from 0 0 (found_units s)
+    sym (AllZip-long (IsRecordOfUnit tables) rs (placed (found_units s)) s.1.kept)
+    ∙ length-placed_from 0 0 (found_units s)

@@ -19,7 +19,7 @@ use Rattle.dw_forms.specs.Suffixes.{nodes_of, numbered, specs_in}
 use Rattle.dw_forms.specs.BaseFormats.{taken_at}
 use Rattle.dw_forms.specs.Value.{Datum, laid_out, view, str, str_index, ref_unit, addr_index, fixed, leb}
 use Rattle.dw_forms.specs.ValueReading.{layout_at, fixed_at, uleb_then}
-use Rattle.dw_forms.specs.LeadingWalks.{lead_of, does_lead, IsStep}
+use Rattle.dw_forms.specs.LeadingWalks.{lead_of, does_lead, IsFirstStep}
 use Rattle.dw_forms.proofs.LeadLaws.{lead_says}
 use Rattle.dw_forms.proofs.WalkSteps.{step_lead, step_none, step_nothing}
 use Rattle.dw_entries.specs.EntryRules.{value_of}
@@ -27,12 +27,12 @@ use Rattle.dw_entries.specs.PassedAttributes.{ArePassed}
 use Rattle.dw_entries.specs.Grammar.{Context}
 use Rattle.dw_entries.specs.Leading.{DoesNotLead, IsMade, is_reference_lead}
 use Rattle.dw_entries.specs.ReadingLaws.{ok_pair}
-use Rattle.dw_entries.specs.Values.{Left, form_there, IsCut, IsThere}
+use Rattle.dw_entries.specs.Values.{Left, form_there, IsCutValue, IsThere}
 use Rattle.dw_entries.proofs.ChosenSteps.{all_passed}
 
 -- ---- the form, by the lead
 
-module _ (a : Attributes) (step : Step) (is : IsStep (numbered a) step) where
+module _ (a : Attributes) (step : Step) (is : IsFirstStep (numbered a) step) where
   form_by : (l : Lead) (form : Form) → step.lead ≡ l → (l ≡ lead.Nothing → ⊥)
       → ((spec : AttributeSpec) → lead_of spec ≡ l → spec.form ≡ form) → form_there a step.to ≡ Some form
   form_by l form is_l some says =
@@ -92,11 +92,11 @@ fixed_cut : (n : ℕ) (of : ℕ → Datum) (bytes : List ℕ) → nat_lt (length
 unfolding laid_out taken_at
 fixed_cut n of bytes short = rw short refl
 
-pub text_cut : (bytes : List ℕ) (b : Bool) → b ≡ nat_lt (length bytes) 4 → OnTrue b (IsCut Strp bytes)
+pub text_cut : (bytes : List ℕ) (b : Bool) → b ≡ nat_lt (length bytes) 4 → OnTrue b (IsCutValue Strp bytes)
 text_cut bytes true short = λ version size. fixed_cut 4 str bytes (sym short)
 text_cut bytes false short = tt
 
-pub reference_cut : (bytes : List ℕ) (b : Bool) → b ≡ nat_lt (length bytes) 4 → OnTrue b (IsCut Ref4 bytes)
+pub reference_cut : (bytes : List ℕ) (b : Bool) → b ≡ nat_lt (length bytes) 4 → OnTrue b (IsCutValue Ref4 bytes)
 reference_cut bytes true short = λ version size. fixed_cut 4 ref_unit bytes (sym short)
 reference_cut bytes false short = tt
 

@@ -12,13 +12,13 @@ use Rattle.dw_forms.specs.declared.form.Form.{Form}
 use Rattle.dw_forms.specs.AttributeLists.{specs_of, list_in, numbered_in}
 use Rattle.dw_forms.specs.Chains.{Numbered, items_of}
 use Rattle.dw_forms.specs.FormCodes.{is_allowed}
-use Rattle.dw_forms.specs.KnownValues.{known_sum, cut_at}
+use Rattle.dw_forms.specs.KnownValues.{known_sum, rest_beyond}
 use Rattle.dw_forms.specs.Suffixes.{nodes_of, numbered, specs_in, Ends}
 use Rattle.dw_forms.specs.Value.{Datum}
 use Rattle.dw_forms.specs.ValueReading.{value_at}
 use Rattle.dw_forms.specs.Sizes.{rest_at}
 use Rattle.dw_forms.specs.Steps.{◌>>=◌}
-use Rattle.dw_forms.specs.LeadingWalks.{does_lead, lead_of, IsStep}
+use Rattle.dw_forms.specs.LeadingWalks.{does_lead, lead_of, IsFirstStep}
 use Rattle.dw_forms.proofs.ChainLaws.{chain_none}
 use Rattle.dw_forms.proofs.PartLaws.{known_at}
 use Rattle.dw_forms.proofs.PassSteps.{run, items_append}
@@ -36,7 +36,8 @@ use Rattle.dw_entries.proofs.ScanLaws.{rest_of}
 use Rattle.dw_entries.proofs.ValueSteps.{left_goes, never_fails, next_left, first_value, read_on, steps}
 
 -- what was cut off
-cut_is : (len : ℕ) (bytes rest : List ℕ) → cut_at len bytes ≡ Ok rest → (len ≤ length bytes) × (rest ≡ drop len bytes)
+cut_is : (len : ℕ) (bytes rest : List ℕ) → rest_beyond len bytes ≡ Ok rest
+    → (len ≤ length bytes) × (rest ≡ drop len bytes)
 cut_is len bytes rest e = search (rules, ltb-false)
 
 -- a value, by the bytes after it
@@ -51,7 +52,7 @@ none_there_at (Err g) f e = let same : g ≡ f = cc in ap (λ (h : ValueFault). 
 
 -- ---- the attribute that a step goes to
 
-module _ (a : Attributes) (step : Step) (is : IsStep (numbered a) step) (there : Attributes)
+module _ (a : Attributes) (step : Step) (is : IsFirstStep (numbered a) step) (there : Attributes)
     (nodes_are : nodes_of there ≡ nodes_of a) (first_is : there.first ≡ step.to) where
   specs_there : list_in (nodes_of a) step.to ≡ specs_in there
   specs_there = λ i. list_in (sym nodes_are i) (sym first_is i)
@@ -116,7 +117,7 @@ module _ (a : Attributes) (step : Step) (is : IsStep (numbered a) step) (there :
 
 -- ---- its value, which is read as one of this form from what is left of the bytes
 
-module _ (v : Values) (step : Step) (skip : ℕ) (is : IsStep (numbered v.attributes) step) (there : Attributes)
+module _ (v : Values) (step : Step) (skip : ℕ) (is : IsFirstStep (numbered v.attributes) step) (there : Attributes)
     (nodes_are : nodes_of there ≡ nodes_of v.attributes) (first_is : there.first ≡ step.to)
     (chosen : ((v.address_size ≡ 8) × (skip ≡ step.skip_with_8))
     ⊎ ((v.address_size ≡ 8 → ⊥) × (skip ≡ step.skip_with_4)))
@@ -143,7 +144,7 @@ module _ (v : Values) (step : Step) (skip : ℕ) (is : IsStep (numbered v.attrib
   cut : (skip ≤ length v.bytes.now) × (here.behind ≡ drop skip v.bytes.now)
   cut =
       cut_is skip v.bytes.now here.behind
-      (ap (λ (n : ℕ). cut_at n v.bytes.now) skips
+      (ap (λ (n : ℕ). rest_beyond n v.bytes.now) skips
       ∙ sym (run v.version v.address_size g.before v.bytes.now g.none_varies) ∙ here.ends)
 
   pub skip_within : skip ≤ length v.bytes.now

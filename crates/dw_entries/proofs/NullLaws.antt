@@ -6,14 +6,14 @@ use Rattle.dw_entries.specs.declared.header.HeaderKind.{HeaderKind}
 use Rattle.dw_entries.specs.declared.rule.Rule.TheVariants.{LeftOver}
 use Rattle.dw_entries.specs.declared.fault.Failing.{Failing}
 use Rattle.dw_entries.specs.Grammar.{Context, IsNull}
-use Rattle.dw_entries.specs.Header.{fits_tag, header_size}
+use Rattle.dw_entries.specs.Header.{fits_tag, unit_header_size}
 use Rattle.dw_entries.specs.Tree.{Node, leaf, parent, node_bytes}
 use Rattle.dw_entries.specs.Items.{Item, null, items_bytes, node_items}
 use Rattle.dw_entries.specs.Reading.{Code, seen, code_at}
 use Rattle.dw_entries.specs.Units.{AreNulls, nulls_bytes, head_of}
 use Rattle.dw_entries.specs.Faults.{FitsUnit, in_unit, BodyFails}
 use Rattle.dw_entries.specs.Stopped.{TreeOf, AreAllNulls, NullsThen}
-use Rattle.dw_entries.specs.ReadingLaws.{code_takes, code_some, seen_ok}
+use Rattle.dw_entries.specs.ReadingLaws.{code_takes, code_has_byte, seen_ok}
 use Rattle.dw_entries.proofs.HeadLaws.{all-append}
 use Rattle.dw_entries.proofs.ItemLaws.{items_bytes-append, node_are_items, node_spelled, nulls_are_items, nulls_spelled, whole_depth}
 
@@ -43,7 +43,7 @@ pub null_shorter : (rest after : List ℕ) → seen (λ c. c.number) (code_at re
 null_shorter rest after e =
     let (c, was, zero_code) = seen_ok (λ (c : Code). c.number) (code_at rest) 0 after e in
     let took = code_takes rest c after was in
-    omega (arith, ap length took.0, length-append c.bytes after, code_some c.bytes c.number took.1)
+    omega (arith, ap length took.0, length-append c.bytes after, code_has_byte c.bytes c.number took.1)
 
 -- ---- the tree and the nulls
 
@@ -71,7 +71,7 @@ fits_node kind (parent h ns z) is e = e
 
 -- what comes after the nulls is left over
 pub left_over : (t : Context) (numbers : ℕ → ℕ) (kind : HeaderKind) (header start : ℕ) (body rest left : List ℕ)
-    (old new : List Record) → start ≡ header + header_size kind → TreeOf t numbers kind body rest start old new
+    (old new : List Record) → start ≡ header + unit_header_size kind → TreeOf t numbers kind body rest start old new
     → NullsThen rest left
     → BodyFails t kind header body
     (in_unit (record { rule = LeftOver; attribute = 0 }) header (start + (length body - length left)))
@@ -87,7 +87,7 @@ left_over t numbers kind header start body rest left old new s tree then =
     ∙ ap (λ (b : List ℕ). b ++ left) (sym spelled) in
     let f : Failing = record { rule = LeftOver; attribute = 0 } in
     let here : start + (length body - length left)
-    ≡ header + header_size kind + length (items_bytes is) = omega
+    ≡ header + unit_header_size kind + length (items_bytes is) = omega
     (arith, s, ap length parts, length-append (items_bytes is) left) in
     record {
       items = is;

@@ -5,7 +5,7 @@ use Rattle.dw_entries.specs.declared.records.Record.{Record}
 use Rattle.dw_entries.specs.declared.records.UnitRecord.{UnitRecord}
 use Rattle.dw_forms.specs.KeptDecls.{Tables}
 use Rattle.dw_entries.specs.Grammar.{Context, head_bytes}
-use Rattle.dw_entries.specs.Header.{header_size}
+use Rattle.dw_entries.specs.Header.{unit_header_size}
 use Rattle.dw_entries.specs.UnitLaws.{unit_sized}
 use Rattle.dw_entries.specs.Tree.{Node, Nodes, leaf, parent, none, ◌then◌, IsNode, AreNodes, node_bytes, nodes_bytes}
 use Rattle.dw_entries.specs.Units.{nulls_bytes, DebugUnit, context_of, body_bytes, unit_bytes, AreUnits, units_bytes}
@@ -63,7 +63,7 @@ pub units_rise : (a : List ℕ) (numbers : ℕ → ℕ → ℕ) (unit id at : �
     → Rises at (at + length (units_bytes us)) (records_from numbers unit id at us)
 units_rise a numbers unit id at [] p = omega arith
 units_rise a numbers unit id at (u ∷ us) p =
-    let start : ℕ = at + header_size u.header.kind in
+    let start : ℕ = at + unit_header_size u.header.kind in
     let first = Rises-from start at _ _ (omega arith)
     (node_rises (context_of u) (numbers unit) unit None 0 None id start u.root p.0.root) in
     let long = (unit_sized a u p.0).header in

@@ -14,7 +14,7 @@ use Rattle.dw_forms.specs.Sizes.{rest_at, are_allowed}
 use Rattle.dw_forms.specs.KnownValues.{values_end}
 use Rattle.dw_forms.specs.FirstPlaces.{StandsFirst, value_behind, ReadsFirst, AnswersFirst}
 use Rattle.dw_entries.specs.Grammar.{Context, Attribute, IsAttribute, AreAttributes, attribute_bytes}
-use Rattle.dw_entries.specs.Reading.{after, attributes_at}
+use Rattle.dw_entries.specs.Reading.{bytes_after, attributes_at}
 use Rattle.dw_entries.specs.ReadingLaws.{value_again, bind_ok}
 use Rattle.dw_entries.specs.EntryRules.{value_of}
 use Rattle.dw_entries.specs.Lookups.{value_in}
@@ -32,7 +32,7 @@ both_true false b e = absurd cc
 
 -- where all forms are allowed, values that are read one after the other are the attributes at the front
 pub all_after : (t : Context) (specs : List AttributeSpec) (bytes rest : List ℕ) → are_allowed t.version specs ≡ true
-    → values_end t.version t.address_size specs bytes ≡ Ok rest → after (attributes_at t specs bytes) ≡ Ok rest
+    → values_end t.version t.address_size specs bytes ≡ Ok rest → bytes_after (attributes_at t specs bytes) ≡ Ok rest
 unfolding values_end attributes_at
 all_after t [] bytes rest allowed e = let same : ◌≡◌ {A = Result (List ℕ) ValueFault} (Ok bytes) (Ok rest) = e in cc
 all_after t (s ∷ specs) bytes rest allowed e =

@@ -14,12 +14,12 @@ use Rattle.dw_entries.specs.declared.fault.PlainFault.{PlainFault}
 use Rattle.dw_forms.specs.declared.fault.Stop.{Stop}
 use Rattle.dw_forms.specs.declared.fault.Stop.TheVariants.{Memory, Fault as Breaks}
 use Rattle.dw_forms.specs.Stops.{IfFault}
-use Rattle.dw_entries.specs.Header.{header_size}
+use Rattle.dw_entries.specs.Header.{unit_header_size}
 use Rattle.dw_entries.specs.UnitLaws.{unit_some}
 use Rattle.dw_entries.specs.Units.{DebugUnit, body_bytes, unit_bytes, IsUnit, AreUnits, units_bytes}
 use Rattle.dw_entries.specs.Entries.{node_count, PlacedUnit, placed_from, placed}
 use Rattle.dw_entries.specs.Records.{node_records, records_from, records_kept}
-use Rattle.dw_entries.specs.Scanned.{table_of, numbers_of, record_of, IsKept, Scanned}
+use Rattle.dw_entries.specs.Scanned.{table_of, numbers_of, record_of, IsRecordOfUnit, Scanned}
 use Rattle.dw_entries.specs.UnitLaws.{with_base, bytes_based, are_based, have_base}
 use Rattle.dw_entries.proofs.EntryFacts.{entries_based}
 use Rattle.dw_entries.specs.Stopped.{UnitTaken}
@@ -34,7 +34,7 @@ pub record Upto (a info : List ℕ) (header : ℕ) (kept : Kept) : Type 0 where
   pub parts : info ≡ units_bytes units ++ drop header info
   pub at : header ≡ length (units_bytes units)
   pub count : length kept.units.items ≡ length units
-  pub unit_records : AllZip (IsKept (tables_in kept.tables)) kept.units.items (placed units)
+  pub unit_records : AllZip (IsRecordOfUnit (tables_in kept.tables)) kept.units.items (placed units)
   pub places : kept.records.items ≡ records_from (numbers_of (tables_in kept.tables) kept.units.items) 0 0 0 units
   pub tables : AreTablesOf a kept.tables
 
@@ -42,7 +42,7 @@ records_from-push : (numbers : ℕ → ℕ → ℕ) (unit id at : ℕ) (us : Lis
     → records_from numbers unit id at (us ++ u ∷ [])
     ≡ records_from numbers unit id at us
     ++ node_records (numbers (unit + length us)) None None (id + length (records_from numbers unit id at us))
-    ((at + length (units_bytes us)) + header_size u.header.kind) u.root
+    ((at + length (units_bytes us)) + unit_header_size u.header.kind) u.root
 records_from-push numbers unit id at [] u = search (rules, add-zero, append-nil)
 records_from-push numbers unit id at (v ∷ us) u =
     search (
@@ -60,17 +60,19 @@ records_same f g unit id at [] same = refl
 records_same f g unit id at (u ∷ us) same =
     let rest = records_same f g (suc unit) (id + node_count u.root) (at + length (unit_bytes u)) us
     (λ n less. same n (omega (arith, less))) in
-    λ i. node_records (same unit (omega arith) i) None None id (at + header_size u.header.kind) u.root ++ rest i
+    λ i. node_records (same unit (omega arith) i) None None id (at + unit_header_size u.header.kind) u.root ++ rest i
 
 units_bytes-push : (us : List DebugUnit) (u : DebugUnit) → units_bytes (us ++ u ∷ []) ≡ units_bytes us ++ unit_bytes u
 units_bytes-push us u =
     flat_map-append unit_bytes us (u ∷ []) ∙ ap (λ (b : List ℕ). units_bytes us ++ b) (append-nil (unit_bytes u))
 
-IsKept-more : (old new : Tables) (r : UnitRecord) (p : PlacedUnit) → Stay old new → IsKept old r p → IsKept new r p
-IsKept-more old new r p stay k = search (rules, length-append, table_stays)
+IsRecordOfUnit-more : (old new : Tables) (r : UnitRecord) (p : PlacedUnit) → Stay old new → IsRecordOfUnit old r p
+    → IsRecordOfUnit new r p
+IsRecordOfUnit-more old new r p stay k = search (rules, length-append, table_stays)
 
 -- the numbers of the units so far stay, and the next unit has those of its table
-table_within : (tables : Tables) (rs : List UnitRecord) (ps : List PlacedUnit) (n : ℕ) → AllZip (IsKept tables) rs ps
+table_within : (tables : Tables) (rs : List UnitRecord) (ps : List PlacedUnit) (n : ℕ)
+    → AllZip (IsRecordOfUnit tables) rs ps
     → n < length rs → table_of rs n < length tables
 table_within tables [] ps n k less = absurd (omega (arith, less))
 table_within tables (r ∷ rs) [] n k less = absurd k
@@ -88,7 +90,7 @@ table_of-last [] r = refl
 table_of-last (q ∷ rs) r = table_of-last rs r
 
 numbers_stay : (old new : Tables) (rs : List UnitRecord) (ps : List PlacedUnit) (r : UnitRecord) (n : ℕ) → Stay old new
-    → AllZip (IsKept old) rs ps → n < length rs
+    → AllZip (IsRecordOfUnit old) rs ps → n < length rs
     → numbers_of old rs n ≡ numbers_of new (rs ++ r ∷ []) n
 numbers_stay old new rs ps r n stay k less = search (rules, table_stays, table_within, table_of-push)
 
@@ -98,13 +100,13 @@ numbers_last tables rs r n e =
     ap (λ (t : ℕ). decl_number_in (chain_in tables t)) (sym (ap (table_of (rs ++ r ∷ [])) e ∙ table_of-last rs r))
 
 AllKept-push : (old new : Tables) (rs : List UnitRecord) (ps : List PlacedUnit) (r : UnitRecord) (p : PlacedUnit)
-    → Stay old new → AllZip (IsKept old) rs ps → IsKept new r p
-    → AllZip (IsKept new) (rs ++ r ∷ []) (ps ++ p ∷ [])
+    → Stay old new → AllZip (IsRecordOfUnit old) rs ps → IsRecordOfUnit new r p
+    → AllZip (IsRecordOfUnit new) (rs ++ r ∷ []) (ps ++ p ∷ [])
 AllKept-push old new [] [] r p stay k one = (one, tt)
 AllKept-push old new [] (q ∷ ps) r p stay k one = absurd k
 AllKept-push old new (s ∷ rs) [] r p stay k one = absurd k
 AllKept-push old new (s ∷ rs) (q ∷ ps) r p stay k one =
-    (IsKept-more old new s q stay k.0, AllKept-push old new rs ps r p stay k.1 one)
+    (IsRecordOfUnit-more old new s q stay k.0, AllKept-push old new rs ps r p stay k.1 one)
 
 abbrev placed_at : ℕ → ℕ → DebugUnit → PlacedUnit
 placed_at at first u = record { at = at; first = first; unit = u }
@@ -118,7 +120,7 @@ placed_from-push : (numbers : ℕ → ℕ → ℕ) (unit at first : ℕ) (us : L
     } ∷ []
 placed_from-push numbers unit at first [] u = search (rules)
 placed_from-push numbers unit at first (v ∷ us) u =
-    let start : ℕ = at + header_size v.header.kind in
+    let start : ℕ = at + unit_header_size v.header.kind in
     let front : List Record = node_records (numbers unit) None None first start v.root in
     let others : List Record = records_from numbers (suc unit) (first + node_count v.root) (at + length (unit_bytes v))
     us in
@@ -141,7 +143,7 @@ upto_next a info header old new len u t =
     let records : List Record = old.records.items in
     let unit : ℕ = length old.units.items in
     let v : DebugUnit = t.taken in
-    let size : ℕ = header_size v.header.kind in
+    let size : ℕ = unit_header_size v.header.kind in
     let tables : Tables = tables_in new.tables in
     let before : ℕ → ℕ → ℕ = numbers_of (tables_in old.tables) old.units.items in
     let numbers : ℕ → ℕ → ℕ = numbers_of tables (old.units.items ++ t.record_is ∷ []) in
@@ -210,8 +212,8 @@ upto_few_entries a info header kept u =
 
 -- what is kept of units does not depend on their base
 kept_based : (base : ℕ) (tables : Tables) (at first : ℕ) (rs : List UnitRecord) (us : List DebugUnit)
-    → AllZip (IsKept tables) rs (placed_from at first us)
-    → AllZip (IsKept tables) rs (placed_from at first (map (with_base base) us))
+    → AllZip (IsRecordOfUnit tables) rs (placed_from at first us)
+    → AllZip (IsRecordOfUnit tables) rs (placed_from at first (map (with_base base) us))
 kept_based base tables at first [] [] kept = tt
 kept_based base tables at first (r ∷ rs) [] kept = absurd kept
 kept_based base tables at first [] (u ∷ us) kept = absurd kept

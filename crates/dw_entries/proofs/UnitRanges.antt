@@ -8,7 +8,7 @@ use Rattle.dw_forms.specs.KeptDecls.{Tables}
 use Rattle.dw_entries.specs.declared.records.Record.{Record}
 use Rattle.dw_entries.specs.declared.records.UnitRecord.{UnitRecord}
 use Rattle.dw_entries.specs.Grammar.{head_bytes}
-use Rattle.dw_entries.specs.Header.{header_size}
+use Rattle.dw_entries.specs.Header.{unit_header_size}
 use Rattle.dw_entries.specs.Tree.{Node, Nodes, leaf, parent, none, ◌then◌, node_bytes}
 use Rattle.dw_entries.specs.Units.{DebugUnit, unit_bytes}
 use Rattle.dw_entries.specs.Entries.{Entry, node_count, first_id, node_entries, nodes_entries, entries_from, entries_of, PlacedUnit, placed_from, placed}
@@ -70,20 +70,21 @@ range_from : (unit id at : ℕ) (us : List DebugUnit) (n : ℕ) (p : PlacedUnit)
     → p.first ≤ id + k → id + k < p.first + node_count p.unit.root → e.unit ≡ unit + n
 range_from unit id at [] n p k e is is_e low high = absurd cc
 range_from unit id at (u ∷ us) zero p k e is is_e low high =
-    let es : List Entry = node_entries unit None 0 None id (at + header_size u.header.kind) u.root in
+    let es : List Entry = node_entries unit None 0 None id (at + unit_header_size u.header.kind) u.root in
     let fs : List Entry = entries_from (suc unit) (id + node_count u.root) (at + length (unit_bytes u)) us in
     let some : ◌≡◌ {A = Option PlacedUnit} (Some (record { at = at; first = id; unit = u })) (Some p) = is in
     let same : ◌≡◌ {A = PlacedUnit} (record { at = at; first = id; unit = u }) p = cc in
     let P : PlacedUnit → Type 0 = λ q. id + k < q.first + node_count q.unit.root in
     let below : id + k < id + node_count u.root = subst P (sym same) high in
-    let count = length-node_entries unit None 0 None id (at + header_size u.header.kind) u.root in
+    let count = length-node_entries unit None 0 None id (at + unit_header_size u.header.kind) u.root in
     let here : slice_get es k ≡ Some e = sym (get_front es fs k (omega (arith, below, count))) ∙ is_e in
     let number : unit ≡ unit + 0 = omega arith in
-    all_get (IsOfUnit unit) es k e (node_unit unit None 0 None id (at + header_size u.header.kind) u.root) here ∙ number
+    all_get (IsOfUnit unit) es k e (node_unit unit None 0 None id (at + unit_header_size u.header.kind) u.root) here
+    ∙ number
 range_from unit id at (u ∷ us) (suc n) p k e is is_e low high =
-    let es : List Entry = node_entries unit None 0 None id (at + header_size u.header.kind) u.root in
+    let es : List Entry = node_entries unit None 0 None id (at + unit_header_size u.header.kind) u.root in
     let fs : List Entry = entries_from (suc unit) (id + node_count u.root) (at + length (unit_bytes u)) us in
-    let count = length-node_entries unit None 0 None id (at + header_size u.header.kind) u.root in
+    let count = length-node_entries unit None 0 None id (at + unit_header_size u.header.kind) u.root in
     let least = first_least (at + length (unit_bytes u)) (id + node_count u.root) us n p is in
     let behind : slice_get fs (k - length es)
     ≡ Some e = sym (get_behind es fs k (omega (arith, count, least, low))) ∙ is_e in
@@ -119,9 +120,9 @@ last_from unit id at [] n p is last = absurd cc
 last_from unit id at (u ∷ []) zero p is last = search (rules, length-node_entries, length-append)
 last_from unit id at (u ∷ v ∷ us) zero p is last = absurd (omega (arith, last))
 last_from unit id at (u ∷ us) (suc n) p is last =
-    let es : List Entry = node_entries unit None 0 None id (at + header_size u.header.kind) u.root in
+    let es : List Entry = node_entries unit None 0 None id (at + unit_header_size u.header.kind) u.root in
     let fs : List Entry = entries_from (suc unit) (id + node_count u.root) (at + length (unit_bytes u)) us in
-    let count = length-node_entries unit None 0 None id (at + header_size u.header.kind) u.root in
+    let count = length-node_entries unit None 0 None id (at + unit_header_size u.header.kind) u.root in
     let len = length-append es fs in
     let more = last_from (suc unit) (id + node_count u.root) (at + length (unit_bytes u)) us n p is
     (omega (arith, last)) in

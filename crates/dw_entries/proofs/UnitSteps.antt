@@ -8,7 +8,7 @@ use Rattle.dw_forms.specs.Chains.{chain_in}
 use Rattle.dw_forms.specs.KeptDecls.{table_in, decl_number_in}
 use Rattle.dw_forms.specs.TableStarts.{IsTableIn, Stay}
 use Rattle.dw_entries.specs.declared.header.UnitHeader.{UnitHeader}
-use Rattle.dw_entries.specs.Header.{IsSize, header_size, header_and_body, header_at}
+use Rattle.dw_entries.specs.Header.{IsSize, unit_header_size, header_and_body, header_at}
 use Rattle.dw_entries.specs.Records.{node_records}
 use Rattle.dw_forms.specs.Front.{Takes}
 use Rattle.dw_entries.specs.HeaderLaws.{IsSized, is_sized, header_takes}
@@ -35,12 +35,12 @@ module _ (a rest : List ℕ) (h : UnitHeader) (body : List ℕ) (read : header_a
   pub read_offset : h.abbrev_offset ≤ length a
   read_offset = let t = is.table in omega (arith, t)
 
-  pub read_start : header_size h.kind + length body ≤ length rest
+  pub read_start : unit_header_size h.kind + length body ≤ length rest
   read_start = let header = is.header in
       omega (arith, header, ap length found.parts, length-append found.text after)
 
   pub unit_taken : (at start number first : ℕ) (old new : Kept)
-      → start ≡ at + header_size h.kind → first ≡ length old.records.items
+      → start ≡ at + unit_header_size h.kind → first ≡ length old.records.items
       → IsTableIn a (tables_in new.tables) h.abbrev_offset number
       → AreTablesOf a new.tables → Stay (tables_in old.tables) (tables_in new.tables)
       → new.units.items ≡ old.units.items ++ unit_record at h number first ∷ []
@@ -52,7 +52,7 @@ module _ (a rest : List ℕ) (h : UnitHeader) (body : List ℕ) (read : header_a
       let numbers : ℕ → ℕ = decl_number_in (chain_in (tables_in new.tables) number) in
       let whole : body ≡ node_bytes tree.root ++ nulls_bytes tree.nulls =
       tree.parts ∙ append-nil (node_bytes tree.root ++ nulls_bytes tree.nulls) in
-      let front : List ℕ = take (header_size h.kind) found.text in
+      let front : List ℕ = take (unit_header_size h.kind) found.text in
       let text : found.text ≡ front ++ (node_bytes tree.root ++ nulls_bytes tree.nulls) =
       sym is.ends ∙ ap (λ (b : List ℕ). front ++ b) whole in
       let counted = is.whole in

@@ -1,7 +1,7 @@
 -- Chapter: the entries of the units in rising offset, each with its place in the tree.
 use Rattle.std.specs.Prelude.{ℕ, suc, ◌+◌, List, [], ◌∷◌, ◌++◌, length, Option, Some, None}
 use Rattle.dw_entries.specs.Grammar.{Head, head_bytes}
-use Rattle.dw_entries.specs.Header.{header_size}
+use Rattle.dw_entries.specs.Header.{unit_header_size}
 use Rattle.dw_entries.specs.Tree.{Node, Nodes, leaf, parent, none, ◌then◌, node_bytes}
 use Rattle.dw_entries.specs.Units.{DebugUnit, unit_bytes}
 
@@ -49,7 +49,7 @@ abbrev mutual
 abbrev pub entries_from : (unit : ℕ) (id : ℕ) (at : ℕ) → List DebugUnit → List Entry
 entries_from unit id at [] = []
 entries_from unit id at (u ∷ us) =
-    node_entries unit None 0 None id (at + header_size u.header.kind) u.root
+    node_entries unit None 0 None id (at + unit_header_size u.header.kind) u.root
     ++ entries_from (suc unit) (id + node_count u.root) (at + length (unit_bytes u)) us
 
 -- the entries of these units, from the beginning of .debug_info

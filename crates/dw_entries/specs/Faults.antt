@@ -12,9 +12,9 @@ use Rattle.dw_entries.specs.declared.fault.PlainFault.{PlainFault}
 use Rattle.dw_entries.specs.declared.header.HeaderKind.{HeaderKind}
 use Rattle.dw_entries.specs.declared.header.UnitHeader.{UnitHeader}
 use Rattle.dw_entries.specs.Grammar.{Context}
-use Rattle.dw_entries.specs.Header.{fits_tag, header_size, header_at}
+use Rattle.dw_entries.specs.Header.{fits_tag, unit_header_size, header_at}
 use Rattle.dw_entries.specs.Items.{Item, entry, null, AreItems, items_bytes, tree_depth}
-use Rattle.dw_entries.specs.Reading.{code_at, next_at, null_first}
+use Rattle.dw_entries.specs.Reading.{code_at, next_item_at, null_first}
 use Rattle.dw_entries.specs.Units.{DebugUnit, context_by, AreUnits, units_bytes}
 
 -- the fault of a table
@@ -54,7 +54,7 @@ pub record Front (x : Context) (kind : HeaderKind) (body : List ℕ) (is : List 
 abbrev pub Stops : Context → HeaderKind → List Item → List ℕ → ℕ → Failing → Type 0
 Stops x kind is rest zero f = (rest ≢ []) × (null_first (code_at rest) ≡ false)
     × (f ≡ record { rule = LeftOver; attribute = 0 })
-Stops x kind is rest (suc depth) f = next_at x kind is rest ≡ Err f
+Stops x kind is rest (suc depth) f = next_item_at x kind is rest ≡ Err f
 
 -- some items begin the body of the unit, and it does not go on
 pub record BodyFails (x : Context) (kind : HeaderKind) (header : ℕ) (body : List ℕ) (broken : PlainFault) : Type 0 where
@@ -64,7 +64,7 @@ pub record BodyFails (x : Context) (kind : HeaderKind) (header : ℕ) (body : Li
   pub failing : Failing
   pub front : Front x kind body items rest depth
   pub stops : Stops x kind items rest depth failing
-  pub is : broken ≡ in_unit failing header (header + header_size kind + length (items_bytes items))
+  pub is : broken ≡ in_unit failing header (header + unit_header_size kind + length (items_bytes items))
 
 -- ---- the checks of a unit in their order: its header, its table, its items
 

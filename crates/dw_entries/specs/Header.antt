@@ -39,10 +39,10 @@ fits_tag (TypeUnit signature type_offset) tag = tag == DW_TAG_type_unit
 fits_tag PartialUnit tag = tag == DW_TAG_partial_unit
 
 -- the size of a header, unit_length included
-abbrev pub header_size : HeaderKind → ℕ
-header_size Version4 = 11
-header_size (TypeUnit signature type_offset) = 24
-header_size kind = 12
+abbrev pub unit_header_size : HeaderKind → ℕ
+unit_header_size Version4 = 11
+unit_header_size (TypeUnit signature type_offset) = 24
+unit_header_size kind = 12
 
 -- how many bytes an address has
 abbrev pub IsSize : ℕ → Type 0
@@ -78,8 +78,8 @@ version4 abbrev_size unit_length =
     }) address_size)
 
 -- the fields of a type unit alone, after those that all have
-unfoldable pub kind_of : ℕ → Format HeaderKind Rule
-kind_of code = choose (code == 1) (nothing CompileUnit) (choose (code == 3) (nothing PartialUnit) (
+unfoldable pub kind_fields : ℕ → Format HeaderKind Rule
+kind_fields code = choose (code == 1) (nothing CompileUnit) (choose (code == 3) (nothing PartialUnit) (
     and_then (field 8) (λ signature. mapped (TypeUnit signature) (field 4))))
 
 -- the code of the unit's type: a compile unit, a type unit or a partial unit
@@ -95,7 +95,7 @@ version5 abbrev_size unit_length =
       kind = kind;
       address_size = size;
       abbrev_offset = offset;
-    }) (kind_of code))))
+    }) (kind_fields code))))
 
 -- the fields after unit_length
 unfoldable pub header_fields : ℕ → ℕ → Format UnitHeader Rule

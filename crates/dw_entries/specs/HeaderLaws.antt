@@ -17,7 +17,7 @@ use Rattle.dw_entries.specs.declared.header.HeaderKind.{HeaderKind}
 use Rattle.dw_entries.specs.declared.header.HeaderKind.TheVariants.{Version4, CompileUnit, PartialUnit, TypeUnit}
 use Rattle.dw_entries.specs.declared.header.UnitHeader.{UnitHeader}
 use Rattle.dw_entries.specs.Choices.{size_unique}
-use Rattle.dw_entries.specs.Header.{header_size, IsSize, field, address_size, abbrev_offset, version4, kind_of}
+use Rattle.dw_entries.specs.Header.{unit_header_size, IsSize, field, address_size, abbrev_offset, version4, kind_fields}
 use Rattle.dw_entries.specs.Header.{version5, header_fields, unit_content, header_and_body, unit_at, header_at}
 
 field_size : (size : ℕ) (text : List ℕ) (n : ℕ) → (field size).Spells text n → length text ≡ size
@@ -45,7 +45,7 @@ offset_is abbrev_size text n s =
 -- the fields that come after so many bytes of the header
 record AreFields (abbrev_size unit_length : ℕ) (text : List ℕ) (before : ℕ) (h : UnitHeader) : Type 0 where
   pub length_is : h.unit_length ≡ unit_length
-  pub long : before + length text ≡ header_size h.kind
+  pub long : before + length text ≡ unit_header_size h.kind
   pub size : IsSize h.address_size
   pub table : h.abbrev_offset < abbrev_size
 
@@ -63,18 +63,18 @@ version4_is abbrev_size unit_length text h s =
     })
 
 -- the fields of a type unit alone
-kind_is : (code : ℕ) (text : List ℕ) (kind : HeaderKind) → (kind_of code).Spells text kind
-    → 12 + length text ≡ header_size kind
-unfolding kind_of
+kind_is : (code : ℕ) (text : List ℕ) (kind : HeaderKind) → (kind_fields code).Spells text kind
+    → 12 + length text ≡ unit_header_size kind
+unfolding kind_fields
 kind_is code text kind s = go (eqb code 1) (eqb code 3) s
   where
     go : (b c : Bool) → (choose b (nothing {E = Rule} CompileUnit) (choose c (nothing PartialUnit)
         (and_then (field 8) (λ signature. mapped (TypeUnit signature) (field 4))))).Spells text kind
-        → 12 + length text ≡ header_size kind
-    go true c s = ap (λ (t : List ℕ). 12 + length t) s.0 ∙ ap header_size (sym s.1)
-    go false true s = ap (λ (t : List ℕ). 12 + length t) s.0 ∙ ap header_size (sym s.1)
+        → 12 + length text ≡ unit_header_size kind
+    go true c s = ap (λ (t : List ℕ). 12 + length t) s.0 ∙ ap unit_header_size (sym s.1)
+    go false true s = ap (λ (t : List ℕ). 12 + length t) s.0 ∙ ap unit_header_size (sym s.1)
     go false false s =
-        let type_unit : header_size kind ≡ 24 = ap header_size s.is_second.2 in
+        let type_unit : unit_header_size kind ≡ 24 = ap unit_header_size s.is_second.2 in
         omega (
           arith,
           type_unit,
@@ -146,8 +146,8 @@ pub record IsSized (abbrev_size : ℕ) (text : List ℕ) (h : UnitHeader) (body 
   pub unit_length : little_number 4 (take 4 text) ≡ h.unit_length
   pub format : h.unit_length < 0xfffffff0
   pub whole : length text ≡ 4 + h.unit_length
-  pub header : length text ≡ header_size h.kind + length body
-  pub ends : take (header_size h.kind) text ++ body ≡ text
+  pub header : length text ≡ unit_header_size h.kind + length body
+  pub ends : take (unit_header_size h.kind) text ++ body ≡ text
   pub size : IsSize h.address_size
   pub table : h.abbrev_offset < abbrev_size
 
@@ -172,10 +172,11 @@ is_sized abbrev_size text h body s =
     ∙ sym (append_assoc counted.first inside.text body) in
     let front : take 4 text ≡ counted.first =
     ap (take 4) parts ∙ take_at counted.first counted.second 4 four in
-    let size : length (counted.first ++ inside.text) ≡ header_size h.kind =
+    let size : length (counted.first ++ inside.text) ≡ unit_header_size h.kind =
     omega (arith, length-append counted.first inside.text, four, f.long) in
-    let header : take (header_size h.kind) text ≡ counted.first ++ inside.text =
-    ap (take (header_size h.kind)) split ∙ take_at (counted.first ++ inside.text) body (header_size h.kind) size in
+    let header : take (unit_header_size h.kind) text ≡ counted.first ++ inside.text =
+    ap (take (unit_header_size h.kind)) split
+    ∙ take_at (counted.first ++ inside.text) body (unit_header_size h.kind) size in
     record {
       unit_length =
           ap (little_number 4) (front ∙ number.1.same) ∙ sym number.2 ∙ len_is ∙ sym f.length_is;

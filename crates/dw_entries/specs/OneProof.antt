@@ -13,7 +13,7 @@ use Rattle.dw_entries.specs.Entries.{PlacedUnit}
 use Rattle.dw_entries.specs.Grammar.{Context, Attribute, IsAttribute, AreAttributes, Head, IsHead}
 use Rattle.dw_entries.specs.Tree.{Node, Nodes, leaf, parent, none, ◌then◌, IsNode, AreNodes}
 use Rattle.dw_entries.specs.Units.{DebugUnit, AreNulls, IsUnit, AreUnits, Spells, HaveBase}
-use Rattle.dw_entries.specs.Scanned.{IsKept, Holds, Scanned}
+use Rattle.dw_entries.specs.Scanned.{IsRecordOfUnit, AreScanned, Scanned}
 use Rattle.dw_entries.specs.UnitLaws.{one_list}
 
 IsEnded-prop : (bytes : List ℕ) → IsProp (IsEnded bytes)
@@ -67,23 +67,23 @@ HaveBase-prop base (u ∷ us) = ×_prop (hlevel props) (HaveBase-prop base us)
 records_set : IsSet (List Record)
 records_set = hlevel props
 
-IsKept-prop : (tables : Tables) (r : UnitRecord) (p : PlacedUnit) → IsProp (IsKept tables r p)
-IsKept-prop tables r p = hlevel props
+IsRecordOfUnit-prop : (tables : Tables) (r : UnitRecord) (p : PlacedUnit) → IsProp (IsRecordOfUnit tables r p)
+IsRecordOfUnit-prop tables r p = hlevel props
 
 AllKept-prop : (tables : Tables) (rs : List UnitRecord) (ps : List PlacedUnit)
-    → IsProp (AllZip (IsKept tables) rs ps)
+    → IsProp (AllZip (IsRecordOfUnit tables) rs ps)
 AllKept-prop tables [] [] = hlevel props
 AllKept-prop tables [] (p ∷ ps) = hlevel props
 AllKept-prop tables (r ∷ rs) [] = hlevel props
-AllKept-prop tables (r ∷ rs) (p ∷ ps) = ×_prop (IsKept-prop tables r p) (AllKept-prop tables rs ps)
+AllKept-prop tables (r ∷ rs) (p ∷ ps) = ×_prop (IsRecordOfUnit-prop tables r p) (AllKept-prop tables rs ps)
 
-Holds-prop : (base : ℕ) (a info : List ℕ) (tables : Tables) (rs : List UnitRecord) (records : List Record)
-    (us : List DebugUnit) → IsProp (Holds base a info tables rs records us)
-Holds-prop base a info tables rs records us = hlevel (props, Spells-prop, HaveBase-prop, AllKept-prop, records_set)
+AreScanned-prop : (base : ℕ) (a info : List ℕ) (tables : Tables) (rs : List UnitRecord) (records : List Record)
+    (us : List DebugUnit) → IsProp (AreScanned base a info tables rs records us)
+AreScanned-prop base a info tables rs records us = hlevel (props, Spells-prop, HaveBase-prop, AllKept-prop, records_set)
 
 -- the units of a section, with what is kept of them
 pub scanned_unique : (base : ℕ) (a info : List ℕ) (tables : Tables) (rs : List UnitRecord) (records : List Record)
     → IsProp (Scanned base a info tables rs records)
 scanned_unique base a info tables rs records p q =
-    Σ_prop_path (Holds-prop base a info tables rs records)
+    Σ_prop_path (AreScanned-prop base a info tables rs records)
     (one_list base a info p.0 q.0 p.1.spells q.1.spells p.1.based q.1.based)

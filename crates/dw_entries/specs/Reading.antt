@@ -100,9 +100,9 @@ first_at x kind (b ∷ bytes) =
     (declared x c.0.number) c.0.bytes c.1
 
 -- the item after these
-abbrev pub next_at : Context → HeaderKind → List Item → List ℕ → Result (Item × List ℕ) Failing
-next_at x kind [] bytes = first_at x kind bytes
-next_at x kind (i ∷ is) bytes = item_at x bytes
+abbrev pub next_item_at : Context → HeaderKind → List Item → List ℕ → Result (Item × List ℕ) Failing
+next_item_at x kind [] bytes = first_at x kind bytes
+next_item_at x kind (i ∷ is) bytes = item_at x bytes
 
 -- whether a null was read
 abbrev pub null_first : Result (Code × List ℕ) Failing → Bool
@@ -117,6 +117,6 @@ seen f (Ok x) = Ok (f x.0, x.1)
 seen f (Err e) = Err e
 
 -- the bytes after what was read
-abbrev pub after : {A : Type 0} → Result (A × List ℕ) Failing → Result (List ℕ) Failing
-after (Ok x) = Ok x.1
-after (Err e) = Err e
+abbrev pub bytes_after : {A : Type 0} → Result (A × List ℕ) Failing → Result (List ℕ) Failing
+bytes_after (Ok x) = Ok x.1
+bytes_after (Err e) = Err e

@@ -86,9 +86,9 @@ code_again bytes n rest h =
     ) refl
 
 -- a code has a byte at least
-pub code_some : (bytes : List ℕ) (n : ℕ) → Uleb bytes n → 0 < length bytes
-code_some [] n h = absurd h.ended
-code_some (a ∷ bs) n h = omega arith
+pub code_has_byte : (bytes : List ℕ) (n : ℕ) → Uleb bytes n → 0 < length bytes
+code_has_byte [] n h = absurd h.ended
+code_has_byte (a ∷ bs) n h = omega arith
 
 -- ---- attributes
 
@@ -289,7 +289,7 @@ first_again t kind h rest p tag =
     (append_assoc h.code (flat_map attribute_bytes h.attributes) rest)
     (omega (
       arith,
-      code_some h.code h.decl.code p.code,
+      code_has_byte h.code h.decl.code p.code,
       length-append h.code (flat_map attribute_bytes h.attributes ++ rest),
     ))
     ∙ rw (
@@ -367,9 +367,9 @@ seen_entry numbers r d rest e = let (i, was, is) = seen_ok (numbered_decl number
 
 -- an item has a byte at least
 pub item_some : (t : Context) (i : Item) → IsItem t i → 0 < length (item_bytes i)
-item_some t (null z) h = code_some z 0 h
+item_some t (null z) h = code_has_byte z 0 h
 item_some t (entry h) p =
-    omega (arith, code_some h.code h.decl.code p.code, length-append h.code (flat_map attribute_bytes h.attributes))
+    omega (arith, code_has_byte h.code h.decl.code p.code, length-append h.code (flat_map attribute_bytes h.attributes))
 
 -- an item leaves fewer bytes
 pub item_shorter : (t : Context) (bytes : List ℕ) (i : Item) (rest : List ℕ) → item_at t bytes ≡ Ok (i, rest)

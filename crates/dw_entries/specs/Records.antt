@@ -4,7 +4,7 @@ use Rattle.std.proofs.Common.{refl, ap, ◌∙◌}
 use Rattle.std.proofs.lemmas.List.{map-append}
 use Rattle.dw_entries.specs.declared.records.Record.{Record}
 use Rattle.dw_entries.specs.Grammar.{head_bytes}
-use Rattle.dw_entries.specs.Header.{header_size}
+use Rattle.dw_entries.specs.Header.{unit_header_size}
 use Rattle.dw_entries.specs.Tree.{Node, Nodes, leaf, parent, none, ◌then◌, node_bytes}
 use Rattle.dw_entries.specs.Units.{DebugUnit, unit_bytes}
 use Rattle.dw_entries.specs.Entries.{Entry, node_count, first_id, node_entries, nodes_entries, entries_from}
@@ -30,7 +30,7 @@ abbrev mutual
 abbrev pub records_from : (ℕ → ℕ → ℕ) → ℕ → ℕ → ℕ → List DebugUnit → List Record
 records_from numbers unit id at [] = []
 records_from numbers unit id at (u ∷ us) =
-    node_records (numbers unit) None None id (at + header_size u.header.kind) u.root
+    node_records (numbers unit) None None id (at + unit_header_size u.header.kind) u.root
     ++ records_from numbers (suc unit) (id + node_count u.root) (at + length (unit_bytes u)) us
 
 mutual
@@ -65,10 +65,11 @@ units_kept : (numbers : ℕ → ℕ → ℕ) (us : List DebugUnit) (unit id at :
 units_kept numbers [] unit id at = refl
 units_kept numbers (u ∷ us) unit id at =
     let others : List Entry = entries_from (suc unit) (id + node_count u.root) (at + length (unit_bytes u)) us in
-    map-append (record_of numbers) (node_entries unit None 0 None id (at + header_size u.header.kind) u.root) others
+    map-append (record_of numbers) (node_entries unit None 0 None id (at + unit_header_size u.header.kind) u.root)
+    others
     ∙ ap (λ (rs : List Record). rs ++ map (record_of numbers) others)
-    (node_kept numbers unit None 0 None id (at + header_size u.header.kind) u.root)
-    ∙ ap (λ (rs : List Record). node_records (numbers unit) None None id (at + header_size u.header.kind) u.root
+    (node_kept numbers unit None 0 None id (at + unit_header_size u.header.kind) u.root)
+    ∙ ap (λ (rs : List Record). node_records (numbers unit) None None id (at + unit_header_size u.header.kind) u.root
     ++ rs) (units_kept numbers us (suc unit) (id + node_count u.root) (at + length (unit_bytes u)))
 
 -- these records are what is kept of the entries

@@ -37,7 +37,7 @@ abbrev pub records_of : (ℕ → ℕ → ℕ) → List DebugUnit → List Record
 records_of numbers us = map (record_of numbers) (entries_of us)
 
 -- what is kept of a unit, among these tables: where it is, its header, the number of its table, and its first entry
-pub record IsKept (tables : Tables) (r : UnitRecord) (p : PlacedUnit) : Type 0 where
+pub record IsRecordOfUnit (tables : Tables) (r : UnitRecord) (p : PlacedUnit) : Type 0 where
   pub at : r.at ≡ p.at
   pub header : r.header ≡ p.unit.header
   pub within : r.table < length tables
@@ -45,17 +45,17 @@ pub record IsKept (tables : Tables) (r : UnitRecord) (p : PlacedUnit) : Type 0 w
   pub first : r.first ≡ p.first
 
 -- the bytes spell these units, with this base, and what is kept of them and of their entries is theirs
-pub record Holds (base : ℕ) («abbrev» info : List ℕ) (tables : Tables) (unit_records : List UnitRecord)
+pub record AreScanned (base : ℕ) («abbrev» info : List ℕ) (tables : Tables) (unit_records : List UnitRecord)
     (records : List Record) (units : List DebugUnit) : Type 0 where
   pub spells : Spells «abbrev» units info
   pub based : HaveBase base units
-  pub kept : AllZip (IsKept tables) unit_records (placed units)
+  pub kept : AllZip (IsRecordOfUnit tables) unit_records (placed units)
   pub entries : records ≡ records_of (numbers_of tables unit_records) units
 
 -- the units of the sections, of which there is one list at most
 abbrev pub Scanned : ℕ → List ℕ → List ℕ → Tables → List UnitRecord → List Record → Type 0
 Scanned base «abbrev» info tables unit_records records = (units : List DebugUnit)
-    × Holds base «abbrev» info tables unit_records records units
+    × AreScanned base «abbrev» info tables unit_records records units
 
 -- the units that a scan found
 abbrev pub found_units : {base : ℕ} {a : List ℕ} {info : List ℕ} {tables : Tables} {unit_records : List UnitRecord}

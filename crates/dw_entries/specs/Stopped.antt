@@ -11,12 +11,12 @@ use Rattle.dw_forms.specs.AbbrevTables.{tables_in, AreTablesOf}
 use Rattle.dw_forms.specs.Chains.{chain_in}
 use Rattle.dw_forms.specs.KeptDecls.{decl_number_in}
 use Rattle.dw_forms.specs.TableStarts.{Stay}
-use Rattle.dw_entries.specs.Scanned.{IsKept}
+use Rattle.dw_entries.specs.Scanned.{IsRecordOfUnit}
 use Rattle.dw_entries.specs.Failures.{IsPlainFault}
 use Rattle.dw_entries.specs.declared.fault.PlainFault.{PlainFault}
 use Rattle.dw_entries.specs.declared.header.HeaderKind.{HeaderKind}
 use Rattle.dw_entries.specs.Grammar.{Context}
-use Rattle.dw_entries.specs.Header.{fits_tag, header_size}
+use Rattle.dw_entries.specs.Header.{fits_tag, unit_header_size}
 use Rattle.dw_entries.specs.Reading.{code_at, null_first}
 use Rattle.dw_entries.specs.Tree.{Node, IsNode, node_bytes}
 use Rattle.dw_entries.specs.Units.{DebugUnit, IsUnit, unit_bytes, AreNulls, nulls_bytes, head_of}
@@ -76,11 +76,11 @@ pub record UnitTaken («abbrev» rest : List ℕ) (at : ℕ) (old new : Kept) (l
   pub parts : rest ≡ unit_bytes taken ++ after
   pub len_is : len ≡ length (unit_bytes taken)
   pub record_is : UnitRecord
-  pub kept : IsKept (tables_in new.tables) record_is
+  pub kept : IsRecordOfUnit (tables_in new.tables) record_is
       (record { at = at; first = length old.records.items; unit = taken })
   pub units : new.units.items ≡ old.units.items ++ record_is ∷ []
   pub records : new.records.items ≡ old.records.items
       ++ node_records (decl_number_in (chain_in (tables_in new.tables) record_is.table))
-      None None (length old.records.items) (at + header_size taken.header.kind) taken.root
+      None None (length old.records.items) (at + unit_header_size taken.header.kind) taken.root
   pub tables : AreTablesOf «abbrev» new.tables
   pub stay : Stay (tables_in old.tables) (tables_in new.tables)

@@ -10,14 +10,14 @@ use Rattle.dw_forms.specs.AbbrevReading.{table_at}
 use Rattle.dw_entries.specs.declared.rule.Rule.{Rule}
 use Rattle.dw_entries.specs.declared.header.UnitHeader.{UnitHeader}
 use Rattle.dw_entries.specs.Grammar.{Context, IsNull}
-use Rattle.dw_entries.specs.Header.{header_size, header_at}
+use Rattle.dw_entries.specs.Header.{unit_header_size, header_at}
 use Rattle.dw_entries.specs.Tree.{Node, IsNode}
 use Rattle.dw_entries.specs.Items.{null}
 use Rattle.dw_entries.specs.Units.{DebugUnit, context_by, context_of, nulls_bytes, AreNulls, body_bytes, unit_bytes}
 use Rattle.dw_entries.specs.Units.{IsUnit, AreUnits, units_bytes, Spells, HaveBase}
 use Rattle.dw_entries.specs.Joined.{GoesOn, IsUnique, begins}
 use Rattle.dw_entries.specs.HeaderLaws.{IsSized, sized, header_again, headers_apart}
-use Rattle.dw_entries.specs.ReadingLaws.{code_some, item_unique}
+use Rattle.dw_entries.specs.ReadingLaws.{code_has_byte, item_unique}
 use Rattle.dw_entries.specs.TreeLaws.{node_unique}
 
 -- the unit with these parts
@@ -47,7 +47,7 @@ null_unique t z w x y p q e =
 
 no_nulls : (zs : List (List ℕ)) → AreNulls zs → length (nulls_bytes zs) ≡ 0 → zs ≡ []
 no_nulls [] p e = refl
-no_nulls (z ∷ zs) p e = absurd (omega (arith, e, code_some z 0 p.0, length-append z (nulls_bytes zs)))
+no_nulls (z ∷ zs) p e = absurd (omega (arith, e, code_has_byte z 0 p.0, length-append z (nulls_bytes zs)))
 
 more_nulls : (zs ws : List (List ℕ)) (x y : List ℕ) → length (nulls_bytes zs) ≡ length (nulls_bytes ws)
     → GoesOn (λ z. z) IsNull zs ws x y → zs ≡ ws
@@ -85,7 +85,7 @@ pub unit_sized : (a : List ℕ) (u : DebugUnit) → IsUnit a u
     → IsSized (length a) (unit_bytes u) u.header (body_bytes u)
 unit_sized a u p = sized (length a) (unit_bytes u) u.header (body_bytes u) p.header
 
-pub header_long : (a : List ℕ) (u : DebugUnit) → IsUnit a u → length u.header_bytes ≡ header_size u.header.kind
+pub header_long : (a : List ℕ) (u : DebugUnit) → IsUnit a u → length u.header_bytes ≡ unit_header_size u.header.kind
 header_long a u p =
     let long = (unit_sized a u p).header in omega (arith, long, length-append u.header_bytes (body_bytes u))
 

@@ -29,8 +29,8 @@ abbrev pub form_there : Attributes → ℕ → Option Form
 form_there a number = option_map (λ (spec : AttributeSpec). spec.form) (slice_get (list_in (nodes_of a) number) 0)
 
 -- the bytes end inside a value of the form, in each version and for each size of addresses
-abbrev pub IsCut : Form → List ℕ → Type 0
-IsCut form bytes = (version size : ℕ) → value_at version form size bytes ≡ Err Cut
+abbrev pub IsCutValue : Form → List ℕ → Type 0
+IsCutValue form bytes = (version size : ℕ) → value_at version form size bytes ≡ Err Cut
 
 -- there is an attribute of this number
 abbrev pub IsThere : Attributes → ℕ → Type 0

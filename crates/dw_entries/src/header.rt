@@ -2,8 +2,8 @@
 
 ghost use Rattle.std.specs.Prelude.{◌≡◌, ◌≤◌, length, ◌⊎◌, ◌<◌, IfOk};
 ghost use Rattle.dw_forms.specs.ValueReading.{Gives};
-ghost use Rattle.dw_entries.specs.Header.{version_of, type_of, code_of_type, fits_tag, header_size, IsSize};
-ghost use Rattle.dw_entries.specs.Header.{field as field_format, address_size as size_format, kind_of};
+ghost use Rattle.dw_entries.specs.Header.{version_of, type_of, code_of_type, fits_tag, unit_header_size, IsSize};
+ghost use Rattle.dw_entries.specs.Header.{field as field_format, address_size as size_format, kind_fields};
 ghost use Rattle.dw_entries.specs.Header.{abbrev_offset as offset_format, version4 as format4, version5 as format5};
 ghost use Rattle.dw_entries.specs.Header.{header_fields, unit_at, header_at};
 
@@ -85,7 +85,7 @@ impl HeaderKind {
 
     /// How many bytes the header has.
     pub fn size(self) -> usize
-        ensures { result ≡ header_size self }
+        ensures { result ≡ unit_header_size self }
     {
         match self {
             HeaderKind::Version4 => 11,
@@ -176,9 +176,9 @@ fn version4(abbrev_size: usize, unit_length: u32, bytes: &[u8]) -> Result<(UnitH
 }
 
 /// The fields that a type unit has after those of all units.
-#[tactic(auto, unfolding(crate::specs::Header::kind_of))]
+#[tactic(auto, unfolding(crate::specs::Header::kind_fields))]
 fn kind(code: u64, bytes: &[u8]) -> Result<(HeaderKind, &[u8]), Rule>
-    ensures { Gives (λ x. (x.0, x.1.now)) result ((kind_of code).read bytes.now) }
+    ensures { Gives (λ x. (x.0, x.1.now)) result ((kind_fields code).read bytes.now) }
 {
     if code == 1 {
         return Ok((HeaderKind::CompileUnit, bytes));

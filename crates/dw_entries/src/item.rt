@@ -7,7 +7,7 @@ ghost use Rattle.dw_forms.specs.ValueReading.{Gives};
 ghost use Rattle.dw_entries.specs.Grammar.{declared_in};
 ghost use Rattle.dw_entries.specs.Items.{numbered_decl};
 ghost use Rattle.dw_entries.specs.NamedDecls.{declared_view};
-ghost use Rattle.dw_entries.specs.Reading.{after, attribute_at, attributes_at, code_at, first_at, item_at, seen};
+ghost use Rattle.dw_entries.specs.Reading.{bytes_after, attribute_at, attributes_at, code_at, first_at, item_at, seen};
 ghost use Rattle.dw_entries.specs.Reading.{value_rule as rule_of_value};
 ghost use Rattle.dw_entries.specs.Units.{context_in, numbers_in};
 ghost use Rattle.dw_entries.specs.declared.rule.Rule.TheVariants.{UndeclaredCode};
@@ -69,7 +69,7 @@ fn skip_attribute<'b>(
     spec: AttributeSpec,
     bytes: &'b [u8],
 ) -> Result<&'b [u8], Failing>
-    ensures { Gives (λ rest. rest.now) result (after (attribute_at (context_in context.entry) spec bytes.now)) }
+    ensures { Gives (λ rest. rest.now) result (bytes_after (attribute_at (context_in context.entry) spec bytes.now)) }
 {
     if !spec.form.allowed(context.version) {
         return Err(Failing {
@@ -93,7 +93,7 @@ fn skip_each<'b>(
     bytes: &'b [u8],
 ) -> Result<&'b [u8], Failing>
     ensures { Gives (λ rest. rest.now) result
-        (after (attributes_at (context_in context.entry) (specs_in attributes.entry) bytes.now)) }
+        (bytes_after (attributes_at (context_in context.entry) (specs_in attributes.entry) bytes.now)) }
 {
     let mut rest = bytes;
     let mut left = attributes;
@@ -113,7 +113,7 @@ fn skip_attributes<'b>(
     bytes: &'b [u8],
 ) -> Result<&'b [u8], Failing>
     ensures { Gives (λ rest. rest.now) result
-        (after (attributes_at (context_in context.entry) (decl_view decl.entry).attributes bytes.now)) }
+        (bytes_after (attributes_at (context_in context.entry) (decl_view decl.entry).attributes bytes.now)) }
 {
     let version = context.version;
     if decl.allows(version) {

@@ -2,7 +2,7 @@
 
 ghost use Rattle.std.specs.Prelude.{IfNone, Some, true, ◌≡◌};
 ghost use Rattle.dw_forms.specs.Suffixes.{numbered};
-ghost use Rattle.dw_forms.specs.LeadingWalks.{IsStep};
+ghost use Rattle.dw_forms.specs.LeadingWalks.{IsFirstStep};
 
 use crate::values::Values;
 use dw_forms::{Attribute, Form, Lead, Step, Value};
@@ -14,7 +14,7 @@ pub struct Leading<'e, 'a> {
     pub(crate) values: Values<'e, 'a>,
     /// The step to the next attribute.
     pub(crate) step: &'e Step,
-    pub ghost steps: { IsStep (numbered values.attributes) step.now },
+    pub ghost steps: { IsFirstStep (numbered values.attributes) step.now },
 }
 
 impl<'a> Leading<'_, 'a> {

@@ -5,7 +5,7 @@ ghost use Rattle.std.specs.Prelude.{◌<◌, ◌^◌, ◌∷◌, ◌≡◌, ◌�
 ghost use Rattle.dw_elf.specs.declared.TheConstants.{SECTION_LIMIT};
 ghost use Rattle.dw_forms.specs.Stops.{GivesOrMemory, IfFault};
 ghost use Rattle.dw_entries.specs.Faults.{BodyFails, in_unit};
-ghost use Rattle.dw_entries.specs.Header.{header_size};
+ghost use Rattle.dw_entries.specs.Header.{unit_header_size};
 ghost use Rattle.dw_entries.specs.NamedDecls.{declared_view};
 ghost use Rattle.dw_entries.specs.Reading.{code_at, item_at, null_first, seen};
 ghost use Rattle.dw_entries.specs.Stopped.{AreAllNulls, NullsThen, TreeOf};
@@ -161,7 +161,7 @@ fn walk_tree<'b>(
     body: &'b [u8],
     records: &mut Vec<Record>,
 ) -> Result<&'b [u8], Stop<PlainFault>>
-    requires start { start ≡ unit.at + header_size unit.header.kind }
+    requires start { start ≡ unit.at + unit_header_size unit.header.kind }
     requires fits { start + length body.now ≤ SECTION_LIMIT }
     requires few_entries { length records.old.items ≤ unit.at }
     ensures tree { IfOk result
@@ -224,10 +224,10 @@ pub fn walk_unit(
     body: &[u8],
     records: &mut Vec<Record>,
 ) -> Result<(), Stop<PlainFault>>
-    requires fits { unit.at + header_size unit.header.kind + length body.now ≤ SECTION_LIMIT }
+    requires fits { unit.at + unit_header_size unit.header.kind + length body.now ≤ SECTION_LIMIT }
     requires few_entries { length records.old.items ≤ unit.at }
     ensures tree { OnOk result (TreeOf (context_in context.entry) (numbers_in context.entry) unit.header.kind body.now
-        [] (unit.at + header_size unit.header.kind) records.old.items records.new.items) }
+        [] (unit.at + unit_header_size unit.header.kind) records.old.items records.new.items) }
     ensures fault { IfErr result (IfFault (BodyFails (context_in context.entry) unit.header.kind unit.at body.now)) }
 {
     let start = unit.at + unit.header.kind.size() as u32;

@@ -4,18 +4,18 @@ ghost use Rattle.std.specs.Bool.{OnTrue};
 ghost use Rattle.std.specs.Prelude.{IfNone, IfSome, List, MatchOption, OnSome, Some, [], drop, length, ◌∷◌, ◌≡◌};
 ghost use Rattle.dw_forms.specs.Chains.{Numbered};
 ghost use Rattle.dw_forms.specs.Suffixes.{Ends, numbered, specs_in};
-ghost use Rattle.dw_forms.specs.LeadingWalks.{IsStep};
+ghost use Rattle.dw_forms.specs.LeadingWalks.{IsFirstStep};
 ghost use Rattle.dw_forms.specs.declared.abbrev.AttributeSpec.{AttributeSpec as SpecData};
 ghost use Rattle.dw_entries.specs.Choices.{size_unique};
 ghost use Rattle.dw_entries.specs.Header.{IsSize};
 ghost use Rattle.dw_entries.specs.ValueLaws.{left_unique};
-ghost use Rattle.dw_entries.specs.Values.{IsCut, Left, form_there, value_context};
+ghost use Rattle.dw_entries.specs.Values.{IsCutValue, Left, form_there, value_context};
 
 use dw_forms::{Attribute, Attributes, Form, Step, Value, read_value, skip_value};
 
 /// Whether the bytes end inside a value of this form, which takes four bytes.
 fn is_cut(form: Form, bytes: &[u8]) -> bool
-    ensures { OnTrue result (IsCut form bytes.now) }
+    ensures { OnTrue result (IsCutValue form bytes.now) }
 {
     match form {
         Form::Strp => bytes.len() < 4,
@@ -68,11 +68,11 @@ impl<'e, 'a> Values<'e, 'a> {
     /// are skipped.
     #[inline(always)]
     pub(crate) fn step_to(&mut self, step: &Step, form: Form) -> ((Attribute, Value<'a>), &'e Step)
-        requires step { IsStep (numbered self.old.attributes) step.now }
+        requires step { IsFirstStep (numbered self.old.attributes) step.now }
         requires form { form_there self.old.attributes step.now.to ≡ Some form }
         ensures found { IsNextOf DoesNotLead (values_left self.old) (viewed result.0) (values_left self.new) }
         ensures leads { LeadsIn result.0.0 form (specs_in self.old.attributes) (specs_in self.new.attributes) }
-        ensures step { IsStep (numbered self.new.attributes) result.1.now }
+        ensures step { IsFirstStep (numbered self.new.attributes) result.1.now }
         ensures lead { lead_with result.0.0 form ≡ step.now.lead }
         ensures made { IsMade self.old.version form self.old.address_size (view result.0.1) }
     {
@@ -124,10 +124,10 @@ impl<'e, 'a> Values<'e, 'a> {
 
     /// The step from the attributes after the one that a step goes to, up to which values are skipped.
     pub(crate) fn step_past(&mut self, step: &Step) -> &'e Step
-        requires step { IsStep (numbered self.old.attributes) step.now }
+        requires step { IsFirstStep (numbered self.old.attributes) step.now }
         requires some { IsThere self.old.attributes step.now.to }
         ensures passed { IsPassedBy step.now.lead (values_left self.old) (values_left self.new) }
-        ensures step { IsStep (numbered self.new.attributes) result.now }
+        ensures step { IsFirstStep (numbered self.new.attributes) result.now }
     {
         let stop = self.attributes.stepped(step);
         let Some((spec, others, next)) = stop.split_step() else {

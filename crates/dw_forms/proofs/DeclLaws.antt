@@ -6,7 +6,7 @@ use Rattle.std.proofs.lemmas.List.Elements.{All-nil, All-cons}
 use Rattle.dw_forms.specs.declared.form.Form.{Form}
 use Rattle.dw_forms.specs.declared.abbrev.AttributeSpec.{AttributeSpec}
 use Rattle.dw_forms.specs.declared.fault.DeclFault.{DeclFault}
-use Rattle.dw_forms.specs.Abbrev.{Declaration, IsCode16, AreAttributes, IsDeclaration, AreDeclarations, Decls, is_code16, number, pair, attributes, specifications, tag_and_children, code_or_end, declarations}
+use Rattle.dw_forms.specs.Abbrev.{Declaration, IsCode16, AreAttributeSpecs, IsDeclaration, AreDeclarations, Decls, is_code16, number, pair, attributes, specifications, tag_and_children, code_or_end, declarations}
 use Rattle.dw_forms.specs.AbbrevReading.{unsigned_at, tagged_at}
 use Rattle.dw_forms.specs.Elements.{SpellsElement}
 use Rattle.dw_forms.specs.Formats.{Format, nothing, failing, choose, found, tested}
@@ -67,7 +67,7 @@ each_good Spells End Good good [] text s = All-nil Good
 each_good Spells End Good good (x ∷ xs) text s =
     All-cons Good x xs (good s.0 x s.3) (each_good Spells End Good good xs s.1 s.4)
 
-attributes_good : (text : List ℕ) (specs : List AttributeSpec) → attributes.Spells text specs → AreAttributes specs
+attributes_good : (text : List ℕ) (specs : List AttributeSpec) → attributes.Spells text specs → AreAttributeSpecs specs
 attributes_good text specs s = record {
   each = each_good _ _ (λ (spec : AttributeSpec). IsCode16 spec.attribute) attribute_good specs text s.spelled;
   distinct = s.distinct;

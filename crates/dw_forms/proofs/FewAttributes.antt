@@ -10,7 +10,7 @@ use Rattle.std.proofs.lemmas.Map.Steps.{length-le_from_distinct_below}
 use Rattle.std.proofs.lemmas.List.Elements.{All-map}
 use Rattle.dw_forms.specs.declared.form.Form.TheVariants.{Addr}
 use Rattle.dw_forms.specs.declared.abbrev.AttributeSpec.{AttributeSpec}
-use Rattle.dw_forms.specs.Abbrev.{AreAttributes}
+use Rattle.dw_forms.specs.Abbrev.{AreAttributeSpecs}
 use Rattle.dw_forms.specs.Abbrev.{attribute_of}
 
 codes : List AttributeSpec → List ℕ
@@ -19,7 +19,7 @@ codes specs = map attribute_of specs
 any_spec : AttributeSpec
 any_spec = record { attribute = 0; form = Addr }
 
-codes_apart : (specs : List AttributeSpec) → AreAttributes specs → AllPairs (λ x y. x ≢ y) (codes specs)
+codes_apart : (specs : List AttributeSpec) → AreAttributeSpecs specs → AllPairs (λ x y. x ≢ y) (codes specs)
 unfolding codes
 codes_apart specs a i j d lt long same =
     let len = length-map specs attribute_of in
@@ -27,11 +27,11 @@ codes_apart specs a i j d lt long same =
     let second = get_or-map attribute_of specs j any_spec d (omega arith) in
     a.distinct i j any_spec lt (omega arith) (sym first ∙ same ∙ second)
 
-codes_small : (specs : List AttributeSpec) → AreAttributes specs → All (λ n. n < 0x10000) (codes specs)
+codes_small : (specs : List AttributeSpec) → AreAttributeSpecs specs → All (λ n. n < 0x10000) (codes specs)
 unfolding codes
 codes_small specs a = All-map (λ n. n < 0x10000) attribute_of specs (λ k d lt. omega (arith, (a.each k d lt).small))
 
-pub few_specs : (specs : List AttributeSpec) → AreAttributes specs → length specs ≤ 0x10000
+pub few_specs : (specs : List AttributeSpec) → AreAttributeSpecs specs → length specs ≤ 0x10000
 unfolding codes
 few_specs specs a =
     let distinct = IsDistinct-from_AllPairs Decides-eqb (codes specs) (codes_apart specs a) in

@@ -8,10 +8,10 @@ use Rattle.dw_forms.specs.declared.abbrev.AttributeSpec.{AttributeSpec}
 use Rattle.dw_forms.specs.declared.known_places.KnownPlace.{KnownPlace}
 use Rattle.dw_forms.specs.declared.attribute_lists.Node.{Node}
 use Rattle.dw_forms.specs.declared.attributes.Attributes.{Attributes}
-use Rattle.dw_forms.specs.AttributeLists.{has_this, numbered_in, spec_of, varies, known_of, IsKnown}
+use Rattle.dw_forms.specs.AttributeLists.{has_this, numbered_in, spec_of, varies, known_with, IsKnown}
 use Rattle.dw_forms.specs.Chains.{Numbered, items_of, number_where}
 use Rattle.dw_forms.specs.DeclaredLists.{before_code, IsPlaced}
-use Rattle.dw_forms.specs.KnownValues.{cut_at, known_sum, values_end}
+use Rattle.dw_forms.specs.KnownValues.{rest_beyond, known_sum, values_end}
 use Rattle.dw_forms.specs.Suffixes.{nodes_of, numbered, specs_in, Ends, IsFrom}
 use Rattle.dw_forms.proofs.BitLaws.{eq_true}
 use Rattle.dw_forms.proofs.ChainLaws.{where_first}
@@ -63,7 +63,7 @@ module _ (all : Attributes) (code : ℕ) where
 
     -- the sum of their sizes
     pub sum_here : (n : Node) → IsKnown (nodes_of all) all.first n
-        → known_of 8 n ≡ known_sum 8 (before_code code (specs_in all)) + known_sum 8 (specs_in found)
+        → known_with 8 n ≡ known_sum 8 (before_code code (specs_in all)) + known_sum 8 (specs_in found)
     sum_here n is =
         known_is 8 (numbered all) n (inr refl) is.knows
         ∙ sum_goes 8 (nodes_of all) all.first (number_where (has_this code) (numbered all)) here.before here.goes
@@ -71,7 +71,7 @@ module _ (all : Attributes) (code : ℕ) where
         ∙ ap (λ (specs : List AttributeSpec). known_sum 8 specs + known_sum 8 (specs_in found)) (sym before_here)
 
     pub is_placed : (n : Node) (at : ℕ) (p : KnownPlace) → IsKnown (nodes_of all) all.first n
-        → n.next_varying ≤ found.first → at ≡ known_of 8 n - known_sum 8 (specs_in found)
+        → n.next_varying ≤ found.first → at ≡ known_with 8 n - known_sum 8 (specs_in found)
         → p.attribute ≡ code → p.at ≡ at → p.list ≡ found.first → IsPlaced (numbered all) p
     is_placed n at p is less sum attribute_is at_is list_is =
         let first = from.first in
@@ -84,7 +84,7 @@ module _ (all : Attributes) (code : ℕ) where
     -- so the values before it are cut off together
     pub cut_here : (p : KnownPlace) → p.attribute ≡ code → IsPlaced (numbered all) p
         → (before : List (Numbered AttributeSpec)) → Ends all found before
-        → (version : ℕ) (bytes : List ℕ) → values_end version 8 (items_of before) bytes ≡ cut_at p.at bytes
+        → (version : ℕ) (bytes : List ℕ) → values_end version 8 (items_of before) bytes ≡ rest_beyond p.at bytes
     cut_here p attribute_is placed before ends version bytes =
         let same : before ≡ here.before = append_cancel_right before here.before
         (numbered_in (nodes_of all) (number_where (has_this code) (numbered all)))
@@ -94,7 +94,7 @@ module _ (all : Attributes) (code : ℕ) where
         let coded : before_code p.attribute (specs_in all)
         ≡ items_of before = ap (λ (c : ℕ). before_code c (specs_in all)) attribute_is ∙ sym items in
         run version 8 before bytes (ap (list_any varies) (sym coded) ∙ placed.sized)
-        ∙ ap (λ (n : ℕ). cut_at n bytes) (ap (known_sum 8) (sym coded) ∙ sym placed.sum)
+        ∙ ap (λ (n : ℕ). rest_beyond n bytes) (ap (known_sum 8) (sym coded) ∙ sym placed.sum)
 
 -- the first attribute comes before all values
 pub first_placed : (all : Attributes) (n : Node) (p : KnownPlace) → IsKnown (nodes_of all) all.first n

@@ -13,7 +13,7 @@ use Rattle.dw_forms.specs.AbbrevReading.{pair_at}
 use Rattle.dw_forms.specs.Chains.{Numbered, items_of}
 use Rattle.dw_forms.specs.AttributeLists.{numbered_in, list_in, IsLast, AddedSpec}
 use Rattle.dw_forms.specs.Offsets.{BeginsAt, NothingAt, AreAlong, AreNew, Stay}
-use Rattle.dw_forms.specs.ListOffsets.{IsListAt, ArePlaced, NoListAt, IsPairAt, Leads}
+use Rattle.dw_forms.specs.ListOffsets.{IsListAt, ArePlaced, NoListAt, IsPairAt, LeadsToList}
 use Rattle.dw_forms.specs.ListFormats.{ReadsNext, reads_next}
 use Rattle.dw_forms.specs.Elements.{SpellsElement, SpellsEnd, NextFails}
 use Rattle.dw_forms.proofs.ChainLaws.{chain_none}
@@ -67,7 +67,7 @@ none_along section =
 
 module _ {section : List ℕ} {old : List Node} {starts : List ℕ} {offset first end : ℕ}
     {all : List (Placed AttributeSpec)} (left : List (Placed AttributeSpec)) (p : Placed AttributeSpec)
-    (parts : all ≡ left ++ p ∷ []) (leads : Leads section old starts all offset first end) where
+    (parts : all ≡ left ++ p ∷ []) (leads : LeadsToList section old starts all offset first end) where
   popped : AreAlong (IsPairAt section) left offset p.at × IsPairAt section p.at p.item leads.next
   popped =
       along_pop (IsPairAt section) left offset leads.next p
@@ -116,7 +116,7 @@ module _ {section : List ℕ} {old : List Node} {starts : List ℕ} {offset firs
           fits = leads.list.fits;
         }
 
-    pub next_leads : Leads section new (starts ++ p.at ∷ []) left offset number end
+    pub next_leads : LeadsToList section new (starts ++ p.at ∷ []) left offset number end
     next_leads = record {
       next = p.at;
       along = popped.0;

@@ -8,11 +8,11 @@ use Rattle.std.proofs.lemmas.List.Elements.{All-nil}
 use Rattle.dw_forms.specs.declared.abbrev.AttributeSpec.{AttributeSpec}
 use Rattle.dw_forms.specs.declared.attribute_lists.Node.{Node}
 use Rattle.dw_forms.specs.declared.chains.Link.{Link}
-use Rattle.dw_forms.specs.Abbrev.{IsCode16, AreAttributes, attribute_of}
+use Rattle.dw_forms.specs.Abbrev.{IsCode16, AreAttributeSpecs, attribute_of}
 use Rattle.dw_forms.specs.AbbrevReading.{has_attribute}
 use Rattle.dw_forms.specs.AttributeLists.{spec_of, specs_of, numbered_in, list_in, Knows, IsKnown, AreKnown, AreCoded}
 use Rattle.dw_forms.specs.Chains.{Numbered, chain_in, chains_of, codes_of, codes_in, number_in, number_where}
-use Rattle.dw_forms.specs.LeadingWalks.{IsStep}
+use Rattle.dw_forms.specs.LeadingWalks.{IsFirstStep}
 use Rattle.dw_forms.proofs.BitLaws.{eq_true, differ}
 use Rattle.dw_forms.proofs.CodeLaws.{codes_long}
 use Rattle.dw_forms.specs.Keys.{apart_cons, lacks_from}
@@ -88,12 +88,12 @@ links_long links nodes are =
 
 -- ---- what is known of the new list
 
-pub attributes_more : (spec : AttributeSpec) (specs : List AttributeSpec) → AreAttributes specs
-    → IsCode16 spec.attribute → has_attribute spec.attribute specs ≡ false → AreAttributes (spec ∷ specs)
+pub attributes_more : (spec : AttributeSpec) (specs : List AttributeSpec) → AreAttributeSpecs specs
+    → IsCode16 spec.attribute → has_attribute spec.attribute specs ≡ false → AreAttributeSpecs (spec ∷ specs)
 attributes_more spec specs are code none = grind (arith, common_steps, apart_cons, lacks_from)
 
 pub attributes_in : (nodes : List Node) (number : ℕ) → AreKnown nodes → number ≤ length nodes
-    → AreAttributes (list_in nodes number)
+    → AreAttributeSpecs (list_in nodes number)
 attributes_in nodes zero known within = rw (chain_none (specs_of nodes)) (record {
   each = All-nil (λ (s : AttributeSpec). IsCode16 s.attribute);
   distinct = λ i j d lt long. absurd (omega arith);
@@ -111,7 +111,7 @@ module _ (nodes : List Node) (n : Node) where
   pub known_more : AreKnown nodes → n.next ≤ length nodes → IsCode16 n.attribute
       → has_attribute n.attribute (list_in nodes n.next) ≡ false
       → Knows (record { number = suc (length nodes); item = spec_of n } ∷ numbered_in nodes n.next) n
-      → IsStep (numbered_in nodes n.next) n.after → AreKnown (nodes ++ n ∷ [])
+      → IsFirstStep (numbered_in nodes n.next) n.after → AreKnown (nodes ++ n ∷ [])
   known_more known within code none knows after k x less read = elim (cases_eq k (length nodes)) [
     | inl same ↦
         let is : x ≡ n = read ∙ get_or_at nodes n [] x k (sym same) in
@@ -135,5 +135,5 @@ module _ (nodes : List Node) (n : Node) where
       → number ≡ suc (length nodes) → AreKnown nodes → rest ≤ length nodes → IsCode16 spec.attribute
       → has_attribute spec.attribute (list_in nodes rest) ≡ false
       → Knows (record { number = number; item = spec } ∷ numbered_in nodes rest) n
-      → IsStep (numbered_in nodes rest) n.after → AreKnown (nodes ++ n ∷ [])
+      → IsFirstStep (numbered_in nodes rest) n.after → AreKnown (nodes ++ n ∷ [])
   known_push spec rest number spec_is next_is number_is known within code none knows after = search (rules, known_more)

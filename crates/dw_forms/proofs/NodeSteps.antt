@@ -5,7 +5,7 @@ use Rattle.std.proofs.lemmas.List.{length-map}
 use Rattle.std.proofs.lemmas.List.Sums.{sum_by-cons}
 use Rattle.dw_forms.specs.declared.abbrev.AttributeSpec.{AttributeSpec}
 use Rattle.dw_forms.specs.declared.attribute_lists.Node.{Node}
-use Rattle.dw_forms.specs.Abbrev.{AreAttributes}
+use Rattle.dw_forms.specs.Abbrev.{AreAttributeSpecs}
 use Rattle.dw_forms.specs.AttributeLists.{IsKnown, AreKnown}
 use Rattle.dw_forms.specs.Chains.{Numbered, items_of, number_where}
 use Rattle.dw_forms.specs.KnownValues.{known_size, known_sum}
@@ -35,7 +35,7 @@ and_false false all result next e failed is = is ∙ failed
 
 -- ---- the sums are small
 
-pub known_small : (list : List (Numbered AttributeSpec)) (known : ℕ) → AreAttributes (items_of list)
+pub known_small : (list : List (Numbered AttributeSpec)) (known : ℕ) → AreAttributeSpecs (items_of list)
     → known ≤ 0xff * length list → known ≤ 0xffffff
 known_small list known are le =
     omega (arith, le, few_specs (items_of list) are, length-map list (λ (n : Numbered AttributeSpec). n.item))

@@ -14,11 +14,11 @@ use Rattle.dw_forms.specs.declared.value.ValueFault.TheVariants.{Cut}
 use Rattle.dw_forms.specs.declared.abbrev.AttributeSpec.{AttributeSpec}
 use Rattle.dw_forms.specs.declared.attribute_lists.Node.{Node}
 use Rattle.dw_forms.specs.Chains.{Numbered, items_of}
-use Rattle.dw_forms.specs.AttributeLists.{Knows, EndsWith, known_of, varies, list_in}
+use Rattle.dw_forms.specs.AttributeLists.{Knows, EndsWith, known_with, varies, list_in}
 use Rattle.dw_forms.specs.Steps.{◌>>=◌}
 use Rattle.dw_forms.specs.Sizes.{fixed_size_of, rest_at}
 use Rattle.dw_forms.specs.SizeLaws.{rest_skips, rest_cuts}
-use Rattle.dw_forms.specs.KnownValues.{known_size, does_vary, known_sum, cut_at, values_end}
+use Rattle.dw_forms.specs.KnownValues.{known_size, does_vary, known_sum, rest_beyond, values_end}
 
 -- ---- a form that does not vary has one size
 
@@ -35,21 +35,21 @@ has_size f size e = some_is (fixed_size_of size f) (vary_same f size ∙ e)
 
 -- ---- bytes that are cut off one after another
 
-cut_short : (len : ℕ) (bytes : List ℕ) → length bytes < len → cut_at len bytes ≡ Err Cut
+cut_short : (len : ℕ) (bytes : List ℕ) → length bytes < len → rest_beyond len bytes ≡ Err Cut
 cut_short len bytes lt = rw (lt-ltb _ _ lt) refl
 
-cut_long : (len : ℕ) (bytes : List ℕ) → len ≤ length bytes → cut_at len bytes ≡ Ok (drop len bytes)
+cut_long : (len : ℕ) (bytes : List ℕ) → len ≤ length bytes → rest_beyond len bytes ≡ Ok (drop len bytes)
 cut_long len bytes le = rw (le-ltb _ _ le) refl
 
-cut_cut : (m n : ℕ) (bytes : List ℕ) → (cut_at m bytes >>= λ rest. cut_at n rest) ≡ cut_at (m + n) bytes
+cut_cut : (m n : ℕ) (bytes : List ℕ) → (rest_beyond m bytes >>= λ rest. rest_beyond n rest) ≡ rest_beyond (m + n) bytes
 cut_cut m n bytes = search (rules, ltb-true, cut_short, length-drop, ltb-false, cut_long, drop-drop)
 
 rest_cut : (version : ℕ) (f : Form) (size : ℕ) (bytes : List ℕ) → does_vary f ≡ false
-    → rest_at version f size bytes ≡ cut_at (known_size size f) bytes
+    → rest_at version f size bytes ≡ rest_beyond (known_size size f) bytes
 rest_cut version f size bytes e = by_length (ltb (length bytes) (known_size size f)) refl
   where
     by_length : (b : Bool) → ltb (length bytes) (known_size size f) ≡ b
-        → rest_at version f size bytes ≡ cut_at (known_size size f) bytes
+        → rest_at version f size bytes ≡ rest_beyond (known_size size f) bytes
     by_length true lt =
         rest_cuts version f size (known_size size f) bytes (has_size f size e) (ltb-true _ _ lt)
         ∙ sym (cut_short (known_size size f) bytes (ltb-true _ _ lt))
@@ -70,16 +70,16 @@ HaveSizes [] = Unit {0}
 HaveSizes (spec ∷ specs) = (does_vary spec.form ≡ false) × HaveSizes specs
 
 pub run_ends : (version size : ℕ) (specs : List AttributeSpec) (bytes : List ℕ) → HaveSizes specs
-    → values_end version size specs bytes ≡ cut_at (known_sum size specs) bytes
+    → values_end version size specs bytes ≡ rest_beyond (known_sum size specs) bytes
 unfolding values_end
 run_ends version size [] bytes e = sym (cut_long 0 bytes (omega arith))
 run_ends version size (spec ∷ specs) bytes e =
     bind_on (rest_at version spec.form size bytes) (λ rest. values_end version size specs rest)
-    (λ rest. cut_at (known_sum size specs) rest) (λ rest. run_ends version size specs rest e.1)
-    ∙ ap (λ (q : Result (List ℕ) ValueFault). q >>= λ rest. cut_at (known_sum size specs) rest)
+    (λ rest. rest_beyond (known_sum size specs) rest) (λ rest. run_ends version size specs rest e.1)
+    ∙ ap (λ (q : Result (List ℕ) ValueFault). q >>= λ rest. rest_beyond (known_sum size specs) rest)
     (rest_cut version spec.form size bytes e.0)
     ∙ cut_cut (known_size size spec.form) (known_sum size specs) bytes
-    ∙ ap (λ (n : ℕ). cut_at n bytes) (sym (sum_by-cons (λ (s : AttributeSpec). known_size size s.form) spec specs))
+    ∙ ap (λ (n : ℕ). rest_beyond n bytes) (sym (sum_by-cons (λ (s : AttributeSpec). known_size size s.form) spec specs))
 
 -- ---- some values, and others after them
 
@@ -122,21 +122,21 @@ pub sum_goes : (size : ℕ) (nodes : List Node) (from to : ℕ) (before : List (
 sum_goes size nodes from to before goes = search (rules, items_append, sum_append)
 
 pub known_is : (size : ℕ) (list : List (Numbered AttributeSpec)) (n : Node) → (size ≡ 4) ⊎ (size ≡ 8) → Knows list n
-    → known_of size n ≡ known_sum size (items_of list)
+    → known_with size n ≡ known_sum size (items_of list)
 known_is size list n (inl e) k = rw e k.known_with_4
 known_is size list n (inr e) k = rw e k.known_with_8
 
 -- values that do not vary are cut off together
 pub run : (version size : ℕ) (before : List (Numbered AttributeSpec)) (bytes : List ℕ)
     → list_any varies (items_of before) ≡ false
-    → values_end version size (items_of before) bytes ≡ cut_at (known_sum size (items_of before)) bytes
+    → values_end version size (items_of before) bytes ≡ rest_beyond (known_sum size (items_of before)) bytes
 run version size before bytes none = run_ends version size (items_of before) bytes (none_vary before none)
 
 -- values that do not vary, one, and others
 pub one : (version size : ℕ) (front others : List (Numbered AttributeSpec)) (z : Numbered AttributeSpec)
     (bytes : List ℕ) → list_any varies (items_of front) ≡ false
     → values_end version size (items_of (front ++ z ∷ others)) bytes
-    ≡ (cut_at (known_sum size (items_of front)) bytes >>= λ mid. rest_at version z.item.form size mid >>= λ rest.
+    ≡ (rest_beyond (known_sum size (items_of front)) bytes >>= λ mid. rest_at version z.item.form size mid >>= λ rest.
     values_end version size (items_of others) rest)
 unfolding values_end
 one version size front others z bytes none = search (rules, items_append, ends_append, run)

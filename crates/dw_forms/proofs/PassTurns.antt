@@ -8,8 +8,8 @@ use Rattle.dw_forms.specs.declared.value.ValueFault.{ValueFault}
 use Rattle.dw_forms.specs.declared.attribute_lists.Node.{Node}
 use Rattle.dw_forms.specs.declared.attributes.Attributes.{Attributes}
 use Rattle.dw_forms.specs.Chains.{Numbered, items_of, number_where}
-use Rattle.dw_forms.specs.AttributeLists.{spec_of, numbered_in, list_in, varies, known_of, IsKnown, EndsWith}
-use Rattle.dw_forms.specs.KnownValues.{known_sum, cut_at, values_end}
+use Rattle.dw_forms.specs.AttributeLists.{spec_of, numbered_in, list_in, varies, known_with, IsKnown, EndsWith}
+use Rattle.dw_forms.specs.KnownValues.{known_sum, rest_beyond, values_end}
 use Rattle.dw_forms.specs.Sizes.{rest_at}
 use Rattle.dw_forms.specs.Steps.{◌>>=◌}
 use Rattle.dw_forms.specs.Suffixes.{nodes_of, specs_in, Ends}
@@ -34,7 +34,7 @@ pub record Turn (nodes : List Node) (size at to : ℕ) (before : List (Numbered 
   pub none : list_any varies (items_of front) ≡ false
   pub parts : before ≡ front ++ record { number = here.next_varying; item = spec_of varying } ∷ others
   pub goes_on : EndsWith nodes varying.next to others
-  pub sum : known_of size here ≡ known_sum size (items_of front) + known_of size varying
+  pub sum : known_with size here ≡ known_sum size (items_of front) + known_with size varying
   pub within : varying.next ≤ length nodes
   pub less : varying.next < at
 
@@ -97,30 +97,30 @@ module _ {all to : Attributes} {version size : ℕ} {bytes : List ℕ} {at : ℕ
       pub next_number : here.next_varying ≤ length (nodes_of all)
       next_number = let w = p.within in omega (arith, w, next_within)
 
-      here_sum : known_of size here ≡ known_sum size (list_in (nodes_of all) at)
+      here_sum : known_with size here ≡ known_sum size (list_in (nodes_of all) at)
       here_sum = known_is size (numbered_in (nodes_of all) at) here p.sized is.knows
 
       -- the values up to the end are cut off together
       module _ {sum : ℕ} (sum_is : sum ≡ known_sum size (specs_in to)) where
-        last_sum : known_of size here ≡ known_sum size (items_of p.left) + sum
+        last_sum : known_with size here ≡ known_sum size (items_of p.left) + sum
         last_sum =
             here_sum ∙ sum_goes size (nodes_of all) at to.first p.left p.goes
             ∙ ap (λ (n : ℕ). known_sum size (items_of p.left) + n)
             (sym (sum_is ∙ ap (λ (nodes : List Node). known_sum size (list_in nodes to.first)) p.nodes))
 
-        pub last_less : sum ≤ known_of size here
+        pub last_less : sum ≤ known_with size here
         last_less = omega (arith, last_sum)
 
-        pub last_cut : {len : ℕ} → len ≡ known_of size here → here.next_varying ≤ to.first
+        pub last_cut : {len : ℕ} → len ≡ known_with size here → here.next_varying ≤ to.first
             → (before : List (Numbered AttributeSpec)) → Ends all to before
-            → values_end version size (items_of before) bytes ≡ cut_at (len - sum) rest
+            → values_end version size (items_of before) bytes ≡ rest_beyond (len - sum) rest
         last_cut {len} len_is le before ends =
             let parts : number_where varies (p.left ++ numbered_in (nodes_of all) to.first)
             ≡ here.next_varying = ap (number_where varies) (sym p.goes) ∙ sym next_is in
             let none = none_before varies at to.first p.left (numbered_in (nodes_of all) to.first)
             (subst (Falls at) p.goes falling) to_starts (omega (arith, parts, le)) in
             let same : known_sum size (items_of p.left) ≡ len - sum = omega (arith, last_sum) in
-            sym (p.same before ends) ∙ run version size p.left rest none ∙ ap (λ (n : ℕ). cut_at n rest) same
+            sym (p.same before ends) ∙ run version size p.left rest none ∙ ap (λ (n : ℕ). rest_beyond n rest) same
 
       -- up to the next value of no one size
       pub next_turn : to.first < here.next_varying → {varying : Node}
@@ -152,10 +152,10 @@ module _ {all to : Attributes} {version size : ℕ} {bytes : List ℕ} {at : ℕ
 
   -- the values before it are cut off, it is passed, and the values after it are left
   module _ {here varying : Node} (t : Turn (nodes_of all) size at to.first p.left here varying) {a b : ℕ}
-      (a_is : a ≡ known_of size here) (b_is : b ≡ known_of size varying) where
+      (a_is : a ≡ known_with size here) (b_is : b ≡ known_with size varying) where
     passed : (before : List (Numbered AttributeSpec)) → Ends all to before
         → values_end version size (items_of before) bytes
-        ≡ (cut_at (a - b) rest >>= λ mid. rest_at version varying.form size mid >>= λ more. values_end version size
+        ≡ (rest_beyond (a - b) rest >>= λ mid. rest_at version varying.form size mid >>= λ more. values_end version size
         (items_of t.others) more)
     passed before ends =
         let all_sum = t.sum in
@@ -163,14 +163,15 @@ module _ {all to : Attributes} {version size : ℕ} {bytes : List ℕ} {at : ℕ
         sym (p.same before ends) ∙ ap (λ (list : List (Numbered AttributeSpec)). values_end version size (items_of list)
         rest) t.parts
         ∙ one version size t.front t.others (record { number = here.next_varying; item = spec_of varying }) rest t.none
-        ∙ ap (λ (n : ℕ). cut_at n rest >>= λ mid. rest_at version varying.form size mid >>= λ more. values_end version
+        ∙ ap (λ (n : ℕ). rest_beyond n rest >>= λ mid. rest_at version varying.form size mid >>= λ more. values_end
+        version
         size (items_of t.others) more) len
 
-    pub cut_fails : {f : ValueFault} → cut_at (a - b) rest ≡ Err f → (before : List (Numbered AttributeSpec))
+    pub cut_fails : {f : ValueFault} → rest_beyond (a - b) rest ≡ Err f → (before : List (Numbered AttributeSpec))
         → Ends all to before → values_end version size (items_of before) bytes ≡ Err f
     cut_fails e before ends = passed before ends ∙ rw e refl
 
-    module _ {mid : List ℕ} (cut : cut_at (a - b) rest ≡ Ok mid) where
+    module _ {mid : List ℕ} (cut : rest_beyond (a - b) rest ≡ Ok mid) where
       pub value_fails : {f : ValueFault} → rest_at version varying.form size mid ≡ Err f
           → (before : List (Numbered AttributeSpec)) → Ends all to before
           → values_end version size (items_of before) bytes ≡ Err f

@@ -11,7 +11,7 @@ use Rattle.dw_forms.specs.Chains.{Numbered, items_of, chain_in}
 use Rattle.dw_forms.specs.AbbrevReading.{has_code}
 use Rattle.dw_forms.specs.KeptDecls.{Tables, kept_view, table_in, tables_of}
 use Rattle.dw_forms.specs.Offsets.{NothingAt, AreAlong, AreNew}
-use Rattle.dw_forms.specs.TableStarts.{IsTableIn, AreStarts, Stay, NoTable, IsDeclAt, GoesOn, IsAddedTable}
+use Rattle.dw_forms.specs.TableStarts.{IsTableIn, AreStarts, Stay, NoTable, IsDeclAt, IsKeptOrEmpty, IsAddedTable}
 use Rattle.dw_forms.specs.Keys.{Lacks, lacks_from, lacks_test}
 use Rattle.dw_forms.specs.Abbrev.{code_of_decl}
 use Rattle.dw_forms.proofs.KeptLaws.{tables_long, table_none}
@@ -33,7 +33,7 @@ is_table_stays section old new offset number stay is = search (rules, length-app
 
 -- the table before which declarations were read
 pub goes_on : (nodes : List Node) (section : List ℕ) (kept : List KeptDecl) (starts : List ℕ) (offset rest : ℕ)
-    → AreStarts section (tables_of nodes kept) starts → GoesOn section starts offset rest
+    → AreStarts section (tables_of nodes kept) starts → IsKeptOrEmpty section starts offset rest
     → IsTableIn section (tables_of nodes kept) offset rest
 goes_on nodes section kept starts offset rest are (inl (some, begins)) = search (rules, begins_within)
 goes_on nodes section kept starts offset rest are (inr (none, is)) = search (rules, tables_long, table_none)

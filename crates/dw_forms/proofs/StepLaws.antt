@@ -5,13 +5,13 @@ use Rattle.dw_forms.specs.declared.attribute_lists.Step.{Step}
 use Rattle.dw_forms.specs.Chains.{Numbered}
 use Rattle.dw_forms.specs.KnownValues.{known_size}
 use Rattle.dw_forms.specs.declared.attribute_lists.Lead.{Lead}
-use Rattle.dw_forms.specs.LeadingWalks.{stops_at, step_in, skip_in, lead_of, lead_in, IsStep}
+use Rattle.dw_forms.specs.LeadingWalks.{stops_at, step_in, skip_in, lead_of, lead_in, IsFirstStep}
 
 module _ (number : ℕ) (spec : AttributeSpec) (list : List (Numbered AttributeSpec)) (after : Step)
-    (is : IsStep list after) where
+    (is : IsFirstStep list after) where
   -- the step is made to it
   pub step_here : (l : Lead) → l ≡ lead_of spec → stops_at after.to spec ≡ true
-      → IsStep (record { number = number; item = spec } ∷ list)
+      → IsFirstStep (record { number = number; item = spec } ∷ list)
       (record { lead = l; to = number; skip_with_4 = 0; skip_with_8 = 0 })
   unfolding step_in skip_in lead_in
   step_here l e stops = search (rules)
@@ -19,7 +19,7 @@ module _ (number : ℕ) (spec : AttributeSpec) (list : List (Numbered AttributeS
   -- or its value is passed
   pub step_past : (own_4 own_8 : ℕ) → own_4 ≡ known_size 4 spec.form → own_8 ≡ known_size 8 spec.form → own_4 ≤ 0xff
       → own_8 ≤ 0xff → stops_at after.to spec ≡ false
-      → IsStep (record { number = number; item = spec } ∷ list)
+      → IsFirstStep (record { number = number; item = spec } ∷ list)
       (record {
         lead = after.lead;
         to = after.to;

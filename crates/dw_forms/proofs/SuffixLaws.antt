@@ -12,7 +12,7 @@ use Rattle.dw_forms.specs.declared.value.ValueFault.{ValueFault}
 use Rattle.dw_forms.specs.AttributeLists.{IsKnown, spec_of, numbered_in, specs_of, has_this, varies}
 use Rattle.dw_forms.specs.Chains.{Numbered, items_of, number_where, number_in, codes_in}
 use Rattle.dw_forms.specs.FirstPlaces.{StandsFirst, ReadsFirst, value_behind}
-use Rattle.dw_forms.specs.KnownValues.{values_end, known_flag, flag_by, flag_in, known_sum, cut_at, whole_in}
+use Rattle.dw_forms.specs.KnownValues.{values_end, known_flag, flag_by, flag_in, known_sum, rest_beyond, whole_in}
 use Rattle.dw_forms.specs.Steps.{◌>>=◌}
 use Rattle.dw_forms.specs.Suffixes.{nodes_of, numbered, specs_in, Ends, IsFrom}
 use Rattle.dw_forms.specs.Value.{Datum}
@@ -132,7 +132,7 @@ whole_none a n is some = rw (some_has varies (numbered a) (λ e. some (is.knows.
 
 -- values that have one size each are cut off together
 pub whole_cut : (version size : ℕ) (list : List (Numbered AttributeSpec)) (bytes : List ℕ)
-    → Some size ≡ whole_in 8 (items_of list) → values_end version 8 (items_of list) bytes ≡ cut_at size bytes
+    → Some size ≡ whole_in 8 (items_of list) → values_end version 8 (items_of list) bytes ≡ rest_beyond size bytes
 whole_cut version size list bytes is = by_kind (list_any varies (items_of list)) refl
   where
     same : Some size ≡ Some (known_sum 8 (items_of list)) → size ≡ known_sum 8 (items_of list)
@@ -142,9 +142,9 @@ whole_cut version size list bytes is = by_kind (list_any varies (items_of list))
     other e = cc
 
     by_kind : (b : Bool) → list_any varies (items_of list) ≡ b
-        → values_end version 8 (items_of list) bytes ≡ cut_at size bytes
+        → values_end version 8 (items_of list) bytes ≡ rest_beyond size bytes
     by_kind true e = absurd (other (is ∙ rw e refl))
-    by_kind false e = run version 8 list bytes e ∙ ap (λ (n : ℕ). cut_at n bytes) (sym (same (is ∙ rw e refl)))
+    by_kind false e = run version 8 list bytes e ∙ ap (λ (n : ℕ). rest_beyond n bytes) (sym (same (is ∙ rw e refl)))
 
 -- ---- a flag, as its form says
 

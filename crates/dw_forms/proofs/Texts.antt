@@ -3,18 +3,18 @@ use Rattle.std.proofs.Common.{◌≡◌, ◌≢◌, ℕ, zero, suc, ◌+◌, ◌
 use Rattle.std.proofs.lemmas.List.{length-take-le}
 use Rattle.std.proofs.Math.Numerals.{add-one}
 use Rattle.dw_forms.specs.declared.value.ValueFault.TheVariants.{Cut}
-use Rattle.dw_forms.specs.BaseFormats.{text_at}
+use Rattle.dw_forms.specs.BaseFormats.{null_terminated_at}
 use Rattle.dw_forms.specs.ValueReading.{ended_at}
 
 pub text_none : (bytes : List ℕ) → ((j : ℕ) → j < length bytes → get_or bytes j 0 ≢ 0) → ended_at bytes ≡ Err Cut
-unfolding text_at
+unfolding null_terminated_at
 text_none [] h = refl
 text_none (zero ∷ bytes) h = absurd (h 0 (omega arith) refl)
 text_none (suc b ∷ bytes) h = rw (text_none bytes (λ j lt. h (suc j) (omega arith))) refl
 
 pub text_found : (bytes : List ℕ) (k : ℕ) → k < length bytes → ((j : ℕ) → j < k → get_or bytes j 0 ≢ 0)
     → get_or bytes k 0 ≡ 0 → ended_at bytes ≡ Ok (take k bytes, drop (suc k) bytes)
-unfolding text_at
+unfolding null_terminated_at
 text_found [] k lt before here = absurd (omega arith)
 text_found (zero ∷ bytes) zero lt before here = refl
 text_found (zero ∷ bytes) (suc k) lt before here = absurd (before 0 (omega arith) refl)

@@ -11,7 +11,7 @@ use Rattle.dw_forms.specs.AttributeLists.{spec_of, numbered_in, varies, IsKnown,
 use Rattle.dw_forms.specs.Chains.{Numbered, items_of}
 use Rattle.dw_forms.specs.KnownValues.{does_vary, known_size, known_sum}
 use Rattle.dw_forms.specs.declared.attribute_lists.Lead.TheVariants.{Nothing}
-use Rattle.dw_forms.specs.LeadingWalks.{does_lead, stops_at, step_in, skip_in, lead_of, lead_in, IsStep}
+use Rattle.dw_forms.specs.LeadingWalks.{does_lead, stops_at, step_in, skip_in, lead_of, lead_in, IsFirstStep}
 use Rattle.dw_forms.proofs.ChainLaws.{chain_none}
 use Rattle.dw_forms.proofs.LeadLaws.{lead_says}
 use Rattle.dw_forms.proofs.PartLaws.{known_at, none_both}
@@ -181,7 +181,8 @@ module _ (nodes : List Node) (known : AreKnown nodes) where
       walks_here (suc k) n (stops_at (step_in (numbered_in nodes n.next)) (spec_of n)) (omega arith) is refl
       (walks_to bound n.next (omega (arith, less, le)) (omega (arith, less, within)))
 
-  module _ (number : ℕ) (within : number ≤ length nodes) (step : Step) (is : IsStep (numbered_in nodes number) step)
+  module _ (number : ℕ) (within : number ≤ length nodes) (step : Step)
+      (is : IsFirstStep (numbered_in nodes number) step)
     where
       walks : Walks nodes number step.to
       walks = subst (Walks nodes number) (sym is.to) (walks_to number number (omega arith) within)

@@ -185,14 +185,14 @@ pub record AreDistinct {X : Type 0} (Good : X → Type 0) (key : X → ℕ) (xs 
   pub distinct : AllPairs (λ x y. key x ≢ key y) xs
 
 -- attributes that one declaration may have
-abbrev pub AreAttributes : List AttributeSpec → Type 0
-AreAttributes = AreDistinct (λ s. IsCode16 s.attribute) (λ s. s.attribute)
+abbrev pub AreAttributeSpecs : List AttributeSpec → Type 0
+AreAttributeSpecs = AreDistinct (λ s. IsCode16 s.attribute) (λ s. s.attribute)
 
 -- a declaration that a table may have; the code 0 ends the table
 pub record IsDeclaration (d : Declaration) : Type 0 where
   pub code : 0 < d.code
   pub tag : IsCode16 d.tag
-  pub attributes : AreAttributes d.attributes
+  pub attributes : AreAttributeSpecs d.attributes
 
 -- declarations that one table may have
 abbrev pub AreDeclarations : List Declaration → Type 0

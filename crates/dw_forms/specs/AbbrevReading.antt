@@ -41,8 +41,8 @@ abbrev pub attributes_of : List ℕ → Result (List AttributeSpec × List ℕ) 
 attributes_of = attributes.read
 
 -- the byte that says whether there are children
-abbrev pub children_at : List ℕ → Result (Bool × List ℕ) DeclFault
-children_at = children.read
+abbrev pub children_byte_at : List ℕ → Result (Bool × List ℕ) DeclFault
+children_byte_at = children.read
 
 -- a tag, and the byte that says whether there are children
 abbrev pub tagged_at : List ℕ → Result ((ℕ × Bool) × List ℕ) DeclFault

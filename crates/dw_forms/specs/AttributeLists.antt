@@ -5,14 +5,14 @@ use Rattle.std.specs.Prelude.{get_or, Bool, true, false, Option, Some, None}
 use Rattle.dw_forms.specs.declared.abbrev.AttributeSpec.{AttributeSpec}
 use Rattle.dw_forms.specs.declared.attribute_lists.Node.{Node}
 use Rattle.dw_forms.specs.declared.chains.Link.{Link}
-use Rattle.dw_forms.specs.Abbrev.{AreAttributes}
+use Rattle.dw_forms.specs.Abbrev.{AreAttributeSpecs}
 use Rattle.dw_forms.specs.AbbrevReading.{has_attribute}
 use Rattle.dw_forms.specs.Chains.{Numbered, items_of, chain_in, chains_of, number_where, codes_of}
 use Rattle.dw_forms.specs.KnownValues.{known_sum, does_vary}
 use Rattle.dw_forms.specs.Classes.{is_open}
 use Rattle.dw_forms.specs.AttributeBits.{AreBitsOf}
 use Rattle.dw_forms.specs.Sizes.{are_allowed}
-use Rattle.dw_forms.specs.LeadingWalks.{IsStep}
+use Rattle.dw_forms.specs.LeadingWalks.{IsFirstStep}
 
 -- the attribute of the node
 abbrev pub spec_of : Node → AttributeSpec
@@ -50,17 +50,17 @@ pub record Knows (list : List (Numbered AttributeSpec)) (n : Node) : Type 0 wher
   pub allowed : n.in_version_4 ≡ are_allowed 4 (items_of list)
 
 -- the known sum of the sizes where addresses have this size
-abbrev pub known_of : ℕ → Node → ℕ
-known_of size n = if size == 8 then n.known_with_8 else n.known_with_4
+abbrev pub known_with : ℕ → Node → ℕ
+known_with size n = if size == 8 then n.known_with_8 else n.known_with_4
 
 -- the node of this number tells what is known of the list that begins with it, which list comes after it, and the
 -- first step in that one
 pub record IsKnown (nodes : List Node) (number : ℕ) (n : Node) : Type 0 where
   pub next : n.next < number
   pub begins : numbered_in nodes number ≡ record { number = number; item = spec_of n } ∷ numbered_in nodes n.next
-  pub attributes : AreAttributes (list_in nodes number)
+  pub attributes : AreAttributeSpecs (list_in nodes number)
   pub knows : Knows (numbered_in nodes number) n
-  pub after : IsStep (numbered_in nodes n.next) n.after
+  pub after : IsFirstStep (numbered_in nodes n.next) n.after
 
 -- each node tells what is known of its list
 abbrev pub AreKnown : List Node → Type 0

@@ -106,10 +106,10 @@ pub record Ended (bytes content : List ℕ) : Type 0 where
   pub none_before : All (λ byte. 0 < byte) content
 
 -- the bytes before the first zero byte, and those after it
-unfoldable pub text_at : {E : Type 0} → E → List ℕ → Result (List ℕ × List ℕ) E
-text_at cut [] = Err cut
-text_at cut (zero ∷ bytes) = Ok ([], bytes)
-text_at cut (suc byte ∷ bytes) = text_at cut bytes >>= λ t. Ok (suc byte ∷ t.0, t.1)
+unfoldable pub null_terminated_at : {E : Type 0} → E → List ℕ → Result (List ℕ × List ℕ) E
+null_terminated_at cut [] = Err cut
+null_terminated_at cut (zero ∷ bytes) = Ok ([], bytes)
+null_terminated_at cut (suc byte ∷ bytes) = null_terminated_at cut bytes >>= λ t. Ok (suc byte ∷ t.0, t.1)
 
 -- no zero byte ends the text
 abbrev pub TextFails : {E : Type 0} → E → List ℕ → E → Type 0
@@ -128,44 +128,46 @@ module _ {E : Type 0} (cut : E) where
   }
 
   pub text_says : (bytes : List ℕ)
-      → MatchResult (text_at cut bytes) (λ (x : List ℕ × List ℕ). Takes Ended bytes x.0 x.1) (TextFails cut bytes)
-  unfolding text_at
+      → MatchResult (null_terminated_at cut bytes) (λ (x : List ℕ × List ℕ). Takes Ended bytes x.0 x.1)
+      (TextFails cut bytes)
+  unfolding null_terminated_at
   text_says [] = (All-nil (λ b. 0 < b), refl)
   text_says (zero ∷ bytes) =
       record { text = 0 ∷ []; parts = refl; spelled = record { parts = refl; none_before = All-nil (λ b. 0 < b) } }
   text_says (suc b ∷ bytes) =
-      bind_says (text_at cut bytes) (λ t. Ok (suc b ∷ t.0, t.1))
+      bind_says (null_terminated_at cut bytes) (λ t. Ok (suc b ∷ t.0, t.1))
       (λ (x : List ℕ × List ℕ). Takes Ended bytes x.0 x.1) (TextFails cut bytes)
       (λ (x : List ℕ × List ℕ). Takes Ended (suc b ∷ bytes) x.0 x.1) (TextFails cut (suc b ∷ bytes))
       (text_says bytes) (λ t h. text_takes b bytes t.0 t.1 h)
       (λ f h. (All-cons (λ c. 0 < c) (suc b) bytes (omega arith) h.0, h.1))
 
   ended_again : (content rest : List ℕ) → All (λ b. 0 < b) content
-      → text_at cut (content ++ (0 ∷ rest)) ≡ Ok (content, rest)
-  unfolding text_at
+      → null_terminated_at cut (content ++ (0 ∷ rest)) ≡ Ok (content, rest)
+  unfolding null_terminated_at
   ended_again [] rest h = refl
   ended_again (zero ∷ content) rest h = absurd (omega (arith, All-head (λ b. 0 < b) zero content h))
   ended_again (suc b ∷ content) rest h =
       rw (ended_again content rest (All-tail (λ b. 0 < b) (suc b) content h)) refl
 
-  pub text_again : (text rest content : List ℕ) → Ended text content → text_at cut (text ++ rest) ≡ Ok (content, rest)
+  pub text_again : (text rest content : List ℕ) → Ended text content
+      → null_terminated_at cut (text ++ rest) ≡ Ok (content, rest)
   text_again text rest content e =
-      ap (λ (t : List ℕ). text_at cut (t ++ rest)) e.parts
-      ∙ ap (text_at cut) (append_assoc content (0 ∷ []) rest) ∙ ended_again content rest e.none_before
+      ap (λ (t : List ℕ). null_terminated_at cut (t ++ rest)) e.parts
+      ∙ ap (null_terminated_at cut) (append_assoc content (0 ∷ []) rest) ∙ ended_again content rest e.none_before
 
-  endless : (bytes : List ℕ) → All (λ byte. 0 < byte) bytes → text_at cut bytes ≡ Err cut
-  unfolding text_at
+  endless : (bytes : List ℕ) → All (λ byte. 0 < byte) bytes → null_terminated_at cut bytes ≡ Err cut
+  unfolding null_terminated_at
   endless [] h = refl
   endless (zero ∷ bytes) h = absurd (omega (arith, All-head (λ b. 0 < b) zero bytes h))
   endless (suc b ∷ bytes) h = rw (endless bytes (All-tail (λ b. 0 < b) (suc b) bytes h)) refl
 
-  pub text_refuses : (bytes : List ℕ) (e : E) → TextFails cut bytes e → text_at cut bytes ≡ Err e
+  pub text_refuses : (bytes : List ℕ) (e : E) → TextFails cut bytes e → null_terminated_at cut bytes ≡ Err e
   text_refuses bytes e h = endless bytes h.0 ∙ ap (λ (x : E). Err x) (sym h.1)
 
   -- bytes up to a zero byte, or this fault where none is zero
   abbrev pub zero_ended : Format (List ℕ) E
   zero_ended = record {
-    read = text_at cut;
+    read = null_terminated_at cut;
     Spells = Ended;
     Fails = TextFails cut;
     is_reader = record { says = text_says; again = text_again };

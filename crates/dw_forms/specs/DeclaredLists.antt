@@ -9,7 +9,7 @@ use Rattle.dw_forms.specs.AttributeLists.{has_this, list_in, numbered_in, varies
 use Rattle.dw_forms.specs.Chains.{Numbered, items_of, number_where}
 use Rattle.dw_forms.specs.Codes.{DW_AT_declaration}
 use Rattle.dw_forms.specs.KnownValues.{flag_in, known_sum, whole_in}
-use Rattle.dw_forms.specs.LeadingWalks.{IsStep}
+use Rattle.dw_forms.specs.LeadingWalks.{IsFirstStep}
 
 -- the attributes before the first one with this code, or all
 abbrev pub before_code : ℕ → List AttributeSpec → List AttributeSpec
@@ -30,5 +30,5 @@ pub record HasList (nodes : List Node) (first : ℕ) (s : Step) (p : KnownPlace)
   pub within : first ≤ length nodes
   pub declared : known ≡ flag_in DW_AT_declaration (list_in nodes first)
   pub whole_is : whole ≡ whole_in 8 (list_in nodes first)
-  pub step : IsStep (numbered_in nodes first) s
+  pub step : IsFirstStep (numbered_in nodes first) s
   pub placed : IsPlaced (numbered_in nodes first) p

@@ -53,11 +53,11 @@ module _ {H X E : Type 0} (of : Elements H X E) (earlier : List X) where
   abbrev is_known : H → Bool
   is_known h = list_any (λ x. of.key x == of.name h) earlier
 
-  abbrev pub rest_at : H → List ℕ → Result (Option X × List ℕ) E
-  rest_at h bytes = cond (is_known h) (Err (of.twice h)) ((of.rest h).read bytes >>= λ x. Ok (Some x.0, x.1))
+  abbrev pub rest_after_head : H → List ℕ → Result (Option X × List ℕ) E
+  rest_after_head h bytes = cond (is_known h) (Err (of.twice h)) ((of.rest h).read bytes >>= λ x. Ok (Some x.0, x.1))
 
   unfoldable pub next_at : List ℕ → Result (Option X × List ℕ) E
-  next_at bytes = of.head.read bytes >>= λ o. on_option o.0 (Ok (None, o.1)) (λ h. rest_at h o.1)
+  next_at bytes = of.head.read bytes >>= λ o. on_option o.0 (Ok (None, o.1)) (λ h. rest_after_head h o.1)
 
   abbrev Next : List ℕ → Option X → Type 0
   Next = NextOf of.key (SpellsElement of) (SpellsEnd of) earlier
@@ -81,7 +81,7 @@ module _ {H X E : Type 0} (of : Elements H X E) (earlier : List X) where
   }
 
   rest_says : (bytes : List ℕ) (o : Option H) (rest : List ℕ) → Takes of.head.Spells bytes o rest
-      → MatchResult (on_option o (Ok (None, rest)) (λ h. rest_at h rest))
+      → MatchResult (on_option o (Ok (None, rest)) (λ h. rest_after_head h rest))
       (λ (x : Option X × List ℕ). Takes Next bytes x.0 x.1) (NextFails of earlier bytes)
   rest_says bytes None rest t = record { text = t.text; parts = t.parts; spelled = t.spelled }
   rest_says bytes (Some h) rest t =
@@ -99,7 +99,7 @@ module _ {H X E : Type 0} (of : Elements H X E) (earlier : List X) where
       (NextFails of earlier bytes)
   unfolding next_at
   next_says bytes =
-      bind_says (of.head.read bytes) (λ o. on_option o.0 (Ok (None, o.1)) (λ h. rest_at h o.1))
+      bind_says (of.head.read bytes) (λ o. on_option o.0 (Ok (None, o.1)) (λ h. rest_after_head h o.1))
       (λ (o : Option H × List ℕ). Takes of.head.Spells bytes o.0 o.1) (of.head.Fails bytes)
       (λ (x : Option X × List ℕ). Takes Next bytes x.0 x.1) (NextFails of earlier bytes)
       (of.head.is_reader.says bytes) (λ o t. rest_says bytes o.0 o.1 t) (λ e h. no_head h)

@@ -43,8 +43,8 @@ whole_in size specs =
     if list_any (λ (spec : AttributeSpec). does_vary spec.form) specs then None else Some (known_sum size specs)
 
 -- the bytes after so many
-abbrev pub cut_at : ℕ → List ℕ → Result (List ℕ) ValueFault
-cut_at len bytes = if nat_lt (length bytes) len then Err Cut else Ok (drop len bytes)
+abbrev pub rest_beyond : ℕ → List ℕ → Result (List ℕ) ValueFault
+rest_beyond len bytes = if nat_lt (length bytes) len then Err Cut else Ok (drop len bytes)
 
 -- the bytes after the values of these attributes, which are read one after another
 unfoldable pub values_end : ℕ → ℕ → List AttributeSpec → List ℕ → Result (List ℕ) ValueFault

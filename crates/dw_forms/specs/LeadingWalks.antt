@@ -70,7 +70,7 @@ lead_in [] = lead.Nothing
 lead_in (n ∷ list) = if stops_at (step_in list) n.item then lead_of n.item else lead_in list
 
 -- this is the first step in the list
-pub record IsStep (list : List (Numbered AttributeSpec)) (s : Step) : Type 0 where
+pub record IsFirstStep (list : List (Numbered AttributeSpec)) (s : Step) : Type 0 where
   pub lead : s.lead ≡ lead_in list
   pub to : s.to ≡ step_in list
   pub with_4 : s.skip_with_4 ≡ skip_in 4 list

@@ -34,7 +34,7 @@ pub record IsPairAt (section : List ℕ) (offset : ℕ) (spec : AttributeSpec) (
   pub fits : next ≤ length section
 
 -- the attributes, at which no list begins that is kept, go on as the list of this number, which ends at an offset
-pub record Leads (section : List ℕ) (nodes : List Node) (starts : List ℕ) (pairs : List (Placed AttributeSpec))
+pub record LeadsToList (section : List ℕ) (nodes : List Node) (starts : List ℕ) (pairs : List (Placed AttributeSpec))
     (offset first end : ℕ) : Type 0 where
   pub next : ℕ
   pub along : AreAlong (IsPairAt section) pairs offset next

@@ -8,7 +8,7 @@ use Rattle.dw_forms.specs.declared.decl.DeclAt.{DeclAt}
 use Rattle.dw_forms.specs.declared.attribute_lists.Step.{Step}
 use Rattle.dw_forms.specs.Chains.{Numbered, items_of, number_where}
 use Rattle.dw_forms.specs.AttributeLists.{numbered_in, EndsWith}
-use Rattle.dw_forms.specs.LeadingWalks.{IsStep}
+use Rattle.dw_forms.specs.LeadingWalks.{IsFirstStep}
 
 -- all attributes that are kept
 abbrev pub nodes_of : Attributes → List Node
@@ -45,4 +45,4 @@ IsSplitFirst all (Some found) = Ends all found.1 (record { number = all.first; i
 abbrev pub IsSplitStep : Attributes → Option (AttributeSpec × Attributes × Bor Step) → Type 0
 IsSplitStep all None = specs_in all ≡ []
 IsSplitStep all (Some found) =
-    Ends all found.1 (record { number = all.first; item = found.0 } ∷ []) × IsStep (numbered found.1) found.2.now
+    Ends all found.1 (record { number = all.first; item = found.0 } ∷ []) × IsFirstStep (numbered found.1) found.2.now

@@ -41,8 +41,8 @@ IsNextAt section nodes offset (Some d) next = IsDeclAt section nodes offset d ne
 IsNextAt section nodes offset None next = decl_at [] (drop offset section) ≡ Ok (None, drop next section)
 
 -- the table that begins at this offset was kept, or it has no declarations
-abbrev pub GoesOn : List ℕ → List ℕ → ℕ → ℕ → Type 0
-GoesOn section starts offset rest = ((0 < rest) × BeginsAt starts rest offset)
+abbrev pub IsKeptOrEmpty : List ℕ → List ℕ → ℕ → ℕ → Type 0
+IsKeptOrEmpty section starts offset rest = ((0 < rest) × BeginsAt starts rest offset)
     ⊎ ((rest ≡ 0) × (table_at section offset ≡ Ok []))
 
 -- declarations from an offset of the section on, with which no table begins that is kept, and the table after them
@@ -51,7 +51,7 @@ pub record IsFront (section : List ℕ) (nodes : List Node) (starts : List ℕ) 
   pub end : ℕ
   pub along : AreAlong (IsDeclAt section nodes) decls offset end
   pub new : AreNew starts decls
-  pub goes_on : GoesOn section starts end rest
+  pub goes_on : IsKeptOrEmpty section starts end rest
 
 -- the declaration and the table of this number are a new table, unless the code is in that table
 abbrev pub IsAddedTable : Declaration → ℕ → Tables → Tables → Option ℕ → Type 0

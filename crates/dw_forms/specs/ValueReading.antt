@@ -4,7 +4,7 @@ use Rattle.dw_forms.specs.declared.form.Form.{Form}
 use Rattle.dw_forms.specs.declared.value.Value.{Value}
 use Rattle.dw_forms.specs.declared.value.ValueFault.{ValueFault}
 use Rattle.dw_forms.specs.declared.value.ValueFault.TheVariants.{Cut}
-use Rattle.dw_forms.specs.BaseFormats.{taken_at, text_at, fixed_number}
+use Rattle.dw_forms.specs.BaseFormats.{taken_at, null_terminated_at, fixed_number}
 use Rattle.dw_forms.specs.Value.{Datum, view, Layout, leb_number, counted_bytes, leb_counted_bytes}
 use Rattle.dw_forms.specs.Value.{laid_out, named_value, attribute_value}
 
@@ -35,7 +35,7 @@ leb_counted_at = leb_counted_bytes.read
 
 -- the bytes before a zero byte
 abbrev pub ended_at : List ℕ → Result (List ℕ × List ℕ) ValueFault
-ended_at = text_at Cut
+ended_at = null_terminated_at Cut
 
 -- the value in a layout
 abbrev pub layout_at : Layout → List ℕ → Result (Datum × List ℕ) ValueFault

@@ -6,7 +6,7 @@ ghost use Rattle.dw_forms.specs.Front.{BeginsWith, BeginsWithNone};
 ghost use Rattle.dw_forms.specs.Abbrev.{table_view, Decls, IsCode16, TableFails};
 ghost use Rattle.dw_forms.specs.AttributesSoFar.{AreSeen};
 ghost use Rattle.dw_forms.specs.AbbrevReading.{has_attribute, has_code, unsigned_at, signed_at};
-ghost use Rattle.dw_forms.specs.AbbrevReading.{form_at, begun_at, pair_at, tagged_at, attributes_of, children_at};
+ghost use Rattle.dw_forms.specs.AbbrevReading.{form_at, begun_at, pair_at, tagged_at, attributes_of, children_byte_at};
 ghost use Rattle.dw_forms.specs.AbbrevReading.{decl_at, table_at};
 ghost use Rattle.dw_forms.specs.AbbrevFaults.{fault_at};
 ghost use Rattle.dw_forms.specs.Formats.{as_other};
@@ -156,7 +156,7 @@ fn read_attributes(
 
 /// The byte that says whether entries have children, and the bytes after it.
 fn read_children(bytes: &[u8]) -> Result<(bool, &[u8]), DeclFault>
-    ensures exact { Gives (λ x. (x.0, x.1.now)) result (children_at bytes.now) }
+    ensures exact { Gives (λ x. (x.0, x.1.now)) result (children_byte_at bytes.now) }
     ensures shorter { IfOk result (λ x. length x.1.now < length bytes.now) }
 {
     match bytes {

@@ -3,7 +3,7 @@
 ghost use Rattle.std.specs.Prelude.{◌≡◌, ◌≤◌, ◌<◌, ◌∷◌, List, [], length, IfOk, if◌then◌else◌};
 ghost use Rattle.dw_forms.specs.KnownValues.{known_size, does_vary};
 ghost use Rattle.dw_forms.specs.LeadingWalks.{may_lead, does_lead, stops_at, reference_lead, value_lead, lead_of};
-ghost use Rattle.dw_forms.specs.LeadingWalks.{IsStep};
+ghost use Rattle.dw_forms.specs.LeadingWalks.{IsFirstStep};
 ghost use Rattle.dw_forms.specs.declared.abbrev.AttributeSpec.{AttributeSpec as SpecData};
 ghost use Rattle.dw_forms.specs.Chains.{Numbered};
 ghost use Rattle.dw_forms.specs.Abbrev.{IsCode16};
@@ -141,7 +141,7 @@ pub struct Step {
 
 /// The step in no attributes.
 pub(crate) fn no_step() -> Step
-    ensures { IsStep [] result }
+    ensures { IsFirstStep [] result }
 {
     Step {
         lead: Lead::Nothing,
@@ -163,8 +163,8 @@ fn stops_at(next: u32, spec: &AttributeSpec) -> bool
 pub(crate) fn step_before(number: u32, spec: &AttributeSpec, after: Step) -> Step
     requires small_4 { after.skip_with_4 ≤ 0xffffff }
     requires small_8 { after.skip_with_8 ≤ 0xffffff }
-    ensures { (list : List (Numbered SpecData)) → IsStep list after
-        → IsStep (record { number = number; item = spec.now } ∷ list) result }
+    ensures { (list : List (Numbered SpecData)) → IsFirstStep list after
+        → IsFirstStep (record { number = number; item = spec.now } ∷ list) result }
 {
     if stops_at(after.to, spec) {
         return Step {
@@ -303,7 +303,7 @@ impl AttributeLists {
     /// The first step in the list of a number.
     pub(crate) fn step(&self, number: u32) -> Step
         requires { number ≤ length self.now.nodes.items }
-        ensures step { IsStep (numbered_in self.now.nodes.items number) result }
+        ensures step { IsFirstStep (numbered_in self.now.nodes.items number) result }
     {
         if number == 0 {
             return no_step();

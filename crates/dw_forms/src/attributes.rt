@@ -3,13 +3,13 @@
 ghost use Rattle.std.specs.Prelude.{◌≡◌, ◌≢◌, ◌≤◌, ◌⊎◌, ◌↔◌, List, [], length, All, IfSome, IfNone, IsTrue};
 ghost use Rattle.dw_forms.specs.declared.abbrev.AttributeSpec.{AttributeSpec as SpecData};
 ghost use Rattle.dw_forms.specs.Chains.{Numbered, items_of};
-ghost use Rattle.dw_forms.specs.AttributeLists.{known_of, has_this, IsKnown};
+ghost use Rattle.dw_forms.specs.AttributeLists.{known_with, has_this, IsKnown};
 ghost use Rattle.dw_forms.specs.FirstPlaces.{AnswersFirst};
-ghost use Rattle.dw_forms.specs.KnownValues.{cut_at, flag_in, known_flag, known_sum, values_end, whole_in};
+ghost use Rattle.dw_forms.specs.KnownValues.{rest_beyond, flag_in, known_flag, known_sum, values_end, whole_in};
 ghost use Rattle.dw_forms.specs.Classes.{is_open};
 ghost use Rattle.dw_forms.specs.Sizes.{are_allowed, rest_at};
 ghost use Rattle.dw_forms.specs.ValueReading.{Gives};
-ghost use Rattle.dw_forms.specs.LeadingWalks.{IsStep};
+ghost use Rattle.dw_forms.specs.LeadingWalks.{IsFirstStep};
 
 use crate::abbrev::AttributeSpec;
 use crate::attribute_lists::{AttributeLists, Node, Step};
@@ -30,7 +30,7 @@ pub struct Attributes<'a> {
 /// The sum of the known sizes from a node on.
 #[inline(always)]
 pub(crate) fn known(node: &Node, address_size: u8) -> usize
-    ensures { result ≡ known_of address_size node.now }
+    ensures { result ≡ known_with address_size node.now }
 {
     if address_size == 8 {
         node.known_with_8 as usize
@@ -52,7 +52,7 @@ fn known_flag(form: Form) -> Option<bool>
 /// The bytes after so many.
 #[inline(always)]
 pub(crate) fn cut_at(bytes: &[u8], len: usize) -> Result<&[u8], ValueFault>
-    ensures { Gives (λ rest. rest.now) result (cut_at len bytes.now) }
+    ensures { Gives (λ rest. rest.now) result (rest_beyond len bytes.now) }
 {
     if bytes.len() < len {
         return Err(ValueFault::Cut);
@@ -175,7 +175,7 @@ impl<'a> Attributes<'a> {
 
     /// The attributes from the one on that a step from these goes to, or none.
     pub fn stepped(&self, step: &Step) -> Attributes<'a>
-        requires { IsStep (numbered self.now) step.now }
+        requires { IsFirstStep (numbered self.now) step.now }
         ensures nodes { nodes_of result ≡ nodes_of self.now }
         ensures first { result.first ≡ step.now.to }
     {

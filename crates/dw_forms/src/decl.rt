@@ -90,7 +90,7 @@ impl<'a> DeclAt<'a> {
     ghost use Rattle.dw_forms.specs.Sizes.{are_allowed};
     ghost use Rattle.dw_forms.specs.Suffixes.{numbered, numbered_of, specs_in};
     ghost use Rattle.dw_forms.specs.FirstPlaces.{AnswersFirst};
-    ghost use Rattle.dw_forms.specs.LeadingWalks.{IsStep};
+    ghost use Rattle.dw_forms.specs.LeadingWalks.{IsFirstStep};
 
     /// A declaration with the lists of its attributes.
     pub(crate) fn new(kept: &'a KeptDecl, lists: &'a AttributeLists) -> DeclAt<'a>
@@ -132,7 +132,7 @@ impl<'a> DeclAt<'a> {
 
     /// The step to the first attribute at which a walk over the values that may lead elsewhere stops.
     pub fn step(&self) -> &'a Step
-        ensures { IsStep (numbered_of self.now) result.now }
+        ensures { IsFirstStep (numbered_of self.now) result.now }
     {
         &self.kept.step
     }

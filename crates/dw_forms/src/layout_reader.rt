@@ -63,7 +63,7 @@ pub(crate) fn block(bytes: &[u8], len: u64) -> Result<&[u8], ValueFault>
 }
 
 /// The bytes before the first zero byte.
-#[tactic(auto, unfolding(crate::specs::BaseFormats::text_at))]
+#[tactic(auto, unfolding(crate::specs::BaseFormats::null_terminated_at))]
 pub(crate) fn text(bytes: &[u8]) -> Result<&[u8], ValueFault>
     ensures within { IfOk result (λ text. length text.now + 1 ≤ length bytes.now) }
     ensures exact { Gives (λ text. (text.now, drop (length text.now + 1) bytes.now)) result (ended_at bytes.now) }

@@ -2,7 +2,7 @@
 
 ghost use Rattle.std.specs.Prelude.{◌≡◌, ◌<◌, ◌≤◌, ℕ, List, [], length, drop, IfOk, IfErr, OnOk};
 ghost use Rattle.dw_forms.specs.AbbrevReading.{pair_at};
-ghost use Rattle.dw_forms.specs.ListOffsets.{IsListAt, ArePlaced, AreListsOf, MoreLists, NoListAt, Leads};
+ghost use Rattle.dw_forms.specs.ListOffsets.{IsListAt, ArePlaced, AreListsOf, MoreLists, NoListAt, LeadsToList};
 ghost use Rattle.dw_forms.specs.Offsets.{AreKnownFrom, IsOffset};
 ghost use Rattle.dw_forms.specs.Stops.{IfFault};
 ghost use Rattle.dw_forms.specs.ValueReading.{Gives};
@@ -68,7 +68,7 @@ fn read_pairs(
     requires placed { ArePlaced section.now lists.now.nodes.items starts.now.starts.items ends.now }
     requires known { AreKnownFrom offset starts.now.starts.items starts.now.numbers.items }
     ensures leads { IfOk result (λ x.
-        Leads section.now lists.now.nodes.items starts.now.starts.items pairs.new.items offset x.0 x.1) }
+        LeadsToList section.now lists.now.nodes.items starts.now.starts.items pairs.new.items offset x.0 x.1) }
     ensures fault { IfErr result (IfFault (λ _. NoListAt section.now offset)) }
 {
     let mut at = offset;
@@ -123,8 +123,8 @@ impl KeptLists {
     ) -> Result<u32, Stop<DeclFault>>
         requires fits { length section.now < 0xffffffff }
         requires lists { AreListsOf section.now self.old }
-        requires leads { Leads section.now self.old.lists.nodes.items self.old.starts.starts.items self.old.pairs.items
-            offset rest end }
+        requires leads { LeadsToList section.now self.old.lists.nodes.items self.old.starts.starts.items
+            self.old.pairs.items offset rest end }
         ensures list { IfOk result (λ first. IsListAt section.now self.new.lists.nodes.items offset first end) }
         ensures more { OnOk result (MoreLists section.now self.old self.new) }
         ensures fault { IfErr result (IfFault (λ _. NoListAt section.now offset)) }

@@ -23,7 +23,7 @@ use Rattle.dw_entries.proofs.RunLaws.{one_at, in_is_at}
 use Rattle.dw_entries.proofs.NumberOrder.{three_ways}
 use Rattle.dw_entries.specs.UnitLaws.{unit_some}
 use Rattle.dw_links.specs.References.{IsSignedBefore, HasType, TypeUnitFails, HeaderFails, AtHeader, HeaderFailures, AttributeFailures}
-use Rattle.dw_links.specs.Signatures.{type_unit_of, HasSignature, AreDistinct}
+use Rattle.dw_links.specs.Signatures.{type_unit_of, HasSignature, HaveDistinctSignatures}
 use Rattle.dw_links.specs.SignedTypes.{IsSignedType, AreSignedBelow}
 use Rattle.dw_links.specs.Targets.{type_of_unit}
 
@@ -135,7 +135,7 @@ signed_twice entries units s i j none less has_i has_j =
     })
 
 pub distinct_from : (entries : List Entry) (units : List PlacedUnit) → HasNone (HeaderFailures entries units)
-    → AreDistinct units
+    → HaveDistinctSignatures units
 distinct_from entries units none s i j has_i has_j =
     elim (three_ways i j) [
       | inl (inl less) ↦ absurd (signed_twice entries units s i j none less has_i has_j)

@@ -25,7 +25,7 @@ use Rattle.dw_forms.specs.Codes.{DW_AT_language}
 use Rattle.dw_links.specs.Bases.{section_offset_in, base_in, bases_in}
 use Rattle.dw_links.specs.Constants.{constant_of, language_of}
 use Rattle.dw_links.specs.declared.constant.Constant.{Constant}
-use Rattle.dw_links.specs.Tables.{type_target, AreTables}
+use Rattle.dw_links.specs.Tables.{target_of_type, AreTables}
 use Rattle.dw_links.specs.Targets.{entry_past, reach_in_info, target_of}
 use Rattle.dw_links.proofs.TargetLemmas.{reached_within}
 use Rattle.dw_links.specs.declared.tables.LinkTables.{LinkTables}
@@ -52,9 +52,9 @@ mapped {X} {Y} f xs items i x found all is read =
 pub kept_target : (entries : Entries) (tables : LinkTables) (id number : ℕ) (found : Option ℕ)
     → AreTables entries tables → id < length (all_entries entries) → number ≡ id
     → found ≡ get_or tables.types.items number found
-    → found ≡ type_target (all_entries entries) (all_units entries) (entry_of (all_entries entries) id)
+    → found ≡ target_of_type (all_entries entries) (all_units entries) (entry_of (all_entries entries) id)
 kept_target entries tables id number found are below same read =
-    mapped (type_target (all_entries entries) (all_units entries)) (all_entries entries) tables.types.items id
+    mapped (target_of_type (all_entries entries) (all_units entries)) (all_entries entries) tables.types.items id
     (entry_of (all_entries entries) id) found are.types (slice_get-get_or (all_entries entries) id no_entry below)
     (read ∙ ap (λ (n : ℕ). get_or tables.types.items n found) same)
 

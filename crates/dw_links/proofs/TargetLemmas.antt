@@ -15,9 +15,9 @@ use Rattle.dw_entries.specs.EntriesAt.{IsEntryIn, ReachesInUnit}
 use Rattle.dw_links.proofs.TypeUnitLemmas.{none_there}
 use Rattle.dw_links.proofs.ListLookups.{there}
 use Rattle.dw_links.specs.LinkLaws.{IsEntryPast, ReachesInInfo, ReachesBySignature}
-use Rattle.dw_links.specs.Signatures.{type_unit_of, HasSignature, is_signature_of, first_signed, AreDistinct}
+use Rattle.dw_links.specs.Signatures.{type_unit_of, HasSignature, is_signature_of, first_signed, HaveDistinctSignatures}
 use Rattle.dw_links.specs.SignedTypes.{IsFirstSigned, IsSignedType}
-use Rattle.dw_links.specs.Targets.{entry_past, entry_in, reach_in_info, reach_in_unit, type_of_unit, signed_type}
+use Rattle.dw_links.specs.Targets.{entry_past, entry_number_at, reach_in_info, reach_in_unit, type_of_unit, signed_type}
 use Rattle.dw_links.specs.Targets.{reach_of}
 
 -- no item before a place passes the test
@@ -115,10 +115,11 @@ each_true : (a b : Bool) → (a && b) ≡ true → (a ≡ true) × (b ≡ true)
 each_true true b is = (refl, is)
 each_true false b is = absurd cc
 
-pub entry_in_is : (entries : List Entry) (unit offset id : ℕ) → OffsetsRise entries → IsEntryIn entries unit offset id
-    → entry_in entries unit offset ≡ Some id
-unfolding entry_in
-entry_in_is entries unit offset id rise found =
+pub entry_number_is : (entries : List Entry) (unit offset id : ℕ) → OffsetsRise entries
+    → IsEntryIn entries unit offset id
+    → entry_number_at entries unit offset ≡ Some id
+unfolding entry_number_at
+entry_number_is entries unit offset id rise found =
     let e = entry_of entries id in
     let is = slice_get-get_or entries id no_entry found.within in
     let begins = found.begins in
@@ -132,10 +133,10 @@ entry_in_is entries unit offset id rise found =
           (and-false (d.unit == unit));
     })
 
-pub at_entry_in : (entries : List Entry) (unit offset id : ℕ) → entry_in entries unit offset ≡ Some id
+pub at_entry_number : (entries : List Entry) (unit offset id : ℕ) → entry_number_at entries unit offset ≡ Some id
     → IsEntryIn entries unit offset id
-unfolding entry_in
-at_entry_in entries unit offset id is =
+unfolding entry_number_at
+at_entry_number entries unit offset id is =
     let first = place_is (λ (e : Entry). e.unit == unit && e.at == offset) entries id is in
     let both = each_true (first.item.unit == unit) (first.item.at == offset) first.passes in
     let same = get_or_from_slice_get entries id first.item no_entry first.is_item in
@@ -190,19 +191,19 @@ pub reach_in_unit_is : (entries : List Entry) (units : List PlacedUnit) (unit of
     → ReachesInUnit entries units unit offset id → reach_in_unit entries units unit offset ≡ Some id
 reach_in_unit_is entries units unit offset id rise reached =
     rw (slice_get-get_or units unit no_placed reached.unit_within)
-    (entry_in_is entries unit ((placed_of units unit).at + offset) id rise reached.target)
+    (entry_number_is entries unit ((placed_of units unit).at + offset) id rise reached.target)
 
 pub at_reach_in_unit : (entries : List Entry) (units : List PlacedUnit) (unit offset id : ℕ)
     → reach_in_unit entries units unit offset ≡ Some id → ReachesInUnit entries units unit offset id
 at_reach_in_unit entries units unit offset id is =
-    option_and_then_some (λ (u : PlacedUnit). entry_in entries unit (u.at + offset)) (slice_get units unit) id is
+    option_and_then_some (λ (u : PlacedUnit). entry_number_at entries unit (u.at + offset)) (slice_get units unit) id is
     (λ u is_u found.
     let same = get_or_from_slice_get units unit u no_placed is_u in
     record {
       unit_within = slice_get_within units unit u is_u;
       target =
-          at_entry_in entries unit ((placed_of units unit).at + offset) id
-          (ap (λ (x : PlacedUnit). entry_in entries unit (x.at + offset)) same ∙ found);
+          at_entry_number entries unit ((placed_of units unit).at + offset) id
+          (ap (λ (x : PlacedUnit). entry_number_at entries unit (x.at + offset)) same ∙ found);
     })
 
 pub reach_in_unit_answer : (entries : List Entry) (units : List PlacedUnit) (unit offset : ℕ) (answer : Option ℕ)
@@ -303,7 +304,7 @@ at_type entries units signature id is =
     })
 
 pub type_is : (entries : List Entry) (units : List PlacedUnit) (signature id : ℕ) → OffsetsRise entries
-    → AreDistinct units → ReachesBySignature entries units signature id
+    → HaveDistinctSignatures units → ReachesBySignature entries units signature id
     → option_and_then (type_of_unit entries units) (first_signed units signature) ≡ Some id
 type_is entries units signature id rise distinct reached =
     let within = slice_get_within units reached.number reached.has.unit reached.has.is_unit in

@@ -5,7 +5,7 @@ use Rattle.std.proofs.lemmas.List.{take_more_set}
 use Rattle.std.proofs.lemmas.Option.{slice_get_within}
 use Rattle.dw_entries.specs.declared.entries.Entries.{Entries}
 use Rattle.dw_entries.specs.Units.{DebugUnit, unit_bytes}
-use Rattle.dw_entries.specs.Header.{header_size}
+use Rattle.dw_entries.specs.Header.{unit_header_size}
 use Rattle.dw_entries.specs.Entries.{Entry, entries_of, entries_from, node_entries, node_count, PlacedUnit, placed, placed_from}
 use Rattle.dw_entries.specs.Views.{all_entries, all_units}
 use Rattle.dw_entries.proofs.EntryFacts.{length-placed_from, length-node_entries}
@@ -15,7 +15,7 @@ use Rattle.dw_links.specs.Bases.{base_in}
 use Rattle.dw_links.specs.Constants.{language_of}
 use Rattle.dw_links.specs.declared.constant.Constant.{Constant}
 use Rattle.dw_links.specs.UnitAtHand.{FailsByText, FailsByTarget}
-use Rattle.dw_links.specs.Tables.{type_target}
+use Rattle.dw_links.specs.Tables.{target_of_type}
 use Rattle.dw_links.proofs.TableLemmas.{map_one_more}
 use Rattle.dw_links.proofs.UnitToAll.{NoneBelow}
 
@@ -30,18 +30,18 @@ ends_from : (unit id at : ℕ) (us : List DebugUnit) (n : ℕ) (p : PlacedUnit)
     → p.first + node_count p.unit.root ≤ id + length (entries_from unit id at us)
 ends_from unit id at [] n p is = absurd cc
 ends_from unit id at (u ∷ us) zero p is =
-    let es : List Entry = node_entries unit None 0 None id (at + header_size u.header.kind) u.root in
+    let es : List Entry = node_entries unit None 0 None id (at + unit_header_size u.header.kind) u.root in
     let fs : List Entry = entries_from (suc unit) (id + node_count u.root) (at + length (unit_bytes u)) us in
-    let count = length-node_entries unit None 0 None id (at + header_size u.header.kind) u.root in
+    let count = length-node_entries unit None 0 None id (at + unit_header_size u.header.kind) u.root in
     let len = length-append es fs in
     let some : ◌≡◌ {A = Option PlacedUnit} (Some (record { at = at; first = id; unit = u })) (Some p) = is in
     let same : ◌≡◌ {A = PlacedUnit} (record { at = at; first = id; unit = u }) p = cc in
     let P : PlacedUnit → Type 0 = λ q. q.first + node_count q.unit.root ≤ id + length (es ++ fs) in
     subst P same (omega (arith, count, len))
 ends_from unit id at (u ∷ us) (suc n) p is =
-    let es : List Entry = node_entries unit None 0 None id (at + header_size u.header.kind) u.root in
+    let es : List Entry = node_entries unit None 0 None id (at + unit_header_size u.header.kind) u.root in
     let fs : List Entry = entries_from (suc unit) (id + node_count u.root) (at + length (unit_bytes u)) us in
-    let count = length-node_entries unit None 0 None id (at + header_size u.header.kind) u.root in
+    let count = length-node_entries unit None 0 None id (at + unit_header_size u.header.kind) u.root in
     let len = length-append es fs in
     let more = ends_from (suc unit) (id + node_count u.root) (at + length (unit_bytes u)) us n p is in
     omega (arith, count, len, more)
@@ -81,7 +81,7 @@ pub record LinkedBelow (entries : Entries) (types : List (Option ℕ)) (number :
   pub references : NoneBelow entries (FailsByTarget entries) number
   pub long : length types ≡ length (all_entries entries)
   pub types_are : take number types
-      ≡ map (type_target (all_entries entries) (all_units entries)) (take number (all_entries entries))
+      ≡ map (target_of_type (all_entries entries) (all_units entries)) (take number (all_entries entries))
 
 -- of the units before this one, these are the bases and the languages
 pub record ReadBelow (entries : Entries) (str_bases addr_bases : List (Option ℕ)) (languages : List Constant)
@@ -105,11 +105,11 @@ none_below entries types long =
 -- the target of one type more
 pub types_more : (entries : Entries) (types : List (Option ℕ)) (number : ℕ) (e : Entry) (target : Option ℕ)
     → slice_get (all_entries entries) number ≡ Some e → length types ≡ length (all_entries entries)
-    → take number types ≡ map (type_target (all_entries entries) (all_units entries))
-    (take number (all_entries entries)) → target ≡ type_target (all_entries entries) (all_units entries) e
+    → take number types ≡ map (target_of_type (all_entries entries) (all_units entries))
+    (take number (all_entries entries)) → target ≡ target_of_type (all_entries entries) (all_units entries) e
     → take (number + 1) (set types number target)
-    ≡ map (type_target (all_entries entries) (all_units entries)) (take (number + 1) (all_entries entries))
+    ≡ map (target_of_type (all_entries entries) (all_units entries)) (take (number + 1) (all_entries entries))
 types_more entries types number e target is long before here =
     take_more_set types number target (omega (arith, long, slice_get_within (all_entries entries) number e is))
-    ∙ map_one_more (type_target (all_entries entries) (all_units entries)) (all_entries entries) (take number types)
+    ∙ map_one_more (target_of_type (all_entries entries) (all_units entries)) (all_entries entries) (take number types)
     number e target is before here

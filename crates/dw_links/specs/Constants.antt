@@ -29,11 +29,11 @@ is_present (Unsigned n) = true
 is_present (Signed n) = true
 
 -- the number under an attribute
-abbrev pub number_in : Constant → Option ℤ
-number_in Absent = None
-number_in NotNumber = None
-number_in (Unsigned n) = Some (pos n)
-number_in (Signed n) = Some n
+abbrev pub number_of_constant : Constant → Option ℤ
+number_of_constant Absent = None
+number_of_constant NotNumber = None
+number_of_constant (Unsigned n) = Some (pos n)
+number_of_constant (Signed n) = Some n
 
 -- a number of 0 or more
 abbrev pub natural : ℤ → Option ℕ

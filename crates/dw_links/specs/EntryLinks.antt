@@ -21,7 +21,7 @@ use Rattle.dw_links.specs.declared.references.UnitLinks.{UnitLinks}
 use Rattle.dw_links.specs.UnitAtHand.{FailsByText, FailsByTarget, target_by, entries_followed, entry_with}
 use Rattle.dw_links.specs.References.{ReferenceFailures}
 use Rattle.dw_links.specs.Strings.{StringFailures}
-use Rattle.dw_links.specs.Tables.{type_target, AreTables}
+use Rattle.dw_links.specs.Tables.{target_of_type, AreTables}
 
 -- the target of the first type, after one attribute more
 abbrev pub kept_after : Option (Option ℕ) → (attribute : ℕ) → (reached : Option ℕ) → Option (Option ℕ)
@@ -107,7 +107,7 @@ FailsNextAt it id left broken = OfEntry it id (HasFailedNext (entries_followed i
 pub record IsEntryLinked (entries : Entries) (e : Entry) (target : Option ℕ) : Type 0 where
   pub strings : HasNone (AtHead (FailsByText entries) e)
   pub references : HasNone (AtHead (FailsByTarget entries) e)
-  pub is_target : target ≡ type_target (all_entries entries) (all_units entries) e
+  pub is_target : target ≡ target_of_type (all_entries entries) (all_units entries) e
 
 -- a failure is the first at an entry, of the rules on strings and addresses or of those on references
 abbrev pub IsFirstAtEntry : Entries → Entry → PlainFault → Type 0

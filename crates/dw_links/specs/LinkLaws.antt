@@ -14,7 +14,7 @@ use Rattle.dw_forms.specs.declared.class.Class.{Class}
 use Rattle.dw_forms.specs.declared.class.Class.TheVariants.{Address, Reference, String}
 use Rattle.dw_links.specs.Classes.{class_of}
 use Rattle.dw_links.specs.References.{permits, permits_form, HasType}
-use Rattle.dw_links.specs.Signatures.{type_unit_of, HasSignature, AreDistinct}
+use Rattle.dw_links.specs.Signatures.{type_unit_of, HasSignature, HaveDistinctSignatures}
 use Rattle.dw_links.specs.Targets.{reach_of, target_of}
 use Rattle.dw_links.specs.AttributeTexts.{text_at, address_at}
 
@@ -60,7 +60,7 @@ HaveTargets units = EachValueOf Reference (HasTarget (entries_of units) (placed 
 
 -- no two type units have one signature, and a type begins at the type offset of each
 pub record HaveTypes (units : List DebugUnit) : Type 0 where
-  pub distinct : AreDistinct (placed units)
+  pub distinct : HaveDistinctSignatures (placed units)
   pub types : (number signature type_offset : ℕ) (p : PlacedUnit) → slice_get (placed units) number ≡ Some p
       → type_unit_of p.unit.header.kind ≡ Some (signature, type_offset)
       → HasType (entries_of units) number (p.at + type_offset)

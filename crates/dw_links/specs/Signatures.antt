@@ -18,8 +18,9 @@ pub record HasSignature (units : List PlacedUnit) (signature number : ℕ) : Typ
   pub signed : type_unit_of unit.unit.header.kind ≡ Some (signature, type_offset)
 
 -- no two type units have one signature
-abbrev pub AreDistinct : List PlacedUnit → Type 0
-AreDistinct units = (signature i j : ℕ) → HasSignature units signature i → HasSignature units signature j → i ≡ j
+abbrev pub HaveDistinctSignatures : List PlacedUnit → Type 0
+HaveDistinctSignatures units =
+    (signature i j : ℕ) → HasSignature units signature i → HasSignature units signature j → i ≡ j
 
 -- whether this is the signature, beside a type offset
 abbrev pub is_signature_of : ℕ → Option (ℕ × ℕ) → Bool

@@ -11,8 +11,8 @@ use Rattle.dw_links.specs.SignedTypes.{HasSignedTypes}
 use Rattle.dw_links.specs.Targets.{target_of}
 
 -- the target of an entry's type
-abbrev pub type_target : List Entry → List PlacedUnit → Entry → Option ℕ
-type_target entries units e = target_of entries units e DW_AT_type
+abbrev pub target_of_type : List Entry → List PlacedUnit → Entry → Option ℕ
+target_of_type entries units e = target_of entries units e DW_AT_type
 
 -- the tables of these entries: the type of each signature, the bases and the language of each unit, and the target of
 -- each entry's type
@@ -23,5 +23,5 @@ pub record AreTables (entries : Entries) (tables : LinkTables) : Type 0 where
   pub addr_bases : tables.addr_bases.items
       ≡ bases_in (all_entries entries) (all_units entries) DW_AT_addr_base
   pub languages : tables.languages.items ≡ map language_of (all_units entries)
-  pub types : tables.types.items ≡ map (type_target (all_entries entries) (all_units entries))
+  pub types : tables.types.items ≡ map (target_of_type (all_entries entries) (all_units entries))
       (all_entries entries)

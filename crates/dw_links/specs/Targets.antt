@@ -11,8 +11,8 @@ unfoldable pub entry_past : List Entry → (base offset : ℕ) → Option ℕ
 entry_past entries base offset = position_from (λ (e : Entry). base + e.at == offset) 0 entries
 
 -- the number of the entry of a unit that begins so far after the start of the first unit
-unfoldable pub entry_in : List Entry → (unit offset : ℕ) → Option ℕ
-entry_in entries unit offset = position_from (λ (e : Entry). e.unit == unit && e.at == offset) 0 entries
+unfoldable pub entry_number_at : List Entry → (unit offset : ℕ) → Option ℕ
+entry_number_at entries unit offset = position_from (λ (e : Entry). e.unit == unit && e.at == offset) 0 entries
 
 -- the entry that begins so far after the start of .debug_info, in which the first unit begins at the unit's base
 abbrev pub reach_in_info : List Entry → List PlacedUnit → (unit offset : ℕ) → Option ℕ
@@ -22,7 +22,7 @@ reach_in_info entries units unit offset =
 -- the entry that begins so far after the first byte of a unit's header
 abbrev pub reach_in_unit : List Entry → List PlacedUnit → (unit offset : ℕ) → Option ℕ
 reach_in_unit entries units unit offset =
-    option_and_then (λ (u : PlacedUnit). entry_in entries unit (u.at + offset)) (slice_get units unit)
+    option_and_then (λ (u : PlacedUnit). entry_number_at entries unit (u.at + offset)) (slice_get units unit)
 
 -- the entry at the type offset of a type unit
 abbrev pub type_of_unit : List Entry → List PlacedUnit → (unit : ℕ) → Option ℕ

@@ -5,7 +5,7 @@ ghost use Rattle.dw_forms.specs.Value.{view};
 ghost use Rattle.dw_entries.specs.ByNumber.{placed_of};
 ghost use Rattle.dw_entries.specs.Views.{all_units, units_of};
 ghost use Rattle.dw_links.specs.Constants.{IsOf64Bits, constant_at, constant_of, is_negative, is_present};
-ghost use Rattle.dw_links.specs.Constants.{language_of, natural_of, number_in};
+ghost use Rattle.dw_links.specs.Constants.{language_of, natural_of, number_of_constant};
 
 use dw_entries::constants::*;
 use dw_entries::{Attribute, Entries, EntryAt, Value};
@@ -32,7 +32,7 @@ impl Constant {
 
     /// The number, if it is one.
     pub fn number(&self) -> Option<i128>
-        ensures value { result ≡ number_in self.now }
+        ensures value { result ≡ number_of_constant self.now }
         ensures range { IfSome result IsOf64Bits }
     {
         match self {

@@ -8,7 +8,7 @@ ghost use Rattle.dw_entries.specs.Entries.{entries_of, placed};
 ghost use Rattle.dw_entries.specs.Failures.{HasNone};
 ghost use Rattle.dw_entries.specs.EntriesAt.{ReachesInUnit};
 ghost use Rattle.dw_links.specs.References.{ReferenceFailures};
-ghost use Rattle.dw_links.specs.Signatures.{AreDistinct};
+ghost use Rattle.dw_links.specs.Signatures.{HaveDistinctSignatures};
 ghost use Rattle.dw_links.specs.Strings.{StringFailures};
 ghost use Rattle.dw_links.specs.Targets.{reach_of};
 ghost use Rattle.dw_links.specs.LinkLaws.{ReachesInInfo, ReachesBySignature, HaveTargets, HaveTypes, HaveTexts};
@@ -25,7 +25,7 @@ pub fn one_entry_is_reached()
         → (unit offset id : ℕ) → (reach_of (entries_of units) (placed units) unit (ref_unit offset) ≡ Some id)
         ↔ ReachesInUnit (entries_of units) (placed units) unit offset id }
     ensures signature { («abbrev» info : List ℕ) (units : List DebugUnit) → Spells «abbrev» units info
-        → AreDistinct (placed units) → (unit signature id : ℕ)
+        → HaveDistinctSignatures (placed units) → (unit signature id : ℕ)
         → (reach_of (entries_of units) (placed units) unit (ref_sig signature) ≡ Some id)
         ↔ ReachesBySignature (entries_of units) (placed units) signature id }
 {}

@@ -6,7 +6,7 @@ ghost use Rattle.dw_entries.specs.declared.entries.Entries.{Entries};
 ghost use Rattle.dw_entries.specs.Views.{all_entries, all_units, units_of};
 ghost use Rattle.dw_links.specs.Constants.{language_at};
 ghost use Rattle.dw_links.specs.Targets.{target_of, reach_of};
-ghost use Rattle.dw_links.specs.Tables.{type_target, AreTables};
+ghost use Rattle.dw_links.specs.Tables.{target_of_type, AreTables};
 ghost use Rattle.dw_forms.specs.Value.{view};
 
 use crate::constant::Constant;
@@ -43,7 +43,7 @@ impl LinkTables {
     fn type_of(&self, entries: &Entries<'_>, id: EntryId) -> Option<EntryId>
         requires id { id < length (all_entries entries.now) }
         requires tables { AreTables entries.now self.now }
-        ensures exact { result ≡ type_target (all_entries entries.now) (all_units entries.now)
+        ensures exact { result ≡ target_of_type (all_entries entries.now) (all_units entries.now)
             (entry_of (all_entries entries.now) id) }
         ensures within { IfSome result (λ t. t < length (all_entries entries.now)) }
     {

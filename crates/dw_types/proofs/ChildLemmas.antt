@@ -2,7 +2,7 @@
 use Rattle.std.proofs.Common.{rules, ◌≡◌, ℕ, suc, ◌+◌, ◌<◌, ◌≤◌, ◌==◌, Bool, true, false, if◌then◌else◌, List, [], ◌∷◌, ◌++◌, length, drop, Option, Some, None, IfSome, refl, sym, ap, subst, ◌∙◌, arith, append_assoc, ne_eqb, eq-eqb}
 use Rattle.std.proofs.Math.Seq.{drop-append-add}
 use Rattle.dw_entries.specs.Grammar.{head_bytes}
-use Rattle.dw_entries.specs.Header.{header_size}
+use Rattle.dw_entries.specs.Header.{unit_header_size}
 use Rattle.dw_entries.specs.Tree.{Node, Nodes, leaf, parent, none, ◌then◌, node_bytes}
 use Rattle.dw_entries.specs.Units.{DebugUnit, unit_bytes}
 use Rattle.dw_entries.specs.Entries.{Entry, node_count, nodes_count, first_id, node_entries, nodes_entries, entries_from}
@@ -79,9 +79,10 @@ mutual
 units_none : (p k unit id at : ℕ) (us : List DebugUnit) → p < id → children_from (entries_from unit id at us) p k ≡ []
 units_none p k unit id at [] lt = refl
 units_none p k unit id at (u ∷ us) lt =
-    let es : List Entry = node_entries unit None 0 None id (at + header_size u.header.kind) u.root in
+    let es : List Entry = node_entries unit None 0 None id (at + unit_header_size u.header.kind) u.root in
     let fs : List Entry = entries_from (suc unit) (id + node_count u.root) (at + length (unit_bytes u)) us in
-    no_children-append es fs p k (node_none p k unit None 0 None id (at + header_size u.header.kind) u.root lt refl)
+    no_children-append es fs p k (node_none p k unit None 0 None id (at + unit_header_size u.header.kind) u.root lt
+    refl)
     (units_none p (k + length es) (suc unit) (id + node_count u.root) (at + length (unit_bytes u)) us
     (omega (arith, lt)))
 
@@ -220,7 +221,7 @@ mutual
 pub units_chained : (unit id at : ℕ) (us : List DebugUnit) → Chained id (entries_from unit id at us)
 units_chained unit id at [] = tt
 units_chained unit id at (u ∷ us) =
-    node_chained unit None 0 None id (at + header_size u.header.kind) u.root
+    node_chained unit None 0 None id (at + unit_header_size u.header.kind) u.root
     (entries_from (suc unit) (id + node_count u.root) (at + length (unit_bytes u)) us) tt
     (λ p k low high. units_none p k (suc unit) (id + node_count u.root) (at + length (unit_bytes u)) us high) tt
     (units_chained (suc unit) (id + node_count u.root) (at + length (unit_bytes u)) us)

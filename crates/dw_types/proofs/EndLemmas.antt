@@ -12,7 +12,7 @@ use Rattle.dw_types.specs.declared.walk.Mark.TheVariants.{Fresh, Open, Ranked}
 use Rattle.dw_types.specs.Graphs.{Graph, FallsAlong, IsStep, FollowsSteps, step_at}
 use Rattle.dw_types.specs.Orders.{IsOrderOf}
 use Rattle.dw_types.specs.Walks.{HasStack, IsKept, IsWalk, KeepsTaken, is_taken, IsAtCycle}
-use Rattle.dw_types.specs.WalkStates.{Kept, State, counted, given_up, mark_in, mark_of, without_stack}
+use Rattle.dw_types.specs.WalkStates.{Kept, WalkState, counted, given_up, mark_in, mark_of, without_stack}
 use Rattle.dw_types.proofs.ListLemmas.{at_set}
 use Rattle.dw_types.proofs.WalkLemmas.{in-graph, turns-all}
 
@@ -60,23 +60,23 @@ start-kept graph few =
     }
 
 -- with an empty stack, a node that was taken up was ranked, or given up
-end-by_mark : (graph : Graph) (s : State) (node : ℕ) → IsWalk graph s → s.stack ≡ [] → mark_of s node ≢ Fresh
+end-by_mark : (graph : Graph) (s : WalkState) (node : ℕ) → IsWalk graph s → s.stack ≡ [] → mark_of s node ≢ Fresh
     → (m : Mark) → mark_of s node ≡ m → (m ≡ Ranked) ⊎ ((s.gave_up ≡ true) × ReachesCycle (IsStep graph) node)
 end-by_mark graph s node h empty taken Fresh e = absurd (taken e)
 end-by_mark graph s node h empty taken Open e = search (rules)
 end-by_mark graph s node h empty taken Ranked e = inl refl
 
-end-of_taken : (graph : Graph) (s : State) (node : ℕ) → IsWalk graph s → s.stack ≡ [] → mark_of s node ≢ Fresh
+end-of_taken : (graph : Graph) (s : WalkState) (node : ℕ) → IsWalk graph s → s.stack ≡ [] → mark_of s node ≢ Fresh
     → (mark_of s node ≡ Ranked) ⊎ ((s.gave_up ≡ true) × ReachesCycle (IsStep graph) node)
 end-of_taken graph s node h empty taken = end-by_mark graph s node h empty taken (mark_of s node) refl
 
 -- so it was ranked, if none was given up
-ranked-from_taken : (graph : Graph) (s : State) (node : ℕ) → IsWalk graph s → s.stack ≡ [] → s.gave_up ≡ false
+ranked-from_taken : (graph : Graph) (s : WalkState) (node : ℕ) → IsWalk graph s → s.stack ≡ [] → s.gave_up ≡ false
     → mark_of s node ≢ Fresh → mark_of s node ≡ Ranked
 ranked-from_taken graph s node h empty kept taken = search (rules, end-of_taken)
 
 -- once each node was ranked, each step leads to a smaller rank
-falls-from_ranked : (graph : Graph) (s : State) → IsWalk graph s
+falls-from_ranked : (graph : Graph) (s : WalkState) → IsWalk graph s
     → ((node : ℕ) → node < length graph → mark_of s node ≡ Ranked) → FallsAlong graph s.ranks
 falls-from_ranked graph s h all node k in_steps = search (rules, cases_lt, get_or_past)
 
@@ -105,12 +105,14 @@ order-at_end graph it h empty kept taken =
     }
 
 -- one step more at the end
-leads-more : (graph : Graph) (k a b c : ℕ) → Leads (IsStep graph) k a b → IsStep graph b c → Leads (IsStep graph) (suc k) a c
+leads-more : (graph : Graph) (k a b c : ℕ) → Leads (IsStep graph) k a b → IsStep graph b c
+    → Leads (IsStep graph) (suc k) a c
 leads-more graph zero a b c same step = (c, subst (λ (x : ℕ). IsStep graph x c) (sym same) step, refl)
 leads-more graph (suc k) a b c (next, first, rest) step = (next, first, leads-more graph k next b c rest step)
 
 -- what leads to a node that reaches a cycle reaches it
-reaches-back : (graph : Graph) (k from to : ℕ) → Leads (IsStep graph) k from to → ReachesCycle (IsStep graph) to → ReachesCycle (IsStep graph) from
+reaches-back : (graph : Graph) (k from to : ℕ) → Leads (IsStep graph) k from to → ReachesCycle (IsStep graph) to
+    → ReachesCycle (IsStep graph) from
 reaches-back graph zero from to same reaches = subst (λ (x : ℕ). ReachesCycle (IsStep graph) x) (sym same) reaches
 reaches-back graph (suc k) from to (next, step, led) reaches =
     let (n, end, way, cycle) = reaches-back graph k next to led reaches in
@@ -122,7 +124,8 @@ along : (graph : Graph) (stack : List ℕ) (d i : ℕ) → FollowsSteps graph st
 along graph stack zero i chain within = ap (λ (n : ℕ). get_or stack n 0) (let e : i ≡ i + 0 = omega arith in e)
 along graph stack (suc d) i chain within =
     let there : i + 1 + d ≡ i + suc d = omega arith in
-    let rest : Leads (IsStep graph) d (get_or stack (i + 1) 0) (get_or stack (i + 1 + d) 0) = along graph stack d (i + 1) chain
+    let rest : Leads (IsStep graph) d (get_or stack (i + 1) 0) (get_or stack (i + 1 + d) 0) = along graph stack d
+    (i + 1) chain
     (omega arith) in (
       get_or stack (i + 1) 0,
       chain i (omega arith),
@@ -130,13 +133,14 @@ along graph stack (suc d) i chain within =
           (λ (n : ℕ). Leads (IsStep graph) d (get_or stack (i + 1) 0) (get_or stack n 0)) there rest,
     )
 
-module _ (graph : Graph) (s : State) (to : ℕ) (h : IsAtCycle graph s to) where
+module _ (graph : Graph) (s : WalkState) (to : ℕ) (h : IsAtCycle graph s to) where
   -- each node of the stack leads to the one that the step goes to
   leads-on : (k : ℕ) → k < length s.stack → Leads (IsStep graph) (suc (length s.stack - 1 - k)) (get_or s.stack k 0) to
   leads-on k within =
       let top = length s.stack - 1 in
       let sum : k + (top - k) ≡ top = omega arith in
-      let way : Leads (IsStep graph) (top - k) (get_or s.stack k 0) (get_or s.stack (k + (top - k)) 0) = along graph s.stack
+      let way : Leads (IsStep graph) (top - k) (get_or s.stack k 0) (get_or s.stack (k + (top - k)) 0) = along graph
+      s.stack
       (top - k) k h.coherent.stack.steps (omega arith) in
       leads-more graph (top - k) (get_or s.stack k 0) (get_or s.stack top 0) to (rw sum at way) h.closes
 
@@ -193,7 +197,7 @@ without_stack-kept graph it to at =
     }
 
 -- once each node was taken up, those that have ranks are the clear ones
-pub clear-at_end : (graph : Graph) (s : State) → IsWalk graph s → s.stack ≡ []
+pub clear-at_end : (graph : Graph) (s : WalkState) → IsWalk graph s → s.stack ≡ []
     → ((node : ℕ) → node < length graph → mark_of s node ≢ Fresh) → AreClear graph s.by_rank
 clear-at_end graph s h empty taken =
     let ranks = h.coherent.ranks in

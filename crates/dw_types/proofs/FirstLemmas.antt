@@ -15,11 +15,11 @@ use Rattle.dw_entries.specs.Places.{at_entry}
 use Rattle.dw_entries.specs.Stopped.{IfPlainFault}
 use Rattle.dw_entries.proofs.FirstPlaces.{first_at_place, none_at_place}
 use Rattle.dw_entries.proofs.Firsts.{first_of_list, none_of_list}
-use Rattle.dw_types.specs.TypeFailures.{plain_fault_at, EntryFailures, IsFirstAt, IsLeastAt, PassBefore}
+use Rattle.dw_types.specs.TypeFailures.{plain_fault_at, EntryFailures, IsFirstAt, IsLeastAt, NoneFailsBefore}
 
 -- the entries from one on up to another pass too
-pub pass-on : (fails : ℕ → Rule → Bool) (node next : ℕ) → PassBefore fails node → IsLeastAt fails node None
-    → ((k : ℕ) → node + 1 ≤ k → k < next → IsLeastAt fails k None) → PassBefore fails next
+pub pass-on : (fails : ℕ → Rule → Bool) (node next : ℕ) → NoneFailsBefore fails node → IsLeastAt fails node None
+    → ((k : ℕ) → node + 1 ≤ k → k < next → IsLeastAt fails k None) → NoneFailsBefore fails next
 pass-on fails node next before here between k below = elim (cases_lt k node) [
   | inl earlier ↦ before k earlier
   | inr late ↦ elim (cases_lt node k) [
@@ -28,8 +28,8 @@ pass-on fails node next before here between k below = elim (cases_lt k node) [
   ]
 ]
 
-pub pass-more : (fails : ℕ → Rule → Bool) (node : ℕ) → PassBefore fails node → IsLeastAt fails node None
-    → PassBefore fails (node + 1)
+pub pass-more : (fails : ℕ → Rule → Bool) (node : ℕ) → NoneFailsBefore fails node → IsLeastAt fails node None
+    → NoneFailsBefore fails (node + 1)
 pass-more fails node before here =
     pass-on fails node (node + 1) before here (λ k low below. absurd (omega arith))
 
@@ -52,7 +52,7 @@ module _ (entries : List Entry) (fails : ℕ → Rule → Bool) where
       record { rule = refl; section = refl; at = refl; attribute = refl })
 
   -- where no entry violates a rule there is no failure
-  pub none-of_entries : PassBefore fails (length entries) → HasNone (EntryFailures entries fails)
+  pub none-of_entries : NoneFailsBefore fails (length entries) → HasNone (EntryFailures entries fails)
   none-of_entries pass =
       none_of_list entries (λ number entry. AtPlace (at_entry entry.at) (λ r. fails number r ≡ true))
       (λ j entry inside is. none_at_place (at_entry entry.at) (λ r. fails j r ≡ true) (pass j inside))

@@ -113,7 +113,8 @@ module _ (graph : Graph) (clear : List ℕ) (h : AreClear graph clear) where
       let (last, fits, ends) = led-before k before to (omega arith) (subst P (sym (same ∙ is)) led) in
       (last, omega (arith, fits), ends)
 
-  off-cycle : (most place : ℕ) → place < most → place < length clear → IsOnCycle (IsStep graph) (get_or clear place 0) → ⊥
+  off-cycle : (most place : ℕ) → place < most → place < length clear → IsOnCycle (IsStep graph) (get_or clear place 0)
+      → ⊥
   off-cycle zero place less within cycle = absurd (omega arith)
   off-cycle (suc most) place less within (k, led) =
       let (before, fits, same) = led-before (suc k) place (get_or clear place 0) within led in

@@ -9,7 +9,7 @@ use Rattle.dw_types.specs.RanksListed.{ranks_from, ranks_listed}
 use Rattle.dw_types.specs.declared.walk.Mark.TheVariants.{Fresh, Open, Ranked}
 use Rattle.dw_types.specs.Graphs.{Graph, steps_of, step_at}
 use Rattle.dw_types.specs.Walks.{HasStack, HasRanks, IsWalk}
-use Rattle.dw_types.specs.WalkStates.{State, mark_of, with_rank}
+use Rattle.dw_types.specs.WalkStates.{WalkState, mark_of, with_rank}
 use Rattle.dw_types.proofs.ListLemmas.{at_set, at_push}
 use Rattle.dw_types.proofs.WalkLemmas.{IsTop, top-opened, in-graph}
 
@@ -53,7 +53,7 @@ module _ (nodes node : ℕ) (by_rank : List ℕ) (place : ℕ) (inside : node < 
 
 -- ranking the node on top of the stack, all of whose steps were looked at
 
-module _ (graph : Graph) (s : State) (node : ℕ) (h : IsWalk graph s) (t : IsTop s node)
+module _ (graph : Graph) (s : WalkState) (node : ℕ) (h : IsWalk graph s) (t : IsTop s node)
     (all : get_or s.next node 0 ≡ length (steps_of graph node)) where
   done-opened : mark_of s node ≡ Open
   done-opened = top-opened graph s node h.coherent.stack t

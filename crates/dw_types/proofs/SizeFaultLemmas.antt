@@ -23,7 +23,7 @@ use Rattle.dw_types.specs.SizeFaults.{differ, fails_size, has_wrong_size, is_too
 use Rattle.dw_types.specs.SizeTables.{Size, cap_size}
 use Rattle.dw_types.specs.Sizes.{constant_or, size_line, size_of_kind, size_to, ObeysSizeLines, IsSizeTable}
 use Rattle.dw_types.proofs.SizeLineLemmas.{size_line-local, size_line-caps}
-use Rattle.dw_types.specs.TypeFailures.{plain_fault_at, IsFirstAt, PassBefore}
+use Rattle.dw_types.specs.TypeFailures.{plain_fault_at, IsFirstAt, NoneFailsBefore}
 use Rattle.dw_types.specs.StoredSizes.{ObeysCappedLines}
 use Rattle.dw_types.specs.Graphs.{FallsAlong, LeadsToNodes}
 use Rattle.dw_types.specs.Steps.{by_value}
@@ -205,7 +205,7 @@ module _ (us : List DebugUnit) (ranks : List ℕ) (falls : FallsAlong (by_value 
 
   -- where no size is too great, the capped table is the table
   pub found-is_table : (found : ℕ → Size) → ObeysCappedLines us found
-      → PassBefore (fails_size us found) (length (entries_of us))
+      → NoneFailsBefore (fails_size us found) (length (entries_of us))
       → IsSizeTable us found
   found-is_table found capped pass =
       is-size_table found (λ node below.

@@ -10,7 +10,7 @@ use Rattle.std.proofs.lemmas.List.{length_push, get_or_push, get_or_past, get_or
 use Rattle.dw_types.specs.declared.walk.Mark.TheVariants.{Fresh, Ranked, Open}
 use Rattle.dw_types.specs.Graphs.{Graph, step_count, steps_of, step_at, IsStep}
 use Rattle.dw_types.specs.Walks.{IsCoherent, is_taken, HasPlaces, HasStack, HasCounters, IsAbove, IsWalk, LooksUp, stack_step}
-use Rattle.dw_types.specs.WalkStates.{State, mark_of, taken_up, with_steps}
+use Rattle.dw_types.specs.WalkStates.{WalkState, mark_of, taken_up, with_steps}
 use Rattle.dw_types.proofs.ListLemmas.{at_set, at_push}
 
 -- a count of a list each of whose elements passes
@@ -24,12 +24,12 @@ count_by-all {X} p (x ∷ xs) d all =
     omega arith
 
 -- the node on top of the stack
-pub record IsTop (s : State) (node : ℕ) : Type 0 where
+pub record IsTop (s : WalkState) (node : ℕ) : Type 0 where
   pub some : 0 < length s.stack
   pub top : get_or s.stack (length s.stack - 1) 0 ≡ node
 
 -- each step that was looked at goes to a node that was ranked, or to one further up the stack, or to the one that stops
-abbrev pub LooksUpBut : Graph → State → Option ℕ → Type 0
+abbrev pub LooksUpBut : Graph → WalkState → Option ℕ → Type 0
 LooksUpBut graph s stop = (place k : ℕ) → place < length s.stack → k < get_or s.next (get_or s.stack place 0) 0
     → ((mark_of s (stack_step graph s place k) ≡ Ranked) ⊎ IsAbove s place (stack_step graph s place k))
     ⊎ (stop ≡ Some (stack_step graph s place k))
@@ -60,11 +60,11 @@ sum-same (n ∷ counts) (steps ∷ graph) e same =
     omega arith
 
 -- there are at most as many turns as nodes and steps
-pub turns-le : (graph : Graph) (s : State) → IsCoherent graph s → s.turns ≤ length graph + step_count graph
+pub turns-le : (graph : Graph) (s : WalkState) → IsCoherent graph s → s.turns ≤ length graph + step_count graph
 turns-le graph s h = search (rules, count_by-le-length, sum-le)
 
 -- two more turns can be counted
-pub turns-room : (graph : Graph) (s : State) → IsCoherent graph s → s.turns + 2 < 2 ^ 128
+pub turns-room : (graph : Graph) (s : WalkState) → IsCoherent graph s → s.turns + 2 < 2 ^ 128
 turns-room graph s h =
     let turns = h.turns in
     let taken = count_by-le-length is_taken s.marks in
@@ -77,7 +77,7 @@ turns-room graph s h =
     omega arith
 
 -- once each node was ranked, each node was taken up and each step looked at
-pub turns-all : (graph : Graph) (s : State) → IsCoherent graph s
+pub turns-all : (graph : Graph) (s : WalkState) → IsCoherent graph s
     → ((node : ℕ) → node < length graph → mark_of s node ≡ Ranked) → s.turns ≡ length graph + step_count graph
 turns-all graph s h all =
     let turns = h.turns in
@@ -86,29 +86,31 @@ turns-all graph s h all =
     let looked = sum-same s.next graph h.places.next (λ k below. h.counters.ranked k (all k below)) in
     omega arith
 
-pub top-opened : (graph : Graph) (s : State) (node : ℕ) → HasStack graph s → IsTop s node → mark_of s node ≡ Open
+pub top-opened : (graph : Graph) (s : WalkState) (node : ℕ) → HasStack graph s → IsTop s node → mark_of s node ≡ Open
 top-opened graph s node h t = rw (← t.top) (h.opened (length s.stack - 1) (let some = t.some in omega arith))
 
 -- a node with a mark other than `Fresh` is one of the graph
-pub in-graph : (graph : Graph) (s : State) (node : ℕ) → HasPlaces graph s → (mark_of s node ≡ Fresh → ⊥)
+pub in-graph : (graph : Graph) (s : WalkState) (node : ℕ) → HasPlaces graph s → (mark_of s node ≡ Fresh → ⊥)
     → node < length graph
 in-graph graph s node h ne = search (rules, cases_lt, get_or_past)
 
 -- looking at steps of the node on top
 
-look-counters : (graph : Graph) (s : State) (node count : ℕ) → IsCoherent graph s → IsTop s node → node < length s.next
+look-counters : (graph : Graph) (s : WalkState) (node count : ℕ) → IsCoherent graph s → IsTop s node
+    → node < length s.next
     → get_or s.next node 0 + count ≤ length (steps_of graph node) → get_or s.next node 0 + count < 2 ^ 64
     → HasCounters graph (with_steps s node count)
 look-counters graph s node count h t in_graph more small = search (rules, top-opened, at_set)
 
-pub look-coherent : (graph : Graph) (s : State) (node count : ℕ) → IsCoherent graph s → IsTop s node
+pub look-coherent : (graph : Graph) (s : WalkState) (node count : ℕ) → IsCoherent graph s → IsTop s node
     → node < length s.next
     → get_or s.next node 0 + count ≤ length (steps_of graph node) → get_or s.next node 0 + count < 2 ^ 64
     → IsCoherent graph (with_steps s node count)
 look-coherent graph s node count h t in_graph more small = search (rules, length-set, look-counters, sum_by-set)
 
 -- each step that is looked at goes to a node that was ranked, or to the one that stops
-pub look-but : (graph : Graph) (s : State) (node count : ℕ) (stop : Option ℕ) → IsWalk graph s → node < length s.next
+pub look-but : (graph : Graph) (s : WalkState) (node count : ℕ) (stop : Option ℕ) → IsWalk graph s
+    → node < length s.next
     → ((k : ℕ) → get_or s.next node 0 ≤ k → k < get_or s.next node 0 + count
     → (mark_of s (step_at graph node k) ≡ Ranked) ⊎ (stop ≡ Some (step_at graph node k)))
     → LooksUpBut graph (with_steps s node count) stop
@@ -123,13 +125,13 @@ look-but graph s node count stop h in_graph known place k in_stack seen =
     ]
 
 -- where none stops, that is all
-pub looked-all : (graph : Graph) (s : State) → LooksUpBut graph s None → LooksUp graph s
+pub looked-all : (graph : Graph) (s : WalkState) → LooksUpBut graph s None → LooksUp graph s
 looked-all graph s but place k in_stack seen =
     elim (but place k in_stack seen) [ inl known ↦ known | inr stops ↦ absurd cc ]
 
 -- taking up a fresh node
 
-module _ (graph : Graph) (s : State) (node : ℕ) (h : IsCoherent graph s) (in_graph : node < length s.marks)
+module _ (graph : Graph) (s : WalkState) (node : ℕ) (h : IsCoherent graph s) (in_graph : node < length s.marks)
     (new : mark_of s node ≡ Fresh)
     (link : 0 < length s.stack → IsStep graph (get_or s.stack (length s.stack - 1) 0) node) where
   -- a mark afterwards is the one before, but for the node's own
@@ -192,7 +194,7 @@ module _ (graph : Graph) (s : State) (node : ℕ) (h : IsCoherent graph s) (in_g
       ]
 
 -- a walk with an empty stack takes up a fresh node
-module _ (graph : Graph) (s : State) (node : ℕ) (h : IsWalk graph s) (empty : s.stack ≡ [])
+module _ (graph : Graph) (s : WalkState) (node : ℕ) (h : IsWalk graph s) (empty : s.stack ≡ [])
     (in_graph : node < length graph) (new : mark_of s node ≡ Fresh) where
   first-in_marks : node < length s.marks
   first-in_marks = let e = h.coherent.places.marks in omega arith

@@ -7,7 +7,7 @@ use Rattle.dw_links.specs.declared.constant.Constant.TheVariants.{Absent, NotNum
 use Rattle.dw_forms.specs.Codes.{DW_AT_count, DW_AT_lower_bound, DW_AT_upper_bound}
 use Rattle.dw_forms.specs.Codes.{DW_LANG_C89, DW_LANG_C, DW_LANG_C_plus_plus}
 use Rattle.dw_forms.specs.Codes.{DW_LANG_C99, DW_LANG_C_plus_plus_11, DW_LANG_Rust, DW_LANG_C11, DW_LANG_C_plus_plus_14}
-use Rattle.dw_links.specs.Constants.{constant_at, is_present, natural, natural_of, number_in}
+use Rattle.dw_links.specs.Constants.{constant_at, is_present, natural, natural_of, number_of_constant}
 use Rattle.dw_types.specs.Entries.{entry_in, language}
 use Rattle.dw_types.specs.Kinds.{is_array, is_subrange, parent_is}
 use Rattle.dw_links.specs.Classes.{is_one_of}
@@ -55,7 +55,7 @@ count_between (Some upper) (Some lower) = Some ((upper -ℤ lower) +ℤ pos 1)
 -- the count that a count attribute gives, or else two bounds in a unit of a language; none if it is unknown
 abbrev pub count_from : (count language upper lower : Constant) → Option ℤ
 count_from count language upper lower =
-    if is_present count then number_in count
+    if is_present count then number_of_constant count
     else if reads_bounds language then count_between (upper_of upper) (lower_of lower)
     else None
 

@@ -26,8 +26,8 @@ abbrev pub signature_target : List DebugUnit → ℕ → Option ℕ
 signature_target us node = target_of (entries_of us) (placed us) (entry_in us node) DW_AT_signature
 
 -- how many bytes an address has in the unit of an entry
-abbrev pub address_size : List DebugUnit → ℕ → ℕ
-address_size us node = (placed_of (placed us) (entry_in us node).unit).unit.header.address_size
+abbrev pub unit_address_size : List DebugUnit → ℕ → ℕ
+unit_address_size us node = (placed_of (placed us) (entry_in us node).unit).unit.header.address_size
 
 -- the language of the unit of an entry
 abbrev pub language : List DebugUnit → ℕ → Constant

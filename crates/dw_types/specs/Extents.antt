@@ -4,7 +4,7 @@ use Rattle.std.specs.Prelude.{Some, is_some}
 use Rattle.std.specs.Prelude.{if◌then◌else◌, nat_lt}
 use Rattle.dw_entries.specs.Entries.{Entry}
 use Rattle.dw_entries.specs.Units.{DebugUnit}
-use Rattle.dw_links.specs.Constants.{constant_at, is_present, number_in, natural_of}
+use Rattle.dw_links.specs.Constants.{constant_at, is_present, number_of_constant, natural_of}
 use Rattle.dw_links.specs.declared.constant.Constant.{Constant}
 use Rattle.dw_types.specs.Shapes.{is_plain}
 use Rattle.dw_types.specs.SizeTables.{Size}
@@ -14,7 +14,7 @@ use Rattle.dw_forms.specs.Codes.{DW_AT_bit_size, DW_AT_data_bit_offset, DW_AT_da
 
 -- the attribute is a number
 abbrev pub is_number : Constant → Bool
-is_number constant = is_some (number_in constant)
+is_number constant = is_some (number_of_constant constant)
 
 -- so many bits from a bit on end past n bytes, or one of the two numbers is negative
 abbrev pub bits_end_past : ℕ → Option ℕ → Option ℕ → Bool
@@ -32,9 +32,9 @@ in_bits (Some bytes) = Some (bytes *ℤ pos 8)
 abbrev pub start_of : Entry → Option ℤ
 start_of member =
     if is_present (constant_at member DW_AT_data_member_location)
-    then in_bits (number_in (constant_at member DW_AT_data_member_location))
+    then in_bits (number_of_constant (constant_at member DW_AT_data_member_location))
     else if is_present (constant_at member DW_AT_data_bit_offset)
-    then number_in (constant_at member DW_AT_data_bit_offset)
+    then number_of_constant (constant_at member DW_AT_data_bit_offset)
     else Some (pos 0)
 
 -- so many bytes from a bit on end past n bytes, or that bit is negative

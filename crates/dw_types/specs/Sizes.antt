@@ -14,7 +14,7 @@ use Rattle.dw_forms.specs.Codes.{DW_TAG_generic_subrange}
 use Rattle.dw_links.specs.Constants.{constant_at, is_present, natural, natural_of}
 use Rattle.dw_types.specs.Children.{children_of}
 use Rattle.dw_types.specs.Counts.{count_of, known_natural}
-use Rattle.dw_types.specs.Entries.{address_size, byte_size, entry_in, signature_target, type_target}
+use Rattle.dw_types.specs.Entries.{unit_address_size, byte_size, entry_in, signature_target, type_target}
 use Rattle.dw_types.specs.Kinds.{is_subrange, kind_of}
 use Rattle.dw_links.specs.Classes.{is_one_of}
 use Rattle.dw_types.specs.SizeTables.{Size}
@@ -87,7 +87,7 @@ array_size us table array =
 abbrev pub size_of_kind : Kind → List DebugUnit → (ℕ → Size) → ℕ → Size
 size_of_kind Declared us table node = size_to table (signature_target us node)
 size_of_kind OwnSized us table node = natural_of (byte_size (entry_in us node))
-size_of_kind Pointer us table node = constant_or (byte_size (entry_in us node)) (Some (address_size us node))
+size_of_kind Pointer us table node = constant_or (byte_size (entry_in us node)) (Some (unit_address_size us node))
 size_of_kind Alias us table node = size_to table (type_target us node)
 size_of_kind Enumeration us table node =
     constant_or (byte_size (entry_in us node)) (size_to table (type_target us node))

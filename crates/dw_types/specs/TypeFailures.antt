@@ -22,16 +22,16 @@ abbrev pub IsLeastAt : (ℕ → Rule → Bool) → ℕ → Option Rule → Type 
 IsLeastAt fails node = IsLeast (λ rule. fails node rule ≡ true)
 
 -- the entries before this number violate no rule
-abbrev pub PassBefore : (ℕ → Rule → Bool) → ℕ → Type 0
-PassBefore fails node = (k : ℕ) → k < node → IsLeastAt fails k None
+abbrev pub NoneFailsBefore : (ℕ → Rule → Bool) → ℕ → Type 0
+NoneFailsBefore fails node = (k : ℕ) → k < node → IsLeastAt fails k None
 
 -- the entry violates the rule and none of a lower number, and no entry before it violates any
 pub record IsFirstAt (entries : List Entry) (fails : ℕ → Rule → Bool) (node : ℕ) (rule : Rule) : Type 0 where
   pub inside : node < length entries
   pub least : IsLeastAt fails node (Some rule)
-  pub before : PassBefore fails node
+  pub before : NoneFailsBefore fails node
 
 -- the first entry that violates a rule, with its least rule; none if no entry violates one
 abbrev pub IsFirstFound : List Entry → (ℕ → Rule → Bool) → Option (ℕ × Rule) → Type 0
-IsFirstFound entries fails None = PassBefore fails (length entries)
+IsFirstFound entries fails None = NoneFailsBefore fails (length entries)
 IsFirstFound entries fails (Some found) = IsFirstAt entries fails found.0 found.1

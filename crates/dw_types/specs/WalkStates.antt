@@ -45,7 +45,7 @@ abbrev pub without_stack : Kept → Kept
 without_stack it = record it { stack = []; looked = []; gave_up = true }
 
 -- the state of a walk: what it keeps, but how many steps were looked at of each node, also of those not on the stack
-pub record State : Type 0 where
+pub record WalkState : Type 0 where
   pub marks : List Mark
   pub next : List ℕ
   pub ranks : List ℕ
@@ -55,7 +55,7 @@ pub record State : Type 0 where
   pub gave_up : Bool
 
 -- the state by what is kept, and by how many steps of each node were looked at
-abbrev pub counted : Kept → List ℕ → State
+abbrev pub counted : Kept → List ℕ → WalkState
 counted it next = record {
   marks = it.marks;
   next = next;
@@ -67,20 +67,20 @@ counted it next = record {
 }
 
 -- how far the walk has come with a node
-abbrev pub mark_of : State → ℕ → Mark
+abbrev pub mark_of : WalkState → ℕ → Mark
 mark_of s node = mark_in s.marks node
 
 -- the state once a node is put on the stack
-abbrev pub taken_up : State → ℕ → State
+abbrev pub taken_up : WalkState → ℕ → WalkState
 taken_up s node = record s { marks = slice_set s.marks node Open; stack = s.stack ++ node ∷ []; turns = s.turns + 1 }
 
 -- the state once so many more steps of a node were looked at
-abbrev pub with_steps : State → ℕ → ℕ → State
+abbrev pub with_steps : WalkState → ℕ → ℕ → WalkState
 with_steps s node count =
     record s { next = slice_set s.next node (slice_index s.next node + count); turns = s.turns + count }
 
 -- the state once the node on top of the stack has the next rank
-abbrev pub with_rank : State → ℕ → State
+abbrev pub with_rank : WalkState → ℕ → WalkState
 with_rank s node = record s {
   marks = slice_set s.marks node Ranked;
   ranks = slice_set s.ranks node (length s.by_rank);
@@ -89,5 +89,5 @@ with_rank s node = record s {
 }
 
 -- the state once the nodes on the stack are given up
-abbrev pub given_up : State → State
+abbrev pub given_up : WalkState → WalkState
 given_up s = record s { stack = []; gave_up = true }

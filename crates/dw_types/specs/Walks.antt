@@ -6,22 +6,22 @@ use Rattle.dw_types.specs.Paths.{ReachesCycle}
 use Rattle.dw_types.specs.declared.walk.Mark.{Mark}
 use Rattle.dw_types.specs.declared.walk.Mark.TheVariants.{Fresh, Open, Ranked}
 use Rattle.dw_types.specs.Graphs.{Graph, steps_of, step_at, FollowsSteps, IsStep}
-use Rattle.dw_types.specs.WalkStates.{State, Kept, counted, mark_in, mark_of}
+use Rattle.dw_types.specs.WalkStates.{WalkState, Kept, counted, mark_in, mark_of}
 
 -- marks, counters and ranks have a place for each node
-pub record HasPlaces (graph : Graph) (s : State) : Type 0 where
+pub record HasPlaces (graph : Graph) (s : WalkState) : Type 0 where
   pub marks : length s.marks ≡ length graph
   pub next : length s.next ≡ length graph
   pub ranks : length s.ranks ≡ length graph
   pub few : length graph < 2 ^ 64
 
 -- the node is on the stack
-abbrev pub IsStacked : State → ℕ → Type 0
+abbrev pub IsStacked : WalkState → ℕ → Type 0
 IsStacked s node = (k : ℕ) × (k < length s.stack) × (slice_index s.stack k ≡ node)
 
 -- the stack has each open node once, but for those that were given up, which reach cycles; each node of the stack but
 -- the first is a step from the one below
-pub record HasStack (graph : Graph) (s : State) : Type 0 where
+pub record HasStack (graph : Graph) (s : WalkState) : Type 0 where
   pub opened : (k : ℕ) → k < length s.stack → mark_of s (slice_index s.stack k) ≡ Open
   pub stacked : (node : ℕ) → mark_of s node ≡ Open
       → IsStacked s node ⊎ ((s.gave_up ≡ true) × ReachesCycle (IsStep graph) node)
@@ -29,14 +29,14 @@ pub record HasStack (graph : Graph) (s : State) : Type 0 where
   pub steps : FollowsSteps graph s.stack
 
 -- the steps of a node that were looked at: none of a fresh one, all of one that was ranked
-pub record HasCounters (graph : Graph) (s : State) : Type 0 where
+pub record HasCounters (graph : Graph) (s : WalkState) : Type 0 where
   pub within : (node : ℕ) → slice_index s.next node ≤ length (steps_of graph node)
   pub small : (node : ℕ) → slice_index s.next node < 2 ^ 64
   pub fresh : (node : ℕ) → mark_of s node ≡ Fresh → slice_index s.next node ≡ 0
   pub ranked : (node : ℕ) → mark_of s node ≡ Ranked → slice_index s.next node ≡ length (steps_of graph node)
 
 -- the nodes that were ranked have ranks, which fall along their steps
-pub record HasRanks (graph : Graph) (s : State) : Type 0 where
+pub record HasRanks (graph : Graph) (s : WalkState) : Type 0 where
   pub below : (node : ℕ) → mark_of s node ≡ Ranked → slice_index s.ranks node < length s.by_rank
   pub listed : (node : ℕ) → mark_of s node ≡ Ranked → slice_index s.by_rank (slice_index s.ranks node) ≡ node
   pub ranked : (k : ℕ) → k < length s.by_rank
@@ -53,7 +53,7 @@ is_taken Open = true
 is_taken Ranked = true
 
 -- what holds in the middle of a turn too
-pub record IsCoherent (graph : Graph) (s : State) : Type 0 where
+pub record IsCoherent (graph : Graph) (s : WalkState) : Type 0 where
   pub places : HasPlaces graph s
   pub stack : HasStack graph s
   pub counters : HasCounters graph s
@@ -61,25 +61,25 @@ pub record IsCoherent (graph : Graph) (s : State) : Type 0 where
   pub turns : s.turns ≡ count_by is_taken s.marks + sum s.next
 
 -- the node is on the stack, above a place
-abbrev pub IsAbove : State → ℕ → ℕ → Type 0
+abbrev pub IsAbove : WalkState → ℕ → ℕ → Type 0
 IsAbove s place node = (k : ℕ) × (place < k) × (k < length s.stack) × (slice_index s.stack k ≡ node)
 
 -- the node that the k-th step of the node at a place of the stack goes to
-abbrev pub stack_step : Graph → State → ℕ → ℕ → ℕ
+abbrev pub stack_step : Graph → WalkState → ℕ → ℕ → ℕ
 stack_step graph s place k = step_at graph (slice_index s.stack place) k
 
 -- each step that was looked at goes to a node that was ranked, or to one further up the stack
-abbrev pub LooksUp : Graph → State → Type 0
+abbrev pub LooksUp : Graph → WalkState → Type 0
 LooksUp graph s = (place k : ℕ) → place < length s.stack → k < slice_index s.next (slice_index s.stack place)
     → (mark_of s (stack_step graph s place k) ≡ Ranked) ⊎ IsAbove s place (stack_step graph s place k)
 
 -- the state is one that a walk over the graph comes to
-pub record IsWalk (graph : Graph) (s : State) : Type 0 where
+pub record IsWalk (graph : Graph) (s : WalkState) : Type 0 where
   pub coherent : IsCoherent graph s
   pub looks_up : LooksUp graph s
 
 -- a step from the node on top of the stack goes to an open node
-pub record IsAtCycle (graph : Graph) (s : State) (to : ℕ) : Type 0 where
+pub record IsAtCycle (graph : Graph) (s : WalkState) (to : ℕ) : Type 0 where
   pub coherent : IsCoherent graph s
   pub some : 0 < length s.stack
   pub closes : IsStep graph (slice_index s.stack (length s.stack - 1)) to

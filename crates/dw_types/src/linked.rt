@@ -29,7 +29,7 @@ impl<'r, 'a> LinkedEntries<'r, 'a> {
     ghost use Rattle.dw_links.specs.Tables.{AreTables};
     ghost use Rattle.dw_types.specs.Children.{children_of};
     ghost use Rattle.dw_types.specs.ChildrenLeft.{children_left};
-    ghost use Rattle.dw_types.specs.Entries.{address_size, entry_in, signature_target, type_target};
+    ghost use Rattle.dw_types.specs.Entries.{unit_address_size, entry_in, signature_target, type_target};
     ghost use Rattle.dw_types.specs.Held.{entries_held, units_held};
     ghost use Rattle.dw_types.specs.Kinds.{has_members, is_array, parent_is};
     ghost use Rattle.dw_types.specs.TypeFailures.{plain_fault_at};
@@ -136,7 +136,7 @@ impl<'r, 'a> LinkedEntries<'r, 'a> {
     pub(crate) fn address_size(&self, id: EntryId, entry: &EntryAt<'_, '_>) -> u8
         requires id { id < length (entries_held self.now) }
         requires entry { entry.now ≡ entry_in (units_held self.now) id }
-        ensures { result ≡ address_size (units_held self.now) id }
+        ensures { result ≡ unit_address_size (units_held self.now) id }
     {
         self.cursor.entries.unit(entry.unit()).header.address_size
     }

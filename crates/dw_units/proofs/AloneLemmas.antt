@@ -36,7 +36,7 @@ use Rattle.dw_units.specs.declared.batches.Elsewhere.{Elsewhere}
 use Rattle.dw_units.specs.declared.batches.Elsewhere.TheVariants.{Never, ByOffset, BySignature}
 use Rattle.dw_units.specs.declared.batches.Verified.{Verified}
 use Rattle.dw_units.specs.declared.batches.Verified.TheVariants.{Sound, Passed, Fault as Fails_by}
-use Rattle.dw_units.specs.BatchSections.{IsFaultAlone, IsSkipped, PassLess, IsVerdictOn, IsFirmly, Refer, IsKeptIn, IsFoundAlone}
+use Rattle.dw_units.specs.BatchSections.{IsFaultAlone, IsSkipped, PassLess, IsVerdictOn, IsFirmly, Refer, IsFirmlyKept, IsFoundAlone}
 use Rattle.dw_units.specs.IndependentBatches.{StaysInside, HaveNoTypeUnit}
 use Rattle.dw_units.specs.BatchSections.{IsAlone}
 use Rattle.dw_units.specs.Counts.{AreCounts}
@@ -268,7 +268,7 @@ module _ (s own : Sections) (shares : Shares s own) where
     pub kept_alone_of : (least : Option Rule) (elsewhere : Elsewhere)
         → Refer (entries_of (units_of entries)) elsewhere → (found : Verified)
         → IsVerdictOn (sections_of entries) (units_of entries) least found
-        → (o : Option Verified) → IfSome o (IsKeptIn elsewhere found) → IfSome o (IsFoundAlone s at least part)
+        → (o : Option Verified) → IfSome o (IsFirmlyKept elsewhere found) → IfSome o (IsFoundAlone s at least part)
     kept_alone_of least elsewhere refer found verdict None is = tt
     kept_alone_of least elsewhere refer found verdict (Some kept) (same, firm) =
         found_alone_of least kept (firm (units_of entries) refer)

@@ -6,7 +6,7 @@ use Rattle.std.proofs.lemmas.Option.{get_or_from_slice_get, slice_get-get_or, sl
 use Rattle.dw_elf.specs.declared.sections.Sections.{Sections}
 use Rattle.dw_entries.specs.ByNumber.{entry_of, no_entry, no_placed, placed_of}
 use Rattle.dw_entries.specs.Grammar.{Head, head_bytes}
-use Rattle.dw_entries.specs.Header.{header_size}
+use Rattle.dw_entries.specs.Header.{unit_header_size}
 use Rattle.dw_entries.specs.Tree.{Node, Nodes, leaf, parent, none, ◌then◌, node_bytes}
 use Rattle.dw_entries.specs.Units.{DebugUnit, unit_bytes, units_bytes}
 use Rattle.dw_entries.specs.Entries.{Entry, node_count, first_id, node_entries, nodes_entries, entries_from, entries_of, PlacedUnit, placed_from, placed}
@@ -90,8 +90,8 @@ module _ (number first at : ℕ) where
   units_moved unit id pos unit_to id_to to [] u i p = refl
   units_moved unit id pos unit_to id_to to (v ∷ us) u i p =
       rw (
-        node_moved unit unit_to None None None None 0 id (pos + header_size v.header.kind) id_to
-            (to + header_size v.header.kind) v.root u i (omega (arith, p)) refl refl,
+        node_moved unit unit_to None None None None 0 id (pos + unit_header_size v.header.kind) id_to
+            (to + unit_header_size v.header.kind) v.root u i (omega (arith, p)) refl refl,
         units_moved (suc unit) (id + node_count v.root) (pos + length (unit_bytes v)) (suc unit_to)
             (id_to + node_count v.root) (to + length (unit_bytes v)) us (omega (arith, u)) (omega (arith, i))
             (omega (arith, p)),
@@ -124,9 +124,9 @@ count_more : (u : DebugUnit) (us : List DebugUnit)
 count_more u us =
     omega (
       arith,
-      length-append (node_entries 0 None 0 None 0 (0 + header_size u.header.kind) u.root)
+      length-append (node_entries 0 None 0 None 0 (0 + unit_header_size u.header.kind) u.root)
           (entries_from 1 (0 + node_count u.root) (0 + length (unit_bytes u)) us),
-      length-node_entries 0 None 0 None 0 (0 + header_size u.header.kind) u.root,
+      length-node_entries 0 None 0 None 0 (0 + unit_header_size u.header.kind) u.root,
       length-units 1 (0 + node_count u.root) (0 + length (unit_bytes u)) us,
     )
 
@@ -140,7 +140,7 @@ entries_after unit id at unit_to id_to to [] more u i p =
       let e : to ≡ at = omega (arith, p) in e,
     ) refl
 entries_after unit id at unit_to id_to to (v ∷ us) more u i p =
-    let es : List Entry = node_entries unit None 0 None id (at + header_size v.header.kind) v.root in
+    let es : List Entry = node_entries unit None 0 None id (at + unit_header_size v.header.kind) v.root in
     ap (λ (xs : List Entry). es ++ xs)
     (entries_after (suc unit) (id + node_count v.root) (at + length (unit_bytes v)) unit_to id_to to us more
     (omega (arith, u)) (omega (arith, i, count_more v us))

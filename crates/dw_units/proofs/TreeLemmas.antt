@@ -9,7 +9,7 @@ use Rattle.dw_entries.specs.declared.rule.Rule.{Rule}
 use Rattle.dw_entries.specs.declared.fault.PlainFault.{PlainFault}
 use Rattle.dw_entries.specs.declared.fault.Failing.{Failing}
 use Rattle.dw_entries.specs.declared.header.UnitHeader.{UnitHeader}
-use Rattle.dw_entries.specs.Header.{header_size, header_fields, header_at, unit_at}
+use Rattle.dw_entries.specs.Header.{unit_header_size, header_fields, header_at, unit_at}
 use Rattle.dw_entries.specs.UnitLaws.{unit_sized, unit_some}
 use Rattle.dw_forms.specs.BaseFormats.{so_many, taken_at}
 use Rattle.dw_forms.specs.Formats.{choose, failing, mapped, nothing}
@@ -48,8 +48,8 @@ module _ (at : ℕ) where
     front = fails.front;
     stops = fails.stops;
     is = ap (moved_fault at) fails.is
-        ∙ in_unit_moved fails.failing header (header + header_size h.kind + length (items_bytes fails.items))
-        (at + header + header_size h.kind + length (items_bytes fails.items)) (omega arith);
+        ∙ in_unit_moved fails.failing header (header + unit_header_size h.kind + length (items_bytes fails.items))
+        (at + header + unit_header_size h.kind + length (items_bytes fails.items)) (omega arith);
   }
   behind_moved header h body (Err f) broken is = ap (moved_fault at) is
 

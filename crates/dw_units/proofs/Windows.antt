@@ -12,7 +12,7 @@ use Rattle.dw_entries.specs.Lookups.{value_in}
 use Rattle.dw_links.specs.declared.constant.Constant.TheVariants.{Absent}
 use Rattle.dw_links.specs.Constants.{language_at, language_of}
 use Rattle.dw_links.specs.Targets.{target_of}
-use Rattle.dw_types.specs.Entries.{address_size, entry_in, language}
+use Rattle.dw_types.specs.Entries.{unit_address_size, entry_in, language}
 use Rattle.dw_types.proofs.SiblingLemmas.{parent-first}
 use Rattle.dw_units.specs.IndependentBatches.{whole}
 use Rattle.dw_units.proofs.BatchLemmas.{PlacedBatch, placed_batches, same_batch}
@@ -29,7 +29,7 @@ pub record IsWindow (all : List DebugUnit) (p : PlacedBatch) : Type 0 where
       → target_of (entries_of all) (placed all) (entry_in all (p.first + inner)) attribute
       ≡ moved_number p.first (target_of (entries_of p.units) (placed p.units) (entry_in p.units inner) attribute)
   pub address_sizes : (inner : ℕ) → inner < length (entries_of p.units)
-      → address_size all (p.first + inner) ≡ address_size p.units inner
+      → unit_address_size all (p.first + inner) ≡ unit_address_size p.units inner
   pub languages : (inner : ℕ) → inner < length (entries_of p.units)
       → language all (p.first + inner) ≡ language p.units inner
   pub children : (i inner : ℕ) → i < length (entries_of all) → inner < length (entries_of p.units)

@@ -94,8 +94,8 @@ IsFirmly units (verified.Fault fault) = IsFirm units fault.rule
 IsFirmly units _ = Unit {0}
 
 -- what is found is that, by values that refer so
-abbrev pub IsKeptIn : Elsewhere → (found kept : Verified) → Type 0
-IsKeptIn elsewhere found kept = (kept ≡ found)
+abbrev pub IsFirmlyKept : Elsewhere → (found kept : Verified) → Type 0
+IsFirmlyKept elsewhere found kept = (kept ≡ found)
     × ((units : List DebugUnit) → Refer (entries_of units) elsewhere → IsFirmly units kept)
 
 -- what a batch alone is found to be

@@ -8,7 +8,8 @@ ghost use Rattle.dw_entries.specs.Faults.{Fails};
 ghost use Rattle.dw_entries.specs.Stopped.{IfPlainFault};
 ghost use Rattle.dw_entries.specs.Views.{sections_of, all_entries, units_of};
 ghost use Rattle.dw_units.specs.IndependentBatches.{leaves_by, HaveNoTypeUnit};
-ghost use Rattle.dw_units.specs.BatchSections.{IsWholeUnit, AreWholeUnits, Refer, IsVerdictOn, IsKeptIn, IsFoundAlone};
+ghost use Rattle.dw_units.specs.BatchSections.{IsWholeUnit, AreWholeUnits, Refer, IsVerdictOn, IsFirmlyKept};
+ghost use Rattle.dw_units.specs.BatchSections.{IsFoundAlone};
 
 use crate::counts::Counts;
 use byteorder::{ByteOrder, LittleEndian};
@@ -268,7 +269,7 @@ fn verify_one(
 /// What is found of a batch alone. None if it depends on the other units: where no entry of the batch is at an offset
 /// of .debug_info, one of another batch may be.
 fn kept(found: Verified, elsewhere: Elsewhere) -> Option<Verified>
-    ensures { IfSome result (IsKeptIn elsewhere found) }
+    ensures { IfSome result (IsFirmlyKept elsewhere found) }
 {
     match elsewhere {
         Elsewhere::Never => Some(found),

@@ -15,7 +15,7 @@ use Rattle.clap.specs.declared.parser.matches.ArgMatches.TheViews.{out-ArgMatche
 use Rattle.clap.specs.declared.parser.matches.SubCommand.{SubCommand}
 use Rattle.dw_report.specs.declared.request.Request.{Request}
 use Rattle.dw_report.specs.declared.request.Request.TheVariants.{Check, Show, Types, Size}
-use Rattle.dwv.specs.Words.{AreRequest, HaveCommand, IsBadOffset, IsFlag, IsOffset, IsRequest, command_line, offset_in}
+use Rattle.dwv.specs.Words.{AreRequest, HaveCommand, IsBadOffset, IsFlag, IsOffsetWord, IsRequest, command_line, offset_in}
 
 some_is : {X : Type 0} {x y : X} → Some x ≡ Some y → x ≡ y
 some_is e = cc
@@ -142,14 +142,14 @@ no_offset name m size none (Size offset) (named, word, given, good, same) =
 
 -- the command `size` with an offset
 pub size_read : (name : Text) (m : ArgMatches) (word : Text) (offset : ℕ) → name ≡ codes "size"
-    → Some word ≡ first_value (found_of m) (codes "OFFSET") → IsOffset word × (offset ≡ offset_in word)
+    → Some word ≡ first_value (found_of m) (codes "OFFSET") → IsOffsetWord word × (offset ≡ offset_in word)
     → IsRequest name (rows_of (found_of m)) (Size offset)
 size_read name m word offset size given is =
     (size, word, sym (given ∙ first_value-rows (found_of m) (codes "OFFSET")), is.0, is.1)
 
 -- and with another word in its place
 pub bad_offset : (name : Text) (m : ArgMatches) (word : Text) → name ≡ codes "size"
-    → Some word ≡ first_value (found_of m) (codes "OFFSET") → (IsOffset word → ⊥)
+    → Some word ≡ first_value (found_of m) (codes "OFFSET") → (IsOffsetWord word → ⊥)
     → IsBadOffset name (rows_of (found_of m))
 bad_offset name m word size given is = record {
   size = size;

@@ -19,11 +19,11 @@ WritesPrefix limit request input old new =
     × Report limit request input status text × Appends old new (take n text)
 
 -- the exit status
-abbrev pub status_of : Result Status RunFault → ℕ
-status_of (Ok status) = status_code status
-status_of (Err ReadFailed) = 3
-status_of (Err WriteFailed) = 3
-status_of (Err Memory) = 4
+abbrev pub exit_status : Result Status RunFault → ℕ
+exit_status (Ok status) = status_code status
+exit_status (Err ReadFailed) = 3
+exit_status (Err WriteFailed) = 3
+exit_status (Err Memory) = 4
 
 -- the line for standard error
 abbrev pub line_of : Result Status RunFault → List ℕ

@@ -8,7 +8,7 @@ use Rattle.dw_report.specs.declared.request.Request.{Request}
 use Rattle.dw_report.specs.declared.request.Request.TheVariants.{Check, Show, Types, Size}
 
 -- a word is an offset: `0x` and 1 to 8 hexadecimal digits of either case
-pub record IsOffset (word : List ℕ) : Type 0 where
+pub record IsOffsetWord (word : List ℕ) : Type 0 where
   pub front : word ≡ codes "0x" ++ drop 2 word
   pub digits : IsNumeral 16 (drop 2 word)
   pub few : length (drop 2 word) ≤ 8
@@ -50,7 +50,7 @@ IsRequest name rows (Check json) = (name ≡ codes "check") × IsFlag (one_of (c
 IsRequest name rows Show = name ≡ codes "show"
 IsRequest name rows Types = name ≡ codes "types"
 IsRequest name rows (Size offset) = (name ≡ codes "size") × (word : Text) × (first_of (codes "OFFSET") rows ≡ Some word)
-    × IsOffset word × (offset ≡ offset_in word)
+    × IsOffsetWord word × (offset ≡ offset_in word)
 
 -- the words are a command with its values, by the rules of clap
 pub record HaveCommand (words : List Text) (name : Text) (rows : List Row) : Type 0 where
@@ -70,7 +70,7 @@ pub record IsBadOffset (name : Text) (rows : List Row) : Type 0 where
   pub size : name ≡ codes "size"
   pub word : Text
   pub given : first_of (codes "OFFSET") rows ≡ Some word
-  pub malformed : IsOffset word → ⊥
+  pub malformed : IsOffsetWord word → ⊥
 
 -- the words are a request of `size`, but for their offset
 pub record HaveBadOffset (words : List Text) : Type 0 where

@@ -5,7 +5,7 @@ ghost use Rattle.std.specs.Io.KnownBytes.{Appends};
 ghost use Rattle.dw_report.specs.Reports.{file_limit};
 ghost use Rattle.dwv.specs.declared.running.RunFault.TheVariants.{Memory};
 ghost use Rattle.dwv.specs.Devices.{TakesInput};
-ghost use Rattle.dwv.specs.Reports.{WritesReport, WritesPrefix, status_of, line_of};
+ghost use Rattle.dwv.specs.Reports.{WritesReport, WritesPrefix, exit_status, line_of};
 
 use crate::device::{Sink, Source};
 use dw_image::NoMemory;
@@ -135,7 +135,7 @@ pub fn run<R: Source, W: Sink>(
 
 /// The exit status for a result, and the line for standard error, empty if there is none.
 pub fn ending(outcome: &Result<Status, RunFault>) -> (u8, &'static str)
-    ensures status { result.0 ≡ status_of outcome.now }
+    ensures status { result.0 ≡ exit_status outcome.now }
     ensures line { result.1.now ≡ line_of outcome.now }
 {
     match outcome {

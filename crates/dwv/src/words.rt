@@ -4,7 +4,7 @@ ghost use Rattle.std.specs.Prelude.{◌≡◌, ◌≢◌, List, ℕ, false, map,
 ghost use Rattle.std.specs.String.{string_bytes};
 ghost use Rattle.clap.specs.Words.{app_of, found_of, kind_of, rows_of, rule_of};
 ghost use Rattle.dw_report.specs.declared.request.Request.{Request as RequestOf};
-ghost use Rattle.dwv.specs.Words.{AreRequest, IsBadOffset, HaveBadOffset, IsOffset, IsRequest, offset_in};
+ghost use Rattle.dwv.specs.Words.{AreRequest, IsBadOffset, HaveBadOffset, IsOffsetWord, IsRequest, offset_in};
 ghost use Rattle.dwv.specs.Words.{command_line, json_option, required_word};
 ghost use Rattle.dwv.specs.declared.words.WordsFault.TheVariants.{Memory};
 
@@ -75,7 +75,7 @@ fn forms<'a>(alloc: Global) -> Result<Command<'a>, AllocError>
 
 /// The number of an offset: `0x` and 1 to 8 hexadecimal digits.
 fn offset_of(text: &str) -> Option<u32>
-    ensures { SomeIff result (IsOffset text.now) (offset_in text.now) }
+    ensures { SomeIff result (IsOffsetWord text.now) (offset_in text.now) }
 {
     let digits = text.strip_prefix("0x")?;
     // A plus would be read as a sign.

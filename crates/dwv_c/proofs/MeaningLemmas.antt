@@ -40,11 +40,12 @@ use Rattle.dwv_c.specs.declared.meaning.ValueRow.{ValueRow}
 use Rattle.dwv_c.specs.declared.places.Span.{Span}
 use Rattle.dwv_c.specs.declared.values.UnitAtHand.{UnitAtHand}
 use Rattle.dwv_c.specs.Meanings.{HasSlot, HasSpan, HasValue, IsAtHand, IsTextSpan, Means, is_address, is_text, place_at}
-use Rattle.dwv_c.specs.ValueRows.{TEXT, HasText, Holders, Says, SaysAddress, SaysText, address_in, held_in, value_text}
+use Rattle.dwv_c.specs.ValueRows.{TEXT, HasTextBytes, Holders, Says, SaysAddress, SaysText, address_in, held_in, value_text}
 
 -- ---- rows with bytes
 
-text_row : (h : Holders) (t : List ℕ) (s : Span) (r : ValueRow) → IsTextSpan h t s → HasSpan TEXT s r → HasText h t r
+text_row : (h : Holders) (t : List ℕ) (s : Span) (r : ValueRow) → IsTextSpan h t s → HasSpan TEXT s r
+    → HasTextBytes h t r
 text_row h t s r is has = record {
   kind_is = has.kind_is;
   place =

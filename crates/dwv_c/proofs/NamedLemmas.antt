@@ -16,7 +16,7 @@ use Rattle.dwv_c.specs.declared.meaning.ValueRow.{ValueRow}
 use Rattle.dwv_c.specs.declared.places.Span.{Span}
 use Rattle.dwv_c.specs.Meanings.{named_after, text_span}
 use Rattle.dwv_c.specs.TableState.{IsNameSpan}
-use Rattle.dwv_c.specs.ValueRows.{ADDRESS, BLOCK, EXPRESSION, FLAG, LOCATION_LIST, RANGE_LIST, REFERENCE, SECTION_OFFSET, SIGNED, TEXT, UNSIGNED, WIDE, HasText, Holders, Says, value_text}
+use Rattle.dwv_c.specs.ValueRows.{ADDRESS, BLOCK, EXPRESSION, FLAG, LOCATION_LIST, RANGE_LIST, REFERENCE, SECTION_OFFSET, SIGNED, TEXT, UNSIGNED, WIDE, HasTextBytes, Holders, Says, value_text}
 
 -- what is known of a name: no value so far is under its attribute, or the value is the text that is there, or no text
 abbrev pub IsNamed : (h : Holders) → Option (Option (List ℕ)) → Option (Option Span) → Type 0
@@ -52,7 +52,7 @@ module _ (h : Holders) (i : Image) (e : Entry) where
       go None = refl
       go (Some p) = none (base_in (entries_in i) p DW_AT_str_offsets_base)
 
-  some_text : (v : Datum) (r : ValueRow) (t : List ℕ) → value_text i e v ≡ Some t → HasText h t r
+  some_text : (v : Datum) (r : ValueRow) (t : List ℕ) → value_text i e v ≡ Some t → HasTextBytes h t r
       → IsNameSpan h (value_text i e v) (text_span r)
   some_text v r t is has =
       let test : (r.kind == TEXT) ≡ true = ap (λ (k : ℕ). k == TEXT) has.kind_is in

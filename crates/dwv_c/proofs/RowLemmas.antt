@@ -16,7 +16,7 @@ use Rattle.dw_report.specs.Shown.{entry_size}
 use Rattle.dwv_c.specs.declared.rows.EntryRow.{EntryRow}
 use Rattle.dwv_c.specs.declared.verdict.Verdict.{Verdict}
 use Rattle.dwv_c.specs.Filling.{HasPlace, IsNamePlace, depth_under}
-use Rattle.dwv_c.specs.Rows.{FillsRows, HasName, HasSize, HaveRows, IsRow, PutsRows, greatest, sound, fault, memory, whole}
+use Rattle.dwv_c.specs.Rows.{FillsRows, IsNameInRow, IsSizeInRow, HaveRows, IsRow, PutsRows, greatest, sound, fault, memory, whole}
 use Rattle.dwv_c.specs.Checked.{IsErrorOf, status_of, verdict_after}
 use Rattle.dwv_c.specs.Verdicts.{SOUND, IsSoundFile, IsFaultOfFile, of_image}
 
@@ -57,7 +57,7 @@ depth_told file i k e rows d is so_far told = go e.parent refl told
         by_row p above (slice_get rows p) deeper (so_far p above less at) told
 
 has_name : (file : List ℕ) (name : Option (List ℕ)) (place : Option (ℕ × ℕ)) (r : EntryRow)
-    → IsNamePlace file name place → HasPlace place r → HasName file name r
+    → IsNamePlace file name place → HasPlace place r → IsNameInRow file name r
 has_name file None None r is has = has
 has_name file None (Some place) r is has = absurd is
 has_name file (Some text) None r is has = absurd is
@@ -70,14 +70,14 @@ pub row_told : (file : List ℕ) (i : Image) (k : ℕ) (rows : List EntryRow) (e
     → slice_get (entries_in i) k ≡ Some e → HaveRows file i k rows → offset ≡ e.at → tag ≡ e.head.decl.tag
     → above ≡ e.parent → depth_under rows above ≡ Some d → size ≡ entry_size i k e
     → IsNamePlace file (name_in i e) place
-    → r.offset ≡ offset → r.depth ≡ d → r.tag ≡ tag → HasSize size r → HasPlace place r → IsRow file i k e r
+    → r.offset ≡ offset → r.depth ≡ d → r.tag ≡ tag → IsSizeInRow size r → HasPlace place r → IsRow file i k e r
 row_told file i k rows e offset tag above d size place r at so_far is_offset is_tag is_above is_depth is_size
     is_place r_offset r_depth r_tag r_size r_place =
     record {
       offset = r_offset ∙ is_offset;
       depth = r_depth ∙ depth_told file i k e rows d at so_far (ap (depth_under rows) (sym is_above) ∙ is_depth);
       tag = r_tag ∙ is_tag;
-      size = subst (λ (s : Option ℕ). HasSize s r) is_size r_size;
+      size = subst (λ (s : Option ℕ). IsSizeInRow s r) is_size r_size;
       name = has_name file (name_in i e) place r is_place r_place;
     }
 

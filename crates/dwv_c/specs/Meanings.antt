@@ -31,7 +31,7 @@ abbrev pub holders_of : Places → Holders
 holders_of p = record { info = p.info.bytes.now; str = p.str.bytes.now; line_str = p.line_str.bytes.now }
 
 -- these bytes are in a section at an offset
-pub record IsPart (section : List ℕ) (offset : ℕ) (bytes : List ℕ) : Type 0 where
+pub record IsPartOfSection (section : List ℕ) (offset : ℕ) (bytes : List ℕ) : Type 0 where
   pub place : IsAt section offset bytes
   pub within : offset + length bytes ≤ length section
 
@@ -74,14 +74,14 @@ abbrev pub Means : (h : Holders) → Image → Entry → Datum → Meaning → T
 Means h i e v m = (r : ValueRow) → HasMeaning m r → Says h i e v r
 
 -- the value is a number, a flag, or an offset or an index that no rule is on: its meaning is in itself
-abbrev pub is_plain : Datum → Bool
-is_plain (unsigned n) = true
-is_plain (signed z) = true
-is_plain (flag b) = true
-is_plain (sec_offset n) = true
-is_plain (loc_index n) = true
-is_plain (rng_index n) = true
-is_plain _ = false
+abbrev pub has_own_meaning : Datum → Bool
+has_own_meaning (unsigned n) = true
+has_own_meaning (signed z) = true
+has_own_meaning (flag b) = true
+has_own_meaning (sec_offset n) = true
+has_own_meaning (loc_index n) = true
+has_own_meaning (rng_index n) = true
+has_own_meaning _ = false
 
 -- it is a text
 abbrev pub is_text : Datum → Bool

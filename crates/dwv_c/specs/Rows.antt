@@ -15,14 +15,14 @@ abbrev pub greatest : ℕ
 greatest = 4_294_967_295
 
 -- a row has this size, or none
-abbrev pub HasSize : Option ℕ → EntryRow → Type 0
-HasSize None r = (r.size ≡ 0) × (r.has_size ≡ 0)
-HasSize (Some n) r = (r.size ≡ n) × (r.has_size ≡ 1)
+abbrev pub IsSizeInRow : Option ℕ → EntryRow → Type 0
+IsSizeInRow None r = (r.size ≡ 0) × (r.has_size ≡ 0)
+IsSizeInRow (Some n) r = (r.size ≡ n) × (r.has_size ≡ 1)
 
 -- a row says where these bytes are in the file, with a zero byte after them, or that there are none
-abbrev pub HasName : (file : List ℕ) → Option (List ℕ) → EntryRow → Type 0
-HasName file None r = (r.name ≡ 0) × (r.name_length ≡ 0) × (r.has_name ≡ 0)
-HasName file (Some text) r = IsAt file r.name (text ++ 0 ∷ []) × (r.name_length ≡ length text) × (r.has_name ≡ 1)
+abbrev pub IsNameInRow : (file : List ℕ) → Option (List ℕ) → EntryRow → Type 0
+IsNameInRow file None r = (r.name ≡ 0) × (r.name_length ≡ 0) × (r.has_name ≡ 0)
+IsNameInRow file (Some text) r = IsAt file r.name (text ++ 0 ∷ []) × (r.name_length ≡ length text) × (r.has_name ≡ 1)
 
 -- the row of the entry with a number: its offset, its depth (or the greatest number, if it does not fit), its tag, its
 -- size, and where its name is in the file
@@ -30,8 +30,8 @@ pub record IsRow (file : List ℕ) (i : Image) (number : ℕ) (e : Entry) (r : E
   pub offset : r.offset ≡ e.at
   pub depth : r.depth ≡ min e.depth greatest
   pub tag : r.tag ≡ e.head.decl.tag
-  pub size : HasSize (entry_size i number e) r
-  pub name : HasName file (name_in i e) r
+  pub size : IsSizeInRow (entry_size i number e) r
+  pub name : IsNameInRow file (name_in i e) r
 
 -- the first n rows are those of the first n entries, in rising offset
 abbrev pub HaveRows : (file : List ℕ) → Image → ℕ → List EntryRow → Type 0

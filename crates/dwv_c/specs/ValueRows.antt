@@ -117,7 +117,7 @@ pub record HasBytes (h : Holders) (kind : ℕ) (bytes : List ℕ) (r : ValueRow)
   pub length_is : r.length ≡ length bytes
 
 -- a row says where this text is, and a zero byte follows it there
-pub record HasText (h : Holders) (t : List ℕ) (r : ValueRow) : Type 0 where
+pub record HasTextBytes (h : Holders) (t : List ℕ) (r : ValueRow) : Type 0 where
   pub kind_is : r.kind ≡ TEXT
   pub place : IsAt (held_in h r.section) r.number (t ++ 0 ∷ [])
   pub length_is : r.length ≡ length t
@@ -144,7 +144,7 @@ SaysAddress i e v r = (n : ℕ) × (address_in i e v ≡ Some n) × HasNumber AD
 
 -- it says where the text of a value is
 abbrev pub SaysText : (h : Holders) → Image → Entry → Datum → ValueRow → Type 0
-SaysText h i e v r = (t : List ℕ) × (value_text i e v ≡ Some t) × HasText h t r
+SaysText h i e v r = (t : List ℕ) × (value_text i e v ≡ Some t) × HasTextBytes h t r
 
 -- it has the number of the entry that a value refers to
 abbrev pub SaysTarget : Image → Entry → Datum → ValueRow → Type 0

@@ -5,7 +5,7 @@ ghost use Rattle.dw_entries.specs.Entries.{Entry};
 ghost use Rattle.dw_forms.specs.Value.{view};
 ghost use Rattle.dw_image.specs.declared.image.Image.{Image as ImageData};
 ghost use Rattle.dw_links.specs.Contributions.{slot_at};
-ghost use Rattle.dwv_c.specs.Meanings.{HasMeaning, HasSlot, HasSpan, Means, is_plain, named_after, text_span};
+ghost use Rattle.dwv_c.specs.Meanings.{HasMeaning, HasSlot, HasSpan, Means, has_own_meaning, named_after, text_span};
 ghost use Rattle.dwv_c.specs.ValueRows.{HasNumber, Holders};
 
 use crate::places::Span;
@@ -163,7 +163,7 @@ pub fn slot(section: &[u8], size: u8, base: Option<u32>, index: u64) -> u64
 
 /// What a number, a flag, or an offset or an index that no rule is on means.
 pub fn plain_meaning(value: &Value<'_>) -> Meaning
-    requires { is_plain (view value.now) ≡ true }
+    requires { has_own_meaning (view value.now) ≡ true }
     ensures { (h : Holders) (i : ImageData) (e : Entry) → Means h i e (view value.now) result }
 {
     match *value {

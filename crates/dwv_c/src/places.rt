@@ -85,7 +85,7 @@ pub struct Places<'i, 'a> {
 }
 
 impl<'i, 'a> Places<'i, 'a> {
-    ghost use Rattle.dwv_c.specs.Meanings.{IsPart, IsSpan, IsTextSpan, holders_of};
+    ghost use Rattle.dwv_c.specs.Meanings.{IsPartOfSection, IsSpan, IsTextSpan, holders_of};
     ghost use Rattle.dwv_c.specs.Tables.{IsGround, held_on};
 
     /// Places in the sections of an image, counted from what is given.
@@ -120,7 +120,7 @@ impl<'i, 'a> Places<'i, 'a> {
 
     /// Bytes at an offset of .debug_info.
     pub fn span(&self, offset: usize, bytes: &[u8]) -> Span
-        requires { IsPart (sections_in self.now.strings.image.now).info.now offset bytes.now }
+        requires { IsPartOfSection (sections_in self.now.strings.image.now).info.now offset bytes.now }
         ensures { IsSpan (holders_of self.now) bytes.now result }
     {
         let _longest = self.info.bytes.len();
@@ -133,7 +133,7 @@ impl<'i, 'a> Places<'i, 'a> {
 
     /// The text at an offset of .debug_info.
     pub fn text_in_info(&self, offset: usize, text: &[u8]) -> Span
-        requires { IsPart (sections_in self.now.strings.image.now).info.now offset (text.now ++ 0 ∷ []) }
+        requires { IsPartOfSection (sections_in self.now.strings.image.now).info.now offset (text.now ++ 0 ∷ []) }
         ensures { IsTextSpan (holders_of self.now) text.now result }
     {
         let _longest = self.info.bytes.len();

@@ -8,7 +8,7 @@ ghost use Rattle.dw_image.specs.Images.{entries_in, entry_count, name_in, sectio
 ghost use Rattle.dw_image.specs.Slots.{BeginsString};
 ghost use Rattle.dw_image.specs.ValueTexts.{text_there};
 ghost use Rattle.dwv_c.specs.Verdicts.{IsSoundFile, of_image};
-ghost use Rattle.dwv_c.specs.Rows.{HasSize, HaveRows, IsRow, PutsRows};
+ghost use Rattle.dwv_c.specs.Rows.{IsSizeInRow, HaveRows, IsRow, PutsRows};
 ghost use Rattle.dwv_c.specs.Filling.{HasPlace, IsNamePlace, depth_under};
 
 use crate::strings::Strings;
@@ -129,7 +129,7 @@ fn row_with(
     ensures offset { result.offset ≡ offset }
     ensures depth { result.depth ≡ depth }
     ensures tag { result.tag ≡ tag }
-    ensures size { HasSize size result }
+    ensures size { IsSizeInRow size result }
     ensures name { HasPlace name result }
 {
     let (size, has_size) = match size {

@@ -4,7 +4,7 @@ use Rattle.std.specs.Prelude.{flat_map}
 use Rattle.std.proofs.lemmas.List.Elements.{All-head, All-rest}
 use Rattle.dw_types.specs.ChildrenLeft.{children_left}
 use Rattle.dw_image.specs.Images.{entries_in}
-use Rattle.dw_cprint.specs.EntryShapes.{counts_in, dimension_at}
+use Rattle.dw_cprint.specs.EntryShapes.{dimension_counts, dimension_at}
 use Rattle.dw_cprint.specs.Tokens.{Token, text_of}
 use Rattle.dw_cprint.specs.Writing.{count_tokens}
 use Rattle.dw_cprint.proofs.LookUpLemmas.{children_within}
@@ -40,7 +40,8 @@ loop-child-preserved c =
       so_far =
           moved (flat_map count_tokens (cons_option next [])) (flat_map count_tokens left)
           (flat_map count_tokens (cons_option next left)) c.args.out.now c.loop-child.out c.put_next.new.out
-          (text_of (flat_map count_tokens (counts_in image c.args.id))) c.in_ok-put_next.ensures (next-count next left)
+          (text_of (flat_map count_tokens (dimension_counts image c.args.id))) c.in_ok-put_next.ensures
+          (next-count next left)
           (rw (c.in-Some.ensures.steps, ← c.dimension_at.ensures) at c.loop-child.invariant.so_far);
     }
 

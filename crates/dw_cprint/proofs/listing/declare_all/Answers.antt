@@ -8,7 +8,7 @@ use Rattle.dw_cprint.specs.Judgements.{IsAdded, refused_number}
 use Rattle.dw_cprint.specs.Listings.{declared_line, refused_line_in}
 use Rattle.dw_cprint.specs.Refusals.{PrintFault}
 use Rattle.dw_cprint.specs.Shapes.{SubjectOf}
-use Rattle.dw_cprint.specs.Steps.{entries_of, first_steps}
+use Rattle.dw_cprint.specs.Steps.{entries_among, first_steps}
 use Rattle.dw_cprint.specs.Surveys.{AreAmong, BySurvey}
 use Rattle.dw_cprint.proofs.JudgementLemmas.{judged-more, judged-none, lines-in_order, listing-done, number-inside, refused-within, steps-among}
 use Rattle.dw_cprint.proofs.ListingLemmas.{named-within}
@@ -107,13 +107,14 @@ loop-place-preserved c =
     let inside = number-inside image named numbers place number ranks within c.index-number.ensures in
     let at : entry ≡ get_or named number 0 = get_or_read named number entry inside c.index-id.ensures 0 in
     let roots = c.in_ok-types.ensures in
-    let among : AreAmong (f entry) (entries_of c.in_ok-types.types.items) = rw (at, roots)
+    let among : AreAmong (f entry) (entries_among c.in_ok-types.types.items) = rw (at, roots)
     (steps-among f named number inside) in
     let more = c.judge_named.new in
     let B : SubjectOf → Type 0 = λ s. BySurvey c.in_ok-survey.survey (first_steps s) (λ shapes.
     IsAdded shapes number s c.loop-place.judged more.judged c.loop-place.text.items more.text.items) in
     let added = subst B (rw c.in_ok-source.ensures at c.in_ok-subject.ensures) c.in_ok-judge_named.ensures
-    (shape_in image) (entries_of c.in_ok-types.types.items) (rw c.in_ok-source.ensures at c.in_ok-survey.ensures) among
+    (shape_in image) (entries_among c.in_ok-types.types.items) (rw c.in_ok-source.ensures at c.in_ok-survey.ensures)
+    among
     in
     judged-more image named numbers place number entry c.loop-place.judged more.judged
     c.loop-place.text.items more.text.items ranks within (sym is) inside (sym at) added c.loop-place.invariant

@@ -2,7 +2,7 @@ use Rattle.std.proofs.Common.{ℕ, ◌<◌, ◌+◌, [], ◌∷◌, ◌++◌, le
 use Rattle.std.specs.Global.{Global}
 use Rattle.std.proofs.lemmas.List.{get_or_read}
 use Rattle.std.proofs.lemmas.List.Elements.{All-contains}
-use Rattle.dw_cprint.specs.Steps.{entries_of}
+use Rattle.dw_cprint.specs.Steps.{entries_among}
 use Rattle.dw_cprint.proofs.ReachLemmas.{finds-none, finds-both, entries-take, entry-among, finds-as}
 use Rattle.dw_cprint.proofs.reaching.push_row.Goals as goal
 use Rattle.dw_cprint.proofs.reaching.push_row.Goals.{in-Some+in_ok-place_of+in_ok-push, in_default}
@@ -14,7 +14,7 @@ loop-at-init c =
 pub place_of-requires-clause-within : goal.place_of-requires-clause-within
 place_of-requires-clause-within c =
     let types = c.args.types.now in
-    let below = All-contains (λ to. to < length c.args.places.now.items) (entries_of types) c.in-Some.entry
+    let below = All-contains (λ to. to < length c.args.places.now.items) (entries_among types) c.in-Some.entry
     c.requires.within (entry-among types c.in-Some.entry (
       c.loop-at.at-index,
       c.loop-at-test.true,
@@ -33,8 +33,8 @@ loop-at-preserved c =
     let i = c.loop-at.at-index in
     let p0 = c.args.places.now.items in
     let f0 = c.args.found.now in
-    let before = entries_of (take i types) in
-    let after = entries_of (take (i + 1) types) in
+    let before = entries_among (take i types) in
+    let after = entries_among (take (i + 1) types) in
     let items = λ (v : Vec ℕ Global). v.items in
     let split = sym (entries-take types i c.loop-at-test.true) in
     let read = c.get.ensures ∙ get_or_read types i c.at-item.result c.loop-at-test.true c.at-item.is None in
@@ -47,7 +47,7 @@ loop-at-preserved c =
             r2,
             finds-as (before ++ w.in-Some.entry ∷ []) after p0 p c.match-get.places.items f0 w.place_of.new.found
                 c.match-get.found r2 r2
-                (ap (λ (o : Option ℕ). before ++ entries_of (o ∷ [])) (sym w.in-Some.is ∙ read) ∙ split)
+                (ap (λ (o : Option ℕ). before ++ entries_among (o ∷ [])) (sym w.in-Some.is ∙ read) ∙ split)
                 (ap items (sym w.places-is)) (sym w.found-is) refl
                 (finds-both before (w.in-Some.entry ∷ []) p0 c.loop-at.places.items p f0 c.loop-at.found
                 w.place_of.new.found r (place ∷ []) finds w.in_ok-place_of.ensures.row),
@@ -58,7 +58,7 @@ loop-at-preserved c =
         r,
         finds-as before after p0 c.loop-at.places.items c.match-get.places.items f0 c.loop-at.found
             c.match-get.found r r
-            (sym (append-nil before) ∙ ap (λ (o : Option ℕ). before ++ entries_of (o ∷ []))
+            (sym (append-nil before) ∙ ap (λ (o : Option ℕ). before ++ entries_among (o ∷ []))
             (sym w.in_default.is ∙ read)
             ∙ split)
             (ap items (sym w.places-is)) (sym w.found-is) refl finds,

@@ -5,7 +5,7 @@ use Rattle.dw_types.specs.PackingLaws.{length-cut}
 use Rattle.dw_cprint.specs.EntryShapes.{shape_in}
 use Rattle.dw_cprint.specs.Reach.{FindsAll}
 use Rattle.dw_cprint.specs.Shapes.{ShapeOf, view_shape}
-use Rattle.dw_cprint.specs.Steps.{entries_of, steps_reached}
+use Rattle.dw_cprint.specs.Steps.{entries_among, steps_reached}
 use Rattle.dw_cprint.proofs.LevelLemmas.{few-entries}
 use Rattle.dw_cprint.proofs.ReachLemmas.{so_far-start, so_far-more, so_far-done, packed-start, packed-more, rows-more, room}
 use Rattle.dw_cprint.proofs.WithinLemmas.{shape_within}
@@ -20,7 +20,7 @@ push_row-requires-in-loop-found-clause-few c =
 
 pub push_row-requires-in-loop-found-clause-within : goal.push_row-requires-in-loop-found-clause-within
 push_row-requires-in-loop-found-clause-within c =
-    let steps : entries_of c.deref.result.now
+    let steps : entries_among c.deref.result.now
     ≡ steps_reached (shape_in c.args.source.now.image.now) c.get.result = search rules in
     rw (steps, c.loop-found.invariant.2) (shape_within c.args.source.now.image.now c.get.result).all
 
@@ -28,11 +28,11 @@ pub loop-found-init : goal.loop-found-init
 loop-found-init c =
     let (row, finds, is) = c.in_ok-push_row.ensures.row in
     let found = c.push_row.new.found in
-    let P : List ℕ → Type 0 = λ f. FindsAll (entries_of c.args.types.now) c.in_ok-places.places.items
+    let P : List ℕ → Type 0 = λ f. FindsAll (entries_among c.args.types.now) c.in_ok-places.places.items
     c.push_row.new.places.items f found row in
     let long : length c.in_ok-places.places.items ≡ c.entries.result = search rules in
     rw (c.in_ok-ends.ensures, c.in_ok-steps.ensures, c.new-shapes.ensures.items) (
-      so_far-start (shape_in c.args.source.now.image.now) (entries_of c.args.types.now) c.in_ok-places.places.items
+      so_far-start (shape_in c.args.source.now.image.now) (entries_among c.args.types.now) c.in_ok-places.places.items
           c.push_row.new.places.items found row (subst P c.in_ok-found.ensures finds),
       packed-start found,
       c.in_ok-push_row.ensures.places ∙ (long ∙ c.entries.ensures),
@@ -61,7 +61,7 @@ loop-found-preserved c =
     ap (map view_shape) c.in_ok-push.ensures.items
     ∙ map-append view_shape c.loop-found.shapes.items (c.in_ok-shape.shape ∷ [])
     ∙ ap (λ (s : ShapeOf). read ++ s ∷ []) shape in
-    let reached : entries_of c.deref.result.now ≡ steps_reached shapes c.get.result = search rules in
+    let reached : entries_among c.deref.result.now ≡ steps_reached shapes c.get.result = search rules in
     let p2 = c.push_row-in-loop-found.new.places.items in
     let f2 = c.push_row-in-loop-found.new.found in
     let (row, finds, all) = c.in_ok-push_row-2.ensures.row in
@@ -71,7 +71,7 @@ loop-found-preserved c =
     ≡ ends ++ length (steps ++ row) ∷ [] = c.in_ok-push-2.ensures
     ∙ ap (λ (n : ℕ). ends ++ n ∷ []) (c.len-in-loop-found-3.ensures ∙ ap length all) in
     rw (end, all, seen, rows-more found steps ends row c.loop-found.invariant.1) (
-      so_far-more shapes (entries_of c.args.types.now) places p2 found f2 rows read row c.loop-found.invariant.0 more
+      so_far-more shapes (entries_among c.args.types.now) places p2 found f2 rows read row c.loop-found.invariant.0 more
           placed,
       packed-more (steps_reached shapes (get_or found (length rows) 0)) places p2 found f2 steps ends row
           c.loop-found.invariant.1 placed,

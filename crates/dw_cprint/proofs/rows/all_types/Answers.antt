@@ -1,7 +1,7 @@
 use Rattle.std.proofs.Common.{◌≡◌, ◌<◌, ◌++◌, ◌∙◌, ap, ℕ, List, length, arith}
 use Rattle.std.proofs.lemmas.List.{get_or_read}
 use Rattle.dw_cprint.specs.EntryShapes.{subject_in}
-use Rattle.dw_cprint.specs.Steps.{entries_of, first_steps, types_declared}
+use Rattle.dw_cprint.specs.Steps.{entries_among, first_steps, types_declared}
 use Rattle.dw_cprint.proofs.ListingLemmas.{lines-more, named-within}
 use Rattle.dw_cprint.proofs.ReachLemmas.{entries-append}
 use Rattle.dw_cprint.proofs.rows.all_types.Goals as goal
@@ -37,8 +37,8 @@ loop-k-preserved c =
     let types = c.loop-k.types.items in
     let id = c.index-id.result.now in
     let inside : c.loop-k.k < length named = omega (arith, c.loop-k-test.true, c.len-k-end.ensures) in
-    let more : entries_of c.put_types_of.new.types.items
-    ≡ entries_of types ++ f id = ap entries_of c.in_ok-put_types_of.ensures
+    let more : entries_among c.put_types_of.new.types.items
+    ≡ entries_among types ++ f id = ap entries_among c.in_ok-put_types_of.ensures
     ∙ entries-append types (types_declared (subject_in c.args.image.now id)) in
-    lines-more f (entries_of types) _ _ named c.loop-k.k id more inside
+    lines-more f (entries_among types) _ _ named c.loop-k.k id more inside
     (get_or_read named c.loop-k.k id inside c.index-id.ensures id) c.loop-k.invariant

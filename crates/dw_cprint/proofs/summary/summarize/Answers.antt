@@ -4,7 +4,7 @@ use Rattle.std.proofs.lemmas.List.{take_all}
 use Rattle.std.proofs.lemmas.Option.{slice_get_read}
 use Rattle.dw_cprint.specs.Shapes.{ShapeOf}
 use Rattle.dw_cprint.specs.Steps.{types_reached}
-use Rattle.dw_cprint.specs.Summaries.{IsSummary, Knows}
+use Rattle.dw_cprint.specs.Summaries.{IsSummary, KnowsType}
 use Rattle.dw_cprint.proofs.SummaryLemmas.{known_by, have_more, all_known, right_more}
 use Rattle.dw_cprint.proofs.summary.summarize.Goals as goal
 
@@ -35,7 +35,7 @@ loop-rank-preserved c =
           let right = c.loop-rank.invariant.right all found are in
           let P : List ℕ → Type 0 = λ ps. All (λ at. IsSummary all at (known_by ps nodes at))
           (types_reached (all entry)) in
-          let Q : ShapeOf → Type 0 = λ x. All (Knows all c.loop-rank.survey) (types_reached x) in
+          let Q : ShapeOf → Type 0 = λ x. All (KnowsType all c.loop-rank.survey) (types_reached x) in
           let known = subst Q (sym says)
           (subst P (sym c.loop-rank.invariant.places)
           (all_known all places found shapes clear are nodes i below right)) in

@@ -14,7 +14,7 @@ use Rattle.dw_links.specs.Constants.{language_of}
 use Rattle.dw_links.specs.UnitAtHand.{FailsByText, FailsByTarget}
 use Rattle.dw_links.specs.EntryLinks.{IsEntryLinked, IsFirstAtEntry}
 use Rattle.dw_links.specs.References.{HeaderFailures, AttributeFailures}
-use Rattle.dw_links.specs.Tables.{type_target}
+use Rattle.dw_links.specs.Tables.{target_of_type}
 use Rattle.dw_links.proofs.DeclaredLemmas.{keeps_none, keeps_whole, only_none}
 use Rattle.dw_links.proofs.ClassLemmas.{unit_there}
 use Rattle.dw_links.proofs.TableLemmas.{map_one_more, map_all}
@@ -172,7 +172,7 @@ returns-clause-ok c =
             read.language;
         types =
             sym (take_all number c.loop-unit.types.items (omega (arith, all, linked.long)))
-            ∙ map_all (type_target (all_entries entries) (all_units entries)) (all_entries entries)
+            ∙ map_all (target_of_type (all_entries entries) (all_units entries)) (all_entries entries)
             (take number c.loop-unit.types.items) number all linked.types_are;
       };
     }

@@ -6,7 +6,7 @@ use Rattle.dw_types.specs.Entries.{entry_in}
 use Rattle.dw_types.specs.SizeFaults.{fails_size, IsFirstSizeFault}
 use Rattle.dw_types.specs.SizeTables.{size_at}
 use Rattle.dw_types.specs.StoredSizes.{ObeysCappedLines}
-use Rattle.dw_types.specs.TypeFailures.{plain_fault_at, IsFirstAt, PassBefore}
+use Rattle.dw_types.specs.TypeFailures.{plain_fault_at, IsFirstAt, NoneFailsBefore}
 use Rattle.dw_types.proofs.FirstLemmas.{none-of_entries, plain-fault}
 use Rattle.dw_types.proofs.SizeFaultLemmas.{first-is_first, found-is_table}
 use Rattle.dw_types.proofs.measuring.sizes.Goals as goal
@@ -36,7 +36,7 @@ returns-clause-only c =
     let us = units_of c.args.entries.now in
     let table = size_at c.in_ok-sizes.sizes in
     let lines : ObeysCappedLines us table = rw c.new-linked.ensures.same at c.in_ok-sizes.ensures.lines in
-    let pass : PassBefore (fails_size us table) (length (entries_of us)) =
+    let pass : NoneFailsBefore (fails_size us table) (length (entries_of us)) =
     rw (c.in_ok-sizes.ensures.same, c.new-linked.ensures.same, c.in_default.is) at c.first_broken.ensures.first in
     rw c.requires.entries
     (found-is_table us c.args.order.now.ranks (rw c.requires.entries at c.requires.order).falls table lines pass)
@@ -45,6 +45,6 @@ pub returns-clause-sound : goal.returns-clause-sound
 returns-clause-sound c =
     let us = units_of c.args.entries.now in
     let table = size_at c.in_ok-sizes.sizes in
-    let pass : PassBefore (fails_size us table) (length (entries_of us)) =
+    let pass : NoneFailsBefore (fails_size us table) (length (entries_of us)) =
     rw (c.in_ok-sizes.ensures.same, c.new-linked.ensures.same, c.in_default.is) at c.first_broken.ensures.first in
     rw c.requires.entries (none-of_entries (entries_of us) (fails_size us table) pass)

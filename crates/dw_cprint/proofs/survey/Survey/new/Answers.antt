@@ -4,7 +4,7 @@ use Rattle.dw_types.specs.Packing.{cut}
 use Rattle.dw_cprint.specs.EntryShapes.{shape_in}
 use Rattle.dw_cprint.specs.Reach.{HasReached}
 use Rattle.dw_cprint.specs.Shapes.{view_shape}
-use Rattle.dw_cprint.specs.Steps.{entries_of}
+use Rattle.dw_cprint.specs.Steps.{entries_among}
 use Rattle.dw_cprint.proofs.SurveyLemmas.{survey-done, nodes-of}
 use Rattle.dw_cprint.proofs.survey.Survey.new.Goals as goal
 
@@ -27,12 +27,12 @@ summarize-requires c = λ k d below.
 pub returns : goal.returns
 returns c =
     let shapes = shape_in c.args.source.now.image.now in
-    let roots = entries_of c.args.types.items in
+    let roots = entries_among c.args.types.items in
     let graph = cut c.in_ok-survey.graph.steps 0 c.in_ok-survey.graph.ends in
     let sorted = c.in_ok-clear.ensures in
     let done = c.in_ok-survey-2.ensures in
     let R : List ℕ → Type 0 = λ xs. HasReached shapes xs c.in_ok-survey.survey graph in
-    let r = subst R (ap entries_of c.deref.ensures.value) c.in_ok-survey.ensures in
+    let r = subst R (ap entries_among c.deref.ensures.value) c.in_ok-survey.ensures in
     survey-done shapes roots c.in_ok-survey.survey.places.items r.found graph r.reach c.in_ok-survey-2.survey
     done.places c.in_ok-clear.clear.by_rank done.clear
     (ap (map view_shape) done.shapes ∙ r.are_shapes)

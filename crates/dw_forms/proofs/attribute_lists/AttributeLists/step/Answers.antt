@@ -1,6 +1,6 @@
 use Rattle.std.proofs.Common.{◌∷◌, subst, arith}
 use Rattle.dw_forms.specs.declared.abbrev.AttributeSpec.{AttributeSpec}
-use Rattle.dw_forms.specs.LeadingWalks.{IsStep}
+use Rattle.dw_forms.specs.LeadingWalks.{IsFirstStep}
 use Rattle.dw_forms.specs.AttributeLists.{specs_of, numbered_in}
 use Rattle.dw_forms.proofs.ChainLaws.{chain_none}
 use Rattle.dw_forms.proofs.NodeSteps.{known_small, node_read}
@@ -40,7 +40,7 @@ returns c =
     let before = c.step_before.ensures (numbered_in a.nodes.items n.next) is.after in
     record {
       step = rw is.begins (subst
-          (λ (s : AttributeSpec). IsStep
+          (λ (s : AttributeSpec). IsFirstStep
           (record { number = c.args.number; item = s } ∷ numbered_in a.nodes.items n.next)
           c.step_before.result) c.spec.ensures before);
     }

@@ -5,7 +5,7 @@ use Rattle.dw_types.specs.Kinds.{count_of_types}
 use Rattle.dw_types.specs.Packing.{LeadsBelow}
 use Rattle.dw_types.specs.Shapes.{fails_shape}
 use Rattle.dw_types.specs.Steps.{by_value}
-use Rattle.dw_types.specs.TypeFailures.{PassBefore}
+use Rattle.dw_types.specs.TypeFailures.{NoneFailsBefore}
 use Rattle.dw_types.proofs.PackingLemmas.{PacksUpTo}
 use Rattle.dw_types.proofs.by_value.ByValue.new.Given as goal
 
@@ -14,5 +14,5 @@ invariant-loop-node l =
     PacksUpTo (by_value (units_of l.fn.entries)) l.steps l.ends l.node
     × LeadsBelow l.steps (length (all_entries l.fn.entries))
     × (units_held l.linked ≡ units_of l.fn.entries)
-    × PassBefore (fails_shape (units_of l.fn.entries)) l.node
+    × NoneFailsBefore (fails_shape (units_of l.fn.entries)) l.node
     × (l.types ≡ count_of_types (take l.node (all_entries l.fn.entries)))
