@@ -2,7 +2,7 @@
 import collections
 import re
 
-FOLDERS = ("must-fail", "more-edits", "controls")
+FOLDERS = ("must-fail", "more-edits")
 AT_MOST = 70  # edits in must-fail/, of all crates
 IMPL = r"impl(?:<.*?>)? (?:(?P<trait>[\w:]+)(?:<.*?>)? for )?(?P<type>[\w:]+)"
 BLOCK = re.compile(rf"(?:pub )?(?:{IMPL}|trait (?P<name>\w+))")
@@ -11,12 +11,12 @@ Function = collections.namedtuple("Function", "path first last")
 
 
 class Edit:
-    """An edit or a control: the pairs of an old and a new text, by file, and the functions that they change."""
+    """An edit or its control: the pairs of an old and a new text, by file, and the functions that they change."""
 
-    def __init__(self, path):
-        self.crate, self.folder, self.name = path.parent.parent, path.parent.name, path.stem
+    def __init__(self, path, is_control=False):
+        self.path, self.crate, self.folder, self.name = path, path.parent.parent, path.parent.name, path.stem
         self.label = f"{self.crate.name}/{self.name}"
-        self.is_control = self.folder == "controls"
+        self.is_control, self.has_control = is_control, False
         self.pairs, self.why, self.functions = [], None, set()
         file = old = None
         for line in path.read_text().split("\n"):
@@ -27,7 +27,15 @@ class Edit:
                 old = rest.removeprefix(" ")
             elif word == "new" and file and old:
                 self.pairs.append((file, old, rest.removeprefix(" ")))
+            elif word == "# right" and self.pairs:
+                self.has_control = True
+                if is_control:
+                    self.pairs[-1] = (file, old, rest.removeprefix(" "))
         self.locate()
+
+    @property
+    def kind(self):
+        return "controls" if self.is_control else self.folder
 
     def locate(self):
         """Finds the functions that are changed, or says why the edit can't be applied."""
@@ -54,6 +62,12 @@ class Edit:
                 return False
             texts[file] = text.replace(old, new)
         return True
+
+
+def edits_in(top):
+    """Lists the edits of all crates, each with its control behind it, if it has one."""
+    edits = [Edit(path) for path in sorted(it for name in FOLDERS for it in top.glob(f"crates/*/{name}/*.edit"))]
+    return [it for edit in edits for it in [edit, *[Edit(edit.path, True)] * edit.has_control]]
 
 
 def functions_of(crate, file, text):
@@ -95,8 +109,7 @@ def misplaced(edits):
             yield f"{edit.label}: it can't be applied: {edit.why}"
     names = collections.Counter(it.label for it in edits if not it.is_control)
     yield from (f"{label}: two edits have this name" for label, count in names.items() if count > 1)
-    yield from (f"{it.label}: this control has no edit" for it in edits if it.is_control and it.label not in names)
-    kept = [it for it in edits if it.folder == "must-fail"]
+    kept = [it for it in edits if it.kind == "must-fail"]
     if len(kept) > AT_MOST:
         yield f"must-fail/ has {len(kept)} edits, and should have at most {AT_MOST}: move some to more-edits/"
     with_none = {it.crate.name for it in edits} - {it.crate.name for it in kept}
@@ -105,6 +118,6 @@ def misplaced(edits):
 
 def count(edits):
     """Prints how many edits and controls each crate has."""
-    counts = collections.Counter((it.crate.name, it.folder) for it in edits)
+    counts = collections.Counter((it.crate.name, it.kind) for it in edits)
     for name in sorted({it.crate.name for it in edits}):
-        print(f"{name:<12}" + "".join(f"{counts[name, folder]:>4} {folder}" for folder in FOLDERS))
+        print(f"{name:<12}" + "".join(f"{counts[name, kind]:>4} {kind}" for kind in (*FOLDERS, "controls")))

@@ -10,8 +10,8 @@ can be applied. It ends with 'N passed, N failed, N skipped'.
 A function is proved against its own contract and those of the functions that it calls, so edits of different functions
 can be tried together: one check of a copy of the crate, in which each edited function must be refused by itself. Edits
 of more than one file, and of text that is in no function, are tried alone; so is each edit that is not refused beside
-others. A control (controls/NAME.edit) is a right body in the place of the edit NAME and of its shape: that it is proved
-shows that the edit is refused for what it means.
+others. A control (the text after `# right:` in the file of an edit) is a right body in the place of the edit and of its
+shape: that it is proved shows that the edit is refused for what it means.
 
 It runs `rt check` in the folder of the crate, and then in copies of the crate and those below it, each with what was
 kept in out/: the proofs of the crate, and the libraries below it.
@@ -32,7 +32,7 @@ import tempfile
 
 sys.dont_write_bytecode = True
 from common import TOP, Tally, tell
-from edit_files import FOLDERS, Edit, count, functions_of, misplaced, short
+from edit_files import count, edits_in, functions_of, misplaced, short
 
 TOGETHER = 10  # edits in one check
 # Errors of a proof file that only say that the edit took a name away.
@@ -248,17 +248,15 @@ def main():
     options.add_argument("--apply", action="store_true", help="prove nothing")
     options.add_argument("crates", nargs="*", metavar="CRATE")
     given = options.parse_args()
-    paths = [it for folder in FOLDERS for it in TOP.glob(f"crates/*/{folder}/*.edit")]
-    edits = [Edit(it) for it in sorted(paths)]
+    edits = edits_in(TOP)
     wrong = list(misplaced(edits))
     if given.apply:
         count(edits)
         return tell(wrong, len(edits), 300)
-    folders = FOLDERS if given.all else FOLDERS[1:]
     chosen, tally = collections.defaultdict(list), Tally(1)
     of_turn = tenth(edits, tally) if given.tenth else {it.label for it in edits}
     for edit in edits:
-        is_asked = edit.folder in folders and re.search(given.only, edit.name) and edit.label in of_turn
+        is_asked = (given.all or edit.kind != "must-fail") and re.search(given.only, edit.name) and edit.label in of_turn
         if is_asked and edit.crate.name in (given.crates or [edit.crate.name]):
             if edit.why:
                 tally.add(edit.label, edit.why)
@@ -275,7 +273,7 @@ def main():
 
 def tenth(edits, tally):
     """The names of a tenth of the edits of more-edits/ and the controls: the one whose turn it is at this commit."""
-    labels = sorted({it.label for it in edits if it.folder != "must-fail"})
+    labels = sorted({it.label for it in edits if it.kind != "must-fail"})
     commits = "0"
     if tally.has("git") and (TOP / ".git").exists():
         ran = subprocess.run(["git", "-C", TOP, "rev-list", "--count", "HEAD"], capture_output=True, text=True)
