@@ -24,8 +24,7 @@ GROUPS = ["A U G", "K", "S", "R", "Y", "C", "Z"]
 # The enums of rules: the file, the letters of the rules that are its variants, and the chapter that has their texts.
 ENUMS = {
     "ElfRule": ("crates/dw_elf/src/fault.rt", "E", "crates/dw_elf/specs/RuleTexts.antt"),
-    "AbbrevRule": ("crates/dw_forms/src/fault.rt", "A", "crates/dw_forms/specs/Rules.antt"),
-    "Rule": ("crates/dw_entries/src/rule.rt", "U G K S R Y C Z", "crates/dw_entries/specs/Rules.antt"),
+    "Rule": ("crates/dw_forms/src/rule.rt", "A U G K S R Y C Z", "crates/dw_forms/specs/Rules.antt"),
     "PrintFault": ("crates/dw_cprint/src/fault.rt", "P", "crates/dw_cprint/specs/Listings.antt"),
 }
 FAULTS = [file for file, _, _ in ENUMS.values()]
@@ -170,8 +169,9 @@ def with_choices(text, rules):
     for word, letter in (("string_rule", "S"), ("reference_rule", "R"), ("type_rule", "Y"), ("size_rule", "Z")):
         *those, last = of(rules, letter)
         tests = [f"if number == {rule.number} then {rule.name} else" for rule in those]
-        made = "\n    (".join([f"{word} number =\n    {tests[0]}", *tests[1:]]) + f" {last.name}{')' * len(tests[1:])}\n"
-        text = re.sub(rf"(?m)^{word} number =\n(?:    .*\n)+", lambda it: made, text)
+        first = "\n    " if tests[1:] else " "
+        made = f"{word} number ={first}" + "\n    (".join(tests) + f" {last.name}{')' * len(tests[1:])}\n"
+        text = re.sub(rf"(?m)^{word} number =.*\n(?:    .*\n)*", lambda it: made, text)
     return with_names(text, [rule for rule in rules if rule.group > 1], "Rule", 10000)
 
 

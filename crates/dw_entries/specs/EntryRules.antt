@@ -1,7 +1,7 @@
 -- Chapter: rules on each entry, on each attribute of an entry, or on each unit.
 use Rattle.std.specs.Prelude.{◌≡◌, ℕ, ◌<◌, List, Some, slice_get, map}
 use Rattle.dw_forms.specs.Value.{Datum}
-use Rattle.dw_entries.specs.declared.rule.Rule.{Rule}
+use Rattle.dw_forms.specs.declared.rule.Rule.{Rule}
 use Rattle.dw_entries.specs.Grammar.{Attribute, Head}
 use Rattle.dw_entries.specs.Entries.{Entry}
 use Rattle.dw_entries.specs.Places.{Place, at_attribute}

@@ -4,8 +4,8 @@ use Rattle.std.specs.Prelude.{Err}
 use Rattle.dw_forms.specs.declared.fault.AbbrevFault.{AbbrevFault}
 use Rattle.dw_forms.specs.Abbrev.{Declaration}
 use Rattle.dw_forms.specs.AbbrevReading.{table_at}
-use Rattle.dw_entries.specs.declared.rule.Rule.{Rule}
-use Rattle.dw_entries.specs.declared.rule.Rule.TheVariants.{Table, NoUnitEntry, LeftOver}
+use Rattle.dw_forms.specs.declared.rule.Rule.{Rule}
+use Rattle.dw_forms.specs.declared.rule.Rule.TheVariants.{NoUnitEntry, LeftOver}
 use Rattle.dw_entries.specs.declared.fault.Section.TheVariants.{Abbrev, Info}
 use Rattle.dw_entries.specs.declared.fault.Failing.{Failing}
 use Rattle.dw_entries.specs.declared.fault.PlainFault.{PlainFault}
@@ -19,7 +19,7 @@ use Rattle.dw_entries.specs.Units.{DebugUnit, context_by, AreUnits, units_bytes}
 
 -- the fault of a table
 abbrev pub in_table : AbbrevFault → PlainFault
-in_table f = record { rule = Table f.rule; section = Abbrev; at = f.at; attribute = f.attribute }
+in_table f = record { rule = f.rule; section = Abbrev; at = f.at; attribute = f.attribute }
 
 -- the fault of a header at this offset
 abbrev pub in_header : Rule → ℕ → PlainFault

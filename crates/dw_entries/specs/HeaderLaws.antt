@@ -10,9 +10,9 @@ use Rattle.dw_forms.specs.Formats.{choose, nothing, failing, and_then, mapped, t
 use Rattle.dw_forms.specs.Front.{Takes}
 use Rattle.dw_forms.specs.Readers.{read_is, not_both, takes}
 use Rattle.dw_forms.specs.Steps.{◌>>=◌}
-use Rattle.dw_entries.specs.declared.rule.Rule.{Rule}
-use Rattle.dw_entries.specs.declared.rule.Rule.TheVariants.{Not32Bit, BadVersion, BadUnitType, BadAddressSize}
-use Rattle.dw_entries.specs.declared.rule.Rule.TheVariants.{BadAbbrevOffset}
+use Rattle.dw_forms.specs.declared.rule.Rule.{Rule}
+use Rattle.dw_forms.specs.declared.rule.Rule.TheVariants.{Not32Bit, BadVersion, BadUnitType, BadAddressSize}
+use Rattle.dw_forms.specs.declared.rule.Rule.TheVariants.{BadAbbrevOffset}
 use Rattle.dw_entries.specs.declared.header.HeaderKind.{HeaderKind}
 use Rattle.dw_entries.specs.declared.header.HeaderKind.TheVariants.{Version4, CompileUnit, PartialUnit, TypeUnit}
 use Rattle.dw_entries.specs.declared.header.UnitHeader.{UnitHeader}

@@ -9,7 +9,7 @@ pub mod EntriesAt
 pub mod Items
 pub mod Reading
 pub mod Faults
-pub mod Rules
+pub mod SectionTexts
 pub mod Places
 pub mod Failures
 pub mod EntryRules

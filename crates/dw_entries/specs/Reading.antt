@@ -12,9 +12,9 @@ use Rattle.dw_forms.specs.FormCodes.{is_allowed}
 use Rattle.dw_forms.specs.LebReading.{uleb_at}
 use Rattle.dw_forms.specs.Value.{Datum}
 use Rattle.dw_forms.specs.ValueReading.{value_at}
-use Rattle.dw_entries.specs.declared.rule.Rule.{Rule}
-use Rattle.dw_entries.specs.declared.rule.Rule.TheVariants.{NoUnitEntry, WrongUnitTag, UndeclaredCode, Cut, BadNumber}
-use Rattle.dw_entries.specs.declared.rule.Rule.TheVariants.{BadIndirect, FormVersion}
+use Rattle.dw_forms.specs.declared.rule.Rule.{Rule}
+use Rattle.dw_forms.specs.declared.rule.Rule.TheVariants.{NoUnitEntry, WrongUnitTag, UndeclaredCode, Cut, BadNumber}
+use Rattle.dw_forms.specs.declared.rule.Rule.TheVariants.{BadIndirect, FormVersion}
 use Rattle.dw_entries.specs.declared.fault.Failing.{Failing}
 use Rattle.dw_entries.specs.declared.header.HeaderKind.{HeaderKind}
 use Rattle.dw_entries.specs.Grammar.{Context, declared, Attribute}

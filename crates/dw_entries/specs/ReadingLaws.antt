@@ -20,7 +20,7 @@ use Rattle.dw_forms.specs.Value.{Datum, Val, ValFails, attribute_value}
 use Rattle.dw_forms.specs.ValueReading.{value_at}
 use Rattle.dw_forms.specs.Readers.{takes}
 use Rattle.dw_forms.specs.Datums.{Datum-set}
-use Rattle.dw_entries.specs.declared.rule.Rule.TheVariants.{UndeclaredCode, NoUnitEntry, WrongUnitTag, FormVersion}
+use Rattle.dw_forms.specs.declared.rule.Rule.TheVariants.{UndeclaredCode, NoUnitEntry, WrongUnitTag, FormVersion}
 use Rattle.dw_entries.specs.declared.fault.Failing.{Failing}
 use Rattle.dw_entries.specs.declared.header.HeaderKind.{HeaderKind}
 use Rattle.dw_entries.specs.Grammar.{Context, declared_in, declared, Attribute, IsAttribute, AreAttributes}

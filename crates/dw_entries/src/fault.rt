@@ -4,8 +4,7 @@ ghost use Rattle.std.specs.Prelude.{◌≡◌};
 ghost use Rattle.dw_forms.specs.declared.fault.Stop.TheVariants.{Fault as Faulty};
 ghost use Rattle.dw_entries.specs.Failures.{IsPlainFault};
 
-use crate::rule::Rule;
-use dw_forms::Stop;
+use dw_forms::{Rule, Stop};
 use std::alloc::Global;
 
 /// The section in which a fault is: .debug_abbrev for a table's, .debug_info for all others.
@@ -16,10 +15,10 @@ pub enum Section {
 }
 
 impl Section {
-    ghost use Rattle.dw_entries.specs.Rules.{section_text};
+    ghost use Rattle.dw_entries.specs.SectionTexts.{section_text};
 
     /// The section's name in the file.
-    #[tactic(auto, unfolding(crate::specs::Rules::section_text))]
+    #[tactic(auto, unfolding(crate::specs::SectionTexts::section_text))]
     pub fn name(self) -> &'static str
         ensures { result.now ≡ section_text self }
     {

@@ -7,10 +7,9 @@ ghost use Rattle.dw_entries.specs.Header.{field as field_format, address_size as
 ghost use Rattle.dw_entries.specs.Header.{abbrev_offset as offset_format, version4 as format4, version5 as format5};
 ghost use Rattle.dw_entries.specs.Header.{header_fields, unit_at, header_at};
 
-use crate::rule::Rule;
 use byteorder::{ByteOrder, LittleEndian};
-use dw_forms::Tag;
 use dw_forms::constants::{DW_TAG_compile_unit, DW_TAG_partial_unit, DW_TAG_type_unit};
+use dw_forms::{Rule, Tag};
 
 /// The types of units (DWARF 5, section 7.5.1, Table 7.2).
 #[derive(Clone, Copy, Debug, PartialEq, Eq)]

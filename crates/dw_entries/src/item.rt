@@ -10,14 +10,14 @@ ghost use Rattle.dw_entries.specs.NamedDecls.{declared_view};
 ghost use Rattle.dw_entries.specs.Reading.{bytes_after, attribute_at, attributes_at, code_at, first_at, item_at, seen};
 ghost use Rattle.dw_entries.specs.Reading.{value_rule as rule_of_value};
 ghost use Rattle.dw_entries.specs.Units.{context_in, numbers_in};
-ghost use Rattle.dw_entries.specs.declared.rule.Rule.TheVariants.{UndeclaredCode};
+ghost use Rattle.dw_forms.specs.declared.rule.Rule.TheVariants.{UndeclaredCode};
 
 use crate::fault::Failing;
 use crate::header::HeaderKind;
 use crate::records::UnitContext;
-use crate::rule::Rule;
 use dw_forms::{
-    Attribute, AttributeSpec, Attributes, DeclAt, NumberFault, ValueFault, read_uleb, skip_value,
+    Attribute, AttributeSpec, Attributes, DeclAt, NumberFault, Rule, ValueFault, read_uleb,
+    skip_value,
 };
 
 impl From<NumberFault> for Failing {

@@ -16,10 +16,9 @@ use crate::entries::Entries;
 use crate::fault::{Fault, PlainFault, Section};
 use crate::header::read_header;
 use crate::records::{Kept, UnitContext, UnitRecord};
-use crate::rule::Rule;
 use crate::tree::walk_unit;
 use dw_elf::Sections;
-use dw_forms::{AbbrevTables, Stop};
+use dw_forms::{AbbrevTables, Rule, Stop};
 use std::alloc::Global;
 
 /// The number of the table that begins at an offset of .debug_abbrev.
@@ -40,7 +39,7 @@ pub fn unit_table(
         Ok(table) => Ok(table),
         Err(Stop::Memory) => Err(Stop::Memory),
         Err(Stop::Fault(broken)) => Err(Stop::Fault(PlainFault {
-            rule: Rule::Table(broken.rule),
+            rule: broken.rule,
             section: Section::Abbrev,
             at: broken.at as u32,
             attribute: broken.attribute,

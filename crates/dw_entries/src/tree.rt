@@ -16,8 +16,7 @@ use crate::fault::{Failing, PlainFault, Section};
 use crate::id::OptionalId;
 use crate::item::{read_code, read_first, read_item};
 use crate::records::{Record, UnitContext, UnitRecord};
-use crate::rule::Rule;
-use dw_forms::{DeclAt, Stop};
+use dw_forms::{DeclAt, Rule, Stop};
 use std::alloc::{AllocError, Global};
 
 /// A list of children that is still open: whose it is, and its last entry so far.

@@ -7,7 +7,7 @@ use Rattle.dw_forms.specs.declared.abbrev.AttributeSpec.{AttributeSpec}
 use Rattle.dw_forms.specs.declared.attribute_lists.Node.{Node}
 use Rattle.dw_forms.specs.declared.offsets.Placed.{Placed}
 use Rattle.dw_forms.specs.Abbrev.{IsCode16, attribute_of, specifications, broken}
-use Rattle.dw_forms.specs.declared.fault.AbbrevRule.TheVariants.{AbbrevCut}
+use Rattle.dw_forms.specs.declared.rule.Rule.TheVariants.{AbbrevCut}
 use Rattle.dw_forms.specs.declared.fault.DeclFault.{DeclFault}
 use Rattle.dw_forms.specs.AbbrevReading.{pair_at}
 use Rattle.dw_forms.specs.Chains.{Numbered, items_of}

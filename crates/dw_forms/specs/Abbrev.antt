@@ -7,9 +7,9 @@ use Rattle.dw_forms.specs.declared.form.Form.{Form}
 use Rattle.dw_forms.specs.declared.form.Form.TheVariants.{ImplicitConst}
 use Rattle.dw_forms.specs.declared.abbrev.AttributeSpec.{AttributeSpec}
 use Rattle.dw_forms.specs.declared.abbrev.Decl.{Decl}
-use Rattle.dw_forms.specs.declared.fault.AbbrevRule.{AbbrevRule}
-use Rattle.dw_forms.specs.declared.fault.AbbrevRule.TheVariants.{AbbrevCut, CodeTwice, BadTag, BadChildren}
-use Rattle.dw_forms.specs.declared.fault.AbbrevRule.TheVariants.{BadPair, UnknownForm, AttributeTwice}
+use Rattle.dw_forms.specs.declared.rule.Rule.{Rule}
+use Rattle.dw_forms.specs.declared.rule.Rule.TheVariants.{AbbrevCut, CodeTwice, BadTag, BadChildren}
+use Rattle.dw_forms.specs.declared.rule.Rule.TheVariants.{BadPair, UnknownForm, AttributeTwice}
 use Rattle.dw_forms.specs.declared.fault.DeclFault.{DeclFault}
 use Rattle.dw_forms.specs.declared.fault.AbbrevFault.{AbbrevFault}
 use Rattle.dw_forms.specs.AbbrevFaults.{decl_fault_of, fault_at}
@@ -39,7 +39,7 @@ abbrev pub views : List Decl → List Declaration
 views ds = map table_view ds
 
 -- the rule is broken at this attribute, or at none: 0
-abbrev pub broken : AbbrevRule → ℕ → DeclFault
+abbrev pub broken : Rule → ℕ → DeclFault
 broken rule attribute = record { rule = rule; attribute = attribute }
 
 -- ---- numbers

@@ -15,9 +15,10 @@ ghost use Rattle.dw_forms.specs.ValueReading.{Gives};
 
 use crate::abbrev::{AbbrevTable, AttributeSpec, Decl};
 use crate::constants::{Attribute, Tag};
-use crate::fault::{AbbrevFault, AbbrevRule, DeclFault, Stop};
+use crate::fault::{AbbrevFault, DeclFault, Stop};
 use crate::form::Form;
 use crate::leb::{read_sleb, read_uleb};
+use crate::rule::Rule;
 use std::alloc::{AllocError, Global};
 use std::collections::BTreeSet;
 
@@ -40,7 +41,7 @@ fn signed(bytes: &[u8]) -> Result<(i64, &[u8]), DeclFault>
 }
 
 /// What is wrong with a declaration that breaks a rule.
-pub fn fault(rule: AbbrevRule, attribute: u16) -> DeclFault
+pub fn fault(rule: Rule, attribute: u16) -> DeclFault
     ensures { result ≡ record { rule = rule; attribute = attribute } }
 {
     DeclFault { rule, attribute }
@@ -94,12 +95,12 @@ pub fn pair_of(bytes: &[u8]) -> Result<(Option<(u16, Form)>, &[u8]), DeclFault>
         return Ok((None, rest));
     }
     if attribute == 0 || code == 0 || attribute > 0xffff {
-        return Err(fault(AbbrevRule::BadPair, 0));
+        return Err(fault(Rule::BadPair, 0));
     }
     let attribute = attribute as u16;
     match Form::from_code(code) {
         Some(form) => Ok((Some((attribute, form)), rest)),
-        None => Err(fault(AbbrevRule::UnknownForm, attribute)),
+        None => Err(fault(Rule::UnknownForm, attribute)),
     }
 }
 
@@ -119,7 +120,7 @@ fn next_attribute<'a>(
         return Ok((None, rest));
     };
     if has_attribute(earlier, seen, attribute) {
-        return Err(fault(AbbrevRule::AttributeTwice, attribute));
+        return Err(fault(Rule::AttributeTwice, attribute));
     }
     let (form, rest) = form_with_number(form, rest)?;
     let spec = AttributeSpec {
@@ -160,10 +161,10 @@ fn read_children(bytes: &[u8]) -> Result<(bool, &[u8]), DeclFault>
     ensures shorter { IfOk result (λ x. length x.1.now < length bytes.now) }
 {
     match bytes {
-        [] => Err(fault(AbbrevRule::AbbrevCut, 0)),
+        [] => Err(fault(Rule::AbbrevCut, 0)),
         [0, rest @ ..] => Ok((false, rest)),
         [1, rest @ ..] => Ok((true, rest)),
-        [_, ..] => Err(fault(AbbrevRule::BadChildren, 0)),
+        [_, ..] => Err(fault(Rule::BadChildren, 0)),
     }
 }
 
@@ -184,7 +185,7 @@ pub fn tag_and_children(bytes: &[u8]) -> Result<(Tag, bool, &[u8]), DeclFault>
 {
     let (tag, rest) = unsigned(bytes)?;
     if tag == 0 || tag > 0xffff {
-        return Err(fault(AbbrevRule::BadTag, 0));
+        return Err(fault(Rule::BadTag, 0));
     }
     let (has_children, rest) = read_children(rest)?;
     Ok((Tag(tag as u16), has_children, rest))
@@ -206,7 +207,7 @@ fn next_decl<'a>(
         return Ok((None, rest));
     }
     if earlier.has_code(code) {
-        return Err(Stop::Fault(fault(AbbrevRule::CodeTwice, 0)));
+        return Err(Stop::Fault(fault(Rule::CodeTwice, 0)));
     }
     let (tag, has_children, rest) = match tag_and_children(rest) {
         Ok(found) => found,

@@ -19,6 +19,7 @@ mod layout_reader;
 mod leb;
 mod list_reader;
 mod offsets;
+mod rule;
 mod value;
 mod value_reader;
 
@@ -30,12 +31,13 @@ pub use attributes::Attributes;
 pub use class::{Class, class_of_value, is_allowed_in, is_open};
 pub use constants::{Attribute, Language, Tag};
 pub use decl::{DeclAt, Decls, KeptDecl};
-pub use fault::{AbbrevFault, AbbrevRule, DeclFault, Stop};
+pub use fault::{AbbrevFault, DeclFault, Stop};
 pub use form::Form;
 pub use laws::{
     fixed_values_take_their_sum, signed_numbers_are_apart, tables_are_apart,
     tables_are_read_by_grammar, unsigned_numbers_are_apart, values_are_apart,
 };
 pub use leb::{NumberFault, read_sleb, read_uleb};
+pub use rule::Rule;
 pub use value::{Value, ValueFault};
 pub use value_reader::{read_value, skip_value};

@@ -11,8 +11,9 @@ use crate::abbrev::AttributeSpec;
 use crate::abbrev_reader::{fault, form_with_number, pair_of};
 use crate::attribute_lists::AttributeLists;
 use crate::constants::Attribute;
-use crate::fault::{AbbrevRule, DeclFault, Stop};
+use crate::fault::{DeclFault, Stop};
 use crate::offsets::{Offsets, Placed};
+use crate::rule::Rule;
 use std::alloc::Global;
 
 /// The lists of attributes that are kept, and where they are in the section.
@@ -48,9 +49,9 @@ fn next_pair(section: &[u8], offset: usize) -> Result<(Option<AttributeSpec>, us
 
 /// The fault of a list that has an attribute twice.
 fn twice(spec: &AttributeSpec) -> DeclFault
-    ensures { result ≡ record { rule = AbbrevRule.AttributeTwice; attribute = spec.now.attribute } }
+    ensures { result ≡ record { rule = Rule.AttributeTwice; attribute = spec.now.attribute } }
 {
-    fault(AbbrevRule::AttributeTwice, spec.attribute.0)
+    fault(Rule::AttributeTwice, spec.attribute.0)
 }
 
 /// Reads the attributes from an offset on, and returns the list after them and its end: none at the pair 0, 0, or one

@@ -6,7 +6,7 @@ use Rattle.dw_entries.specs.declared.fault.Fault.{Fault}
 use Rattle.dw_entries.specs.Units.{DebugUnit, AreUnits}
 use Rattle.dw_entries.specs.Entries.{entries_of}
 use Rattle.dw_entries.specs.Places.{at_header, at_attribute}
-use Rattle.dw_entries.specs.Rules.{group_of}
+use Rattle.dw_forms.specs.Rules.{group_of}
 use Rattle.dw_entries.specs.Failures.{Failure, HasNone}
 use Rattle.dw_entries.proofs.EntryFacts.{entries_rise}
 use Rattle.dw_links.proofs.RuleGroups.{string_failures, reference_failures}

@@ -5,12 +5,12 @@ use Rattle.std.specs.Prelude.{slice_get}
 use Rattle.dw_elf.specs.declared.sections.Sections.{Sections}
 use Rattle.dw_forms.specs.Codes.{DW_AT_str_offsets_base, DW_AT_addr_base}
 use Rattle.dw_forms.specs.Value.{Datum, str, line_str, str_index, addr_index}
-use Rattle.dw_entries.specs.declared.rule.Rule.TheVariants.{WrongClass, BadStrBase, StrIndex, StringEnd, BadAddrBase, AddrIndex}
+use Rattle.dw_forms.specs.declared.rule.Rule.TheVariants.{WrongClass, BadStrBase, StrIndex, StringEnd, BadAddrBase, AddrIndex}
 use Rattle.dw_entries.specs.Header.{version_of}
 use Rattle.dw_entries.specs.Units.{DebugUnit}
 use Rattle.dw_entries.specs.Places.{at_attribute}
 use Rattle.dw_entries.specs.Failures.{HasNone}
-use Rattle.dw_entries.specs.declared.rule.Rule.{Rule}
+use Rattle.dw_forms.specs.declared.rule.Rule.{Rule}
 use Rattle.dw_entries.specs.Entries.{Entry, entries_of, PlacedUnit, placed}
 use Rattle.dw_entries.specs.Lookups.{entry_head}
 use Rattle.dw_links.specs.Classes.{class_of, allows_in, ClassFailures}

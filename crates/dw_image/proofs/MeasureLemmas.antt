@@ -6,11 +6,11 @@ use Rattle.std.proofs.lemmas.List.{get_or_past}
 use Rattle.std.proofs.lemmas.Option.{slice_get_within}
 use Rattle.dw_elf.specs.declared.sections.Sections.{Sections}
 use Rattle.dw_entries.specs.Entries.{entries_of}
-use Rattle.dw_entries.specs.declared.rule.Rule.TheVariants.{ContainsItself}
+use Rattle.dw_forms.specs.declared.rule.Rule.TheVariants.{ContainsItself}
 use Rattle.dw_entries.specs.Failures.{Failure, HasNone, IsFirst, IsPlainFault}
 use Rattle.dw_entries.specs.Places.{at_entry}
 use Rattle.dw_entries.specs.Units.{DebugUnit}
-use Rattle.dw_entries.specs.declared.rule.Rule.{Rule}
+use Rattle.dw_forms.specs.declared.rule.Rule.{Rule}
 use Rattle.dw_entries.specs.declared.fault.PlainFault.{PlainFault}
 use Rattle.dw_entries.specs.declared.fault.Fault.{Fault}
 use Rattle.dw_links.proofs.TableLemmas.{target_within}

@@ -1,8 +1,8 @@
 -- A rule is told by its group and its number, in all groups but the first.
 use Rattle.std.proofs.Common.{rules, ◌≡◌, ℕ, ◌==◌, refl, sym, ap, ◌∙◌, if◌then◌else◌}
-use Rattle.dw_entries.specs.declared.rule.Rule.{Rule}
-use Rattle.dw_entries.specs.declared.rule.Rule.TheVariants.{WrongClass, BadStrBase, StrIndex, StringEnd, BadAddrBase, AddrIndex, NoEntry, WrongKind, NotNextSibling, NoSignature, SignatureTwice, BadTypeOffset, MissingType, BadCount, ContainsItself, NoSize, SizeTooGreat, MemberOutside, EnumSize}
-use Rattle.dw_entries.specs.Rules.{group_of, number_of}
+use Rattle.dw_forms.specs.declared.rule.Rule.{Rule}
+use Rattle.dw_forms.specs.declared.rule.Rule.TheVariants.{WrongClass, BadStrBase, StrIndex, StringEnd, BadAddrBase, AddrIndex, NoEntry, WrongKind, NotNextSibling, NoSignature, SignatureTwice, BadTypeOffset, MissingType, BadCount, ContainsItself, NoSize, SizeTooGreat, MemberOutside, EnumSize}
+use Rattle.dw_forms.specs.Rules.{group_of, number_of}
 
 abbrev string_rule : ℕ → Rule
 string_rule number =

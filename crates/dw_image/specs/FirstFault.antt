@@ -4,7 +4,7 @@ use Rattle.std.specs.Prelude.{◌≡◌, ℕ, ◌<◌, ◌⊎◌, List, [], map,
 use Rattle.dw_elf.specs.declared.sections.Sections.{Sections}
 use Rattle.dw_entries.specs.declared.fault.Fault.{Fault}
 use Rattle.dw_entries.specs.declared.fault.PlainFault.{PlainFault}
-use Rattle.dw_entries.specs.declared.rule.Rule.TheVariants.{ContainsItself}
+use Rattle.dw_forms.specs.declared.rule.Rule.TheVariants.{ContainsItself}
 use Rattle.dw_entries.specs.Failures.{Failure, HasNone, IsFirst, plain_fault_of, IsPlainFault}
 use Rattle.dw_entries.specs.Faults.{Fails}
 use Rattle.dw_entries.specs.declared.fault.Section.TheVariants.{Info}

@@ -3,7 +3,7 @@
 
 ghost use Rattle.std.specs.Prelude.{◌≡◌, ◌<◌, ◌≤◌, length, map, IfOk, IfErr, OnOk};
 ghost use Rattle.dw_forms.specs.Stops.{IfFault};
-ghost use Rattle.dw_entries.specs.Rules.{group_of};
+ghost use Rattle.dw_forms.specs.Rules.{group_of};
 ghost use Rattle.dw_entries.specs.Views.{sections_of, all_entries, units_of};
 ghost use Rattle.dw_types.specs.Graphs.{IsCycle};
 ghost use Rattle.dw_types.specs.Steps.{by_value};

@@ -13,11 +13,11 @@ use Rattle.dw_forms.specs.Value.{Datum, Val, laid_out}
 use Rattle.dw_forms.specs.Classes.{class_of, form_class, allows, allows_in, is_open_in}
 use Rattle.dw_forms.specs.declared.class.Class.{Class}
 use Rattle.dw_entries.specs.declared.entry.EntryHead.{EntryHead}
-use Rattle.dw_entries.specs.declared.rule.Rule.{Rule}
+use Rattle.dw_forms.specs.declared.rule.Rule.{Rule}
 use Rattle.dw_entries.specs.Entries.{Entry, PlacedUnit, entries_of, placed}
 use Rattle.dw_entries.specs.ByNumber.{no_placed, placed_of}
 use Rattle.dw_entries.specs.Leading.{DoesNotLead}
-use Rattle.dw_entries.specs.declared.rule.Rule.TheVariants.{WrongClass}
+use Rattle.dw_forms.specs.declared.rule.Rule.TheVariants.{WrongClass}
 use Rattle.dw_entries.specs.Header.{version_of}
 use Rattle.dw_entries.specs.Units.{DebugUnit, Spells}
 use Rattle.dw_entries.specs.Failures.{IsLeast}

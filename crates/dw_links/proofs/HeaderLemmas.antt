@@ -8,8 +8,8 @@ use Rattle.dw_forms.specs.Codes.{is_type_tag}
 use Rattle.dw_entries.specs.Entries.{Entry, PlacedUnit, node_count, placed_from, placed}
 use Rattle.dw_entries.specs.ByNumber.{entry_of}
 use Rattle.dw_entries.proofs.Firsts.{same_some, first_of_list}
-use Rattle.dw_entries.specs.declared.rule.Rule.{Rule}
-use Rattle.dw_entries.specs.declared.rule.Rule.TheVariants.{SignatureTwice, BadTypeOffset}
+use Rattle.dw_forms.specs.declared.rule.Rule.{Rule}
+use Rattle.dw_forms.specs.declared.rule.Rule.TheVariants.{SignatureTwice, BadTypeOffset}
 use Rattle.dw_entries.specs.declared.fault.PlainFault.{PlainFault}
 use Rattle.dw_entries.specs.declared.header.HeaderKind.{HeaderKind}
 use Rattle.dw_entries.specs.declared.header.HeaderKind.TheVariants.{TypeUnit}

@@ -3,15 +3,15 @@ use Rattle.std.proofs.Common.{rules, ◌≡◌, ℕ, false, Option, Some, None, 
 use Rattle.std.specs.Prelude.{is_some, IsSome}
 use Rattle.std.proofs.lemmas.Option.{get_or_from_slice_get}
 use Rattle.dw_forms.specs.Value.{Datum, ref_sig}
-use Rattle.dw_entries.specs.declared.rule.Rule.{Rule}
+use Rattle.dw_forms.specs.declared.rule.Rule.{Rule}
 use Rattle.dw_entries.specs.Failures.{IsLeast}
-use Rattle.dw_entries.specs.declared.rule.Rule.TheVariants as rule
+use Rattle.dw_forms.specs.declared.rule.Rule.TheVariants as rule
 use Rattle.dw_entries.specs.declared.entry.EntryHead.{EntryHead}
 use Rattle.dw_entries.specs.Entries.{Entry, PlacedUnit}
 use Rattle.dw_entries.specs.declared.entries.Entries.{Entries}
 use Rattle.dw_entries.specs.Views.{all_entries, all_units}
 use Rattle.dw_entries.specs.ByNumber.{no_entry, entry_of}
-use Rattle.dw_entries.specs.Rules.{number_of}
+use Rattle.dw_forms.specs.Rules.{number_of}
 use Rattle.dw_entries.proofs.Firsts.{same_some}
 use Rattle.dw_links.specs.References.{permits, permits_form, is_signature, is_reference_value, NoEntryThere, IsWrongKind, IsOtherThan, NoSignatureThere, ReferenceFails}
 use Rattle.dw_links.specs.SignedTypes.{AreTyped}

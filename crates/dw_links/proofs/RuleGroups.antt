@@ -4,10 +4,10 @@ use Rattle.dw_elf.specs.declared.sections.Sections.{Sections}
 use Rattle.dw_forms.specs.Value.{Datum, str}
 use Rattle.dw_entries.specs.declared.header.UnitHeader.{UnitHeader}
 use Rattle.dw_entries.specs.declared.fault.PlainFault.{PlainFault}
-use Rattle.dw_entries.specs.declared.rule.Rule.{Rule}
+use Rattle.dw_forms.specs.declared.rule.Rule.{Rule}
 use Rattle.dw_entries.specs.declared.entry.EntryHead.{EntryHead}
 use Rattle.dw_entries.specs.Units.{DebugUnit}
-use Rattle.dw_entries.specs.Rules.{group_of}
+use Rattle.dw_forms.specs.Rules.{group_of}
 use Rattle.dw_entries.specs.Failures.{Failure, IsFirst}
 use Rattle.dw_links.specs.EntryLinks.{IsFirstOfGroup}
 use Rattle.dw_links.specs.Strings.{StringFailsIn, StringFailures}

@@ -6,8 +6,8 @@ use Rattle.std.proofs.lemmas.Bool.Decides.{nat_tests}
 use Rattle.dw_elf.specs.declared.sections.Sections.{Sections}
 use Rattle.dw_forms.specs.Codes.{DW_AT_str_offsets_base, DW_AT_addr_base}
 use Rattle.dw_forms.specs.Value.{Datum, str, line_str, str_index, sec_offset, addr_index}
-use Rattle.dw_entries.specs.declared.rule.Rule.{Rule}
-use Rattle.dw_entries.specs.declared.rule.Rule.TheVariants.{BadStrBase, StrIndex, StringEnd, BadAddrBase, AddrIndex}
+use Rattle.dw_forms.specs.declared.rule.Rule.{Rule}
+use Rattle.dw_forms.specs.declared.rule.Rule.TheVariants.{BadStrBase, StrIndex, StringEnd, BadAddrBase, AddrIndex}
 use Rattle.dw_entries.specs.declared.header.UnitHeader.{UnitHeader}
 use Rattle.dw_entries.specs.Header.{IsSize, version_of}
 use Rattle.dw_entries.specs.Units.{DebugUnit}

@@ -2,9 +2,9 @@
 use Rattle.std.specs.Prelude.{◌≡◌, ◌≢◌, ℕ, ◌+◌, ◌<◌, ◌⊎◌, Bool, true, false, not, ◌&&◌, ◌==◌, List, [], ◌∷◌, Option}
 use Rattle.std.specs.Prelude.{None, Some, slice_get, if◌then◌else◌}
 use Rattle.dw_forms.specs.Value.{Datum, flag, ref_info, ref_unit, ref_sig}
-use Rattle.dw_entries.specs.declared.rule.Rule.{Rule}
-use Rattle.dw_entries.specs.declared.rule.Rule.TheVariants.{NoEntry, WrongKind, NotNextSibling, NoSignature}
-use Rattle.dw_entries.specs.declared.rule.Rule.TheVariants.{SignatureTwice, BadTypeOffset}
+use Rattle.dw_forms.specs.declared.rule.Rule.{Rule}
+use Rattle.dw_forms.specs.declared.rule.Rule.TheVariants.{NoEntry, WrongKind, NotNextSibling, NoSignature}
+use Rattle.dw_forms.specs.declared.rule.Rule.TheVariants.{SignatureTwice, BadTypeOffset}
 use Rattle.dw_entries.specs.declared.entry.EntryHead.{EntryHead}
 use Rattle.dw_entries.specs.Lookups.{value_at_entry}
 use Rattle.dw_entries.specs.Units.{DebugUnit}

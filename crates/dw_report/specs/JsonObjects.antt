@@ -6,7 +6,8 @@ use Rattle.serde_json.specs.Written.{compact_text}
 use Rattle.dw_elf.specs.declared.fault.ElfFault.{ElfFault}
 use Rattle.dw_elf.specs.RuleTexts as elf
 use Rattle.dw_entries.specs.declared.fault.Fault.{Fault}
-use Rattle.dw_entries.specs.Rules.{code_text, name_text, section_text}
+use Rattle.dw_forms.specs.Rules.{code_text, name_text}
+use Rattle.dw_entries.specs.SectionTexts.{section_text}
 use Rattle.dw_report.specs.Lines.{line}
 
 -- a number that is not negative

@@ -5,7 +5,8 @@ use Rattle.std.specs.Fmt.{decimal}
 use Rattle.dw_elf.specs.declared.fault.ElfFault.{ElfFault}
 use Rattle.dw_elf.specs.RuleTexts as elf
 use Rattle.dw_entries.specs.declared.fault.Fault.{Fault}
-use Rattle.dw_entries.specs.Rules.{code_text, name_text, section_text}
+use Rattle.dw_forms.specs.Rules.{code_text, name_text}
+use Rattle.dw_entries.specs.SectionTexts.{section_text}
 use Rattle.dw_cprint.specs.Digits.{places}
 
 -- the digits of a number of 16 bits, without leading zeros

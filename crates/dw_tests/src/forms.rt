@@ -2,7 +2,7 @@
 
 use dw_forms::constants::*;
 use dw_forms::{
-    AbbrevFault, AbbrevRule, AttributeSpec, Form, NumberFault, Stop, Value, ValueFault, read_sleb,
+    AbbrevFault, AttributeSpec, Form, NumberFault, Rule, Stop, Value, ValueFault, read_sleb,
     read_table, read_uleb, read_value,
 };
 use std::test::Fail;
@@ -148,7 +148,7 @@ fn a_table(rt: HostRuntime) -> Result<(), Fail> {
 #[test]
 fn no_bytes(rt: HostRuntime) {
     let cut = AbbrevFault {
-        rule: AbbrevRule::AbbrevCut,
+        rule: Rule::AbbrevCut,
         at: 0,
         attribute: 0,
     };

@@ -3,7 +3,6 @@
 use dw_cprint::PrintFault;
 use dw_elf::ElfRule;
 use dw_entries::{Rule, Section};
-use dw_forms::AbbrevRule;
 
 /// The rules of a file.
 const FILE_RULES: [(ElfRule, &str, &str); 10] = [
@@ -19,20 +18,16 @@ const FILE_RULES: [(ElfRule, &str, &str); 10] = [
     (ElfRule::NoBits, "E10", "NoBits"),
 ];
 
-/// The rules of abbreviation tables.
-const TABLE_RULES: [(AbbrevRule, &str, &str); 8] = [
-    (AbbrevRule::AbbrevCut, "A1", "AbbrevCut"),
-    (AbbrevRule::AbbrevNumber, "A2", "AbbrevNumber"),
-    (AbbrevRule::CodeTwice, "A3", "CodeTwice"),
-    (AbbrevRule::BadTag, "A4", "BadTag"),
-    (AbbrevRule::BadChildren, "A5", "BadChildren"),
-    (AbbrevRule::BadPair, "A6", "BadPair"),
-    (AbbrevRule::UnknownForm, "A7", "UnknownForm"),
-    (AbbrevRule::AttributeTwice, "A8", "AttributeTwice"),
-];
-
-/// The other rules of sections.
-const RULES: [(Rule, &str, &str); 33] = [
+/// The rules of sections.
+const RULES: [(Rule, &str, &str); 41] = [
+    (Rule::AbbrevCut, "A1", "AbbrevCut"),
+    (Rule::AbbrevNumber, "A2", "AbbrevNumber"),
+    (Rule::CodeTwice, "A3", "CodeTwice"),
+    (Rule::BadTag, "A4", "BadTag"),
+    (Rule::BadChildren, "A5", "BadChildren"),
+    (Rule::BadPair, "A6", "BadPair"),
+    (Rule::UnknownForm, "A7", "UnknownForm"),
+    (Rule::AttributeTwice, "A8", "AttributeTwice"),
     (Rule::UnitCut, "U1", "UnitCut"),
     (Rule::Not32Bit, "U2", "Not32Bit"),
     (Rule::BadVersion, "U3", "BadVersion"),
@@ -82,11 +77,6 @@ const REFUSALS: [(PrintFault, &str, &str); 6] = [
 fn codes_and_names(rt: HostRuntime) {
     for (rule, code, name) in &FILE_RULES {
         assert_eq!(rt; (rule.code(), rule.name()), (*code, *name));
-    }
-    for (rule, code, name) in &TABLE_RULES {
-        assert_eq!(rt; (rule.code(), rule.name()), (*code, *name));
-        let of_all = Rule::Table(*rule);
-        assert_eq!(rt; (of_all.code(), of_all.name()), (*code, *name));
     }
     for (rule, code, name) in &RULES {
         assert_eq!(rt; (rule.code(), rule.name()), (*code, *name));

@@ -7,8 +7,8 @@ use dw_elf::{ElfFault, ElfRule, Sections, TooLarge, find};
 use dw_entries::constants::*;
 use dw_entries::{Entries, EntryId, Fault, Head, HeaderKind, Rule, UnitHeader, UnitType, scan};
 use dw_forms::{
-    AbbrevFault, AbbrevRule, AbbrevTable, Decl, Form, NumberFault, Stop, Value, ValueFault,
-    read_sleb, read_table, read_uleb, read_value,
+    AbbrevFault, AbbrevTable, Decl, Form, NumberFault, Stop, Value, ValueFault, read_sleb,
+    read_table, read_uleb, read_value,
 };
 use dw_image::{Image, NoMemory, TypeId, Verdict, verify};
 use dw_links::{Links, check_classes, check_strings, link};
@@ -95,14 +95,15 @@ fn table_fault(stop: Stop<AbbrevFault>) -> Option<(u8, usize, u16)> {
         return None;
     };
     let number = match rule {
-        AbbrevRule::AbbrevCut => 1,
-        AbbrevRule::AbbrevNumber => 2,
-        AbbrevRule::CodeTwice => 3,
-        AbbrevRule::BadTag => 4,
-        AbbrevRule::BadChildren => 5,
-        AbbrevRule::BadPair => 6,
-        AbbrevRule::UnknownForm => 7,
-        AbbrevRule::AttributeTwice => 8,
+        Rule::AbbrevCut => 1,
+        Rule::AbbrevNumber => 2,
+        Rule::CodeTwice => 3,
+        Rule::BadTag => 4,
+        Rule::BadChildren => 5,
+        Rule::BadPair => 6,
+        Rule::UnknownForm => 7,
+        Rule::AttributeTwice => 8,
+        _ => 0,
     };
     Some((number, at, attribute))
 }

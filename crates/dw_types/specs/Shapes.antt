@@ -1,8 +1,8 @@
 -- Chapter: plain members, and the rules on the types of arrays and members and on counts (DWARF 5, 5.5, 5.7.6 and
 -- 5.13).
 use Rattle.std.specs.Prelude.{ℕ, ℤ, Bool, false, ◌&&◌, ◌||◌, not, List, Option, None, Some, is_some, nat_eq}
-use Rattle.dw_entries.specs.declared.rule.Rule.{Rule}
-use Rattle.dw_entries.specs.declared.rule.Rule.TheVariants.{MissingType, BadCount}
+use Rattle.dw_forms.specs.declared.rule.Rule.{Rule}
+use Rattle.dw_forms.specs.declared.rule.Rule.TheVariants.{MissingType, BadCount}
 use Rattle.dw_forms.specs.Codes.{DW_AT_abstract_origin, DW_AT_specification, DW_TAG_member}
 use Rattle.dw_entries.specs.Entries.{Entry, entries_of}
 use Rattle.dw_entries.specs.Units.{DebugUnit}

@@ -1,7 +1,7 @@
 -- Chapter: failures of rules on entries, and the first entry that has one.
 use Rattle.std.specs.Prelude.{◌≡◌, ℕ, ◌<◌, Bool, true, List, Option, None, Some, length}
 use Rattle.dw_entries.specs.declared.fault.PlainFault.{PlainFault}
-use Rattle.dw_entries.specs.declared.rule.Rule.{Rule}
+use Rattle.dw_forms.specs.declared.rule.Rule.{Rule}
 use Rattle.dw_entries.specs.declared.fault.Section.TheVariants.{Info}
 use Rattle.dw_entries.specs.EntryRules.{AtPlace, InList}
 use Rattle.dw_entries.specs.Failures.{Failure, IsLeast}

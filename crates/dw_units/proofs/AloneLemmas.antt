@@ -6,7 +6,7 @@ use Rattle.dw_elf.specs.declared.sections.Sections.{Sections}
 use Rattle.dw_forms.specs.Value.{Datum}
 use Rattle.dw_forms.specs.Codes.{DW_AT_str_offsets_base, DW_AT_addr_base}
 use Rattle.dw_entries.specs.declared.header.UnitHeader.{UnitHeader}
-use Rattle.dw_entries.specs.declared.rule.Rule.{Rule}
+use Rattle.dw_forms.specs.declared.rule.Rule.{Rule}
 use Rattle.dw_entries.specs.declared.entry.EntryHead.{EntryHead}
 use Rattle.dw_entries.specs.Units.{DebugUnit, AreUnits, HaveBase, unit_bytes, units_bytes}
 use Rattle.dw_entries.specs.Entries.{Entry, entries_of, node_count, placed_from, placed}
@@ -22,7 +22,7 @@ use Rattle.dw_entries.specs.Views.{units_of}
 use Rattle.dw_entries.specs.declared.entries.Entries.{Entries}
 use Rattle.dw_image.specs.Valid.{IsValidBy}
 use Rattle.dw_links.specs.Signatures.{type_unit_of}
-use Rattle.dw_entries.specs.Rules.{group_of}
+use Rattle.dw_forms.specs.Rules.{group_of}
 use Rattle.dw_entries.specs.declared.fault.Fault.{Fault}
 use Rattle.dw_entries.specs.Views.{sections_of}
 use Rattle.dw_entries.proofs.FaultLaws.{no_list}

@@ -18,7 +18,7 @@ use Rattle.dw_entries.proofs.HeadLaws.{all-append}
 use Rattle.dw_units.specs.declared.counts.Counts.{Counts}
 use Rattle.dw_image.specs.Lookups.{is_type_entry}
 use Rattle.dw_image.proofs.JoinLemmas.{sound_by}
-use Rattle.dw_entries.specs.Rules.{group_of}
+use Rattle.dw_forms.specs.Rules.{group_of}
 use Rattle.dw_entries.specs.declared.fault.Fault.{Fault}
 use Rattle.dw_entries.specs.declared.fault.PlainFault.{PlainFault}
 use Rattle.dw_image.specs.FirstFault.{Group, classes, strings, references, shapes, cycles, sizes, turn_of, failures_of, FailsInTrees, in_trees}

@@ -5,7 +5,7 @@ use mathlib.Core.Logic.{∥∥₁_elim}
 use Rattle.dw_forms.specs.declared.form.Form.{Form}
 use Rattle.dw_forms.specs.declared.abbrev.AttributeSpec.{AttributeSpec}
 use Rattle.dw_forms.specs.Value.{Datum, Val, laid_out}
-use Rattle.dw_entries.specs.declared.rule.Rule.TheVariants.{WrongClass}
+use Rattle.dw_forms.specs.declared.rule.Rule.TheVariants.{WrongClass}
 use Rattle.dw_entries.specs.Units.{DebugUnit, Spells}
 use Rattle.dw_entries.specs.Entries.{Entry, entries_of}
 use Rattle.dw_entries.specs.Places.{at_attribute}

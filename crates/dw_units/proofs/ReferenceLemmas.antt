@@ -6,13 +6,13 @@ use Rattle.std.specs.Prelude.{slice_get}
 use Rattle.std.specs.List.{AllByRecursion}
 use Rattle.dw_elf.specs.declared.sections.Sections.{Sections}
 use Rattle.dw_forms.specs.Value.{Datum}
-use Rattle.dw_entries.specs.declared.rule.Rule.{Rule}
+use Rattle.dw_forms.specs.declared.rule.Rule.{Rule}
 use Rattle.dw_entries.specs.Units.{DebugUnit, unit_bytes}
 use Rattle.dw_entries.specs.Lookups.{entry_head}
 use Rattle.dw_entries.specs.Entries.{Entry, entries_of, node_count, PlacedUnit, placed_from, placed}
-use Rattle.dw_entries.specs.declared.rule.Rule.TheVariants.{NoEntry, WrongKind, NotNextSibling, NoSignature}
+use Rattle.dw_forms.specs.declared.rule.Rule.TheVariants.{NoEntry, WrongKind, NotNextSibling, NoSignature}
 use Rattle.dw_entries.specs.Places.{at_attribute}
-use Rattle.dw_entries.specs.Rules.{number_of}
+use Rattle.dw_forms.specs.Rules.{number_of}
 use Rattle.dw_entries.specs.EntryRules.{HasAttribute}
 use Rattle.dw_entries.specs.Failures.{HasNone}
 use Rattle.dw_entries.specs.UnitLaws.{with_base}

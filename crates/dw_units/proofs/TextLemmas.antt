@@ -5,14 +5,14 @@ use Rattle.std.specs.List.{AllByRecursion}
 use Rattle.dw_elf.specs.declared.sections.Sections.{Sections}
 use Rattle.dw_forms.specs.Value.{Datum}
 use Rattle.dw_forms.specs.Codes.{DW_AT_str_offsets_base, DW_AT_addr_base}
-use Rattle.dw_entries.specs.declared.rule.Rule.{Rule}
+use Rattle.dw_forms.specs.declared.rule.Rule.{Rule}
 use Rattle.dw_entries.specs.Header.{version_of}
 use Rattle.dw_entries.specs.Units.{DebugUnit, IsUnit, AreUnits, units_bytes}
 use Rattle.dw_entries.specs.UnitLaws.{are_based}
 use Rattle.dw_entries.specs.Entries.{Entry, entries_of, PlacedUnit, placed}
 use Rattle.dw_entries.specs.Places.{Place, at_attribute, IsBefore}
 use Rattle.dw_entries.specs.Failures.{Failure, Precedes, HasNone}
-use Rattle.dw_entries.specs.Rules.{number_of}
+use Rattle.dw_forms.specs.Rules.{number_of}
 use Rattle.dw_entries.specs.EntryRules.{HasAttribute, AtEntries, values_of}
 use Rattle.dw_entries.specs.Lookups.{entry_head, value_in}
 use Rattle.dw_entries.proofs.Firsts.{same_some}

@@ -5,7 +5,7 @@ use Rattle.std.proofs.lemmas.Grind.{flat_map-append}
 use Rattle.dw_forms.specs.declared.fault.AbbrevFault.{AbbrevFault}
 use Rattle.dw_forms.specs.Abbrev.{Declaration}
 use Rattle.dw_forms.specs.AbbrevReading.{table_at}
-use Rattle.dw_entries.specs.declared.rule.Rule.{Rule}
+use Rattle.dw_forms.specs.declared.rule.Rule.{Rule}
 use Rattle.dw_entries.specs.declared.fault.PlainFault.{PlainFault}
 use Rattle.dw_entries.specs.declared.fault.Failing.{Failing}
 use Rattle.dw_entries.specs.declared.header.UnitHeader.{UnitHeader}
@@ -14,7 +14,7 @@ use Rattle.dw_entries.specs.UnitLaws.{unit_sized, unit_some}
 use Rattle.dw_forms.specs.BaseFormats.{so_many, taken_at}
 use Rattle.dw_forms.specs.Formats.{choose, failing, mapped, nothing}
 use Rattle.dw_forms.specs.Steps.{◌>>=◌}
-use Rattle.dw_entries.specs.declared.rule.Rule.TheVariants.{UnitCut, Not32Bit}
+use Rattle.dw_forms.specs.declared.rule.Rule.TheVariants.{UnitCut, Not32Bit}
 use Rattle.std.specs.Prelude.{nat_lt}
 use Rattle.byteorder.specs.Endian.{little_number}
 use Rattle.std.proofs.lemmas.List.{take-append-le, drop-append-le}

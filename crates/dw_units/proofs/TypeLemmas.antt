@@ -8,8 +8,8 @@ use Rattle.dw_entries.specs.Units.{DebugUnit, units_bytes}
 use Rattle.dw_entries.specs.Entries.{Entry, entries_of}
 use Rattle.dw_entries.specs.Places.{Place, at_entry}
 use Rattle.dw_entries.specs.Failures.{Failure, Precedes, HasNone}
-use Rattle.dw_entries.specs.declared.rule.Rule.{Rule}
-use Rattle.dw_entries.specs.declared.rule.Rule.TheVariants.{ContainsItself}
+use Rattle.dw_forms.specs.declared.rule.Rule.{Rule}
+use Rattle.dw_forms.specs.declared.rule.Rule.TheVariants.{ContainsItself}
 use Rattle.dw_entries.specs.declared.fault.Section.TheVariants.{Info}
 use Rattle.dw_entries.specs.declared.fault.Fault.{Fault}
 use Rattle.dw_types.specs.Entries.{entry_in}

@@ -8,8 +8,8 @@ use Rattle.dw_entries.specs.Entries.{Entry, entries_of}
 use Rattle.dw_entries.specs.EntryRules.{EachEntry}
 use Rattle.dw_image.specs.Lookups.{is_type_entry}
 use Rattle.dw_entries.specs.declared.fault.Fault.{Fault}
-use Rattle.dw_entries.specs.declared.rule.Rule.{Rule}
-use Rattle.dw_entries.specs.Rules.{group_of}
+use Rattle.dw_forms.specs.declared.rule.Rule.{Rule}
+use Rattle.dw_forms.specs.Rules.{group_of}
 use Rattle.dw_image.specs.GroupsBefore.{PassBefore}
 use Rattle.dw_image.specs.FirstFault.{Group, turn_of}
 use Rattle.dw_image.specs.Headline.{IsFaultOf}

@@ -5,8 +5,8 @@ use Rattle.std.specs.List.{AllByRecursion}
 use Rattle.dw_elf.specs.declared.sections.Sections.{Sections}
 use Rattle.dw_entries.specs.declared.fault.PlainFault.{PlainFault}
 use Rattle.dw_entries.specs.declared.fault.Fault.{Fault}
-use Rattle.dw_entries.specs.declared.rule.Rule.{Rule}
-use Rattle.dw_entries.specs.declared.rule.Rule.TheVariants.{NoEntry}
+use Rattle.dw_forms.specs.declared.rule.Rule.{Rule}
+use Rattle.dw_forms.specs.declared.rule.Rule.TheVariants.{NoEntry}
 use Rattle.dw_entries.specs.declared.fault.Section.{Section}
 use Rattle.dw_entries.specs.declared.fault.Section.TheVariants.{Abbrev, Info}
 use Rattle.dw_entries.specs.Units.{DebugUnit, AreUnits, units_bytes}

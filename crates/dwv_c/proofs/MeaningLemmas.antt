@@ -14,8 +14,8 @@ use Rattle.dw_entries.specs.Failures.{HasNone}
 use Rattle.dw_entries.specs.Header.{IsSize}
 use Rattle.dw_entries.specs.Lookups.{entry_head, unit_head}
 use Rattle.dw_entries.specs.Places.{at_attribute}
-use Rattle.dw_entries.specs.declared.rule.Rule.{Rule}
-use Rattle.dw_entries.specs.declared.rule.Rule.TheVariants.{NoEntry, NoSignature}
+use Rattle.dw_forms.specs.declared.rule.Rule.{Rule}
+use Rattle.dw_forms.specs.declared.rule.Rule.TheVariants.{NoEntry, NoSignature}
 use Rattle.dw_entries.specs.declared.entries.Entries.{Entries}
 use Rattle.dw_entries.specs.declared.units.UnitHead.{UnitHead}
 use Rattle.dw_entries.specs.Views.{all_entries, all_units}

@@ -4,14 +4,12 @@ use Rattle.std.proofs.lemmas.List.{drop-replicate}
 use Rattle.dw_elf.specs.declared.fault.ElfRule.{ElfRule}
 use Rattle.dw_elf.specs.declared.fault.ElfRule.TheVariants.{TooLarge}
 use Rattle.dw_elf.specs.RuleTexts as elf
-use Rattle.dw_forms.specs.declared.fault.AbbrevRule.{AbbrevRule}
-use Rattle.dw_forms.specs.declared.fault.AbbrevRule.TheVariants.{AbbrevCut}
-use Rattle.dw_forms.specs.Rules as table
 use Rattle.dw_entries.specs.declared.fault.Section.{Section}
 use Rattle.dw_entries.specs.declared.fault.Section.TheVariants.{Abbrev}
-use Rattle.dw_entries.specs.declared.rule.Rule.{Rule}
-use Rattle.dw_entries.specs.declared.rule.Rule.TheVariants.{Table, UnitCut}
-use Rattle.dw_entries.specs.Rules.{code_text, name_text, section_text}
+use Rattle.dw_forms.specs.declared.rule.Rule.{Rule}
+use Rattle.dw_forms.specs.declared.rule.Rule.TheVariants.{AbbrevCut}
+use Rattle.dw_forms.specs.Rules.{code_text, name_text}
+use Rattle.dw_entries.specs.SectionTexts.{section_text}
 use Rattle.dwv_c.specs.declared.verdict.Verdict.{Verdict}
 use Rattle.dwv_c.specs.Verdicts.{fault_verdict, field_text}
 
@@ -35,26 +33,14 @@ pub with_fields : (at attribute : ℕ) (rule section name r s n : List ℕ) → 
     }) (fault_verdict at attribute rule section name)
 with_fields at attribute rule section name r s n is_r is_s is_n = rw (is_r, is_s, is_n) refl
 
-table_rule_fits : (rule : AbbrevRule) → length (table.code_text rule) < 8
-unfolding table.code_text
-table_rule_fits AbbrevCut = omega arith
-table_rule_fits _ = omega arith
-
 pub rule_fits : (rule : Rule) → length (code_text rule) < 8
 unfolding code_text
-rule_fits (Table rule) = table_rule_fits rule
-rule_fits UnitCut = omega arith
+rule_fits AbbrevCut = omega arith
 rule_fits _ = omega arith
-
-table_name_fits : (rule : AbbrevRule) → length (table.name_text rule) < 24
-unfolding table.name_text
-table_name_fits AbbrevCut = omega arith
-table_name_fits _ = omega arith
 
 pub name_fits : (rule : Rule) → length (name_text rule) < 24
 unfolding name_text
-name_fits (Table rule) = table_name_fits rule
-name_fits UnitCut = omega arith
+name_fits AbbrevCut = omega arith
 name_fits _ = omega arith
 
 pub section_fits : (section : Section) → length (section_text section) < 16

@@ -8,7 +8,8 @@ use Rattle.dw_elf.specs.Rules.{IsFault}
 use Rattle.dw_elf.specs.Sections.{AreSections}
 use Rattle.dw_elf.specs.RuleTexts as elf
 use Rattle.dw_entries.specs.declared.fault.Fault.{Fault as FirstFault}
-use Rattle.dw_entries.specs.Rules.{code_text, name_text, section_text}
+use Rattle.dw_forms.specs.Rules.{code_text, name_text}
+use Rattle.dw_entries.specs.SectionTexts.{section_text}
 use Rattle.dw_image.specs.declared.image.Image.{Image}
 use Rattle.dw_image.specs.Headline.{IsImageOf, IsFaultOf}
 use Rattle.dw_units.specs.declared.counts.Counts.{Counts}

@@ -4,8 +4,9 @@ ghost use Rattle.std.specs.Prelude.{◌≡◌, ◌<◌, ◌≤◌, ◌++◌, len
 ghost use Rattle.dw_elf.specs.declared.fault.ElfRule.{ElfRule as FileRule};
 ghost use Rattle.dw_elf.specs.RuleTexts as elf;
 ghost use Rattle.dw_entries.specs.declared.fault.Section.{Section};
-ghost use Rattle.dw_entries.specs.declared.rule.Rule.{Rule};
-ghost use Rattle.dw_entries.specs.Rules.{code_text, name_text, section_text};
+ghost use Rattle.dw_forms.specs.declared.rule.Rule.{Rule};
+ghost use Rattle.dw_forms.specs.Rules.{code_text, name_text};
+ghost use Rattle.dw_entries.specs.SectionTexts.{section_text};
 ghost use Rattle.dw_report.specs.Reports.{too_large};
 ghost use Rattle.dwv_c.specs.Verdicts.{fault_verdict, of_counts, of_file_fault, of_fault};
 

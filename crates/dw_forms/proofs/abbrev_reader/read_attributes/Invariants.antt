@@ -1,6 +1,6 @@
 use Rattle.std.proofs.Common.{◌≤◌, length}
 use Rattle.dw_forms.specs.AttributesSoFar.{AreSeen}
-use Rattle.dw_forms.specs.declared.fault.AbbrevRule.TheVariants.{AbbrevCut}
+use Rattle.dw_forms.specs.declared.rule.Rule.TheVariants.{AbbrevCut}
 use Rattle.dw_forms.specs.Abbrev.{broken}
 use Rattle.dw_forms.specs.AbbrevReading.{pair_at, attributes_of}
 use Rattle.dw_forms.proofs.SpelledLists.{ReadsOn}

@@ -1,5 +1,5 @@
 use Rattle.std.proofs.Common.{◌≤◌, ◌+◌, length, drop}
-use Rattle.dw_forms.specs.declared.fault.AbbrevRule.TheVariants.{AbbrevCut}
+use Rattle.dw_forms.specs.declared.rule.Rule.TheVariants.{AbbrevCut}
 use Rattle.dw_forms.specs.AbbrevReading.{placed_decl_at, decls_at}
 use Rattle.dw_forms.proofs.SpelledLists.{ReadsOn}
 use Rattle.dw_forms.proofs.abbrev_reader.table.Given as goal

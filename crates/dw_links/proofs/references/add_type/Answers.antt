@@ -1,5 +1,5 @@
 use Rattle.std.proofs.Common.{inl, refl, sym, ap, ◌∙◌, subst}
-use Rattle.dw_entries.specs.declared.rule.Rule.TheVariants.{SignatureTwice}
+use Rattle.dw_forms.specs.declared.rule.Rule.TheVariants.{SignatureTwice}
 use Rattle.dw_entries.specs.declared.units.UnitHead.{UnitHead}
 use Rattle.dw_entries.specs.Entries.{entries_of, placed}
 use Rattle.dw_entries.specs.ByNumber.{placed_of}

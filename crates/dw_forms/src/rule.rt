@@ -2,13 +2,25 @@
 
 ghost use Rattle.std.specs.Prelude.{◌≡◌};
 
-use dw_forms::AbbrevRule;
-
 /// A rule. The letter of its code names the group that it belongs to, and the number its place there.
 #[derive(Clone, Copy, Debug, PartialEq, Eq)]
 pub enum Rule {
-    /// A1 to A8: a rule of an abbreviation table.
-    Table(AbbrevRule),
+    /// A1: a part of a declaration, or the end of the table, passes the end of `.debug_abbrev`.
+    AbbrevCut,
+    /// A2: a number in a table has more than 10 bytes or more than 64 bits.
+    AbbrevNumber,
+    /// A3: an earlier declaration of the table has the code.
+    CodeTwice,
+    /// A4: a tag is 0 or above 0xffff.
+    BadTag,
+    /// A5: the byte that says whether there are children is neither 0 nor 1.
+    BadChildren,
+    /// A6: one of an attribute and its form alone is 0, or the attribute is above 0xffff.
+    BadPair,
+    /// A7: no form has the code.
+    UnknownForm,
+    /// A8: a declaration has an attribute twice.
+    AttributeTwice,
     /// U1: a unit passes the end of `.debug_info`, or its header passes the unit's end.
     UnitCut,
     /// U2: the unit's length is 0xfffffff0 or more, which means 64-bit DWARF or is reserved.
@@ -85,7 +97,7 @@ pub enum Rule {
 }
 
 impl Rule {
-    ghost use Rattle.dw_entries.specs.Rules.{code_text, group_of, name_text};
+    ghost use Rattle.dw_forms.specs.Rules.{code_text, group_of, name_text};
 
     /// The code of the rule: the letter of its group and its number there.
     #[tactic(auto, unfolding(crate::specs::Rules::code_text))]
@@ -93,7 +105,14 @@ impl Rule {
         ensures { result.now ≡ code_text self }
     {
         match self {
-            Rule::Table(rule) => rule.code(),
+            Rule::AbbrevCut => "A1",
+            Rule::AbbrevNumber => "A2",
+            Rule::CodeTwice => "A3",
+            Rule::BadTag => "A4",
+            Rule::BadChildren => "A5",
+            Rule::BadPair => "A6",
+            Rule::UnknownForm => "A7",
+            Rule::AttributeTwice => "A8",
             Rule::UnitCut => "U1",
             Rule::Not32Bit => "U2",
             Rule::BadVersion => "U3",
@@ -136,7 +155,14 @@ impl Rule {
         ensures { result.now ≡ name_text self }
     {
         match self {
-            Rule::Table(rule) => rule.name(),
+            Rule::AbbrevCut => "AbbrevCut",
+            Rule::AbbrevNumber => "AbbrevNumber",
+            Rule::CodeTwice => "CodeTwice",
+            Rule::BadTag => "BadTag",
+            Rule::BadChildren => "BadChildren",
+            Rule::BadPair => "BadPair",
+            Rule::UnknownForm => "UnknownForm",
+            Rule::AttributeTwice => "AttributeTwice",
             Rule::UnitCut => "UnitCut",
             Rule::Not32Bit => "Not32Bit",
             Rule::BadVersion => "BadVersion",
@@ -180,7 +206,14 @@ impl Rule {
         ensures { result ≡ group_of self }
     {
         match self {
-            Rule::Table(_) => 1,
+            Rule::AbbrevCut => 1,
+            Rule::AbbrevNumber => 1,
+            Rule::CodeTwice => 1,
+            Rule::BadTag => 1,
+            Rule::BadChildren => 1,
+            Rule::BadPair => 1,
+            Rule::UnknownForm => 1,
+            Rule::AttributeTwice => 1,
             Rule::UnitCut => 1,
             Rule::Not32Bit => 1,
             Rule::BadVersion => 1,
