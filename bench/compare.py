@@ -88,7 +88,7 @@ def plain(report):
 
 
 def compared(tools):
-    """The tables: which peer reports which rule, and the first report of each. Rules with the same report share a row."""
+    """The tables: which peer reports which rule, and the first report of each. Rules with one report share a row."""
     marks, said, counts = [], {}, dict.fromkeys(tools[1:], 0)
     usual_of = {tool: ({0}, set()) for tool in tools}
     with common.empty_folder() as folder:

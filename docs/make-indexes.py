@@ -1,10 +1,10 @@
 #!/usr/bin/env python3
 """Writes docs/DEFINITIONS.md and the tables of docs/PROOFS.md from specs/, the code, the proofs and the edits.
 
-DEFINITIONS.md has the definitions of Headline, and those of the other chapters that the contract of a public function or
-three other files of specs/ name, each with the sentence above it. PROOFS.md has the public functions with a contract,
-and the others that an edit changes: the names of the clauses, the files of specs/ that define their words, the files of
-lemmas that the proof cites, and the edits. The prose of both pages is kept: only what is between a line
+DEFINITIONS.md has the definitions of Headline, and those of the other chapters that the contract of a public function
+or three other files of specs/ name, each with the sentence above it. PROOFS.md has the public functions with a
+contract, and the others that an edit changes: the names of the clauses, the files of specs/ that define their words,
+the files of lemmas that the proof cites, and the edits. The prose of both pages is kept: only what is between a line
 `<!-- made of CRATE -->` and the next line `<!-- end -->` is written anew.
 """
 import collections
@@ -173,7 +173,8 @@ def proofs(crate):
             yield "|".join(["", label, ", ".join(it.chapters), ", ".join(it.lemmas), ", ".join(it.edits), ""])
     elsewhere = sorted(name for name, changed in crate.edits.items() if not changed - {None})
     plain = [f"`{it.label}`" for it in crate.functions if it.is_public and it.clauses and not (it.edits or it.lemmas)]
-    for title, found in (("Edits of types, constants and definitions", elsewhere), ("With no lemma and no edit", plain)):
+    lists = (("Edits of types, constants and definitions", elsewhere), ("With no lemma and no edit", plain))
+    for title, found in lists:
         yield from ("", *wrapped(f"{title}: {', '.join(found)}.")) if found else ()
     yield ""
 

@@ -4,10 +4,10 @@
 usage: make-rules.py [--count]
 
 The table has a line for each rule: its code, its name, the sentence that says what violates it, which place a fault of
-it names, whether it names an attribute, and how a valid file has it. From it come the tables of RULES.md and REPORTS.md,
-the lists of dwv.1, the texts of `explain` and of SARIF (contrib/dwv_tools/rules.txt), those of the Rust crate, the enums
-of rules in the code with their codes, names and groups, what specs/ say of these, and the comments of specs/ that say
-what a rule is. In a comment the sentence is the first paragraph.
+it names, whether it names an attribute, and how a valid file has it. From it come the tables of RULES.md and
+REPORTS.md, the lists of dwv.1, the texts of `explain` and of SARIF (contrib/dwv_tools/rules.txt), those of the Rust
+crate, the enums of rules in the code with their codes, names and groups, what specs/ say of these, and the comments of
+specs/ that say what a rule is. In a comment the sentence is the first paragraph.
 
 With --count it writes nothing, and prints for each rule how many wordings it has in how many places.
 """
@@ -151,17 +151,19 @@ def with_equations(text, rules, enum):
 
 
 def with_names(text, rules, enum, width):
-    """A chapter that takes the names of the rules from the enum, on lines of this width, after those of other variants."""
-    others = lambda names: [it for it in names if it not in {rule.name for rule in rules}]
+    """A chapter that takes the names of rules from the enum, after those of other variants, on lines of this width."""
+    of_rules = [rule.name for rule in rules]
 
     def lines(it):
-        names = others(re.findall(r"\w+", " ".join(re.findall(r"\{(.*)\}", it[0])))) + [rule.name for rule in rules]
+        names = [name for line in re.findall(r"\{(.*)\}", it[0]) for name in line.split(", ")]
+        names = [name for name in names if name not in of_rules] + of_rules
         while names:
             much = next((k for k in range(len(names), 1, -1) if len(f"{it[1]}{', '.join(names[:k])}}}") <= width), 1)
             yield f"{it[1]}{', '.join(names[:much])}}}\n"
             names = names[much:]
 
-    return re.sub(rf"(?m)^(use \S+\.{enum}\.TheVariants\.\{{).*\}}\n(?:\1.*\}}\n)*", lambda it: "".join(lines(it)), text)
+    first = rf"^(use \S+\.{enum}\.TheVariants\.\{{).*\}}\n"
+    return re.sub(rf"(?m){first}(?:\1.*\}}\n)*", lambda it: "".join(lines(it)), text)
 
 
 def with_choices(text, rules):

@@ -256,8 +256,9 @@ def main():
     chosen, tally = collections.defaultdict(list), Tally(1)
     of_turn = tenth(edits, tally) if given.tenth else {it.label for it in edits}
     for edit in edits:
-        is_asked = (given.all or edit.kind != "must-fail") and re.search(given.only, edit.name) and edit.label in of_turn
-        if is_asked and edit.crate.name in (given.crates or [edit.crate.name]):
+        is_asked = edit.label in of_turn and (given.all or edit.kind != "must-fail")
+        is_named = re.search(given.only, edit.name) and edit.crate.name in (given.crates or [edit.crate.name])
+        if is_asked and is_named:
             if edit.why:
                 tally.add(edit.label, edit.why)
             else:

@@ -1,4 +1,4 @@
--- What is spelled as an attribute or a declaration is allowed, and what follows a number or a tag is an end of the bytes.
+-- What is spelled as an attribute or a declaration is allowed, and what follows a number or a tag ends the bytes.
 use Rattle.std.proofs.Common.{rules, ◌≡◌, ℕ, ◌<◌, Bool, true, false, cond, eqb, ltb, List, [], ◌∷◌, ◌++◌, Option, Some, None, Ok, refl, sym, ap, subst, ◌∙◌, arith}
 use Rattle.std.specs.Prelude.{◌||◌, All, not}
 use Rattle.std.proofs.lemmas.Bool.{ltb-false, eqb-false, or_parts}

@@ -1,4 +1,4 @@
-//! Numbers, abbreviation tables and attribute values of DWARF 5.
+//! Numbers, abbreviation tables and attribute values of DWARF 5, and the rules that sections can break.
 #![tactic(auto)]
 
 mod abbrev;

@@ -200,8 +200,8 @@ impl Rule {
     }
 
     /// The group of the rule. A group is checked only where no rule of an earlier one fails: 1 for units with their
-    /// tables and items (A, U, G), 2 for classes (K), 3 for strings and addresses (S), 4 for references (R), 5 for types
-    /// and counts (Y), 6 for containment (C), 7 for sizes (Z).
+    /// tables and items (A, U, G), 2 for classes (K), 3 for strings and addresses (S), 4 for references (R), 5 for
+    /// types and counts (Y), 6 for containment (C), 7 for sizes (Z).
     pub fn group(self) -> u8
         ensures { result ≡ group_of self }
     {
