@@ -1,4 +1,5 @@
-# The words of this repository: `make` proves and builds the program, `make test` is the gate.
+# The words of this repository: `make quick` builds the program without a proof, `make` proves and builds it, `make test`
+# is the gate.
 
 crates := $(shell sed -e 's/[ :].*//' -e '/^#/d' -e '/^$$/d' crates.txt)
 
@@ -32,7 +33,8 @@ memory = $(shell awk '/MemAvailable/ { print int($$2 / 3000000) }' /proc/meminfo
 fits = $(shell printf '%d\n' $$(nproc) $(memory) | sort -n | head -n 1)
 checks = $(if $(filter-out 0,$(fits)),$(fits),1)
 
-# Proves everything from nothing, tries the edits of must-fail/ and a tenth of the others, and runs every test.
+# Proves everything from nothing, tries the edits of must-fail/ and a tenth of the others, and runs every test. The rows
+# and the examples are also run before the proofs, on the program that is not proved.
 .PHONY: test
 test:
 	tests/dead-names.py
@@ -44,6 +46,7 @@ test:
 	$(MAKE) --no-print-directory pytest TESTS=tests/versions.py
 	tests/toolchain.sh
 	tests/edits.py --apply
+	$(MAKE) --no-print-directory quick-test QUICK="rows.py examples.py"
 	RT_JOBS=$(checks) tests/prove.py
 	tests/edits.py --tenth --jobs $(checks)
 	tests/rows.py
@@ -83,11 +86,19 @@ EDITS = --jobs $(checks)
 edits:
 	tests/edits.py $(EDITS)
 
-# Runs the program on a file without proving it first: `make try FILE=/bin/true`.
-.PHONY: try
-try:
-	@echo "This proves nothing: it is a first look."
-	cd crates/dwv && rt try -- check $(abspath $(FILE))
+# Builds the program without proving it, in about three minutes, for a look and for tests: out/quick/dwv-unproved.
+unproved = out/quick/dwv-unproved
+.PHONY: quick
+quick:
+	tests/quick.py $(unproved)
+
+# Runs the tests that need no proof on that program, in about two minutes, or some: `make quick-test QUICK=rows.py`.
+QUICK = rows.py examples.py endings.py hostile_files.py real-programs.py refused-growths.py explain.py explain-html.py
+.PHONY: quick-test
+quick-test: quick
+	@set -e; for it in $(QUICK); do echo "tests/$$it, by $(unproved), which is NOT PROVED"; \
+	    DWV=$(unproved) tests/$$it > out/quick/$$it.log || { grep -v ^passed out/quick/$$it.log; exit 1; }; \
+	    tail -n 1 out/quick/$$it.log; done
 
 # Runs the program on programs that are broken at random, and compares it with the second reader:
 # `make fuzz SECONDS=600`.

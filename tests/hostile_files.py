@@ -1168,13 +1168,18 @@ def main():
         for name, _, ask, _ in runs():
             print(f"{name} (within {ask.limits}). {reason(name)}")
         return 0
-    common.build_library()
-    tally = common.Tally(109)
+    # The rows of tables need the library. Beside a program of DWV none is proved for them.
+    if "DWV" not in os.environ:
+        common.build_library()
+    tally = common.Tally(109 if common.LIBRARY.exists() else 107)
     with common.empty_folder() as folder:
         path, unsaid = folder / "file", []
         for name, file, ask, want in runs():
             path.write_bytes(file)
             unsaid += [] if reason(name) else [name]
+            if name.startswith("rows of ") and not common.LIBRARY.exists():
+                tally.skip(f"{name}: the C library is not built")
+                continue
             before = time.monotonic()
             try:
                 text = ask(path)
