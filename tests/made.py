@@ -1,6 +1,7 @@
 #!/usr/bin/env python3
 """Tests that `make docs` would change nothing, that docs/rules.tsv has the rules of the code, that each rule has one
-wording, that a crate has the names in what PROOFS.md claims of it, and that each link between pages has a place.
+wording, that a crate has the names in what PROOFS.md claims of it, that READING.md shows the code as it is, and that
+each link between pages has a place.
 
 It prints one line a test and ends with 'N passed, N failed, N skipped'.
 """
@@ -12,7 +13,7 @@ sys.dont_write_bytecode = True
 import common
 from common import TOP
 
-tally = common.Tally(78)
+tally = common.Tally(80)
 COMMANDS = ("check", "show", "types", "size")
 PAGES = [*TOP.glob("*.md"), *TOP.glob("docs/*.md"), *TOP.glob("crates/*/CALLING.md")]
 
@@ -34,6 +35,16 @@ def unknown_names():
         known = set(re.findall(r"\w+", "\n".join(path.read_text() for path in sources))) | {crate, *COMMANDS}
         words = re.findall(r"`([\w:]+)`", text)
         yield from sorted({f"{crate}: {name}" for word in words for name in word.split("::") if name not in known})
+
+
+def unlike_the_code():
+    """The lines of code of READING.md that the file of the link before them does not have."""
+    page, lines = TOP / "docs/READING.md", []
+    for part in re.finditer(r"(?ms)\]\(([^)#]*)\)|^```(?:rust|antt)\n(.*?)^```$", page.read_text()):
+        if part[1]:
+            lines = [line.strip() for line in (page.parent / part[1]).read_text().split("\n")]
+        else:
+            yield from (line for line in part[2].splitlines() if line.strip() not in lines)
 
 
 def places(path):
@@ -65,6 +76,7 @@ def main():
         text = (TOP / path).read_text()
         tally.add(path, None if make(text) == text else "it is not as `make docs` writes it")
     tally.same("names in what PROOFS.md claims", list(unknown_names()), [])
+    tally.same("code in READING.md", list(unlike_the_code()), [])
     for path in sorted(PAGES):
         tally.same(f"links of {path.relative_to(TOP)}", list(broken_links(path)), [])
     return tally.end()
