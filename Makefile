@@ -93,7 +93,8 @@ quick:
 	tests/quick.py $(unproved)
 
 # Runs the tests that need no proof on that program, in about two minutes, or some: `make quick-test QUICK=rows.py`.
-QUICK = rows.py examples.py endings.py hostile_files.py real-programs.py refused-growths.py explain.py explain-html.py
+QUICK = rows.py examples.py endings.py hostile_files.py real-programs.py refused-growths.py check.py explain.py \
+    explain-html.py
 .PHONY: quick-test
 quick-test: quick
 	@set -e; for it in $(QUICK); do echo "tests/$$it, by $(unproved), which is NOT PROVED"; \
@@ -207,8 +208,13 @@ compare:
 format-proofs:
 	for turn in 1 2; do tests/format-proofs.py; for it in crates/*/; do (cd $$it && rt fmt); done; done
 
-# Writes what pages and code say of each rule, from docs/rules.tsv, the definitions and the tables of proofs on pages,
-# from specs/, the code, the proofs and the edits, and draws docs/verdict.svg.
+# Says where a rule, a function or a definition is: its file, clauses, proofs, edits and rows: `make where NAME=R3`.
+.PHONY: where
+where:
+	@docs/where.py "$(NAME)"
+
+# Writes what pages and code say of each rule, from docs/rules.tsv, draws docs/verdict.svg, and writes tables of
+# definitions and proofs, from specs/, the code, the proofs and the edits, into out/docs.
 .PHONY: docs
 docs:
 	docs/make-rules.py

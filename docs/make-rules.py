@@ -177,15 +177,6 @@ def with_choices(text, rules):
     return with_names(text, [rule for rule in rules if rule.group > 1], "Rule", 10000)
 
 
-def with_tables(text, rules):
-    """The tests of codes and names, which have a table for each enum."""
-    for enum, (_, letters, _) in ENUMS.items():
-        those = of(rules, letters)
-        text = with_lines(text, those, f'    ({enum}::{{name}}, "{{code}}", "{{name}}"),')
-        text = re.sub(rf"(?m)^(const \w+: \[\({enum}, &str, &str\); )\d+", lambda it: f"{it[1]}{len(those)}", text)
-    return text
-
-
 def with_definitions(text, rules):
     """A file of specs/, where a comment that starts with a rule's name says what the rule is."""
     for rule in rules:
@@ -211,7 +202,6 @@ def made():
         yield file, lambda text: with_arms(with_variants(text, those), those, enum)
         yield chapter, lambda text: with_equations(text, those, enum)
     yield "crates/dw_image/proofs/RuleLemmas.antt", lambda text: with_choices(text, rules)
-    yield "crates/dw_tests/src/rules.rt", lambda text: with_tables(text, rules)
     for path in SPECS:
         yield path, lambda text: with_definitions(text, rules)
 

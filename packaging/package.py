@@ -56,6 +56,7 @@ def staged(root, prefix):
         target = doc / page
         target.parent.mkdir(exist_ok=True, parents=True)
         shutil.copy(TOP / page, target)
+    subprocess.run([TOP / "docs/make-indexes.py", doc / "docs"], check=True, stdout=subprocess.DEVNULL)
     kit = pathlib.Path(os.path.realpath(shutil.which("rt") or "/")).parents[1]
     for crate in PORTED:
         for licence in sorted(kit.glob(f"rattle/{crate}/LICENSE*")):

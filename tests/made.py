@@ -1,7 +1,7 @@
 #!/usr/bin/env python3
 """Tests that `make docs` would change nothing, that docs/rules.tsv has the rules of the code, that each rule has one
-wording, that a crate has the names in what PROOFS.md claims of it, that READING.md shows the code as it is, and that
-each link between pages has a place.
+wording, that docs/where.py finds its definition and its check, that a crate has the names in what PROOFS.md claims of
+it, that READING.md shows the code as it is, and that each link between pages has a place.
 
 It prints one line a test and ends with 'N passed, N failed, N skipped'.
 """
@@ -13,7 +13,7 @@ sys.dont_write_bytecode = True
 import common
 from common import TOP
 
-tally = common.Tally(80)
+tally = common.Tally(130)
 COMMANDS = ("check", "show", "types", "size")
 PAGES = [*TOP.glob("*.md"), *TOP.glob("docs/*.md"), *TOP.glob("crates/*/CALLING.md")]
 
@@ -72,7 +72,12 @@ def main():
     for rule in (it for script in scripts if "table" in script for it in script["table"]()):
         said = {text for text, _ in scripts[-1]["wordings"](rule)}
         tally.add(f"one wording of {rule.code}", None if len(said) == 1 else f"{len(said)} wordings")
-    for path, make in (it for script in scripts for it in script["made"]()):
+    where = runpy.run_path(str(TOP / "docs/where.py"))
+    for rule in where["RULES"]["table"]():
+        said = "\n".join(where["of_rule"](rule))
+        tally.add(f"the definition and the check of {rule.code}", None if re.search(
+            r"definition:\n  crates(?s:.*)check:\n  crates/", said) else said)
+    for path, make in (it for script in scripts if "made" in script for it in script["made"]()):
         text = (TOP / path).read_text()
         tally.add(path, None if make(text) == text else "it is not as `make docs` writes it")
     tally.same("names in what PROOFS.md claims", list(unknown_names()), [])

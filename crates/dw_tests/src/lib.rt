@@ -18,8 +18,6 @@ mod image;
 #[cfg(test)]
 mod links;
 #[cfg(test)]
-mod rules;
-#[cfg(test)]
 mod surface;
 #[cfg(test)]
 mod types;
