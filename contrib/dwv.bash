@@ -18,7 +18,7 @@ _dwv_script() {
     local word=${COMP_WORDS[COMP_CWORD]} options='--help'
     COMPREPLY=()
     case ${COMP_WORDS[0]##*/} in
-        dwv-c-header) options='--all --assert --debuginfod --help -o --version' ;;
+        dwv-c-header) options='--all --assert --debuginfod --help --limit -o --version' ;;
         dwv-check) options='--allow --debuginfod --every --explain --files-from --help --ignore --jobs --json --junit'
             options+=' --log --memory --merge -o --resume --sarif --seconds --summary --unprepared --version' ;;
         dwv-explain) options='--debuginfod --help --html --json --version' ;;

@@ -89,7 +89,7 @@ def test_table():
     assert table.attribute(1, "DW_AT_type") is None
     assert (list(table.children(0)), list(table.children(1))) == ([1], [])
     assert len(dwv.table(SAMPLE, limit=4)) == 2
-    with pytest.raises(MemoryError):
+    with pytest.raises(MemoryError, match="^4 values, and the limit is 3$"):
         dwv.table(SAMPLE, limit=3)
     with pytest.raises(dwv.NotSound) as raised:
         dwv.table(BROKEN)
@@ -164,6 +164,8 @@ def test_saving(tmp_path):
     (tmp_path / "broken").write_bytes(BROKEN)
     assert saving.main(["--csv", "-o", str(folder), str(tmp_path / "broken")]) == 1
     assert saving.main(["--csv", "-o", str(tmp_path / "no/folder"), str(SAMPLE)]) == 3
+    assert saving.main(["--csv", "--limit", "3", "-o", str(tmp_path / "few"), str(SAMPLE)]) == 4
+    assert not (tmp_path / "few").exists()
     numpy = pytest.importorskip("numpy")
     assert saving.main(["-o", str(tmp_path / "a.npz"), str(SAMPLE)]) == 0
     assert len(numpy.load(tmp_path / "a.npz")["values"]) == 4

@@ -213,6 +213,8 @@ def words(folder):
     tally.same("a file that is not sound", run(broken), (1, "", line))
     absent = folder / "none"
     tally.same("no file", run(absent), (3, "", f"c-header: {absent}: No such file or directory\n"))
+    line = "c-header: 4 values, and the limit is 3\n"
+    tally.same("more values than the limit", run("--limit", "3", common.SAMPLE), (4, "", line))
     tally.same("a header that can't be written", run("-o", absent / "x.h", common.SAMPLE)[:2], (3, ""))
     tally.same("no words", run()[:2], (2, ""))
 

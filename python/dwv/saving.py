@@ -1,11 +1,14 @@
-"""Writes all that a sound file says, for other tools: dwv-table [--csv | --sqlite] -o OUT FILE
+"""Writes all that a sound file says, for other tools: dwv-table [--csv | --sqlite] [--limit N] -o OUT FILE
 
 OUT is a file of numpy with three structured arrays, units, entries and values; with --sqlite a database with the tables
 units, entries and attributes, where tags, attributes, kinds, names and texts are text; with --csv a folder with the
 same as three files. The rows of each are numbered from 0.
 
+A small file can have very many values, which take 32 bytes of memory each. With more than --limit of them nothing is
+written; the limit is else a value for each byte of FILE and a million more, which is more than compilers write.
+
 The exit status is 0 if OUT is written, 1 if FILE is not sound, 2 after bad usage, 3 if something could not be read or
-written, 4 if memory ran out. --csv and --sqlite need no other module.
+written, 4 if memory ran out or FILE has more values than the limit. --csv and --sqlite need no other module.
 """
 import argparse
 import csv
@@ -16,7 +19,7 @@ import sys
 from typing import Iterator, List
 
 import dwv
-from dwv.tables import KINDS, NONE, TEXT, Table, name_of
+from dwv.tables import KINDS, NONE, TEXT, Table, name_of, usual_limit
 
 # The columns of each table, with their types in SQLite.
 COLUMNS = {
@@ -122,14 +125,16 @@ def main(words: List[str]) -> int:
     form = parser.add_mutually_exclusive_group()
     form.add_argument("--csv", dest="save", action="store_const", const=save_csv, help="write a folder of CSV files")
     form.add_argument("--sqlite", dest="save", action="store_const", const=save_sqlite, help="write an SQLite database")
+    parser.add_argument("--limit", type=int, metavar="N", help="the most values that FILE may have")
     given = parser.parse_args(words)
     try:
-        (given.save or save_arrays)(dwv.table(given.file), given.out)
+        limit = usual_limit(os.path.getsize(given.file)) if given.limit is None else given.limit
+        (given.save or save_arrays)(dwv.table(given.file, limit), given.out)
         return 0
     except dwv.NotSound as error:
         status, why = 1, str(error)
-    except MemoryError:
-        status, why = 4, "out of memory"
+    except MemoryError as error:
+        status, why = 4, str(error) or "out of memory"
     except OSError as error:
         status, why = 3, f"{error.filename or given.out}: {error.strerror}"
     except (sqlite3.Error, ImportError) as error:

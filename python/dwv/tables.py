@@ -257,8 +257,15 @@ def code_of(kind: str, name: str) -> int:
     return found
 
 
+def usual_limit(length: int) -> int:
+    """The most values that the commands take of a file of so many bytes, if no other limit is given: a value for each
+    byte and a million more, which is more than compilers write."""
+    return length + 1_000_000
+
+
 def read(call, parts: Tuple[bytes, ...], limit: Optional[int]) -> Union[Table, int]:
-    """The table that a call of the library writes, or its status: 4 also if there are more values than the limit.
+    """The table that a call of the library writes, or its status. More values than the limit raise MemoryError, before
+    memory is asked for them.
 
     `call` gets the memory and the rooms of the arrays, and the counts. It is called again only if the bytes have more
     rows than compilers write, or there is no memory for so many: then the call says how many there are. Rows that are
@@ -281,7 +288,7 @@ def read(call, parts: Tuple[bytes, ...], limit: Optional[int]) -> Union[Table, i
         if status == 5:
             rooms = list(counts)
             if limit is not None and rooms[2] > limit:
-                return 4
+                raise MemoryError(f"{rooms[2]} values, and the limit is {limit}")
         elif status == 4 and is_guess:
             rooms = [0, 0, 0]
         else:

@@ -120,6 +120,13 @@ pub enum Error {
     Fault(Fault),
     /// An allocation failed, and nothing is said of the file.
     NoMemory,
+    /// The file is sound, and has more values than its table may have. No memory was asked for them.
+    TooManyValues {
+        /// How many it has.
+        values: u64,
+        /// How many the table may have.
+        limit: u64,
+    },
 }
 
 /// The counts of a sound file. Any other gives its fault.
@@ -235,6 +242,7 @@ impl fmt::Display for Error {
         match self {
             Error::Fault(fault) => fault.fmt(f),
             Error::NoMemory => f.write_str("out of memory"),
+            Error::TooManyValues { values, limit } => write!(f, "{values} values, and the limit is {limit}"),
         }
     }
 }

@@ -1,6 +1,7 @@
 //! All that a sound file says, in three arrays: its units, entries and values.
 use crate::rows::{dwv_table, dwv_table_sections, Counts, EntryRow, ValueRow};
 use crate::{Error, Raw, Sections};
+use std::fmt;
 
 /// The units, entries and values of a sound file, which it borrows. Nothing in it can fail to be read.
 ///
@@ -19,7 +20,7 @@ use crate::{Error, Raw, Sections};
 /// # Ok(())
 /// # }
 /// ```
-#[derive(Clone, Debug)]
+#[derive(Clone)]
 pub struct Table<'a> {
     /// What places of texts and bytes count in, by the number of the section.
     parts: [&'a [u8]; 4],
@@ -53,7 +54,7 @@ pub struct Unit {
 }
 
 /// An entry of a table.
-#[derive(Clone, Copy, Debug)]
+#[derive(Clone, Copy)]
 pub struct Entry<'t> {
     table: &'t Table<'t>,
     row: u32,
@@ -90,8 +91,16 @@ pub enum Value<'t> {
 
 impl<'a> Table<'a> {
     /// The table of a sound file. Any other gives its fault.
+    ///
+    /// It has at most a value for each byte of the file, and a million more, which is more than compilers write: a file
+    /// of 38 KB can have 120 million values, which take 3.8 GB. With more values it is `TooManyValues`.
     pub fn of(file: &'a [u8]) -> Result<Table<'a>, Error> {
-        Table::filled([file; 4], |table, counts, raw| {
+        Table::of_at_most(file, usual_limit(file))
+    }
+
+    /// The table of a sound file that has at most so many values, each of 32 bytes.
+    pub fn of_at_most(file: &'a [u8], limit: u64) -> Result<Table<'a>, Error> {
+        Table::filled([file; 4], limit, |table, counts, raw| {
             // SAFETY: the pointers of slices are not null and valid for their lengths, and those of arrays for their
             // capacities. Rows are numbers, so any memory has a value of them, and none is read before it is written.
             // Only this call uses the arrays, the counts and `raw`.
@@ -112,10 +121,16 @@ impl<'a> Table<'a> {
         })
     }
 
-    /// The table of sound sections. Any others give their fault.
+    /// The table of sound sections. Any others give their fault. As for `of`, it has at most a value for each byte of
+    /// .debug_info, and a million more.
     pub fn of_sections(sections: &Sections<'a>) -> Result<Table<'a>, Error> {
+        Table::of_sections_at_most(sections, usual_limit(sections.info))
+    }
+
+    /// The table of sound sections that have at most so many values, each of 32 bytes.
+    pub fn of_sections_at_most(sections: &Sections<'a>, limit: u64) -> Result<Table<'a>, Error> {
         let Sections { info, abbrev, str, line_str, str_offsets, addr } = *sections;
-        Table::filled([&[], info, str, line_str], |table, counts, raw| {
+        Table::filled([&[], info, str, line_str], limit, |table, counts, raw| {
             // SAFETY: as in `of`.
             unsafe {
                 dwv_table_sections(
@@ -146,13 +161,15 @@ impl<'a> Table<'a> {
 
     /// The table that a call fills. It is called again only if the bytes have more rows than compilers write, or there
     /// is no memory for so many: then the call says how many there are. Rows that are not written are not touched.
+    /// Memory for more values than the limit is never asked for.
     fn filled(
         parts: [&'a [u8]; 4],
+        limit: u64,
         call: impl Fn(&mut Table<'a>, &mut Counts, &mut Raw) -> u32,
     ) -> Result<Table<'a>, Error> {
         // Compilers write fewer rows for 64 bytes of .debug_info. In all, these take at most 1 GiB.
         let blocks = (parts[1].len() as u64 / 64).min(500_000) + 1;
-        let mut counts = Counts { units: blocks, entries: 12 * blocks, values: 40 * blocks };
+        let mut counts = Counts { units: blocks, entries: 12 * blocks, values: (40 * blocks).min(limit) };
         let mut is_guess = true;
         loop {
             let mut table = Table { parts, units: Vec::new(), entries: Vec::new(), values: Vec::new() };
@@ -173,6 +190,7 @@ impl<'a> Table<'a> {
                 1 => return Err(Error::Fault(raw.fault())),
                 4 if is_guess => counts = Counts::default(),
                 4 => return Err(Error::NoMemory),
+                _ if counts.values > limit => return Err(Error::TooManyValues { values: counts.values, limit }),
                 _ => {}
             }
             is_guess = false;
@@ -192,6 +210,34 @@ impl<'a> Table<'a> {
     /// The entry of a row, or None if there are fewer rows.
     pub fn entry(&self, row: u32) -> Option<Entry<'_>> {
         ((row as usize) < self.entries.len()).then_some(Entry { table: self, row })
+    }
+}
+
+/// The most values that bytes have by default: more than compilers write.
+fn usual_limit(bytes: &[u8]) -> u64 {
+    bytes.len() as u64 + 1_000_000
+}
+
+/// How many units, entries and values it has. The rows may be very many.
+impl fmt::Debug for Table<'_> {
+    fn fmt(&self, f: &mut fmt::Formatter<'_>) -> fmt::Result {
+        f.debug_struct("Table")
+            .field("units", &self.units.len())
+            .field("entries", &self.entries.len())
+            .field("values", &self.values.len())
+            .finish()
+    }
+}
+
+/// Its row, its offset, its tag and its name, and not the table.
+impl fmt::Debug for Entry<'_> {
+    fn fmt(&self, f: &mut fmt::Formatter<'_>) -> fmt::Result {
+        f.debug_struct("Entry")
+            .field("row", &self.row)
+            .field("offset", &format_args!("{:#x}", self.offset()))
+            .field("tag", &format_args!("{:#x}", self.tag()))
+            .field("name", &self.name().map(String::from_utf8_lossy))
+            .finish()
     }
 }
 

@@ -56,6 +56,45 @@ fn a_table() -> Result<(), Error> {
 }
 
 #[test]
+fn debug_texts_are_short() -> Result<(), Error> {
+    let table = Table::of(SAMPLE)?;
+    assert_eq!(format!("{table:?}"), "Table { units: 1, entries: 2, values: 4 }");
+    let number = table.entry(1).unwrap();
+    let text = r#"Entry { row: 1, offset: 0xf, tag: 0x24, name: Some("int") }"#;
+    assert_eq!(format!("{number:?}"), text);
+    assert_eq!(format!("{:?}", Value::Reference(number)), format!("Reference({text})"));
+    Ok(())
+}
+
+/// The sections of a unit that has so many children, each with so many flags whose values take no bytes.
+fn flags(children: usize, flags: u16) -> (Vec<u8>, Vec<u8>) {
+    let codes = (0..flags).flat_map(|code| [0x80 | (code & 0x7f) as u8, 0xc0 | (code >> 7) as u8, 0x00, 0x19]);
+    let abbrev = [1, 0x11, 1, 0, 0, 2, 0x34, 0].into_iter().chain(codes).chain([0; 3]).collect();
+    let items: Vec<u8> = [1].into_iter().chain(vec![2; children]).chain([0]).collect();
+    let length = (8 + items.len() as u32).to_le_bytes();
+    let info = length.into_iter().chain([5, 0, 1, 8, 0, 0, 0, 0]).chain(items).collect();
+    (abbrev, info)
+}
+
+#[test]
+fn a_table_of_at_most_so_many_values() {
+    let too_many = |result: Result<Table<'_>, Error>| result.map(|table| table.entries().len()).unwrap_err();
+    let (abbrev, info) = flags(3, 50);
+    let sections = Sections { abbrev: &abbrev, info: &info, ..Sections::default() };
+    assert!(Table::of_sections_at_most(&sections, 150).is_ok());
+    let error = too_many(Table::of_sections_at_most(&sections, 149));
+    assert_eq!(error, Error::TooManyValues { values: 150, limit: 149 });
+    assert_eq!(error.to_string(), "150 values, and the limit is 149");
+    assert!(Table::of_at_most(SAMPLE, 4).is_ok());
+    assert_eq!(too_many(Table::of_at_most(SAMPLE, 3)), Error::TooManyValues { values: 4, limit: 3 });
+    // 38 KB, of which the rows would take 3.8 GB.
+    let (abbrev, info) = flags(30_000, 4_000);
+    let sections = Sections { abbrev: &abbrev, info: &info, ..Sections::default() };
+    let limit = info.len() as u64 + 1_000_000;
+    assert_eq!(too_many(Table::of_sections(&sections)), Error::TooManyValues { values: 120_000_000, limit });
+}
+
+#[test]
 fn a_table_of_sections() -> Result<(), Error> {
     let sections = Sections { abbrev: &SAMPLE[0x40..0x53], info: &SAMPLE[0x53..0x6a], ..Sections::default() };
     let table = Table::of_sections(&sections)?;
