@@ -5,14 +5,16 @@ import os
 import pathlib
 import sys
 
+from dwv_tools.entries import POINTER, SAME_SIZE
+from dwv_tools.reading import (
+    ALIGNMENT, BIT_OFFSET, BIT_POSITION, BIT_SIZE, BYTE_SIZE, DECLARATION, LANGUAGE, MEMBER_LOCATION, NAME, TYPE,
+)
+
 # The module is beside these scripts where they are installed, and in python/ of a checkout.
 sys.path.append(str(pathlib.Path(__file__).resolve().parents[2] / "python"))
 
-# A type has the size of its type, if it is one of these: typedef, const, volatile, restrict, atomic.
-SAME_SIZE = {0x16, 0x26, 0x35, 0x37, 0x47}
-POINTER, ARRAY, SUBRANGE = 0x0F, 0x01, 0x21
-NAME, BYTE_SIZE, BIT_OFFSET, BIT_SIZE, LANGUAGE, UPPER = 0x03, 0x0B, 0x0C, 0x0D, 0x13, 0x2F
-COUNT, MEMBER_LOCATION, DECLARATION, TYPE, BIT_POSITION, ALIGNMENT, VECTOR = 0x37, 0x38, 0x3C, 0x49, 0x6B, 0x88, 0x2107
+ARRAY, SUBRANGE = 0x01, 0x21
+UPPER, COUNT, VECTOR = 0x2F, 0x37, 0x2107
 # The kinds of values that are numbers: without a sign, with a sign, flags (enum dwv_kind of dwv.h).
 NUMBERS, SIGNED = {1, 2, 3}, 2
 # How many entries are kept that types refer to, and how many lists of attributes.
