@@ -2,7 +2,7 @@
 use Rattle.std.specs.Prelude.{◌≡◌, ◌⊎◌, ◌+◌, ◌-◌, List, [], ℕ, length, take, drop}
 use Rattle.dw_elf.specs.declared.sections.Sections.{Sections}
 use Rattle.dw_elf.specs.declared.sections.DebugSection.TheVariants.{Abbrev, Info, Str, LineStr, StrOffsets, Addr}
-use Rattle.dw_elf.specs.Elf.{IsHeader, section_name, section_bytes}
+use Rattle.dw_elf.specs.Elf.{IsHeader, section_name, section_bytes, section_offset}
 use Rattle.dw_elf.specs.Names.{name_of}
 use Rattle.dw_elf.specs.Checks.{HasNoSection}
 
@@ -17,6 +17,10 @@ abbrev pub IsSection : List ℕ → List ℕ → List ℕ → Type 0
 IsSection file name bytes =
     ((k : ℕ) × HasOne file name k × (bytes ≡ section_bytes file k))
     ⊎ (HasNoSection file name × (bytes ≡ []))
+
+-- the section of this name starts at an offset of the file: the one that its header gives
+abbrev pub StartsAt : List ℕ → List ℕ → ℕ → Type 0
+StartsAt file name start = (k : ℕ) → HasOne file name k → start ≡ section_offset file k
 
 -- each of the six has the bytes of the section of its name, .debug_info from its start
 pub record AreSections (file : List ℕ) (s : Sections) : Type 0 where

@@ -7,7 +7,7 @@ ghost use Rattle.dw_elf.specs.declared.fault.ElfFault.{ElfFault as AnyFault};
 ghost use Rattle.dw_elf.specs.Elf.{section_count};
 ghost use Rattle.dw_elf.specs.Checks.{ChecksPass};
 ghost use Rattle.dw_elf.specs.Rules.{IsFault};
-ghost use Rattle.dw_elf.specs.Sections.{AreSections, IsAt, IsSection};
+ghost use Rattle.dw_elf.specs.Sections.{AreSections, IsSection, StartsAt};
 ghost use Rattle.dw_elf.specs.Reading.{slot, SlotsUpTo};
 ghost use Rattle.dw_elf.specs.Names.{name_of};
 
@@ -65,10 +65,11 @@ pub fn find<'a>(file: &'a [u8]) -> Result<Sections<'a>, ElfFault>
     Ok(sections_of(file, &found))
 }
 
-/// Where the bytes of a section start, from the file's first byte. Any number if no header names the section.
+/// Where the bytes of a section start, from the file's first byte: the offset that its header gives. Any number if no
+/// header names the section.
 pub fn section_start(file: &[u8], section: DebugSection) -> usize
     requires { ChecksPass file.now }
-    ensures { (bytes : List ℕ) → IsSection file.now (name_of section) bytes → IsAt file.now result bytes }
+    ensures { StartsAt file.now (name_of section) result }
 {
     let table = match SectionTable::of(file) {
         Ok(table) => table,
