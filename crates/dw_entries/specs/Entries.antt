@@ -52,7 +52,7 @@ entries_from unit id at (u ∷ us) =
     node_entries unit None 0 None id (at + unit_header_size u.header.kind) u.root
     ++ entries_from (suc unit) (id + node_count u.root) (at + length (unit_bytes u)) us
 
--- the entries of these units, from the beginning of .debug_info
+-- the entries of these units, from the start of `sections.info`, where the first of them is
 abbrev pub entries_of : List DebugUnit → List Entry
 entries_of us = entries_from 0 0 0 us
 
@@ -71,6 +71,6 @@ placed_from at first (u ∷ us) =
     record { at = at; first = first; unit = u }
     ∷ placed_from (at + length (unit_bytes u)) (first + node_count u.root) us
 
--- the units from the beginning of .debug_info, each at its place
+-- the units from the start of `sections.info`, each at its place
 abbrev pub placed : List DebugUnit → List PlacedUnit
 placed us = placed_from 0 0 us

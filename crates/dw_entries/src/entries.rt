@@ -91,7 +91,7 @@ impl<'a> Entries<'a> {
         self.records[id.number()]
     }
 
-    /// The entry that starts at an offset of .debug_info.
+    /// The entry that starts at an offset of `sections.info`.
     pub(crate) fn find_at(&self, offset: u64) -> Option<EntryId>
         ensures found { IfSome result (IsEntryAt (all_entries self.now) offset) }
         ensures none { IfNone result ((id : ℕ) → IsEntryAt (all_entries self.now) offset id → ⊥) }
@@ -107,7 +107,7 @@ impl<'a> Entries<'a> {
         }
     }
 
-    /// The entry whose first byte is at this offset of .debug_info.
+    /// The entry whose first byte is at this offset of `sections.info`.
     pub fn find(&self, offset: u32) -> Option<EntryId>
         ensures found { IfSome result (λ id. (entry_of (all_entries self.now) id).at ≡ offset) }
         ensures within { IfSome result (λ id. id < length (all_entries self.now)) }
@@ -133,7 +133,7 @@ impl<'a> Entries<'a> {
         self.decl(id).tag()
     }
 
-    /// The offset of an entry in .debug_info, in bytes. Its unit is not looked up.
+    /// The offset of an entry in `sections.info`, in bytes. Its unit is not looked up.
     pub fn offset(&self, id: EntryId) -> u32
         requires { id < length (all_entries self.now) }
         ensures { result ≡ (entry_of (all_entries self.now) id).at }

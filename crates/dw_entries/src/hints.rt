@@ -16,7 +16,7 @@ pub struct Hints {
 }
 
 impl Hints {
-    /// The number of the entry that starts at an offset of .debug_info, if one does; some number or none otherwise.
+    /// The number of the entry that starts at an offset of `sections.info`, if one does; some number or none otherwise.
     #[inline(always)]
     pub fn guess(&self, offset: u64) -> Option<usize> {
         let block = (offset / BLOCK as u64) as usize;

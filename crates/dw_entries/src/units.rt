@@ -16,7 +16,7 @@ use crate::records::UnitRecord;
 /// A unit without its entries.
 #[derive(Clone, Copy, Debug, PartialEq, Eq)]
 pub struct UnitHead {
-    /// Where the unit's header begins in .debug_info.
+    /// Where the unit's header begins in `sections.info`.
     pub offset: u32,
     pub header: UnitHeader,
     /// In version 4 it is told by the tag of the first entry.
