@@ -1,5 +1,5 @@
 -- The attributes of an entry that stand in .debug_info, and the value of one of them.
-use Rattle.std.proofs.Common.{rules, ◌≡◌, ℕ, List, ◌++◌, map, None, false, sym, ap, subst, ◌∙◌}
+use Rattle.std.proofs.Common.{rules, ◌≡◌, ℕ, ◌+◌, List, ◌++◌, length, map, None, false, sym, ap, subst, ◌∙◌}
 use Rattle.std.specs.Prelude.{◌==◌, ◌≢◌, All, slice_index_or}
 use Rattle.std.specs.List.{flat_map}
 use Rattle.std.proofs.lemmas.Bool.{ne_eqb}
@@ -18,6 +18,7 @@ use Rattle.dw_entries.specs.Entries.{Entry}
 use Rattle.dw_entries.specs.ByNumber.{no_unit}
 use Rattle.dw_entries.specs.Scanned.{found_units, Scanned}
 use Rattle.dw_entries.specs.EntryRules.{value_of, values_of}
+use Rattle.dw_entries.specs.ValuePlaces.{placed_values, placed_values_from}
 use Rattle.dw_entries.specs.Values.{value_context, Left}
 use Rattle.dw_entries.specs.ValueLaws.{left_unique, without_table}
 use Rattle.dw_entries.specs.Lookups.{declares, value_at_entry}
@@ -56,6 +57,17 @@ module _ {base : ℕ} {a info : List ℕ} {tables : Tables} {rs : List UnitRecor
       (λ (z : Left (value_context version header.address_size) specs bytes). z.0.0)
       (left_unique (value_context version header.address_size) specs bytes m left_here) in
       ap (map value_of) same
+
+  -- with their places, if the bytes start where the code ends
+  pub placed_here : (start : ℕ) → start ≡ (found_entry s id).at + length (found_entry s id).head.code
+      → (m : Left (value_context version header.address_size) specs bytes)
+      → placed_values_from start m.0.0 ≡ placed_values (found_entry s id)
+  unfolding left_here
+  placed_here start start_is m =
+      let same : m.0.0 ≡ (found_entry s id).head.attributes = ap
+      (λ (z : Left (value_context version header.address_size) specs bytes). z.0.0)
+      (left_unique (value_context version header.address_size) specs bytes m left_here) in
+      λ i. placed_values_from (start_is i) (same i)
 
 -- ---- the value of one attribute
 

@@ -28,3 +28,4 @@ pub mod FindLaws
 pub mod RunLaws
 pub mod TextLaws
 pub mod PlacedLaws
+pub mod ValuePlaceLaws

@@ -8,7 +8,7 @@ use Rattle.dw_entries.specs.Grammar.{Context, head_bytes}
 use Rattle.dw_entries.specs.Header.{unit_header_size}
 use Rattle.dw_entries.specs.UnitLaws.{unit_sized}
 use Rattle.dw_entries.specs.Tree.{Node, Nodes, leaf, parent, none, ◌then◌, IsNode, AreNodes, node_bytes, nodes_bytes}
-use Rattle.dw_entries.specs.Units.{nulls_bytes, DebugUnit, context_of, body_bytes, unit_bytes, AreUnits, units_bytes}
+use Rattle.dw_entries.specs.Units.{nulls_bytes, DebugUnit, context_of, unit_bytes, AreUnits, units_bytes}
 use Rattle.dw_entries.specs.Entries.{node_count, first_id}
 use Rattle.dw_entries.specs.Records.{node_records, nodes_records, records_from, records_kept}
 use Rattle.dw_entries.specs.Items.{entry}

@@ -1,5 +1,5 @@
 -- The bytes of a value are the last of its spelling, and where they are in .debug_info.
-use Rattle.std.proofs.Common.{◌≡◌, ℕ, ◌+◌, ◌-◌, List, [], ◌++◌, length, take, drop, refl, sym, ap, subst, ◌∙◌, append_assoc, append-nil, length-append, drop_at, take-append-drop, Option, Some, None, Ok, arith}
+use Rattle.std.proofs.Common.{◌≡◌, ℕ, ◌+◌, ◌-◌, List, [], ◌++◌, length, take, drop, refl, sym, ap, subst, ◌∙◌, append_assoc, append-nil, length-append, length-drop, drop_at, map, take-append-drop, ◌∷◌, Option, Some, None, Ok, arith}
 use Rattle.dw_forms.specs.declared.form.Form.{Form}
 use Rattle.dw_forms.specs.declared.form.Form.TheVariants as form
 use Rattle.std.specs.Borrow.{Bor}
@@ -12,12 +12,17 @@ use Rattle.dw_forms.specs.ValueLaws.{named_plain}
 use Rattle.dw_forms.specs.KeptDecls.{Tables}
 use Rattle.dw_entries.specs.declared.records.Record.{Record}
 use Rattle.dw_entries.specs.declared.records.UnitRecord.{UnitRecord}
-use Rattle.dw_entries.specs.Grammar.{attribute_bytes, head_bytes}
+use Rattle.dw_entries.specs.Grammar.{Attribute, attribute_bytes, head_bytes}
 use Rattle.dw_entries.specs.Reading.{code_at, seen}
-use Rattle.dw_entries.specs.Scanned.{Scanned}
+use Rattle.dw_entries.specs.Scanned.{Scanned, found_units}
+use Rattle.dw_entries.specs.Entries.{Entry}
+use Rattle.dw_entries.proofs.HeadLaws.{stands_within}
 use Rattle.dw_entries.proofs.KeptLaws.{KeptEntry, found_entry, values_are}
 use Rattle.dw_entries.specs.OwnBytes.{bytes_of, IsRest, Leaves}
-use Rattle.dw_entries.specs.Placed.{EndsAt}
+use Rattle.dw_entries.specs.EntryRules.{value_of}
+use Rattle.dw_entries.specs.Placed.{EndsAt, placed_value}
+use Rattle.dw_entries.specs.ValuePlaces.{placed_values_from}
+use Rattle.dw_entries.specs.ValuesLeft.{BeginWith}
 
 -- bytes that end with those of a value
 record EndWithBytes (bytes : List ℕ) (v : Datum) : Type 0 where
@@ -137,6 +142,35 @@ pub take_keeps : (section : List ℕ) (old new : Bor (List ℕ)) (result : Optio
 take_keeps section old new None is kept = subst (λ (b : Bor (List ℕ)). IsRest section b.now) (sym kept) is
 take_keeps section old new (Some item) is kept = rest_left section old.now new.now (view item.1) is kept
 
+-- ---- attributes with their places
+
+none_placed : (at : ℕ) (attributes : List Attribute) → map value_of attributes ≡ []
+    → placed_values_from at attributes ≡ []
+none_placed at [] none = refl
+none_placed at (a ∷ more) none = absurd cc
+
+-- no attribute is left before and after none was taken
+pub no_places : (at at' : ℕ) (old new : List Attribute) → (map value_of old ≡ []) × (map value_of new ≡ [])
+    → (placed_values_from at old ≡ []) × (placed_values_from at' new ≡ [])
+no_places at at' old new none = (none_placed at old none.0, none_placed at' new none.1)
+
+-- the attribute that is taken ends where the bytes that are left start
+pub place_taken : (section bytes rest : List ℕ) (old new : List Attribute) (attribute : ℕ) (v : Datum)
+    → IsRest section bytes → BeginWith old new bytes rest (attribute, v)
+    → placed_values_from (length section - length bytes) old
+    ≡ placed_value attribute v (length section - length rest) ∷ placed_values_from (length section - length rest) new
+place_taken section bytes rest old new attribute v is first =
+    let a = first.attribute in
+    let from : ℕ = length section - length bytes in
+    let long : length section - from ≡ length bytes = sym (length-drop from section) ∙ ap length is in
+    let sum : length bytes ≡ length a.bytes + length rest =
+    ap length first.spelled ∙ length-append a.bytes rest in
+    let end : from + length a.bytes ≡ length section - length rest = omega (arith, long, sum) in
+    let code : a.code ≡ attribute = ap (λ (x : ℕ × Datum). x.0) first.is in
+    let value : a.value ≡ v = ap (λ (x : ℕ × Datum). x.1) first.is in
+    ap (placed_values_from from) first.left
+    ∙ (λ i. placed_value (code i) (value i) (end i) ∷ placed_values_from (end i) new)
+
 -- what follows the code of an entry, .debug_info ends with
 module _ {base : ℕ} {a info : List ℕ} {tables : Tables} {rs : List UnitRecord} {records : List Record}
     {s : Scanned base a info tables rs records} {id : ℕ} (k : KeptEntry a info tables rs records s id) where
@@ -155,3 +189,17 @@ module _ {base : ℕ} {a info : List ℕ} {tables : Tables} {rs : List UnitRecor
       ∙ sym (append_assoc front code (own ++ k.stands.after))
       ∙ ap (λ (b : List ℕ). (front ++ code) ++ b) (sym values) in
       rest_after info (front ++ code) rest whole
+
+  -- and where they start
+  pub code_placed : (r : Record) → slice_get records id ≡ Some r → (n : ℕ) (rest : List ℕ)
+      → seen (λ c. c.number) (code_at (take (length info - r.at) (drop r.at info))) ≡ Ok (n, rest)
+      → length info - length rest ≡ (found_entry s id).at + length (found_entry s id).head.code
+  code_placed r read n rest got =
+      let e : Entry = found_entry s id in
+      let code : List ℕ = e.head.code in
+      let own : List ℕ = flat_map attribute_bytes e.head.attributes in
+      let within = stands_within (found_units s) info e k.stands in
+      let parts : drop e.at info ≡ code ++ rest =
+      k.stands.parts ∙ append_assoc code own k.stands.after
+      ∙ ap (λ (b : List ℕ). code ++ b) (sym (values_are k r read n rest got)) in
+      omega (arith, within, ap length parts, length-append code rest, length-drop e.at info)

@@ -16,7 +16,7 @@ use Rattle.dw_forms.specs.declared.fault.Stop.TheVariants.{Memory, Fault as Brea
 use Rattle.dw_forms.specs.Stops.{IfFault}
 use Rattle.dw_entries.specs.Header.{unit_header_size}
 use Rattle.dw_entries.specs.UnitLaws.{unit_some}
-use Rattle.dw_entries.specs.Units.{DebugUnit, body_bytes, unit_bytes, IsUnit, AreUnits, units_bytes}
+use Rattle.dw_entries.specs.Units.{DebugUnit, unit_bytes, IsUnit, AreUnits, units_bytes}
 use Rattle.dw_entries.specs.Entries.{node_count, PlacedUnit, placed_from, placed}
 use Rattle.dw_entries.specs.Records.{node_records, records_from, records_kept}
 use Rattle.dw_entries.specs.Scanned.{table_of, numbers_of, record_of, IsRecordOfUnit, Scanned}

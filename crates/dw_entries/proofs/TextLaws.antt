@@ -1,6 +1,6 @@
 -- Where a text is that is in the value of an attribute.
-use Rattle.std.proofs.Common.{rules, ◌≡◌, ◌≢◌, ℕ, suc, ◌+◌, ◌-◌, ◌<◌, ◌≤◌, List, [], ◌∷◌, ◌++◌, length, take, drop, map, All, true, false, Some, Result, Ok, refl, sym, ap, subst, ◌∙◌, append_assoc, length-append, length-drop, drop_at, drop-drop, take-append-drop, arith}
-use Rattle.std.specs.Prelude.{slice_get}
+use Rattle.std.proofs.Common.{rules, ◌≡◌, ◌≢◌, ℕ, suc, ◌+◌, ◌-◌, ◌<◌, ◌≤◌, List, [], ◌∷◌, ◌++◌, length, take, drop, map, All, true, false, Some, Result, Ok, refl, sym, ap, subst, ◌∙◌, append_assoc, length-append, length-drop, length-take, drop_at, drop-drop, take-append-drop, arith}
+use Rattle.std.specs.Prelude.{slice_get, option_map, Option}
 use Rattle.std.specs.List.{flat_map, list_any}
 use Rattle.std.proofs.Props.{props}
 use Rattle.std.proofs.lemmas.Bool.{ne_eqb, eq-eqb, eqb-true, eqb-false, or_parts}
@@ -26,6 +26,7 @@ use Rattle.dw_entries.specs.Header.{version_of}
 use Rattle.dw_entries.specs.Lookups.{IsTextAt, value_at_entry, value_in}
 use Rattle.dw_entries.specs.Reading.{seen, code_at}
 use Rattle.dw_entries.specs.declared.header.UnitHeader.{UnitHeader}
+use Rattle.dw_entries.specs.ValuePlaces.{PlacedValue, placed_value_in, placed_values, placed_values_from}
 use Rattle.dw_entries.specs.Values.{value_context}
 use Rattle.dw_entries.specs.declared.records.Record.{Record}
 use Rattle.dw_entries.specs.declared.records.UnitRecord.{UnitRecord}
@@ -92,13 +93,18 @@ text_ends x s b t is value =
     (λ v. spelled_text x.version x.address_size s.form b.bytes t
     (subst (Val x.version s.form x.address_size b.bytes) value v))
 
--- the text of one of these attributes, and what follows its zero byte
-pub record HasText (bs : List Attribute) (t rest after : List ℕ) : Type 0 where
+-- where the bytes of the first attribute with a code end
+abbrev end_in : List PlacedValue → ℕ → Option ℕ
+end_in values code = option_map (λ (p : PlacedValue). p.end) (placed_value_in values code)
+
+-- the text of the first of these attributes with a code, and what follows its zero byte
+pub record HasText (bs : List Attribute) (code : ℕ) (t rest after : List ℕ) : Type 0 where
   pub before : List ℕ
   pub tail : List ℕ
   pub parts : flat_map attribute_bytes bs ≡ before ++ (t ++ 0 ∷ tail)
   pub follows : after ≡ tail ++ rest
   pub none_before : All (λ byte. 0 < byte) t
+  pub ends : (at : ℕ) → end_in (placed_values_from at bs) code ≡ Some (at + (length before + suc (length t)))
 
 ok_is : {a b : List ℕ} → ◌≡◌ {A = Result (List ℕ) ValueFault} (Ok a) (Ok b) → a ≡ b
 ok_is e = cc
@@ -106,12 +112,26 @@ ok_is e = cc
 some_is : {a b : Datum} → Some a ≡ Some b → a ≡ b
 some_is e = cc
 
+-- where the bytes of an attribute end
+first_ends : (at : ℕ) (b : Attribute) (bs : List Attribute) (code : ℕ) → b.code ≡ code
+    → end_in (placed_values_from at (b ∷ bs)) code ≡ Some (at + length b.bytes)
+first_ends at b bs code is = rw (eq-eqb b.code code is) refl
+
+later_ends : (at : ℕ) (b : Attribute) (bs : List Attribute) (code : ℕ) → (b.code ≡ code → ⊥)
+    → end_in (placed_values_from at (b ∷ bs)) code ≡ end_in (placed_values_from (at + length b.bytes) bs) code
+later_ends at b bs code apart = rw (ne_eqb b.code code apart) refl
+
+front_counted : (bytes t : List ℕ) → length t < length bytes
+    → length bytes ≡ length (take (length bytes - suc (length t)) bytes) + suc (length t)
+front_counted bytes t long =
+    let taken = length-take (length bytes - suc (length t)) bytes in omega (arith, long, taken)
+
 -- the text of the first attribute with a code, by the bytes after its value
 pub text_of_first : (x : Context) (front : List AttributeSpec) (s : AttributeSpec) (back : List AttributeSpec)
     (bs : List Attribute) (rest bytes after : List ℕ) (code : ℕ) (t : List ℕ) → AreAttributes x (front ++ s ∷ back) bs
     → bytes ≡ flat_map attribute_bytes bs ++ rest
     → list_any (has_this code) front ≡ false → has_this code s ≡ true → value_in (map value_of bs) code ≡ Some (text t)
-    → values_end x.version x.address_size (front ++ s ∷ []) bytes ≡ Ok after → HasText bs t rest after
+    → values_end x.version x.address_size (front ++ s ∷ []) bytes ≡ Ok after → HasText bs code t rest after
 unfolding values_end
 text_of_first x [] s back [] rest bytes after code t are spelled none has value ends = absurd are
 text_of_first x [] s back (b ∷ bs) rest bytes after code t are spelled none has value ends =
@@ -134,6 +154,8 @@ text_of_first x [] s back (b ∷ bs) rest bytes after code t are spelled none ha
           sym (ok_is (ap (λ (r : Result (List ℕ) ValueFault). r >>= λ more. values_end x.version x.address_size [] more)
           (sym first_end) ∙ ends));
       none_before = end.none_before;
+      ends = λ at. first_ends at b bs code is
+          ∙ ap (λ (n : ℕ). Some (at + n)) (front_counted b.bytes t end.long);
     }
 text_of_first x (r ∷ front) s back [] rest bytes after code t are spelled none has value ends = absurd are
 text_of_first x (r ∷ front) s back (b ∷ bs) rest bytes after code t are spelled none has value ends =
@@ -155,11 +177,15 @@ text_of_first x (r ∷ front) s back (b ∷ bs) rest bytes after code t are spel
           ap (λ (c : List ℕ). b.bytes ++ c) more.parts ∙ sym (append_assoc b.bytes more.before (t ++ 0 ∷ more.tail));
       follows = more.follows;
       none_before = more.none_before;
+      ends = λ at. later_ends at b bs code apart ∙ more.ends (at + length b.bytes)
+          ∙ ap Some (let n : at + length b.bytes + (length more.before + suc (length t))
+          ≡ at + (length (b.bytes ++ more.before) + suc (length t)) =
+          omega (arith, length-append b.bytes more.before) in n);
     }
 
 -- ---- in the bytes of an entry, and in .debug_info
 
-module _ (h : Head) (t rest after : List ℕ) (has : HasText h.attributes t rest after) (entry : List ℕ)
+module _ (h : Head) (code : ℕ) (t rest after : List ℕ) (has : HasText h.attributes code t rest after) (entry : List ℕ)
     (entry_is : entry ≡ head_bytes h ++ rest) where
   front : List ℕ
   front = h.code ++ has.before
@@ -184,6 +210,16 @@ module _ (h : Head) (t rest after : List ℕ) (has : HasText h.attributes t rest
   pub has_room : length t + suc (length after) ≤ length entry
   has_room = omega (arith, counted)
 
+  -- the bytes of the attribute end after the text's zero byte
+  pub end_in_head : (at : ℕ) → end_in (placed_values_from (at + length h.code) h.attributes) code
+      ≡ Some (at + (length entry - (length after + 1 + length t)) + suc (length t))
+  unfolding front
+  end_in_head at =
+      let front_is : length front ≡ length h.code + length has.before = length-append h.code has.before in
+      let n : at + length h.code + (length has.before + suc (length t))
+      ≡ at + (length entry - (length after + 1 + length t)) + suc (length t) = omega (arith, counted, front_is) in
+      has.ends (at + length h.code) ∙ ap Some n
+
 -- the text that is the value of an attribute of an entry, by the bytes after it
 module _ {base : ℕ} {a info : List ℕ} {tables : Tables} {rs : List UnitRecord} {records : List Record}
     {s : Scanned base a info tables rs records} {id : ℕ} (k : KeptEntry a info tables rs records s id)
@@ -197,7 +233,7 @@ module _ {base : ℕ} {a info : List ℕ} {tables : Tables} {rs : List UnitRecor
     (value : value_at_entry (found_entry s id) attribute ≡ Some (text t))
     (ends : (before : List (Numbered AttributeSpec)) → Ends all others before
     → values_end version header.address_size (items_of before) values ≡ Ok after) where
-  text_here : HasText (found_entry s id).head.attributes t k.stands.after after
+  text_here : HasText (found_entry s id).head.attributes attribute t k.stands.after after
   text_here =
       let f = follow (has_this attribute) all found is in
       let n : Numbered AttributeSpec = record { number = found.first; item = spec } in
@@ -219,14 +255,22 @@ module _ {base : ℕ} {a info : List ℕ} {tables : Tables} {rs : List UnitRecor
 
   pub room_here : length t + suc (length after) ≤ length (take (length info - r.at) (drop r.at info))
   room_here =
-      has_room (found_entry s id).head t k.stands.after after text_here (take (length info - r.at) (drop r.at info))
+      has_room (found_entry s id).head attribute t k.stands.after after text_here
+      (take (length info - r.at) (drop r.at info))
       (entry_parts k r read)
 
   pub starts_here : IsTextAt (head_bytes (found_entry s id).head)
       (length (take (length info - r.at) (drop r.at info)) - (length after + 1 + length t)) t
   starts_here =
-      text_in_head (found_entry s id).head t k.stands.after after text_here
+      text_in_head (found_entry s id).head attribute t k.stands.after after text_here
       (take (length info - r.at) (drop r.at info)) (entry_parts k r read)
+
+  pub ends_here : end_in (placed_values (found_entry s id)) attribute
+      ≡ Some ((found_entry s id).at
+      + (length (take (length info - r.at) (drop r.at info)) - (length after + 1 + length t)) + suc (length t))
+  ends_here =
+      end_in_head (found_entry s id).head attribute t k.stands.after after text_here
+      (take (length info - r.at) (drop r.at info)) (entry_parts k r read) (found_entry s id).at
 
 -- a text is before the end of the bytes
 pub text_within : (bytes : List ℕ) (n : ℕ) (t : List ℕ) → IsTextAt bytes n t → n + length t < length bytes

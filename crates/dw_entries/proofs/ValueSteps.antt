@@ -10,6 +10,7 @@ use Rattle.dw_entries.specs.ReadingLaws.{value_again, ok_pair}
 use Rattle.dw_entries.specs.EntryRules.{value_of}
 use Rattle.dw_entries.specs.Lookups.{declares, value_in}
 use Rattle.dw_entries.specs.Values.{Left}
+use Rattle.dw_entries.specs.ValuesLeft.{BeginWith}
 use Rattle.dw_entries.proofs.ScanLaws.{rest_of}
 use Rattle.dw_entries.specs.ValueLaws.{left_unique}
 
@@ -62,6 +63,17 @@ module _ (x : Context) (gs : List AttributeSpec) (s : AttributeSpec) (ss : List 
         ap (map value_of) left_goes.parts
         ∙ ap (λ (b : List Attribute). value_of left_goes.first ∷ map value_of b) (sym same)
         ∙ ap (λ (b : ℕ × Datum). b ∷ map value_of m.0.0) first_value
+
+    pub takes : (m : Left x ss rest) → BeginWith l.0.0 m.0.0 bytes rest (s.attribute, v)
+    unfolding next_left
+    takes m =
+        let same : m.0.0 ≡ left_goes.others = ap (λ (z : Left x ss rest). z.0.0) (left_unique x ss rest m next_left) in
+        record {
+          attribute = left_goes.first;
+          left = left_goes.parts ∙ ap (λ (b : List Attribute). left_goes.first ∷ b) (sym same);
+          is = first_value;
+          spelled = left_goes.spelled ∙ ap (λ (b : List ℕ). left_goes.first.bytes ++ b) value_is.1;
+        }
 
 -- where none of these attributes has a code, no value has it
 pub value_of_none : (x : Context) (specs : List AttributeSpec) (bs : List Attribute) (attribute : ℕ)

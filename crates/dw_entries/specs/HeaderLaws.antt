@@ -1,5 +1,5 @@
 -- Laws: the sizes of a unit that is spelled, and what is known of the fields of its header.
-use Rattle.std.proofs.Common.{◌≡◌, ℕ, ◌+◌, ◌<◌, inl, inr, Bool, true, false, eqb, ltb, List, [], ◌++◌, length, take}
+use Rattle.std.proofs.Common.{◌≡◌, ℕ, ◌+◌, ◌<◌, inl, inr, Bool, true, false, eqb, ltb, List, ◌++◌, length, take}
 use Rattle.std.proofs.Common.{Result, Ok, Err, refl, sym, ap, subst, ◌∙◌, append_assoc, append-nil, arith}
 use Rattle.std.proofs.Common.{length-append, take_at, ltb-true, eqb-true}
 use Rattle.std.specs.Prelude.{◌||◌}
@@ -14,7 +14,7 @@ use Rattle.dw_forms.specs.declared.rule.Rule.{Rule}
 use Rattle.dw_forms.specs.declared.rule.Rule.TheVariants.{Not32Bit, BadVersion, BadUnitType, BadAddressSize}
 use Rattle.dw_forms.specs.declared.rule.Rule.TheVariants.{BadAbbrevOffset}
 use Rattle.dw_entries.specs.declared.header.HeaderKind.{HeaderKind}
-use Rattle.dw_entries.specs.declared.header.HeaderKind.TheVariants.{Version4, CompileUnit, PartialUnit, TypeUnit}
+use Rattle.dw_entries.specs.declared.header.HeaderKind.TheVariants.{CompileUnit, PartialUnit, TypeUnit}
 use Rattle.dw_entries.specs.declared.header.UnitHeader.{UnitHeader}
 use Rattle.dw_entries.specs.Choices.{size_unique}
 use Rattle.dw_entries.specs.Header.{unit_header_size, IsSize, field, address_size, abbrev_offset, version4, kind_fields}

@@ -14,6 +14,7 @@ pub mod Places
 pub mod Failures
 pub mod EntryRules
 pub mod Lookups
+pub mod ValuePlaces
 -- Laws.
 pub mod Choices
 pub mod Joined

@@ -1,11 +1,12 @@
 -- State: what an iterator over the attributes of an entry has left.
-use Rattle.std.specs.Prelude.{ℕ, List, map}
+use Rattle.std.specs.Prelude.{◌≡◌, ℕ, List, ◌∷◌, ◌++◌, map}
 use Rattle.dw_forms.specs.declared.value.Value.{Value}
 use Rattle.dw_forms.specs.declared.abbrev.AttributeSpec.{AttributeSpec}
 use Rattle.dw_forms.specs.Suffixes.{specs_in}
 use Rattle.dw_forms.specs.Value.{Datum, view}
 use Rattle.dw_entries.specs.declared.values.Values.{Values}
 use Rattle.dw_entries.specs.EntryRules.{value_of}
+use Rattle.dw_entries.specs.Grammar.{Attribute}
 
 -- an attribute and its value, without where the value's bytes lie in memory
 abbrev pub viewed : ℕ × Value → ℕ × Datum
@@ -18,3 +19,14 @@ values_left it = map value_of it.left.0.0
 -- how the attributes that are left are declared
 abbrev pub specs_left : Values → List AttributeSpec
 specs_left it = specs_in it.attributes
+
+-- some attributes begin with one, and others follow it; so do the bytes that spell them
+pub record BeginWith (attributes others : List Attribute) (bytes rest : List ℕ) (item : ℕ × Datum) : Type 0 where
+  pub attribute : Attribute
+  pub left : attributes ≡ attribute ∷ others
+  pub is : value_of attribute ≡ item
+  pub spelled : bytes ≡ attribute.bytes ++ rest
+
+-- the first attribute that is left is taken, with the bytes that spell its value
+abbrev pub Takes : (old new : Values) → ℕ × Datum → Type 0
+Takes old new item = BeginWith old.left.0.0 new.left.0.0 old.bytes.now new.bytes.now item

@@ -1,7 +1,7 @@
 //! One entry, whose declaration and unit are looked up once.
 
 ghost use Rattle.std.specs.List.{flat_map};
-ghost use Rattle.std.specs.Prelude.{List, Some, length, option_map, slice_get, ℕ, ◌++◌, ◌<◌, ◌≡◌};
+ghost use Rattle.std.specs.Prelude.{List, Some, length, option_map, slice_get, ℕ, ◌+◌, ◌++◌, ◌<◌, ◌≡◌};
 ghost use Rattle.dw_forms.specs.Codes.{is_type_tag};
 ghost use Rattle.dw_forms.specs.KeptDecls.{decl_view};
 ghost use Rattle.dw_forms.specs.Suffixes.{numbered, specs_in};
@@ -12,6 +12,7 @@ ghost use Rattle.dw_entries.specs.Entries.{Entry};
 ghost use Rattle.dw_entries.specs.Grammar.{attribute_bytes, head_bytes};
 ghost use Rattle.dw_entries.specs.Leading.{leading_left};
 ghost use Rattle.dw_entries.specs.Lookups.{IsTextAt, entry_head, full_head, value_at_entry};
+ghost use Rattle.dw_entries.specs.ValuePlaces.{EndsWithText};
 ghost use Rattle.dw_entries.specs.ValuesLeft.{values_left};
 ghost use Rattle.dw_entries.specs.Views.{all_entries, sections_of, units_of};
 
@@ -29,7 +30,7 @@ use std::marker::Model;
 /// An entry without its attributes and its depth, as it is read from its record, its declaration and its unit.
 #[derive(Clone, Copy, Debug, PartialEq, Eq)]
 pub struct EntryHead {
-    /// Where the entry begins in .debug_info.
+    /// Where the entry begins in `sections.info`.
     pub offset: u32,
     pub tag: Tag,
     /// The number of its unit.
@@ -41,7 +42,7 @@ pub struct EntryHead {
 /// An entry without its attributes.
 #[derive(Clone, Copy, Debug, PartialEq, Eq)]
 pub struct Head {
-    /// Where the entry begins in .debug_info.
+    /// Where the entry begins in `sections.info`.
     pub offset: u32,
     pub tag: Tag,
     /// The number of its unit.
@@ -141,11 +142,13 @@ impl<'a> Entries<'a> {
         self.at(id).find_value(attribute)
     }
 
-    /// Where the text of an entry's attribute starts in .debug_info. The text is in the value itself.
+    /// Where the text of an entry's attribute starts in `sections.info`. The text is in the value itself, and its zero
+    /// byte is the last one of the value.
     pub fn text_start(&self, id: EntryId, attribute: Attribute, bytes: &[u8]) -> usize
         requires id { id < length (all_entries self.now) }
         requires value { value_at_entry (entry_of (all_entries self.now) id) attribute ≡ Some (text bytes.now) }
-        ensures { IsTextAt (sections_of self.now).info.now result bytes.now }
+        ensures text { IsTextAt (sections_of self.now).info.now result bytes.now }
+        ensures place { EndsWithText (entry_of (all_entries self.now) id) attribute bytes.now result }
     {
         let entry = self.at(id);
         entry.offset() as usize + entry.text_start(attribute, bytes)
@@ -163,7 +166,7 @@ impl<'e, 'a> EntryAt<'e, 'a> {
         entries.at_with(id, unit, entries.units[unit].header)
     }
 
-    /// Its offset in .debug_info, in bytes.
+    /// Its offset in `sections.info`, in bytes.
     pub fn offset(&self) -> u32
         ensures { result ≡ self.now.at }
     {
@@ -289,7 +292,8 @@ impl<'e, 'a> EntryAt<'e, 'a> {
     /// value itself.
     pub(crate) fn text_start(&self, attribute: Attribute, bytes: &[u8]) -> usize
         requires { value_at_entry self.now attribute ≡ Some (text bytes.now) }
-        ensures { IsTextAt (head_bytes self.now.head) result bytes.now }
+        ensures text { IsTextAt (head_bytes self.now.head) result bytes.now }
+        ensures place { EndsWithText self.now attribute bytes.now (self.now.at + result) }
     {
         let entries = self.entries;
         let entry = &entries.sections.info[self.kept.at as usize..];

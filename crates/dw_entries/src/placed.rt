@@ -1,10 +1,10 @@
-//! The attributes of an entry, with where the bytes of their values are in .debug_info.
+//! The attributes of an entry, with where the bytes of their values are in `sections.info`.
 
 ghost use Rattle.std.specs.Prelude.{◌≡◌, ◌<◌, ◌∷◌, [], length, IfSome, MatchOption};
 ghost use Rattle.dw_forms.specs.Value.{view};
-ghost use Rattle.dw_entries.specs.EntryRules.{values_of};
 ghost use Rattle.dw_entries.specs.ByNumber.{entry_of};
 ghost use Rattle.dw_entries.specs.OwnBytes.{IsRest};
+ghost use Rattle.dw_entries.specs.ValuePlaces.{placed_values};
 ghost use Rattle.dw_entries.specs.Views.{all_entries, sections_of};
 
 use crate::entries::Entries;
@@ -22,12 +22,13 @@ pub struct Placed<'e, 'a> {
 }
 
 impl<'a> Placed<'_, 'a> {
-    ghost use Rattle.dw_entries.specs.Placed.{EndsAt, info_of, placed_left};
+    ghost use Rattle.dw_entries.specs.Placed.{EndsAt, info_of, placed_left, placed_value};
 
-    /// The next attribute, its value, and the offset in .debug_info at which the bytes of its value end.
+    /// The next attribute, its value, and the offset in `sections.info` of the byte after those that spell the value.
+    #[tactic(auto, using(crate::proofs::PlacedLaws::ends_at, crate::proofs::PlacedLaws::no_places, crate::proofs::PlacedLaws::place_taken))]
     pub fn take(&mut self) -> Option<(Attribute, Value<'a>, usize)>
         ensures steps { MatchOption result ((placed_left self.old ≡ []) × (placed_left self.new ≡ []))
-            (λ item. placed_left self.old ≡ (item.0, view item.1) ∷ placed_left self.new) }
+            (λ item. placed_left self.old ≡ placed_value item.0 (view item.1) item.2 ∷ placed_left self.new) }
         ensures place { IfSome result (λ item. EndsAt (info_of self.old) (view item.1) item.2) }
         ensures info { info_of self.new ≡ info_of self.old }
     {
@@ -48,7 +49,7 @@ impl<'a> Entries<'a> {
     pub fn placed(&self, id: EntryId, unit: usize) -> Placed<'_, 'a>
         requires id { id < length (all_entries self.now) }
         requires unit { unit ≡ (entry_of (all_entries self.now) id).unit }
-        ensures left { placed_left result ≡ values_of (entry_of (all_entries self.now) id).head }
+        ensures left { placed_left result ≡ placed_values (entry_of (all_entries self.now) id) }
         ensures info { info_of result ≡ (sections_of self.now).info.now }
     {
         let kept = self.record(id);

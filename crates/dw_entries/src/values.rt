@@ -39,7 +39,7 @@ pub struct Values<'e, 'a> {
 impl<'e, 'a> Values<'e, 'a> {
     ghost use Rattle.dw_forms.specs.Value.{view};
     ghost use Rattle.dw_forms.specs.Classes.{is_open};
-    ghost use Rattle.dw_entries.specs.ValuesLeft.{viewed, values_left, specs_left};
+    ghost use Rattle.dw_entries.specs.ValuesLeft.{Takes, viewed, values_left, specs_left};
     ghost use Rattle.dw_entries.specs.Leading.{DoesNotLead, LeadsIn, IsMade, IsPassedBy, lead_with};
     ghost use Rattle.dw_entries.specs.Values.{IsThere};
     ghost use Rattle.dw_entries.specs.OwnBytes.{Leaves};
@@ -108,6 +108,7 @@ impl<'e, 'a> Values<'e, 'a> {
             (record { number = self.old.attributes.first; item = spec } ∷ [])) }
         ensures bytes { MatchOption result (self.new.bytes ≡ self.old.bytes)
             (λ item. Leaves (view item.1) self.old.bytes.now self.new.bytes.now) }
+        ensures taken { IfSome result (λ item. Takes self.old self.new (viewed item)) }
     {
         let Some((spec, after)) = self.attributes.split_first() else {
             return None;

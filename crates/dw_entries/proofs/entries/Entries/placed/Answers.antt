@@ -4,8 +4,8 @@ use Rattle.dw_forms.specs.Abbrev.{Declaration}
 use Rattle.dw_forms.specs.KeptDecls.{decl_view}
 use Rattle.dw_forms.specs.Suffixes.{specs_in}
 use Rattle.dw_entries.proofs.KeptLaws.{kept_entry, at_within, decl_is, decl_kept, decl_numbered, header_is, never_unread, values_follow}
-use Rattle.dw_entries.proofs.LeftLaws.{left_here, sized_here, values_here}
-use Rattle.dw_entries.proofs.PlacedLaws.{code_before}
+use Rattle.dw_entries.proofs.LeftLaws.{left_here, placed_here, sized_here}
+use Rattle.dw_entries.proofs.PlacedLaws.{code_before, code_placed}
 use Rattle.dw_entries.proofs.entries.Entries.placed.Goals as goal
 
 pub index-requires : goal.index-requires
@@ -78,5 +78,6 @@ returns-clause-left c =
     let specs = c.attributes.ensures.specs ∙ ap (λ (d : Declaration). d.attributes) of_decl in
     let of_unit = header_is kept c.args.unit c.index.result.now c.requires.unit c.index.ensures in
     let behind = values_follow kept c.record-kept.result c.record-kept.ensures _ c.in-Ok.bytes.now c.in-Ok.ensures in
-    search (values_here kept c.index.result.now.header (specs_in c.attributes.result) c.in-Ok.bytes.now c.version.result
-    of_unit specs behind c.version.ensures)
+    let start = code_placed kept c.record-kept.result c.record-kept.ensures _ c.in-Ok.bytes.now c.in-Ok.ensures in
+    search (placed_here kept c.index.result.now.header (specs_in c.attributes.result) c.in-Ok.bytes.now c.version.result
+    of_unit specs behind c.version.ensures _ start)

@@ -10,7 +10,7 @@ use Rattle.dw_entries.specs.Values.{value_context}
 use Rattle.dw_entries.proofs.KeptLaws.{kept_entry, at_within, never_unread, values_follow}
 use Rattle.dw_entries.proofs.LeftLaws.{declares_none, left_here, sized_here, undeclared}
 use Rattle.dw_entries.proofs.PassLaws.{never_cut}
-use Rattle.dw_entries.proofs.TextLaws.{room_here, starts_here}
+use Rattle.dw_entries.proofs.TextLaws.{ends_here, room_here, starts_here}
 use Rattle.dw_entries.proofs.entry.EntryAt.text_start.Goals as goal
 
 pub slice_bounds-entry-count : goal.slice_bounds-entry-count
@@ -91,12 +91,22 @@ unreachable-requires-in-Err c =
     (specs_ends all c.in-Some.rest (f.before ++ n ∷ []) ends) c.in-Ok.values.now left c.in-Err.field-0
     (c.in-Err.ensures (f.before ++ n ∷ []) ends)
 
-pub returns : goal.returns
-returns c =
+pub returns-clause-text : goal.returns-clause-text
+returns-clause-text c =
     let it = c.self.inside in
     let kept = kept_entry _ _ _ _ _ it.entries.now.scanned it.id c.self.invariant.0 in
     let specs = c.attributes-attributes.ensures.specs ∙ ap (λ (d : Declaration). d.attributes) c.self.invariant.2 in
     rw (← c.self.view_is) (starts_here kept it.kept c.self.invariant.1 it.header c.version-version.result _
+    c.attributes-attributes.result c.find.result c.in-Some.rest c.in-Some.field-0-0 c.in-Ok.values.now
+    c.in-Ok-pass.after.now c.args.bytes.now c.args.attribute c.self.invariant.3 specs c.version-version.ensures
+    c.in-Ok.ensures c.find.ensures c.in-Some.ensures (rw (← c.self.view_is) at c.requires) c.in-Ok-pass.ensures)
+
+pub returns-clause-place : goal.returns-clause-place
+returns-clause-place c =
+    let it = c.self.inside in
+    let kept = kept_entry _ _ _ _ _ it.entries.now.scanned it.id c.self.invariant.0 in
+    let specs = c.attributes-attributes.ensures.specs ∙ ap (λ (d : Declaration). d.attributes) c.self.invariant.2 in
+    rw (← c.self.view_is) (ends_here kept it.kept c.self.invariant.1 it.header c.version-version.result _
     c.attributes-attributes.result c.find.result c.in-Some.rest c.in-Some.field-0-0 c.in-Ok.values.now
     c.in-Ok-pass.after.now c.args.bytes.now c.args.attribute c.self.invariant.3 specs c.version-version.ensures
     c.in-Ok.ensures c.find.ensures c.in-Some.ensures (rw (← c.self.view_is) at c.requires) c.in-Ok-pass.ensures)

@@ -1,4 +1,4 @@
-use Rattle.dw_entries.proofs.PlacedLaws.{ends_at, take_keeps}
+use Rattle.dw_entries.proofs.PlacedLaws.{take_keeps}
 use Rattle.dw_entries.proofs.placed.Placed.take.Goals as goal
 
 pub invariant_of-self : goal.invariant_of-self
@@ -7,8 +7,3 @@ invariant_of-self c =
       rest = take_keeps c.args.self.now.info.now c.args.self.now.values.bytes c.take_first.new.self.bytes
           c.take_first.result c.args.self.now.rest c.take_first.ensures.bytes;
     }
-
-pub returns-in-Some-clause-place : goal.returns-in-Some-clause-place
-returns-in-Some-clause-place c =
-    ends_at c.args.self.now.info.now c.args.self.now.values.bytes.now c.take_first.new.self.bytes.now _
-    c.args.self.now.rest c.in-Some.ensures.bytes

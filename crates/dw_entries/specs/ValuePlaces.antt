@@ -1,0 +1,39 @@
+-- Chapter: where the values of an entry are in `sections.info`: their bytes follow its code, in the order of its
+-- attributes (DWARF 5, 2.2 and 7.5.2).
+use Rattle.std.specs.Prelude.{◌≡◌, ℕ, suc, ◌+◌, ◌==◌, List, [], ◌∷◌, length, Option, Some, find, option_map}
+use Rattle.dw_forms.specs.Value.{Datum}
+use Rattle.dw_entries.specs.Grammar.{Attribute}
+use Rattle.dw_entries.specs.Entries.{Entry}
+
+-- an attribute of an entry, its value, and the offset of the byte after those that spell the value
+pub record PlacedValue : Type 0 where
+  pub attribute : ℕ
+  pub value : Datum
+  pub end : ℕ
+
+-- these attributes, whose bytes start at an offset
+abbrev pub placed_values_from : ℕ → List Attribute → List PlacedValue
+placed_values_from at [] = []
+placed_values_from at (a ∷ more) =
+    record { attribute = a.code; value = a.value; end = at + length a.bytes }
+    ∷ placed_values_from (at + length a.bytes) more
+
+-- the attributes of an entry
+abbrev pub placed_values : Entry → List PlacedValue
+placed_values e = placed_values_from (e.at + length e.head.code) e.head.attributes
+
+-- the first of these attributes that has a code
+abbrev pub placed_value_in : List PlacedValue → ℕ → Option PlacedValue
+placed_value_in values attribute = find (λ (p : PlacedValue). p.attribute == attribute) values
+
+-- an attribute of an entry, if the entry has it
+abbrev pub placed_value_at : Entry → ℕ → Option PlacedValue
+placed_value_at e attribute = placed_value_in (placed_values e) attribute
+
+-- where the bytes of an attribute of an entry end, if the entry has it
+abbrev pub end_of : Entry → ℕ → Option ℕ
+end_of e attribute = option_map (λ (p : PlacedValue). p.end) (placed_value_at e attribute)
+
+-- they end with a text that starts at an offset, and its zero byte
+abbrev pub EndsWithText : Entry → (attribute : ℕ) → (text : List ℕ) → (start : ℕ) → Type 0
+EndsWithText e attribute text start = end_of e attribute ≡ Some (start + suc (length text))
