@@ -6,7 +6,8 @@ use Rattle.dw_entries.specs.Units.{DebugUnit}
 use Rattle.dw_forms.specs.Codes.{DW_AT_name, DW_AT_type}
 use Rattle.dw_entries.specs.Entries.{Entry, entries_of, placed}
 use Rattle.dw_entries.specs.Views.{sections_of, units_of}
-use Rattle.dw_links.specs.AttributeTexts.{text_at}
+use Rattle.dw_links.specs.AttributeTexts.{text_at, text_place_at}
+use Rattle.dw_links.specs.declared.texts.TextPlace.{TextPlace}
 use Rattle.dw_links.specs.Targets.{target_of}
 use Rattle.dw_types.specs.Graphs.{Graph}
 use Rattle.dw_types.specs.Steps.{by_value}
@@ -49,6 +50,10 @@ steps_in i = by_value (units_in i)
 -- the name of an entry, if it has one
 unfoldable pub name_in : Image → Entry → Option (List ℕ)
 name_in i e = text_at (sections_in i) (entries_in i) (placed (units_in i)) e DW_AT_name
+
+-- where it is
+unfoldable pub name_place_in : Image → Entry → Option TextPlace
+name_place_in i e = text_place_at (sections_in i) (entries_in i) (placed (units_in i)) e DW_AT_name
 
 -- the number of the type that an entry's DW_AT_type reaches, if it reaches one
 unfoldable pub type_in : Image → Entry → Option ℕ

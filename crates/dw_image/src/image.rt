@@ -76,7 +76,7 @@ impl<'a> Image<'a> {
 }
 
 impl<'a> Image<'a> {
-    ghost use Rattle.dw_image.specs.Images.{units_in, entries_in, name_in, sections_in, unit_count};
+    ghost use Rattle.dw_image.specs.Images.{units_in, entries_in, name_in, name_place_in, sections_in, unit_count};
     ghost use Rattle.dw_image.specs.Lookups.{entry_at};
 
     /// The entries of the image, as they were scanned.
@@ -175,6 +175,7 @@ impl<'a> Image<'a> {
         requires { id < length (entries_in self.now) }
         ensures text { option_map (text_there (sections_in self.now)) result
             ≡ name_in self.now (entry_of (entries_in self.now) id) }
+        ensures place { result ≡ name_place_in self.now (entry_of (entries_in self.now) id) }
         ensures within { IfSome result (IsTextPlace (sections_in self.now)) }
         ensures begins { IfSome result (BeginsString (sections_in self.now)) }
     {

@@ -18,3 +18,4 @@ pub mod GuessLemmas
 pub mod RuleGroups
 pub mod DeclaredLemmas
 pub mod UnitByUnit
+pub mod TextPlaceLemmas

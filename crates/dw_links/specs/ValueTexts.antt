@@ -1,5 +1,5 @@
 -- Chapter: the text or the address of a value (DWARF 5, 7.26 and 7.27).
-use Rattle.std.specs.Prelude.{ℕ, List, Option, None, Some}
+use Rattle.std.specs.Prelude.{ℕ, suc, ◌-◌, List, length, Option, None, Some, option_map}
 use Rattle.dw_elf.specs.declared.sections.Sections.{Sections}
 use Rattle.dw_forms.specs.Value.{Datum, address, text, str, line_str, str_index, addr_index}
 use Rattle.dw_entries.specs.declared.header.UnitHeader.{UnitHeader}
@@ -20,6 +20,16 @@ text_of_value sections base (str offset) = Some (string_at sections.str.now offs
 text_of_value sections base (line_str offset) = Some (string_at sections.line_str.now offset)
 text_of_value sections base (str_index index) = indexed_text sections base index
 text_of_value sections base _ = None
+
+-- where the text of a value of class string is, in a unit that has this base: at the offset that the value or its slot
+-- gives; or it is in .debug_info, where the bytes of the value end at this offset, the last of them its zero byte
+abbrev pub text_place_of : Sections → (base : Option ℕ) → Datum → (end : ℕ) → Option TextPlace
+text_place_of sections base (text bytes) end = Some (Info (end - suc (length bytes)))
+text_place_of sections base (str offset) end = Some (Str offset)
+text_place_of sections base (line_str offset) end = Some (LineStr offset)
+text_place_of sections base (str_index index) end =
+    option_map (λ (b : ℕ). Str (slot_at sections.str_offsets.now 4 b index)) base
+text_place_of sections base _ end = None
 
 -- the text at a place
 abbrev pub text_there : Sections → TextPlace → List ℕ

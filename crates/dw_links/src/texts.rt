@@ -1,18 +1,19 @@
 //! The texts and addresses of attributes (DWARF 5, sections 7.26 and 7.27), and where a text is.
 
-ghost use Rattle.std.specs.Prelude.{◌≡◌, ◌+◌, ◌*◌, ◌<◌, ◌≤◌, length, slice_get, Some, IfSome, option_copied};
+ghost use Rattle.std.specs.Prelude.{◌≡◌, ℕ, ◌+◌, ◌*◌, ◌<◌, ◌≤◌, length, slice_get, Some, IfSome, option_copied};
 ghost use Rattle.std.specs.Prelude.{option_map, option_and_then};
 ghost use Rattle.dw_forms.specs.Value.{view};
 ghost use Rattle.dw_entries.specs.ByNumber.{entry_of};
 ghost use Rattle.dw_entries.specs.Lookups.{value_at_entry};
+ghost use Rattle.dw_entries.specs.ValuePlaces.{end_of};
 ghost use Rattle.dw_entries.specs.Views.{sections_of, all_entries, all_units, units_of};
 ghost use Rattle.dw_entries.specs.Failures.{HasNone};
 ghost use Rattle.dw_links.specs.Contributions.{string_at, slot_at};
 ghost use Rattle.dw_links.specs.Slots.{IsTextPlace, BeginsString, AddressLies, TextLies};
-ghost use Rattle.dw_links.specs.ValueTexts.{text_there, text_of_value, address_of};
+ghost use Rattle.dw_links.specs.ValueTexts.{text_there, text_of_value, text_place_of, address_of};
 ghost use Rattle.dw_links.specs.Strings.{StringFailures};
 ghost use Rattle.dw_links.specs.Tables.{AreTables};
-ghost use Rattle.dw_links.specs.AttributeTexts.{text_at, address_at};
+ghost use Rattle.dw_links.specs.AttributeTexts.{text_at, text_place_at, address_at};
 
 use crate::contribution::number;
 use crate::tables::LinkTables;
@@ -82,6 +83,8 @@ fn place_of_value(
     requires lies { TextLies (sections_of entries.now) base (view value) }
     ensures text { option_map (text_there (sections_of entries.now)) result
         ≡ text_of_value (sections_of entries.now) base (view value.entry) }
+    ensures place { (end : ℕ) → end_of (entry_of (all_entries entries.now) id) attribute ≡ Some end
+        → result ≡ text_place_of (sections_of entries.now) base (view value.entry) end }
     ensures begins { IfSome result (BeginsString (sections_of entries.now)) }
 {
     match value {
@@ -138,6 +141,8 @@ impl LinkTables {
         requires strings { HasNone (StringFailures (sections_of entries.now) (units_of entries.now)) }
         ensures text { option_map (text_there (sections_of entries.now)) result ≡ text_at (sections_of entries.now)
             (all_entries entries.now) (all_units entries.now) (entry_of (all_entries entries.now) id) attribute }
+        ensures place { result ≡ text_place_at (sections_of entries.now) (all_entries entries.now)
+            (all_units entries.now) (entry_of (all_entries entries.now) id) attribute }
         ensures within { IfSome result (IsTextPlace (sections_of entries.now)) }
         ensures begins { IfSome result (BeginsString (sections_of entries.now)) }
     {

@@ -8,6 +8,7 @@ use Rattle.dw_entries.specs.Views.{sections_of, units_of}
 use Rattle.dw_entries.specs.Lookups.{value_at_entry}
 use Rattle.dw_links.specs.AttributeTexts.{text_at}
 use Rattle.dw_links.proofs.TableLemmas.{entry_unit, kept_base}
+use Rattle.dw_links.proofs.TextPlaceLemmas.{place_none, place_told}
 use Rattle.dw_links.proofs.EndLemmas.{begins_within}
 use Rattle.dw_links.proofs.SlotLemmas.{text_lies}
 use Rattle.dw_links.proofs.tables.LinkTables.text_place.Goals as goal
@@ -43,3 +44,18 @@ returns-in_err-value-clause-text c = search (rules, entry_unit)
 pub returns-clause-within : goal.returns-clause-within
 returns-clause-within c =
     begins_within (sections_of c.args.entries.now) c.place_of_value.result c.place_of_value.ensures.begins
+
+pub returns-clause-place : goal.returns-clause-place
+returns-clause-place c =
+    let us = units_of c.args.entries.now in
+    let e = entry_of (entries_of us) c.args.id in
+    let p = placed_of (placed us) e.unit in
+    let is_p = entry_unit c.args.entries.now c.args.id c.requires.id in
+    let base = kept_base (entries_of us) (placed us) DW_AT_str_offsets_base _ e.unit p c.base_of-base.result
+    c.requires.tables.str_bases is_p (rw c.as_slice.ensures.value at c.base_of-base.ensures) in
+    place_told (sections_of c.args.entries.now) (entries_of us) (placed us) e p c.args.attribute
+    (view c.in_ok-value.value) c.base_of-base.result c.place_of_value.result is_p c.in_ok-value.ensures base
+    c.place_of_value.ensures.place
+
+pub returns-in_err-value-clause-place : goal.returns-in_err-value-clause-place
+returns-in_err-value-clause-place c = search (rules, place_none)
