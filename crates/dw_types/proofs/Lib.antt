@@ -18,3 +18,4 @@ pub mod SizeLineLemmas
 pub mod SizeRankLemmas
 pub mod SizeRuleLemmas
 pub mod SizeFaultLemmas
+pub mod FlagLemmas

@@ -25,4 +25,5 @@ pub mod Packing
 pub mod WalkStates
 pub mod Walks
 pub mod RanksListed
+pub mod StoredFlags
 pub mod StoredSizes

@@ -141,7 +141,7 @@ impl ByValue {
         for node in 0..count {
             let id = linked.id(node);
             let decl = linked.decl(id);
-            if let Some(rule) = broken_shape(&mut linked, id, decl.tag()) {
+            if let Some(rule) = broken_shape(alloc, &mut linked, id, decl.tag())? {
                 return Err(linked.fault(alloc, id, rule));
             }
             if decl.is_type() {

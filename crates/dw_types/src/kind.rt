@@ -1,8 +1,9 @@
 //! The kinds of entries that types, counts and sizes tell apart (DWARF 5, chapter 5).
 
 ghost use Rattle.std.specs.Prelude.{◌≡◌};
+ghost use Rattle.dw_links.specs.Classes.{is_one_of};
 ghost use Rattle.dw_links.specs.References.{is_declared};
-ghost use Rattle.dw_types.specs.Kinds.{has_members, is_array, is_declared_type, is_enumeration, is_subrange};
+ghost use Rattle.dw_types.specs.Kinds.{container_tags, has_members, is_array, is_declared_type, is_enumeration, is_subrange};
 ghost use Rattle.dw_types.specs.Kinds.{kind_of, passes_type_on};
 
 use dw_entries::constants::*;
@@ -76,12 +77,20 @@ pub(crate) fn passes_type_on(entry: &EntryAt<'_, '_>) -> bool
     )
 }
 
+/// Whether entries with this tag are structures or unions.
+#[inline(always)]
+pub(crate) fn is_container(tag: Tag) -> bool
+    ensures { result ≡ is_one_of container_tags tag }
+{
+    matches!(tag, DW_TAG_structure_type | DW_TAG_union_type)
+}
+
 /// Whether it is a structure or union that is not declared.
 #[inline(always)]
 pub(crate) fn has_members(entry: &EntryAt<'_, '_>) -> bool
     ensures { result ≡ has_members entry.now }
 {
-    matches!(entry.tag(), DW_TAG_structure_type | DW_TAG_union_type) && !is_declared(entry)
+    is_container(entry.tag()) && !is_declared(entry)
 }
 
 /// Whether it is a declared structure, union or enumeration.

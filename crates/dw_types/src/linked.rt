@@ -1,14 +1,18 @@
 //! Entries with what they refer to, looked up by number.
 
+ghost use Rattle.std.specs.Option.{ForSome};
+ghost use Rattle.dw_entries.specs.Views.{units_of};
 ghost use Rattle.dw_links.specs.Tables.{AreTables};
+ghost use Rattle.dw_types.specs.StoredFlags.{TellMembers};
 
 use crate::children::Children;
-use crate::kind::has_members;
+use crate::flags::Flags;
+use crate::kind::{has_members, is_container};
 use dw_entries::constants::*;
 use dw_entries::{Cursor, Entries, EntryAt, EntryId, Fault, PlainFault, Rule, Section, Stop};
 use dw_forms::DeclAt;
 use dw_links::{Constant, LinkTables};
-use std::alloc::Global;
+use std::alloc::{AllocError, Global};
 
 /// The entries of .debug_info, with the targets of their references and the languages of their units. Of entries that
 /// are looked up one after another, those of one unit are found sooner.
@@ -16,11 +20,14 @@ use std::alloc::Global;
 pub(crate) struct LinkedEntries<'r, 'a> {
     cursor: Cursor<'r, 'a>,
     tables: &'r LinkTables,
+    /// Which entries are structures or unions that are not declared, once the value of one had to be read for that.
+    members: Option<Flags>,
     ghost tables_are: { AreTables cursor.entries.now tables.now },
+    ghost members_are: { ForSome members (TellMembers (units_of cursor.entries.now)) },
 }
 
 impl<'r, 'a> LinkedEntries<'r, 'a> {
-    ghost use Rattle.std.specs.Prelude.{◌≡◌, ◌^◌, ◌<◌, length, IfSome};
+    ghost use Rattle.std.specs.Prelude.{◌≡◌, ◌^◌, ◌<◌, length, IfOk, IfSome, OnOk};
     ghost use Rattle.dw_forms.specs.KeptDecls.{decl_view};
     ghost use Rattle.dw_entries.specs.Stopped.{IfPlainFault};
     ghost use Rattle.dw_entries.specs.Entries.{placed};
@@ -43,6 +50,7 @@ impl<'r, 'a> LinkedEntries<'r, 'a> {
         LinkedEntries {
             cursor: entries.cursor(),
             tables,
+            members: None,
         }
     }
 
@@ -148,15 +156,64 @@ impl<'r, 'a> LinkedEntries<'r, 'a> {
         self.tables.language(entry.unit())
     }
 
-    /// Whether the parent of an entry is a structure or union that is not declared.
-    pub(crate) fn is_in_members(&mut self, id: EntryId) -> bool
+    /// Which entries are structures or unions that are not declared.
+    fn find_members(&mut self, alloc: Global) -> Result<Flags, AllocError>
+        ensures same { OnOk result (units_held self.new ≡ units_held self.old) }
+        ensures found { IfOk result (TellMembers (units_held self.old)) }
+    {
+        let count = self.count();
+        let mut flags = Flags::none(alloc, count)?;
+        for node in 0..count {
+            let id = self.id(node);
+            if has_members(&self.at(id)) {
+                flags.set(node);
+            }
+        }
+        Ok(flags)
+    }
+
+    /// Whether an entry is a structure or union that is not declared, by its value of DW_AT_declaration. That is found
+    /// once, for all entries, so that no value is read again for each child.
+    fn has_members_by_value(&mut self, alloc: Global, id: EntryId) -> Result<bool, AllocError>
         requires { id < length (entries_held self.old) }
-        ensures same { units_held self.new ≡ units_held self.old }
-        ensures is { result ≡ parent_is has_members (units_held self.old) id }
+        ensures same { OnOk result (units_held self.new ≡ units_held self.old) }
+        ensures is { IfOk result (λ is. is ≡ has_members (entry_in (units_held self.old) id)) }
+    {
+        if let Some(flags) = &self.members {
+            return Ok(flags.get(id.number()));
+        }
+        let flags = self.find_members(alloc)?;
+        let has_members = flags.get(id.number());
+        self.members = Some(flags);
+        Ok(has_members)
+    }
+
+    /// Whether an entry is a structure or union that is not declared.
+    fn has_members(&mut self, alloc: Global, id: EntryId) -> Result<bool, AllocError>
+        requires { id < length (entries_held self.old) }
+        ensures same { OnOk result (units_held self.new ≡ units_held self.old) }
+        ensures is { IfOk result (λ is. is ≡ has_members (entry_in (units_held self.old) id)) }
+    {
+        let decl = self.decl(id);
+        if !is_container(decl.tag()) {
+            return Ok(false);
+        }
+        match decl.declared() {
+            Some(true) => Ok(false),
+            Some(false) => Ok(has_members(&self.at(id))),
+            None => self.has_members_by_value(alloc, id),
+        }
+    }
+
+    /// Whether the parent of an entry is a structure or union that is not declared.
+    pub(crate) fn is_in_members(&mut self, alloc: Global, id: EntryId) -> Result<bool, AllocError>
+        requires { id < length (entries_held self.old) }
+        ensures same { OnOk result (units_held self.new ≡ units_held self.old) }
+        ensures is { IfOk result (λ is. is ≡ parent_is has_members (units_held self.old) id) }
     {
         match self.parent(id) {
-            Some(parent) => has_members(&self.at(parent)),
-            None => false,
+            Some(parent) => self.has_members(alloc, parent),
+            None => Ok(false),
         }
     }
 

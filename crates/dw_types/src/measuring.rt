@@ -168,7 +168,7 @@ pub fn sizes(
 {
     let mut linked = LinkedEntries::new(entries, links.tables());
     let sizes = measure_all(alloc, &mut linked, order)?;
-    if let Some(found) = first_broken(&mut linked, &sizes) {
+    if let Some(found) = first_broken(alloc, &mut linked, &sizes)? {
         return Err(linked.fault(alloc, found.0, found.1));
     }
     Ok(sizes)

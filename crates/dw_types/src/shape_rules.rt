@@ -1,6 +1,6 @@
 //! The rules on the types of arrays and members and on counts (DWARF 5, 5.5, 5.7.6 and 5.13).
 
-ghost use Rattle.std.specs.Prelude.{◌≡◌, ◌<◌, true, length};
+ghost use Rattle.std.specs.Prelude.{◌≡◌, ◌<◌, true, length, IfOk, OnOk};
 ghost use Rattle.dw_entries.specs.Failures.{IsLeast};
 ghost use Rattle.dw_types.specs.Entries.{entry_in};
 ghost use Rattle.dw_types.specs.Held.{entries_held, units_held};
@@ -13,6 +13,7 @@ use crate::linked::LinkedEntries;
 use dw_entries::constants::*;
 use dw_entries::{EntryAt, EntryId, Rule};
 use dw_links::Constant;
+use std::alloc::{AllocError, Global};
 
 /// Whether an entry takes nothing over from another one.
 #[inline(always)]
@@ -34,27 +35,45 @@ pub(crate) fn is_defined_member(entries: &mut LinkedEntries<'_, '_>, id: EntryId
 }
 
 /// Whether an entry is a plain member.
-pub(crate) fn is_plain(entries: &mut LinkedEntries<'_, '_>, id: EntryId) -> bool
+pub(crate) fn is_plain(
+    alloc: Global,
+    entries: &mut LinkedEntries<'_, '_>,
+    id: EntryId,
+) -> Result<bool, AllocError>
     requires { id < length (entries_held entries.old) }
-    ensures same { units_held entries.new ≡ units_held entries.old }
-    ensures plain { result ≡ is_plain (units_held entries.old) id }
+    ensures same { OnOk result (units_held entries.new ≡ units_held entries.old) }
+    ensures plain { IfOk result (λ plain. plain ≡ is_plain (units_held entries.old) id) }
 {
-    is_defined_member(entries, id) && entries.is_in_members(id)
+    if !is_defined_member(entries, id) {
+        return Ok(false);
+    }
+    entries.is_in_members(alloc, id)
 }
 
 /// Whether an entry with this tag is an array or a plain member with no type, and takes none over.
 #[inline(always)]
-fn misses_type(entries: &mut LinkedEntries<'_, '_>, id: EntryId, tag: Tag) -> bool
+fn misses_type(
+    alloc: Global,
+    entries: &mut LinkedEntries<'_, '_>,
+    id: EntryId,
+    tag: Tag,
+) -> Result<bool, AllocError>
     requires id { id < length (entries_held entries.old) }
     requires tag { tag ≡ (entry_in (units_held entries.old) id).head.decl.tag }
-    ensures same { units_held entries.new ≡ units_held entries.old }
-    ensures misses { result ≡ misses_type (units_held entries.old) id }
+    ensures same { OnOk result (units_held entries.new ≡ units_held entries.old) }
+    ensures misses { IfOk result (λ misses. misses ≡ misses_type (units_held entries.old) id) }
 {
     if !matches!(tag, DW_TAG_array_type | DW_TAG_member) || entries.type_target(id).is_some() {
-        return false;
+        return Ok(false);
     }
     let entry = entries.at(id);
-    stands_alone(&entry) && (is_array(&entry) || is_plain(entries, id))
+    if !stands_alone(&entry) {
+        return Ok(false);
+    }
+    if is_array(&entry) {
+        return Ok(true);
+    }
+    is_plain(alloc, entries, id)
 }
 
 /// Whether an entry with this tag is a dimension with a known count below 0.
@@ -75,20 +94,21 @@ fn has_bad_count(entries: &mut LinkedEntries<'_, '_>, id: EntryId, tag: Tag) -> 
 /// The rule on shapes that an entry with this tag violates: the one with the least number.
 #[inline(always)]
 pub(crate) fn broken_shape(
+    alloc: Global,
     entries: &mut LinkedEntries<'_, '_>,
     id: EntryId,
     tag: Tag,
-) -> Option<Rule>
+) -> Result<Option<Rule>, AllocError>
     requires id { id < length (entries_held entries.old) }
     requires tag { tag ≡ (entry_in (units_held entries.old) id).head.decl.tag }
-    ensures same { units_held entries.new ≡ units_held entries.old }
-    ensures least { IsLeast (λ rule. fails_shape (units_held entries.old) id rule ≡ true) result }
+    ensures same { OnOk result (units_held entries.new ≡ units_held entries.old) }
+    ensures least { IfOk result (IsLeast (λ rule. fails_shape (units_held entries.old) id rule ≡ true)) }
 {
-    if misses_type(entries, id, tag) {
-        return Some(Rule::MissingType);
+    if misses_type(alloc, entries, id, tag)? {
+        return Ok(Some(Rule::MissingType));
     }
     if has_bad_count(entries, id, tag) {
-        return Some(Rule::BadCount);
+        return Ok(Some(Rule::BadCount));
     }
-    None
+    Ok(None)
 }

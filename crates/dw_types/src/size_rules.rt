@@ -1,7 +1,7 @@
 //! The rules on sizes: which are wrong, and whether a plain member ends inside its container (DWARF 5, 5.1, 5.5, 5.7
 //! and 5.8).
 
-ghost use Rattle.std.specs.Prelude.{◌≡◌, ◌^◌, ◌<◌, ◌≤◌, ◌≤ℤ◌, ℕ, pos, List, false, true, length, IfSome};
+ghost use Rattle.std.specs.Prelude.{◌≡◌, ◌^◌, ◌<◌, ◌≤◌, ◌≤ℤ◌, ℕ, pos, List, false, true, length, IfOk, IfSome, OnOk};
 ghost use Rattle.dw_forms.specs.Codes.{is_type_tag};
 ghost use Rattle.dw_forms.specs.KeptDecls.{decl_view};
 ghost use Rattle.dw_entries.specs.Entries.{entries_of};
@@ -28,6 +28,7 @@ use dw_entries::constants::*;
 use dw_entries::{EntryAt, EntryId, Rule};
 use dw_forms::DeclAt;
 use dw_links::Constant;
+use std::alloc::{AllocError, Global};
 
 /// Whether so many bits from a bit on end past some bytes, or one of the numbers is negative.
 fn bits_end_past(bytes: u64, size: Option<u64>, start: Option<u64>) -> bool
@@ -204,42 +205,52 @@ fn broken_type(
 /// up only if it does.
 #[inline(always)]
 fn is_outside(
+    alloc: Global,
     entries: &mut LinkedEntries<'_, '_>,
     sizes: &SizeTable,
     id: EntryId,
     member: &EntryAt<'_, '_>,
-) -> bool
+) -> Result<bool, AllocError>
     requires places { HasSizePlaces (units_held entries.old) sizes.now id }
     requires member { member.now ≡ entry_in (units_held entries.old) id }
-    ensures same { units_held entries.new ≡ units_held entries.old }
-    ensures outside { result ≡ is_outside (units_held entries.old) (size_at sizes.now) id }
+    ensures same { OnOk result (units_held entries.new ≡ units_held entries.old) }
+    ensures outside { IfOk result (λ outside. outside ≡ is_outside (units_held entries.old) (size_at sizes.now) id) }
 {
     if !matches!(member.tag(), DW_TAG_member) {
-        return false;
+        return Ok(false);
     }
     let Some(bytes) = sizes.get_to(entries.parent(id)) else {
-        return false;
+        return Ok(false);
     };
     let size = sizes.get_to(entries.type_target(id));
-    ends_past(member, bytes, size) && is_plain(entries, id)
+    if !ends_past(member, bytes, size) {
+        return Ok(false);
+    }
+    is_plain(alloc, entries, id)
 }
 
 /// The rule on sizes that an entry violates, by the sizes of all: the one with the least number.
 #[inline(always)]
-fn broken_size(entries: &mut LinkedEntries<'_, '_>, sizes: &SizeTable, id: EntryId) -> Option<Rule>
+fn broken_size(
+    alloc: Global,
+    entries: &mut LinkedEntries<'_, '_>,
+    sizes: &SizeTable,
+    id: EntryId,
+) -> Result<Option<Rule>, AllocError>
     requires places { HasSizePlaces (units_held entries.old) sizes.now id }
     requires lines { ObeysCappedLines (units_held entries.old) (size_at sizes.now) }
-    ensures same { units_held entries.new ≡ units_held entries.old }
-    ensures least { IsLeast (λ rule. fails_size (units_held entries.old) (size_at sizes.now) id rule ≡ true) result }
+    ensures same { OnOk result (units_held entries.new ≡ units_held entries.old) }
+    ensures least { IfOk result
+        (IsLeast (λ rule. fails_size (units_held entries.old) (size_at sizes.now) id rule ≡ true)) }
 {
     let entry = entries.at(id);
     if entry.is_type() {
-        return broken_type(entries, sizes, id, &entry);
+        return Ok(broken_type(entries, sizes, id, &entry));
     }
-    if is_outside(entries, sizes, id, &entry) {
-        return Some(Rule::MemberOutside);
+    if is_outside(alloc, entries, sizes, id, &entry)? {
+        return Ok(Some(Rule::MemberOutside));
     }
-    None
+    Ok(None)
 }
 
 /// Whether a rule on sizes may fail at an entry, which has this declaration: at a type with no size or one that is too
@@ -277,26 +288,27 @@ fn next_asked(entries: &LinkedEntries<'_, '_>, sizes: &SizeTable, from: usize) -
 
 /// The first entry that violates a rule on sizes, by the sizes of all, and its least rule.
 pub(crate) fn first_broken(
+    alloc: Global,
     entries: &mut LinkedEntries<'_, '_>,
     sizes: &SizeTable,
-) -> Option<(EntryId, Rule)>
+) -> Result<Option<(EntryId, Rule)>, AllocError>
     requires long { length sizes.now ≡ length (entries_held entries.old) }
     requires lines { ObeysCappedLines (units_held entries.old) (size_at sizes.now) }
-    ensures same { units_held entries.new ≡ units_held entries.old }
-    ensures first { IsFirstFound (entries_held entries.old)
-        (fails_size (units_held entries.old) (size_at sizes.now)) result }
+    ensures same { OnOk result (units_held entries.new ≡ units_held entries.old) }
+    ensures first { IfOk result
+        (IsFirstFound (entries_held entries.old) (fails_size (units_held entries.old) (size_at sizes.now))) }
 {
     let count = entries.count();
     let mut node = next_asked(entries, sizes, 0);
     while node < count {
         let id = entries.id(node);
-        if let Some(rule) = broken_size(entries, sizes, id) {
-            return Some((id, rule));
+        if let Some(rule) = broken_size(alloc, entries, sizes, id)? {
+            return Ok(Some((id, rule)));
         }
         let next = next_asked(entries, sizes, node + 1);
         node = next;
     }
-    None
+    Ok(None)
 }
 
 /// The size of a structure or union that is not declared is its own byte size. So the container of a plain

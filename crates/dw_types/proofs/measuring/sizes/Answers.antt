@@ -24,12 +24,12 @@ returns-in-Some-clause-fault c =
     let table = size_at c.in_ok-sizes.sizes in
     let lines : ObeysCappedLines us table = rw c.new-linked.ensures.same at c.in_ok-sizes.ensures.lines in
     let first : IsFirstAt (all_entries c.args.entries.now) (fails_size us table) found.0 found.1 =
-    rw (c.in_ok-sizes.ensures.same, c.new-linked.ensures.same, c.in-Some.is) at c.first_broken.ensures.first in
+    rw (c.in_ok-sizes.ensures.same, c.new-linked.ensures.same, c.in-Some.is) at c.in_ok-found.ensures.first in
     rw c.requires.entries
     (plain-fault (IsFirstSizeFault us) (plain_fault_at found.1 (entry_in us found.0).at) c.fault.result
     (first-is_first us c.args.order.now.ranks (rw c.requires.entries at c.requires.order).falls
     (entries_rise _ us c.args.entries.now.scanned.1.spells.are) table lines found.0 found.1 first)
-    (rw (c.first_broken.ensures.same, c.in_ok-sizes.ensures.same, c.new-linked.ensures.same) at c.fault.ensures))
+    (rw (c.in_ok-found.ensures.same, c.in_ok-sizes.ensures.same, c.new-linked.ensures.same) at c.fault.ensures))
 
 pub returns-clause-only : goal.returns-clause-only
 returns-clause-only c =
@@ -37,7 +37,7 @@ returns-clause-only c =
     let table = size_at c.in_ok-sizes.sizes in
     let lines : ObeysCappedLines us table = rw c.new-linked.ensures.same at c.in_ok-sizes.ensures.lines in
     let pass : NoneFailsBefore (fails_size us table) (length (entries_of us)) =
-    rw (c.in_ok-sizes.ensures.same, c.new-linked.ensures.same, c.in_default.is) at c.first_broken.ensures.first in
+    rw (c.in_ok-sizes.ensures.same, c.new-linked.ensures.same, c.in_default.is) at c.in_ok-found.ensures.first in
     rw c.requires.entries
     (found-is_table us c.args.order.now.ranks (rw c.requires.entries at c.requires.order).falls table lines pass)
 
@@ -46,5 +46,5 @@ returns-clause-sound c =
     let us = units_of c.args.entries.now in
     let table = size_at c.in_ok-sizes.sizes in
     let pass : NoneFailsBefore (fails_size us table) (length (entries_of us)) =
-    rw (c.in_ok-sizes.ensures.same, c.new-linked.ensures.same, c.in_default.is) at c.first_broken.ensures.first in
+    rw (c.in_ok-sizes.ensures.same, c.new-linked.ensures.same, c.in_default.is) at c.in_ok-found.ensures.first in
     rw c.requires.entries (none-of_entries (entries_of us) (fails_size us table) pass)

@@ -28,12 +28,12 @@ loop-node-preserved c =
     let us = units_held c.args.entries.now in
     let table = size_at c.args.sizes.now in
     let fails = fails_size us table in
-    let within = rw (c.broken_size.ensures.same, c.loop-node.invariant.0) at c.next_asked-next.ensures.within in
-    let none = rw (c.broken_size.ensures.same, c.loop-node.invariant.0) at c.next_asked-next.ensures.none in (
-      c.broken_size.ensures.same ∙ c.loop-node.invariant.0,
+    let within = rw (c.in_ok-rule.ensures.same, c.loop-node.invariant.0) at c.next_asked-next.ensures.within in
+    let none = rw (c.in_ok-rule.ensures.same, c.loop-node.invariant.0) at c.next_asked-next.ensures.none in (
+      c.in_ok-rule.ensures.same ∙ c.loop-node.invariant.0,
       within.1,
       pass-on fails c.loop-node.node c.next_asked-next.result c.loop-node.invariant.2
-          (rw (c.loop-node.invariant.0, c.id-id.ensures, c.in_default.is) at c.broken_size.ensures.least)
+          (rw (c.loop-node.invariant.0, c.id-id.ensures, c.in_default.is) at c.in_ok-rule.ensures.least)
           (λ k low below.
           unasked-passes us table k c.requires.lines (let end = within.1 in omega arith) (none k low below)),
     )
@@ -41,7 +41,7 @@ loop-node-preserved c =
 pub returns-in-Some-clause-first : goal.returns-in-Some-clause-first
 returns-in-Some-clause-first c = record {
   inside = rw (c.id-id.ensures, ← c.count-count.ensures) c.loop-node-test.true;
-  least = rw (c.loop-node.invariant.0, c.in-Some.is) at c.broken_size.ensures.least;
+  least = rw (c.loop-node.invariant.0, c.in-Some.is) at c.in_ok-rule.ensures.least;
   before = rw c.id-id.ensures c.loop-node.invariant.2;
 }
 

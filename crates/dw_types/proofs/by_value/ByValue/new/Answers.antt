@@ -48,7 +48,7 @@ loop-node-preserved c =
       rw turn.0 (leads-row us node steps c.loop-node.invariant.1),
       turn.1,
       pass-more (fails_shape us) node c.loop-node.invariant.3
-          (rw (c.loop-node.invariant.2, c.id-id.ensures, c.in_default.is) at c.broken_shape.ensures.least),
+          (rw (c.loop-node.invariant.2, c.id-id.ensures, c.in_default.is) at c.in_ok-rule.ensures.least),
       turn.2,
     )
 
@@ -63,10 +63,10 @@ returns-in-Some-clause-fault c =
     (first-of_entries (entries_of us) (fails_shape us) (entries_rise _ us c.args.entries.now.scanned.1.spells.are) node
     c.in-Some.rule record {
       inside = inside;
-      least = rw (c.loop-node.invariant.2, c.id-id.ensures, c.in-Some.is) at c.broken_shape.ensures.least;
+      least = rw (c.loop-node.invariant.2, c.id-id.ensures, c.in-Some.is) at c.in_ok-rule.ensures.least;
       before = c.loop-node.invariant.3;
     })
-    (rw (c.broken_shape.ensures.same, c.loop-node.invariant.2, c.id-id.ensures) at c.fault.ensures))
+    (rw (c.in_ok-rule.ensures.same, c.loop-node.invariant.2, c.id-id.ensures) at c.fault.ensures))
 
 pub returns-clause-graph : goal.returns-clause-graph
 returns-clause-graph c = search (rules, take_all, length-by_value)
