@@ -87,18 +87,25 @@ edits:
 	tests/edits.py $(EDITS)
 
 # Builds the program without proving it, in about three minutes, for a look and for tests: out/quick/dwv-unproved.
-unproved = out/quick/dwv-unproved
+unproved = $(abspath out/quick/dwv-unproved)
 .PHONY: quick
 quick:
-	tests/quick.py $(unproved)
+	tests/quick.py
+
+# The same for the C library: out/quick/lib-unproved has libdwv.a and libdwv.so.0.
+.PHONY: quick-lib
+quick-lib:
+	tests/quick.py --library
 
 # Runs the tests that need no proof on that program, in about two minutes, or some: `make quick-test QUICK=rows.py`.
+# Those of the C library need `make quick-lib` before: `make quick-test QUICK="table.py c-header.py layouts.py"`.
 QUICK = rows.py examples.py endings.py hostile_files.py real-programs.py refused-growths.py check.py explain.py \
     explain-html.py
+library_unproved = $(abspath $(wildcard out/quick/lib-unproved/libdwv.so.0))
 .PHONY: quick-test
 quick-test: quick
 	@set -e; for it in $(QUICK); do echo "tests/$$it, by $(unproved), which is NOT PROVED"; \
-	    DWV=$(unproved) tests/$$it > out/quick/$$it.log || { grep -v ^passed out/quick/$$it.log; exit 1; }; \
+	    DWV=$(unproved) $(library_unproved:%=DWV_LIBRARY=%) tests/$$it > out/quick/$$it.log || { grep -v ^passed out/quick/$$it.log; exit 1; }; \
 	    tail -n 1 out/quick/$$it.log; done
 
 # Runs the program on programs that are broken at random, and compares it with the second reader:

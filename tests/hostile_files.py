@@ -1171,13 +1171,14 @@ def main():
     # The rows of tables need the library. Beside a program of DWV none is proved for them.
     if "DWV" not in os.environ:
         common.build_library()
-    tally = common.Tally(109 if common.LIBRARY.exists() else 107)
+    has_library = common.LIBRARY.exists() or "DWV_LIBRARY" in os.environ
+    tally = common.Tally(109 if has_library else 107)
     with common.empty_folder() as folder:
         path, unsaid = folder / "file", []
         for name, file, ask, want in runs():
             path.write_bytes(file)
             unsaid += [] if reason(name) else [name]
-            if name.startswith("rows of ") and not common.LIBRARY.exists():
+            if name.startswith("rows of ") and not has_library:
                 tally.skip(f"{name}: the C library is not built")
                 continue
             before = time.monotonic()
