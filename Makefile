@@ -1,5 +1,5 @@
-# The words of this repository: `make quick` builds the program without a proof, `make` proves and builds it, `make test`
-# is the gate.
+# The words of this repository: `make quick` builds the program without a proof, `make` proves and builds it, and
+# `make test` is the gate.
 
 crates := $(shell sed -e 's/[ :].*//' -e '/^#/d' -e '/^$$/d' crates.txt)
 
@@ -104,9 +104,10 @@ QUICK = rows.py examples.py endings.py hostile_files.py real-programs.py refused
 library_unproved = $(abspath $(wildcard out/quick/lib-unproved/libdwv.so.0))
 .PHONY: quick-test
 quick-test: quick
-	@set -e; for it in $(QUICK); do echo "tests/$$it, by $(unproved), which is NOT PROVED"; \
-	    DWV=$(unproved) $(library_unproved:%=DWV_LIBRARY=%) tests/$$it > out/quick/$$it.log || { grep -v ^passed out/quick/$$it.log; exit 1; }; \
-	    tail -n 1 out/quick/$$it.log; done
+	@export DWV=$(unproved) $(library_unproved:%=DWV_LIBRARY=%); for it in $(QUICK); do \
+	    echo "tests/$$it, by $(unproved), which is NOT PROVED"; log=out/quick/$$it.log; \
+	    tests/$$it > $$log || { grep -v ^passed $$log; exit 1; }; tail -n 1 $$log; \
+	done
 
 # Runs the program on programs that are broken at random, and compares it with the second reader:
 # `make fuzz SECONDS=600`.

@@ -1,6 +1,5 @@
-"""What specs/, the code, the proofs and the edits have: the definitions of each chapter, and the functions of each crate
-with the names of their clauses, the words of these, and the proofs and edits of each. For docs/make-indexes.py and
-docs/where.py.
+"""What specs/, the code, the proofs and the edits have, for docs/make-indexes.py and docs/where.py: the definitions of
+each chapter, and the functions of each crate with the names of their clauses, the words of these, proofs and edits.
 """
 import collections
 import functools
