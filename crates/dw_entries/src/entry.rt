@@ -136,7 +136,7 @@ impl<'a> Entries<'a> {
         requires { id < length (all_entries self.now) }
         ensures { option_map view result ≡ value_at_entry (entry_of (all_entries self.now) id) attribute }
     {
-        if self.decl(id).attributes().lacks(attribute) {
+        if self.decl(id).lacks(attribute) {
             return None;
         }
         self.at(id).find_value(attribute)
@@ -265,8 +265,7 @@ impl<'e, 'a> EntryAt<'e, 'a> {
     pub fn value(&self, attribute: Attribute) -> Option<Value<'a>>
         ensures { option_map view result ≡ value_at_entry self.now attribute }
     {
-        let attributes = self.decl.attributes();
-        if attributes.lacks(attribute) {
+        if self.decl.lacks(attribute) {
             return None;
         }
         self.find_value(attribute)

@@ -6,7 +6,6 @@ use Rattle.dw_forms.specs.declared.attribute_lists.Node.{Node}
 use Rattle.dw_forms.specs.declared.chains.Link.{Link}
 use Rattle.dw_forms.specs.declared.attribute_lists.Step.{Step}
 use Rattle.dw_forms.specs.declared.decl.KeptDecl.{KeptDecl}
-use Rattle.dw_forms.specs.declared.known_places.KnownPlace.{KnownPlace}
 use Rattle.dw_forms.specs.Abbrev.{Declaration}
 use Rattle.dw_forms.specs.AbbrevReading.{has_code}
 use Rattle.dw_forms.specs.Chains.{Numbered, items_of, chain_in, chains_of, number_where, AreNumbered, codes_of, codes_in, number_in as code_number}
@@ -58,10 +57,10 @@ pub tables_same : (old new : List Node) (kept : List KeptDecl) → Stay old new 
 tables_same old new kept stay within =
     ap (λ (nodes : List Node). tables_of nodes kept) stay.1 ∙ ap chains_of (views_same old stay.0 kept within)
 
-pub has_stays : (old new : List Node) (first : ℕ) (step : Step) (place : KnownPlace) (declared : Option Bool)
-    (whole : Option ℕ) → Stay old new → HasList old first step place declared whole
-    → HasList new first step place declared whole
-has_stays old new first step place declared whole stay has = search (rules, lists_stay, length-append)
+pub has_stays : (old new : List Node) (first : ℕ) (step : Step) (bits : ℕ) (declared : Option Bool)
+    (whole : Option ℕ) → Stay old new → HasList old first step bits declared whole
+    → HasList new first step bits declared whole
+has_stays old new first step bits declared whole stay has = search (rules, lists_stay, length-append)
 
 pub within_stays : (old new : List Node) (kept : List KeptDecl) → Stay old new → AreWithin old kept → AreWithin new kept
 within_stays old new kept stay within k d less = has_stays old new _ _ _ _ _ stay (within k d less)

@@ -1,20 +1,18 @@
--- The place of an attribute whose value is at one place in each entry.
+-- The values before an attribute, where each of them has one size.
 use Rattle.std.proofs.Common.{◌≡◌, ℕ, ◌+◌, ◌-◌, ◌≤◌, true, false, List, [], ◌∷◌, ◌++◌, refl, sym, ap, subst, ◌∙◌, inr, arith}
-use Rattle.std.specs.Prelude.{◌==◌}
+use Rattle.std.specs.Prelude.{Option, Some, None, IfSome}
+use Rattle.std.specs.Option.{ForSome}
 use Rattle.std.specs.List.{list_any}
 use Rattle.std.proofs.lemmas.Bool.{or_parts}
 use Rattle.std.proofs.lemmas.List.{append_cancel_right}
 use Rattle.dw_forms.specs.declared.abbrev.AttributeSpec.{AttributeSpec}
-use Rattle.dw_forms.specs.declared.known_places.KnownPlace.{KnownPlace}
 use Rattle.dw_forms.specs.declared.attribute_lists.Node.{Node}
 use Rattle.dw_forms.specs.declared.attributes.Attributes.{Attributes}
-use Rattle.dw_forms.specs.AttributeLists.{has_this, numbered_in, spec_of, varies, known_with, IsKnown}
+use Rattle.dw_forms.specs.AttributeLists.{has_this, numbered_in, varies, known_with, IsKnown}
 use Rattle.dw_forms.specs.Chains.{Numbered, items_of, number_where}
-use Rattle.dw_forms.specs.DeclaredLists.{before_code, IsPlaced}
+use Rattle.dw_forms.specs.DeclaredLists.{before_code, AreTogether}
 use Rattle.dw_forms.specs.KnownValues.{rest_beyond, known_sum, values_end}
 use Rattle.dw_forms.specs.Suffixes.{nodes_of, numbered, specs_in, Ends, IsFrom}
-use Rattle.dw_forms.proofs.BitLaws.{eq_true}
-use Rattle.dw_forms.proofs.ChainLaws.{where_first}
 use Rattle.dw_forms.proofs.PartLaws.{IsSplit, Falls, falls, starts, none_before, split}
 use Rattle.dw_forms.proofs.PassSteps.{known_is, run, sum_goes}
 use Rattle.dw_forms.proofs.SuffixLaws.{number_is_within}
@@ -70,46 +68,26 @@ module _ (all : Attributes) (code : ℕ) where
         ∙ ap (λ (sum : ℕ). known_sum 8 (items_of here.before) + sum) (sym found_specs)
         ∙ ap (λ (specs : List AttributeSpec). known_sum 8 specs + known_sum 8 (specs_in found)) (sym before_here)
 
-    pub is_placed : (n : Node) (at : ℕ) (p : KnownPlace) → IsKnown (nodes_of all) all.first n
-        → n.next_varying ≤ found.first → at ≡ known_with 8 n - known_sum 8 (specs_in found)
-        → p.attribute ≡ code → p.at ≡ at → p.list ≡ found.first → IsPlaced (numbered all) p
-    is_placed n at p is less sum attribute_is at_is list_is =
+    pub are_together : (n : Node) (at : ℕ) → IsKnown (nodes_of all) all.first n → n.next_varying ≤ found.first
+        → at ≡ known_with 8 n - known_sum 8 (specs_in found) → AreTogether (numbered all) code at
+    are_together n at is less sum =
         let first = from.first in
-        rw attribute_is (record {
-          list_is = list_is ∙ first;
-          sized = sized_here n is (omega (arith, less, first));
-          sum = omega (arith, at_is, sum, sum_here n is);
-        })
+        record { sized = sized_here n is (omega (arith, less, first)); sum_is = omega (arith, sum, sum_here n is) }
 
     -- so the values before it are cut off together
-    pub cut_here : (p : KnownPlace) → p.attribute ≡ code → IsPlaced (numbered all) p
+    pub cut_here : (at : ℕ) → AreTogether (numbered all) code at
         → (before : List (Numbered AttributeSpec)) → Ends all found before
-        → (version : ℕ) (bytes : List ℕ) → values_end version 8 (items_of before) bytes ≡ rest_beyond p.at bytes
-    cut_here p attribute_is placed before ends version bytes =
+        → (version : ℕ) (bytes : List ℕ) → values_end version 8 (items_of before) bytes ≡ rest_beyond at bytes
+    cut_here at together before ends version bytes =
         let same : before ≡ here.before = append_cancel_right before here.before
         (numbered_in (nodes_of all) (number_where (has_this code) (numbered all)))
         (ap (λ (number : ℕ). before ++ numbered_in (nodes_of all) number) (sym from.first) ∙ sym ends.parts ∙ here.goes)
         in
         let items : items_of before ≡ before_code code (specs_in all) = ap items_of same ∙ sym before_here in
-        let coded : before_code p.attribute (specs_in all)
-        ≡ items_of before = ap (λ (c : ℕ). before_code c (specs_in all)) attribute_is ∙ sym items in
-        run version 8 before bytes (ap (list_any varies) (sym coded) ∙ placed.sized)
-        ∙ ap (λ (n : ℕ). rest_beyond n bytes) (ap (known_sum 8) (sym coded) ∙ sym placed.sum)
+        run version 8 before bytes (ap (list_any varies) items ∙ together.sized)
+        ∙ ap (λ (n : ℕ). rest_beyond n bytes) (ap (known_sum 8) items ∙ sym together.sum_is)
 
--- the first attribute comes before all values
-pub first_placed : (all : Attributes) (n : Node) (p : KnownPlace) → IsKnown (nodes_of all) all.first n
-    → p.attribute ≡ n.attribute → p.at ≡ 0 → p.list ≡ all.first → IsPlaced (numbered all) p
-first_placed all n p is attribute_is at_is list_is =
-    let own : (n.attribute == n.attribute) ≡ true = eq_true n.attribute n.attribute refl in
-    rw (attribute_is, is.begins) (record {
-      list_is =
-          list_is ∙ sym (where_first (has_this n.attribute) (record { number = all.first; item = spec_of n })
-          (numbered_in (nodes_of all) n.next) own);
-      sized = rw own refl;
-      sum = rw own at_is;
-    })
-
-pub none_placed : (all : Attributes) (p : KnownPlace) → all.first ≡ 0 → numbered all ≡ [] → p.at ≡ 0
-    → p.list ≡ all.first → IsPlaced (numbered all) p
-unfolding number_where
-none_placed all p none is at_is list_is = rw is (record { list_is = list_is ∙ none; sized = refl; sum = at_is })
+-- what is known of a value that is there
+pub for_some : {X : Type 0} (P : X → Type 0) (o : Option X) → IfSome o P → ForSome o P
+for_some P None is x e = absurd cc
+for_some P (Some y) is x e = subst P (let same : y ≡ x = cc in same) is

@@ -31,6 +31,7 @@ pub mod PassSteps
 pub mod PassTurns
 pub mod SuffixLaws
 pub mod KnownPlaceLaws
+pub mod PlaceTurns
 pub mod LeadLaws
 pub mod WalkSteps
 pub mod SpecLaws

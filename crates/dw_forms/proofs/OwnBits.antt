@@ -65,7 +65,7 @@ own_place k code other (c ∷ codes) less same = elim (cases_eq code c) [
   ]
 ]
 
-own_bit : (code other : ℕ) → bit_of code < 21 → bit_of other ≡ bit_of code → other ≡ code
+pub own_bit : (code other : ℕ) → bit_of code < 21 → bit_of other ≡ bit_of code → other ≡ code
 unfolding bit_of
 own_bit code other less same = own_place 0 code other asked less same
 
@@ -103,16 +103,25 @@ any_own : (code : ℕ) (specs : List AttributeSpec) → bit_of code < 21
 any_own code [] own = refl
 any_own code (spec ∷ specs) own = rw (same_test code spec.attribute own, any_own code specs own) refl
 
+module _ (bits mask code : ℕ) (is : mask ≡ 2 ^ bit_of code) where
+  masked : bit_and bits mask ≡ bit_at bits (bit_of code) * 2 ^ bit_of code
+  masked = ap (bit_and bits) is ∙ and_pow bits (bit_of code)
+
+  pub zero_bit : bit_and bits mask ≡ 0 → bit_at bits (bit_of code) ≡ 0
+  zero_bit none =
+      no_product (bit_at bits (bit_of code)) (2 ^ bit_of code) (pow_pos (bit_of code)) (sym masked ∙ none)
+
+  pub set_bit : bit_and bits mask ≢ 0 → bit_at bits (bit_of code) ≡ 1
+  set_bit some =
+      one_of (bit_at bits (bit_of code)) (2 ^ bit_of code) (bit_at-lt bits (bit_of code))
+      (λ none. some (masked ∙ none))
+
 module _ (bits mask code : ℕ) (specs : List AttributeSpec) (are : AreBitsOf specs bits) (is : mask ≡ 2 ^ bit_of code)
   where
-    masked : bit_and bits mask ≡ bit_at bits (bit_of code) * 2 ^ bit_of code
-    masked = ap (bit_and bits) is ∙ and_pow bits (bit_of code)
-
     -- where the bit is clear, none has the code
     pub clear_bit : bit_and bits mask ≡ 0 → has_attribute code specs ≡ false
     clear_bit none =
-        let zero : bit_at bits (bit_of code)
-        ≡ 0 = no_product (bit_at bits (bit_of code)) (2 ^ bit_of code) (pow_pos (bit_of code)) (sym masked ∙ none) in
+        let zero = zero_bit bits mask code is none in
         let lacks = lacks_from (λ (spec : AttributeSpec). bit_of spec.attribute) (bit_of code) specs
         (sym (are (bit_of code)) ∙ ap (λ (b : ℕ). b == 1) zero) in
         lacks_test (λ (spec : AttributeSpec). spec.attribute) code specs
@@ -121,10 +130,7 @@ module _ (bits mask code : ℕ) (specs : List AttributeSpec) (are : AreBitsOf sp
     -- where a bit of its own is set, one has it
     pub own_bit_set : bit_of code < 21 → bit_and bits mask ≢ 0 → has_attribute code specs ≡ true
     own_bit_set own some =
-        let one : bit_at bits (bit_of code)
-        ≡ 1 = one_of (bit_at bits (bit_of code)) (2 ^ bit_of code) (bit_at-lt bits (bit_of code))
-        (λ none. some (masked ∙ none)) in
-        sym (any_own code specs own) ∙ sym (are (bit_of code)) ∙ ap (λ (b : ℕ). b == 1) one
+        sym (any_own code specs own) ∙ sym (are (bit_of code)) ∙ ap (λ (b : ℕ). b == 1) (set_bit bits mask code is some)
 
 -- a test that finds no attribute with the code says that all have another one
 pub lacks_is : (code : ℕ) (specs : List AttributeSpec) (found : Bool) → found ≡ has_attribute code specs

@@ -4,9 +4,10 @@ use Rattle.dw_forms.specs.declared.attribute_lists.Node.{Node}
 use Rattle.dw_forms.specs.declared.chains.Link.{Link}
 use Rattle.dw_forms.specs.declared.decl.DeclAt.{DeclAt}
 use Rattle.dw_forms.specs.declared.decl.KeptDecl.{KeptDecl}
+use Rattle.dw_forms.specs.declared.known_places.KnownPlace.{KnownPlace}
 use Rattle.dw_forms.specs.Abbrev.{Declaration}
-use Rattle.dw_forms.specs.AttributeLists.{list_in}
-use Rattle.dw_forms.specs.DeclaredLists.{HasList}
+use Rattle.dw_forms.specs.AttributeLists.{list_in, numbered_in}
+use Rattle.dw_forms.specs.DeclaredLists.{HasList, HavePlaces}
 use Rattle.dw_forms.specs.Chains.{Numbered, items_of, chain_in, chains_of, item_of, number_where, codes_of}
 
 -- a declaration that is kept, with its attributes among those that are kept
@@ -48,13 +49,20 @@ decl_number_in table code = number_where (λ (d : Declaration). d.code == code) 
 
 -- each declaration has a list of attributes that is kept
 abbrev pub AreWithin : List Node → List KeptDecl → Type 0
-AreWithin nodes kept = All (λ (k : KeptDecl). HasList nodes k.first k.step k.place k.declared k.whole) kept
+AreWithin nodes kept = All (λ (k : KeptDecl). HasList nodes k.first k.step k.bits k.declared k.whole) kept
+
+-- the attributes of each declaration have their places
+abbrev pub HaveAllPlaces : List Node → List KnownPlace → List KeptDecl → Type 0
+HaveAllPlaces nodes places kept =
+    All (λ (k : KeptDecl). HavePlaces (numbered_in nodes k.first) k.bits k.first_place places) kept
 
 -- the links have the codes of the declarations
 abbrev pub HaveDeclCodes : List Link → List KeptDecl → Type 0
 HaveDeclCodes links kept = codes_of links ≡ map (λ (k : KeptDecl). (k.code, k.rest)) kept
 
--- codes are found in the tables by the links, and attributes in the declarations by the nodes
-pub record AreReadable (links : List Link) (nodes : List Node) (kept : List KeptDecl) : Type 0 where
+-- codes are found in the tables by the links, and attributes in the declarations by the nodes and the places
+pub record AreReadable (links : List Link) (nodes : List Node) (places : List KnownPlace) (kept : List KeptDecl)
+    : Type 0 where
   pub coded : HaveDeclCodes links kept
   pub within : AreWithin nodes kept
+  pub placed : HaveAllPlaces nodes places kept

@@ -31,7 +31,7 @@ NoTable section offset = (ds : List Declaration) → table_at section offset ≡
 -- the declaration is between two offsets of the section, with a list of attributes that is kept
 pub record IsDeclAt (section : List ℕ) (nodes : List Node) (offset : ℕ) (d : KeptDecl) (next : ℕ) : Type 0 where
   pub is : decl_at [] (drop offset section) ≡ Ok (Some (kept_view nodes d), drop next section)
-  pub kept : HasList nodes d.first d.step d.place d.declared d.whole
+  pub kept : HasList nodes d.first d.step d.bits d.declared d.whole
   pub rises : offset < next
   pub fits : next ≤ length section
 

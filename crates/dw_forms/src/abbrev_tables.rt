@@ -21,6 +21,7 @@ use crate::chains::Chains;
 use crate::constants::DW_AT_declaration;
 use crate::decl::{DeclAt, Decls, KeptDecl};
 use crate::fault::{AbbrevFault, DeclFault, Stop};
+use crate::known_places::KnownPlace;
 use crate::list_reader::KeptLists;
 use crate::offsets::{Offsets, Placed};
 use std::alloc::{AllocError, Global};
@@ -58,9 +59,10 @@ fn next_at(
         declared: attributes.flag(DW_AT_declaration),
         whole: attributes.whole(),
         step: lists.lists.step(first),
-        place: attributes.known_place(),
         first,
         rest: 0,
+        bits: attributes.bits(),
+        first_place: 0,
     };
     Ok((Some(decl), end))
 }
@@ -113,6 +115,8 @@ pub struct AbbrevTables {
     pub(crate) codes: Chains,
     /// The lists of their attributes.
     pub(crate) lists: KeptLists,
+    /// The places of their attributes.
+    pub(crate) places: Vec<KnownPlace>,
     /// The offsets at which the tables begin.
     pub(crate) starts: Offsets,
 }
@@ -122,15 +126,17 @@ pub struct AbbrevTables {
 fn push(
     kept: &mut Vec<KeptDecl>,
     codes: &mut Chains,
+    places: &mut Vec<KnownPlace>,
     lists: &AttributeLists,
     rest: u32,
     decl: KeptDecl,
 ) -> Result<Option<u32>, AllocError>
     requires rest { rest ≤ length kept.old.items }
     requires few { length kept.old.items < 0xffffffff }
-    requires kept { AreReadable codes.old.links.items lists.now.nodes.items kept.old.items }
-    requires list { HasList lists.now.nodes.items decl.first decl.step decl.place decl.declared decl.whole }
-    ensures kept { OnOk result (AreReadable codes.new.links.items lists.now.nodes.items kept.new.items) }
+    requires kept { AreReadable codes.old.links.items lists.now.nodes.items places.old.items kept.old.items }
+    requires list { HasList lists.now.nodes.items decl.first decl.step decl.bits decl.declared decl.whole }
+    ensures kept { OnOk result
+        (AreReadable codes.new.links.items lists.now.nodes.items places.new.items kept.new.items) }
     ensures added { IfOk result (IsAddedTable (kept_view lists.now.nodes.items decl) rest
         (tables_of lists.now.nodes.items kept.old.items) (tables_of lists.now.nodes.items kept.new.items)) }
 {
@@ -138,6 +144,8 @@ fn push(
     let Some(number) = codes.push(rest, decl.code)? else {
         return Ok(None);
     };
+    let first_place = places.len();
+    Attributes::new(lists, decl.first).push_places(decl.bits, places)?;
     kept.push_reserved(KeptDecl {
         code: decl.code,
         tag: decl.tag,
@@ -146,9 +154,10 @@ fn push(
         declared: decl.declared,
         whole: decl.whole,
         step: decl.step,
-        place: decl.place,
         first: decl.first,
         rest,
+        bits: decl.bits,
+        first_place,
     });
     Ok(Some(number))
 }
@@ -177,6 +186,7 @@ impl AbbrevTables {
             kept: Vec::new(alloc),
             codes: Chains::new(alloc),
             lists: KeptLists::new(alloc),
+            places: Vec::new(alloc),
             starts: Offsets::new(alloc),
         }
     }
@@ -204,6 +214,7 @@ impl AbbrevTables {
             let kept = push(
                 &mut self.kept,
                 &mut self.codes,
+                &mut self.places,
                 &self.lists.lists,
                 table,
                 decl,
@@ -268,7 +279,7 @@ impl AbbrevTables {
             return None;
         }
         let kept = &self.kept[(number - 1) as usize];
-        Some((number, DeclAt::new(kept, &self.lists.lists)))
+        Some((number, DeclAt::new(kept, &self.lists.lists, &self.places)))
     }
 
     /// The declarations of all tables.
@@ -280,6 +291,7 @@ impl AbbrevTables {
         Decls {
             kept: self.kept,
             lists: self.lists.into_lists(),
+            places: self.places,
         }
     }
 }

@@ -1,6 +1,6 @@
 //! The bits of attributes in a list.
 
-ghost use Rattle.std.specs.Prelude.{◌≡◌, ◌<◌, ◌^◌};
+ghost use Rattle.std.specs.Prelude.{◌≡◌, ◌<◌, ◌^◌, ◌%◌, count_ones};
 ghost use Rattle.dw_forms.specs.AttributeBits.{bit_of};
 
 use crate::constants::*;
@@ -42,10 +42,50 @@ pub(crate) fn bit_of(attribute: Attribute) -> u32
     }
 }
 
+/// The attribute whose own bit is at this place.
+#[tactic(auto, unfolding(crate::specs::AttributeBits::bit_of))]
+pub(crate) fn attribute_of(place: u32) -> Attribute
+    requires { place < 21 }
+    ensures { bit_of result ≡ place }
+{
+    match place {
+        0 => DW_AT_name,
+        1 => DW_AT_byte_size,
+        2 => DW_AT_bit_size,
+        3 => DW_AT_language,
+        4 => DW_AT_const_value,
+        5 => DW_AT_lower_bound,
+        6 => DW_AT_prototyped,
+        7 => DW_AT_bit_stride,
+        8 => DW_AT_upper_bound,
+        9 => DW_AT_abstract_origin,
+        10 => DW_AT_count,
+        11 => DW_AT_data_member_location,
+        12 => DW_AT_declaration,
+        13 => DW_AT_encoding,
+        14 => DW_AT_specification,
+        15 => DW_AT_type,
+        16 => DW_AT_byte_stride,
+        17 => DW_AT_signature,
+        18 => DW_AT_data_bit_offset,
+        19 => DW_AT_str_offsets_base,
+        _ => DW_AT_addr_base,
+    }
+}
+
 /// The number that has the attribute's bit alone.
 #[inline(always)]
 pub(crate) fn mask_of(attribute: Attribute) -> u32
     ensures { result ≡ 2 ^ bit_of attribute }
 {
     1 << bit_of(attribute)
+}
+
+/// How many of these bits are below the attribute's.
+#[inline(always)]
+#[tactic(auto, using(std::proofs::lemmas::Nat::and_mask, std::proofs::lemmas::Nat::pow_pos))]
+pub(crate) fn count_below(bits: u32, attribute: Attribute) -> u32
+    ensures { result ≡ count_ones (bits % 2 ^ bit_of attribute) }
+{
+    (bits & (mask_of(attribute) - 1)).count_ones()
 }

@@ -257,7 +257,6 @@ impl<'a> Attributes<'a> {
     }
 
     /// The value of the attribute with this code, if one is declared. The work is bounded by the bytes before it.
-    #[inline(never)]
     pub fn value<'b>(
         &self,
         version: u16,
@@ -269,6 +268,23 @@ impl<'a> Attributes<'a> {
         ensures { AnswersFirst version address_size (specs_in self.now) attribute bytes.now result }
     {
         let found = self.find(attribute);
+        self.value_of(version, address_size, attribute, found, bytes)
+    }
+
+    /// The value of the first of these attributes that were found by this code, if there are any.
+    #[inline(never)]
+    pub(crate) fn value_of<'b>(
+        &self,
+        version: u16,
+        address_size: u8,
+        attribute: Attribute,
+        found: Attributes<'a>,
+        bytes: &'b [u8],
+    ) -> Result<Option<Value<'b>>, ValueFault>
+        requires size { (address_size ≡ 4) ⊎ (address_size ≡ 8) }
+        requires found { IsFrom (has_this attribute) self.now found }
+        ensures { AnswersFirst version address_size (specs_in self.now) attribute bytes.now result }
+    {
         let Some((spec, _)) = found.split_first() else {
             return Ok(None);
         };

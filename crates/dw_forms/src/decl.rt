@@ -1,12 +1,15 @@
 //! Abbreviation declarations (DWARF 5, 7.5.3).
 
-ghost use Rattle.std.specs.Prelude.{◌≡◌, ◌<◌, ◌≤◌, ◌⊎◌, Some, All, length, map, slice_get};
+ghost use Rattle.std.specs.Prelude.{◌≡◌, ◌≢◌, ◌<◌, ◌≤◌, ◌⊎◌, ◌↔◌, Some, All, IsTrue, length, map, slice_get};
+ghost use Rattle.std.specs.Int.{bit_at};
 ghost use Rattle.dw_forms.specs.ValueReading.{Gives};
-ghost use Rattle.dw_forms.specs.AttributeLists.{spec_of};
-ghost use Rattle.dw_forms.specs.DeclaredLists.{HasList};
+ghost use Rattle.dw_forms.specs.AttributeBits.{bit_of};
+ghost use Rattle.dw_forms.specs.AttributeLists.{numbered_in, spec_of};
+ghost use Rattle.dw_forms.specs.DeclaredLists.{HasList, HavePlaces, IsPlaced};
 ghost use Rattle.dw_forms.specs.Codes.{is_type_tag};
 
 use crate::abbrev::AttributeSpec;
+use crate::attribute_bits::{OWN_BITS, bit_of, count_below, mask_of};
 use crate::attribute_lists::{AttributeLists, Step};
 use crate::attributes::{Attributes, cut_at};
 use crate::constants::{Attribute, Tag};
@@ -29,12 +32,15 @@ pub struct KeptDecl {
     pub(crate) whole: Option<u32>,
     /// The step to the first of its attributes at which a walk over values that may lead elsewhere stops.
     pub(crate) step: Step,
-    /// The place of one attribute.
-    pub(crate) place: KnownPlace,
     /// The list of its attributes.
     pub(crate) first: u32,
     /// The table after it.
     pub(crate) rest: u32,
+    /// The bits of its attributes.
+    pub(crate) bits: u32,
+    /// Where the places of those with bits of their own begin among the places of all declarations. They are in the
+    /// order of the bits.
+    pub(crate) first_place: usize,
     ghost type_tag: { is_type ≡ is_type_tag tag },
 }
 
@@ -43,8 +49,12 @@ pub struct KeptDecl {
 pub struct DeclAt<'a> {
     pub(crate) kept: &'a KeptDecl,
     pub(crate) lists: &'a AttributeLists,
-    ghost list: { HasList lists.now.nodes.items kept.now.first kept.now.step kept.now.place kept.now.declared
+    /// The places of the attributes of all declarations.
+    pub(crate) places: &'a [KnownPlace],
+    ghost list: { HasList lists.now.nodes.items kept.now.first kept.now.step kept.now.bits kept.now.declared
         kept.now.whole },
+    ghost placed: { HavePlaces (numbered_in lists.now.nodes.items kept.now.first) kept.now.bits kept.now.first_place
+        places.now },
 }
 
 /// The declarations of the tables of a section, each once. They are numbered from 1.
@@ -52,7 +62,11 @@ pub struct DeclAt<'a> {
 pub struct Decls {
     pub(crate) kept: Vec<KeptDecl>,
     pub(crate) lists: AttributeLists,
-    ghost all: { All (λ k. HasList lists.nodes.items k.first k.step k.place k.declared k.whole) kept.items },
+    /// The places of their attributes.
+    pub(crate) places: Vec<KnownPlace>,
+    ghost all: { All (λ k. HasList lists.nodes.items k.first k.step k.bits k.declared k.whole) kept.items },
+    ghost placed: { All (λ k. HavePlaces (numbered_in lists.nodes.items k.first) k.bits k.first_place places.items)
+        kept.items },
 }
 
 impl Decls {
@@ -64,7 +78,7 @@ impl Decls {
         requires within { number ≤ length self.now.kept.items }
         ensures { decl_of self.now.lists.nodes.items self.now.kept.items number ≡ Some (decl_view result) }
     {
-        DeclAt::new(&self.kept[(number - 1) as usize], &self.lists)
+        DeclAt::new(&self.kept[(number - 1) as usize], &self.lists, &self.places)
     }
 
     /// How many attributes the declarations have, each counted once.
@@ -93,13 +107,23 @@ impl<'a> DeclAt<'a> {
     ghost use Rattle.dw_forms.specs.LeadingWalks.{IsFirstStep};
 
     /// A declaration with the lists of its attributes.
-    pub(crate) fn new(kept: &'a KeptDecl, lists: &'a AttributeLists) -> DeclAt<'a>
-        requires { HasList lists.now.nodes.items kept.now.first kept.now.step kept.now.place kept.now.declared
+    pub(crate) fn new(
+        kept: &'a KeptDecl,
+        lists: &'a AttributeLists,
+        places: &'a [KnownPlace],
+    ) -> DeclAt<'a>
+        requires list { HasList lists.now.nodes.items kept.now.first kept.now.step kept.now.bits kept.now.declared
             kept.now.whole }
+        requires placed { HavePlaces (numbered_in lists.now.nodes.items kept.now.first) kept.now.bits
+            kept.now.first_place places.now }
         ensures kept { result.kept.now ≡ kept.now }
         ensures lists { result.lists.now ≡ lists.now }
     {
-        DeclAt { kept, lists }
+        DeclAt {
+            kept,
+            lists,
+            places,
+        }
     }
 
     /// The number by which entries name the declaration, at least 1.
@@ -137,6 +161,31 @@ impl<'a> DeclAt<'a> {
         &self.kept.step
     }
 
+    /// Whether no attribute has this code. That takes one test for the attributes that rules and declarations look for.
+    #[inline(always)]
+    pub fn lacks(&self, attribute: Attribute) -> bool
+        ensures { IsTrue result ↔ All (λ spec. spec.attribute ≢ attribute) (decl_view self.now).attributes }
+    {
+        if self.kept.bits & mask_of(attribute) == 0 {
+            return true;
+        }
+        if bit_of(attribute) < OWN_BITS {
+            return false;
+        }
+        self.attributes().lacks(attribute)
+    }
+
+    /// The place of an attribute that the declaration has, and which has a bit of its own.
+    #[inline(always)]
+    fn place(&self, attribute: Attribute) -> KnownPlace
+        requires own { bit_of attribute < 21 }
+        requires some { bit_at self.now.kept.now.bits (bit_of attribute) ≡ 1 }
+        ensures { IsPlaced (numbered_of self.now) attribute result }
+    {
+        let before = count_below(self.kept.bits, attribute);
+        self.places[self.kept.first_place + before as usize]
+    }
+
     /// The value of the attribute with this code, if one is declared, in an entry whose values begin with the bytes.
     /// The work is bounded by the bytes before it.
     #[inline(always)]
@@ -150,12 +199,21 @@ impl<'a> DeclAt<'a> {
         requires { (address_size ≡ 4) ⊎ (address_size ≡ 8) }
         ensures { AnswersFirst version address_size (decl_view self.now).attributes attribute bytes.now result }
     {
-        let attributes = self.attributes();
-        let place = self.kept.place;
-        if place.attribute == attribute && address_size == 8 {
-            return attributes.value_at(version, place, bytes);
+        let attributes = Attributes::new(self.lists, self.kept.first);
+        if bit_of(attribute) >= OWN_BITS {
+            return attributes.value(version, address_size, attribute, bytes);
         }
-        attributes.value(version, address_size, attribute, bytes)
+        if self.kept.bits & mask_of(attribute) == 0 {
+            return Ok(None);
+        }
+        let place = self.place(attribute);
+        let found = Attributes::new(self.lists, place.list);
+        match place.at {
+            Some(at) if address_size == 8 => {
+                attributes.value_at(version, attribute, found, at, bytes)
+            }
+            _ => attributes.value_of(version, address_size, attribute, found, bytes),
+        }
     }
 
     /// Whether the entries are types, as `Tag::is_type` says.

@@ -1,6 +1,6 @@
-use Rattle.std.proofs.Common.{ap, ◌∙◌}
+use Rattle.std.proofs.Common.{ap}
 use Rattle.dw_forms.specs.Abbrev.{Declaration}
-use Rattle.dw_forms.specs.Suffixes.{specs_in}
+use Rattle.dw_forms.specs.KeptDecls.{decl_view}
 use Rattle.dw_entries.proofs.KeptLaws.{kept_entry}
 use Rattle.dw_entries.proofs.LeftLaws.{declares_none, undeclared}
 use Rattle.dw_entries.proofs.entry.EntryAt.value.Goals as goal
@@ -8,8 +8,8 @@ use Rattle.dw_entries.proofs.entry.EntryAt.value.Goals as goal
 pub returns-then-lacks : goal.returns-then-lacks
 returns-then-lacks c =
     let it = c.self.inside in
-    let all = c.attributes-attributes in
     let kept = kept_entry _ _ _ _ _ it.entries.now.scanned it.id c.self.invariant.0 in
-    let specs = all.ensures.specs ∙ ap (λ (d : Declaration). d.attributes) c.self.invariant.2 in
-    rw (← c.self.view_is) (undeclared kept (specs_in all.result) c.args.attribute specs
-    (declares_none (specs_in all.result) c.args.attribute (c.lacks.ensures.0 c.if-lacks.true)))
+    let specs = (decl_view it.decl).attributes in
+    rw (← c.self.view_is) (undeclared kept specs c.args.attribute
+    (ap (λ (d : Declaration). d.attributes) c.self.invariant.2)
+    (declares_none specs c.args.attribute (c.lacks.ensures.0 c.if-lacks.true)))

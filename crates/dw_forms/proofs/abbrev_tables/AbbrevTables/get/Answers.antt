@@ -1,7 +1,8 @@
 use Rattle.std.proofs.Common.{rules, ◌-◌, ◌<◌, Some, length, ◌∙◌, sym, ap, subst, arith}
 use Rattle.dw_forms.specs.declared.decl.KeptDecl.{KeptDecl}
-use Rattle.dw_forms.specs.DeclaredLists.{HasList}
+use Rattle.dw_forms.specs.DeclaredLists.{HasList, HavePlaces}
 use Rattle.dw_forms.specs.declared.attribute_lists.AttributeLists.{AttributeLists}
+use Rattle.dw_forms.specs.AttributeLists.{numbered_in}
 use Rattle.dw_forms.specs.KeptDecls.{kept_view, decl_of}
 use Rattle.dw_forms.proofs.KeptLaws.{code_is, links_long, found_by, found_within, decl_read, tables_long}
 use Rattle.dw_forms.proofs.abbrev_tables.AbbrevTables.get.Goals as goal
@@ -38,9 +39,17 @@ new-requires c =
     let within = found_within a.codes.links.items a.kept.items c.args.table c.args.code c.requires.searchable.coded in
     let some = c.if-number-eq0.false in
     let less : c.find-number.result - 1 < length a.kept.items = omega (arith, c.find-number.ensures, within, some) in
-    subst (λ (k : KeptDecl). HasList a.lists.lists.nodes.items k.first k.step k.place k.declared k.whole)
-    (sym c.index-kept.ensures) (c.requires.searchable.within (c.find-number.result - 1) c.index-kept.result.now
-    less)
+    record {
+      list =
+          subst (λ (k : KeptDecl). HasList a.lists.lists.nodes.items k.first k.step k.bits k.declared k.whole)
+          (sym c.index-kept.ensures) (c.requires.searchable.within (c.find-number.result - 1) c.index-kept.result.now
+          less);
+      placed =
+          rw c.deref.ensures.value (subst
+          (λ (k : KeptDecl). HavePlaces (numbered_in a.lists.lists.nodes.items k.first) k.bits k.first_place
+          a.places.items) (sym c.index-kept.ensures) (c.requires.searchable.placed (c.find-number.result - 1)
+          c.index-kept.result.now less));
+    }
 
 pub returns-clause-number : goal.returns-clause-number
 returns-clause-number c = search (rules, code_is)

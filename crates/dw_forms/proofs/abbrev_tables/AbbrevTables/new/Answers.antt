@@ -8,7 +8,7 @@ returns-clause-tables c = λ section. record {
   searchable = search (rules);
   lists = c.new-3.ensures.lists section;
   starts =
-      rw (c.new.ensures.items, c.new-4.ensures)
+      rw (c.new.ensures.items, c.new-5.ensures)
       (record {
         long = sym (tables_long c.new-3.result.lists.nodes.items []);
         each = λ k less. absurd (omega (arith, less));

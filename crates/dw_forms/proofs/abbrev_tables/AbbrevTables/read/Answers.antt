@@ -3,6 +3,7 @@ use Rattle.dw_forms.specs.AbbrevTables.{tables_in}
 use Rattle.dw_forms.specs.KeptDecls.{Tables}
 use Rattle.dw_forms.specs.TableStarts.{AreStarts, Stay}
 use Rattle.dw_forms.proofs.KeptLaws.{within_stays, tables_same}
+use Rattle.dw_forms.proofs.PlaceTurns.{all_lists_stay}
 use Rattle.dw_forms.proofs.StartLaws.{allowed_in, fewer_in}
 use Rattle.dw_forms.proofs.abbrev_tables.AbbrevTables.read.Goals as goal
 
@@ -17,6 +18,9 @@ keep-requires-clause-tables c =
       searchable =
           record {
             coded = c.requires.tables.searchable.coded;
+            placed =
+                all_lists_stay a.lists.lists.nodes.items new a.kept.items a.places.items c.in-Ok.ensures.more.stay
+                c.requires.tables.searchable.within c.requires.tables.searchable.placed;
             within = within_stays a.lists.lists.nodes.items new a.kept.items c.in-Ok.ensures.more.stay
                 c.requires.tables.searchable.within;
           };

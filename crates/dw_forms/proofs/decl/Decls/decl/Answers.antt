@@ -1,7 +1,8 @@
-use Rattle.std.proofs.Common.{rules, ◌∙◌, ◌-◌, ap, sym, Some, subst, arith}
+use Rattle.std.proofs.Common.{rules, ◌∙◌, ◌-◌, ◌<◌, length, ap, sym, Some, subst, arith}
 use Rattle.dw_forms.specs.declared.decl.KeptDecl.{KeptDecl}
 use Rattle.dw_forms.specs.Abbrev.{Declaration}
-use Rattle.dw_forms.specs.DeclaredLists.{HasList}
+use Rattle.dw_forms.specs.DeclaredLists.{HasList, HavePlaces}
+use Rattle.dw_forms.specs.AttributeLists.{numbered_in}
 use Rattle.dw_forms.specs.KeptDecls.{kept_view}
 use Rattle.dw_forms.proofs.KeptLaws.{decl_read}
 use Rattle.dw_forms.proofs.decl.Decls.decl.Goals as goal
@@ -14,8 +15,16 @@ new-requires c =
     let a = c.args.self.now in
     let some = c.requires.some in
     let within = c.requires.within in
-    subst (λ (k : KeptDecl). HasList a.lists.nodes.items k.first k.step k.place k.declared k.whole)
-    (sym c.index.ensures) (a.all (c.args.number - 1) c.index.result.now (omega (arith, some, within)))
+    let less : c.args.number - 1 < length a.kept.items = omega (arith, some, within) in
+    record {
+      list =
+          subst (λ (k : KeptDecl). HasList a.lists.nodes.items k.first k.step k.bits k.declared k.whole)
+          (sym c.index.ensures) (a.all (c.args.number - 1) c.index.result.now less);
+      placed =
+          rw c.deref.ensures.value (subst
+          (λ (k : KeptDecl). HavePlaces (numbered_in a.lists.nodes.items k.first) k.bits k.first_place
+          a.places.items) (sym c.index.ensures) (a.placed (c.args.number - 1) c.index.result.now less));
+    }
 
 pub returns : goal.returns
 returns c =

@@ -1,0 +1,10 @@
+use Rattle.std.proofs.Common.{ap, ◌∙◌}
+use Rattle.dw_entries.specs.declared.records.Record.{Record}
+use Rattle.dw_entries.proofs.KeptLaws.{kept_entry, record_is}
+use Rattle.dw_entries.proofs.entry.EntryAt.parent.Goals as goal
+
+pub returns : goal.returns
+returns c =
+    let it = c.self.inside in
+    let kept = kept_entry _ _ _ _ _ it.entries.now.scanned it.id c.self.invariant.0 in
+    rw (← c.self.view_is) (c.id_of.ensures ∙ ap (λ (r : Record). r.parent) (record_is kept it.kept c.self.invariant.1))

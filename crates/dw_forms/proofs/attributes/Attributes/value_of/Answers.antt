@@ -1,0 +1,36 @@
+use Rattle.dw_forms.specs.Value.{view}
+use Rattle.dw_forms.proofs.SuffixLaws.{none_has_it, before_found, before_fails, it_fails, it_reads}
+use Rattle.dw_forms.proofs.attributes.Attributes.value_of.Goals as goal
+
+pub returns-in_default : goal.returns-in_default
+returns-in_default c =
+    none_has_it c.args.attribute c.args.self.now c.args.found c.requires.found c.in_default.ensures
+
+pub pass-requires-clause-ends : goal.pass-requires-clause-ends
+pass-requires-clause-ends c =
+    before_found c.args.version c.args.address_size c.args.attribute c.args.self.now c.args.found
+    c.requires.found
+
+pub returns-in-Err : goal.returns-in-Err
+returns-in-Err c =
+    let before = before_found c.args.version c.args.address_size c.args.attribute c.args.self.now c.args.found
+    c.requires.found in
+    before_fails c.args.version c.args.address_size c.args.attribute c.args.self.now c.args.found
+    c.requires.found c.in-Some.spec _ c.in-Some.ensures c.args.bytes.now c.in-Err.fault
+    (c.in-Err.ensures before.0 before.1)
+
+pub returns-in-Ok-read_any : goal.returns-in-Ok-read_any
+returns-in-Ok-read_any c =
+    let before = before_found c.args.version c.args.address_size c.args.attribute c.args.self.now c.args.found
+    c.requires.found in
+    it_reads c.args.version c.args.address_size c.args.attribute c.args.self.now c.args.found
+    c.requires.found c.in-Some.spec _ c.in-Some.ensures c.args.bytes.now c.in-Ok.rest.now
+    (c.in-Ok.ensures before.0 before.1) (view c.in-Ok-read_any.value) _ c.in-Ok-read_any.ensures.exact
+
+pub returns-in-Err-read_any : goal.returns-in-Err-read_any
+returns-in-Err-read_any c =
+    let before = before_found c.args.version c.args.address_size c.args.attribute c.args.self.now c.args.found
+    c.requires.found in
+    it_fails c.args.version c.args.address_size c.args.attribute c.args.self.now c.args.found
+    c.requires.found c.in-Some.spec _ c.in-Some.ensures c.args.bytes.now c.in-Ok.rest.now
+    (c.in-Ok.ensures before.0 before.1) c.in-Err-read_any.fault c.in-Err-read_any.ensures.exact
