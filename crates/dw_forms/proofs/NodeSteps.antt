@@ -40,6 +40,17 @@ pub known_small : (list : List (Numbered AttributeSpec)) (known : ℕ) → AreAt
 known_small list known are le =
     omega (arith, le, few_specs (items_of list) are, length-map list (λ (n : Numbered AttributeSpec). n.item))
 
+-- and so is the number of attributes
+pub known_few : (list : List (Numbered AttributeSpec)) (count : ℕ) → AreAttributeSpecs (items_of list)
+    → count ≡ length list → count ≤ 0x10000
+known_few list count are is =
+    omega (arith, is, few_specs (items_of list) are, length-map list (λ (n : Numbered AttributeSpec). n.item))
+
+-- one attribute more
+pub count_more : (list : List (Numbered AttributeSpec)) (first : Numbered AttributeSpec) (next count : ℕ)
+    → next ≡ length list → count ≡ next + 1 → count ≡ length (first ∷ list)
+count_more list first next count before more = omega (arith, before, more)
+
 -- ---- the node that is read at the place before a number
 
 pub node_read : (nodes : List Node) (number : ℕ) (n : Node) → AreKnown nodes → 0 < number → number ≤ length nodes

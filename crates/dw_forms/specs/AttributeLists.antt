@@ -47,6 +47,7 @@ pub record Knows (list : List (Numbered AttributeSpec)) (n : Node) : Type 0 wher
   pub small_4 : n.known_with_4 ≤ 0xff * length list
   pub small_8 : n.known_with_8 ≤ 0xff * length list
   pub bits : AreBitsOf (items_of list) n.bits
+  pub count : n.count ≡ length list
   pub allowed : n.in_version_4 ≡ are_allowed 4 (items_of list)
 
 -- the known sum of the sizes where addresses have this size

@@ -198,6 +198,8 @@ pub struct Node {
     pub known_with_8: u32,
     /// The bits of the attributes.
     pub bits: u32,
+    /// How many attributes there are.
+    pub count: u32,
     /// The first step in the list after it.
     pub after: Step,
     pub attribute: Attribute,
@@ -238,6 +240,7 @@ fn number_or(number: u32, is: bool, next: u32) -> u32
 fn node_before(number: u32, spec: AttributeSpec, rest: u32, next: Node, after: Step) -> Node
     requires small_4 { next.known_with_4 ≤ 0xffffff }
     requires small_8 { next.known_with_8 ≤ 0xffffff }
+    requires few { next.count ≤ 0x10000 }
     ensures spec { spec_of result ≡ spec }
     ensures next { result.next ≡ rest }
     ensures after { result.after ≡ after }
@@ -252,6 +255,7 @@ fn node_before(number: u32, spec: AttributeSpec, rest: u32, next: Node, after: S
         known_with_4: next.known_with_4 + known_size(spec.form, 4),
         known_with_8: next.known_with_8 + known_size(spec.form, 8),
         bits: next.bits | mask_of(spec.attribute),
+        count: next.count + 1,
         after,
         attribute: spec.attribute,
         in_version_4: next.in_version_4 && spec.form.allowed(4),
@@ -270,6 +274,7 @@ fn no_node() -> Node
         known_with_4: 0,
         known_with_8: 0,
         bits: 0,
+        count: 0,
         after: no_step(),
         attribute: Attribute(0),
         in_version_4: true,
@@ -293,6 +298,7 @@ impl AttributeLists {
         ensures knows { Knows (numbered_in self.now.nodes.items number) result }
         ensures small_4 { result.known_with_4 ≤ 0xffffff }
         ensures small_8 { result.known_with_8 ≤ 0xffffff }
+        ensures few { result.count ≤ 0x10000 }
     {
         if number == 0 {
             return no_node();

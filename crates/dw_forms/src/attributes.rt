@@ -108,6 +108,16 @@ impl<'a> Attributes<'a> {
         }
     }
 
+    /// How many there are.
+    pub fn count(&self) -> u32
+        ensures { result ≡ length (specs_in self.now) }
+    {
+        match self.node() {
+            Some(node) => node.count,
+            None => 0,
+        }
+    }
+
     /// Whether each form is one of version 4.
     pub fn in_version_4(&self) -> bool
         ensures { result ≡ are_allowed 4 (specs_in self.now) }

@@ -14,5 +14,6 @@ returns c =
       small_4 = omega arith;
       small_8 = omega arith;
       bits = no_bits;
+      count = refl;
       allowed = refl;
     }

@@ -1,0 +1,14 @@
+use Rattle.std.proofs.Common.{refl, sym, ◌∙◌}
+use Rattle.std.proofs.lemmas.List.{length-map}
+use Rattle.dw_forms.specs.Chains.{Numbered}
+use Rattle.dw_forms.specs.declared.abbrev.AttributeSpec.{AttributeSpec}
+use Rattle.dw_forms.specs.Suffixes.{numbered}
+use Rattle.dw_forms.proofs.attributes.Attributes.count.Goals as goal
+
+pub returns-in-Some : goal.returns-in-Some
+returns-in-Some c =
+    c.in-Some.ensures.known.knows.count
+    ∙ sym (length-map (numbered c.args.self.now) (λ (n : Numbered AttributeSpec). n.item))
+
+pub returns-in-None : goal.returns-in-None
+returns-in-None c = rw c.in-None.ensures.none refl
