@@ -203,6 +203,11 @@ clear-at_end graph s h empty taken =
     let ranks = h.coherent.ranks in
     record {
       within = λ place w. let here = (ranks.ranked place w).0 in in-graph graph s _ h.coherent.places (λ fresh. cc);
+      once = λ i j before w same.
+          let first = (ranks.ranked i (omega arith)).1 in
+          let last = (ranks.ranked j w).1 in
+          let equal : i ≡ j = sym first ∙ ap (λ (node : ℕ). get_or s.ranks node 0) same ∙ last in
+          omega arith;
       ordered = λ place k w below.
           let here = ranks.ranked place w in
           let node = get_or s.by_rank place 0 in

@@ -19,3 +19,4 @@ pub mod SizeRankLemmas
 pub mod SizeRuleLemmas
 pub mod SizeFaultLemmas
 pub mod FlagLemmas
+pub mod DeclaredLemmas

@@ -7,7 +7,7 @@ ghost use Rattle.dw_types.specs.StoredFlags.{TellMembers};
 
 use crate::children::Children;
 use crate::flags::Flags;
-use crate::kind::{has_members, is_container};
+use crate::kind::{has_members, is_container, is_declared};
 use dw_entries::constants::*;
 use dw_entries::{Cursor, Entries, EntryAt, EntryId, Fault, PlainFault, Rule, Section, Stop};
 use dw_forms::DeclAt;
@@ -33,6 +33,7 @@ impl<'r, 'a> LinkedEntries<'r, 'a> {
     ghost use Rattle.dw_entries.specs.Entries.{placed};
     ghost use Rattle.dw_entries.specs.Views.{units_of};
     ghost use Rattle.dw_links.specs.Constants.{language_at};
+    ghost use Rattle.dw_links.specs.References.{is_declared};
     ghost use Rattle.dw_links.specs.Tables.{AreTables};
     ghost use Rattle.dw_types.specs.Children.{children_of};
     ghost use Rattle.dw_types.specs.ChildrenLeft.{children_left};
@@ -156,6 +157,19 @@ impl<'r, 'a> LinkedEntries<'r, 'a> {
         self.tables.language(entry.unit())
     }
 
+    /// Whether DW_AT_declaration of an entry is true. Its value is read only if its declaration does not tell.
+    #[inline(always)]
+    pub(crate) fn is_declared(&mut self, id: EntryId) -> bool
+        requires { id < length (entries_held self.old) }
+        ensures same { units_held self.new ≡ units_held self.old }
+        ensures is { result ≡ is_declared (entry_in (units_held self.old) id) }
+    {
+        match self.decl(id).declared() {
+            Some(declared) => declared,
+            None => is_declared(&self.at(id)),
+        }
+    }
+
     /// Which entries are structures or unions that are not declared.
     fn find_members(&mut self, alloc: Global) -> Result<Flags, AllocError>
         ensures same { OnOk result (units_held self.new ≡ units_held self.old) }
@@ -198,11 +212,10 @@ impl<'r, 'a> LinkedEntries<'r, 'a> {
         if !is_container(decl.tag()) {
             return Ok(false);
         }
-        match decl.declared() {
-            Some(true) => Ok(false),
-            Some(false) => Ok(has_members(&self.at(id))),
-            None => self.has_members_by_value(alloc, id),
+        if decl.declared().is_none() {
+            return self.has_members_by_value(alloc, id);
         }
+        Ok(!self.is_declared(id))
     }
 
     /// Whether the parent of an entry is a structure or union that is not declared.

@@ -8,7 +8,7 @@ ghost use Rattle.dw_types.specs.Shapes.{fails_shape, has_bad_count, is_defined_m
 ghost use Rattle.dw_types.specs.Shapes.{stands_alone};
 
 use crate::count::count_of;
-use crate::kind::{is_array, is_declared};
+use crate::kind::is_array;
 use crate::linked::LinkedEntries;
 use dw_entries::constants::*;
 use dw_entries::{EntryAt, EntryId, Rule};
@@ -31,7 +31,7 @@ pub(crate) fn is_defined_member(entries: &mut LinkedEntries<'_, '_>, id: EntryId
     ensures same { units_held entries.new ≡ units_held entries.old }
     ensures member { result ≡ is_defined_member (entry_in (units_held entries.old) id) }
 {
-    matches!(entries.decl(id).tag(), DW_TAG_member) && !is_declared(&entries.at(id))
+    matches!(entries.decl(id).tag(), DW_TAG_member) && !entries.is_declared(id)
 }
 
 /// Whether an entry is a plain member.
