@@ -27,7 +27,8 @@ use Rattle.dw_image.proofs.OneFirst.{one_first}
 use Rattle.dw_image.specs.GroupsBefore.{HoldBefore, PassBefore, FailsBefore}
 use Rattle.dw_image.proofs.GroupLemmas.{one_group, one_at_place, rank_of, none_before, one_more}
 use Rattle.dw_image.proofs.MeasureLemmas.{none_by_size, no_cycle_holds, cycle_failure, cycle_fails, contained_of}
-use Rattle.dw_image.proofs.HeadlineLemmas.{classes_of, texts_of, references_of}
+use Rattle.dw_links.proofs.HeldTexts.{texts_of}
+use Rattle.dw_image.proofs.HeadlineLemmas.{classes_of, references_of}
 use Rattle.dw_image.specs.StepsAndSizes.{PassInTypes, FailsInTypes}
 
 -- two lists of units that spell the sections are one

@@ -19,3 +19,4 @@ pub mod RuleGroups
 pub mod DeclaredLemmas
 pub mod UnitByUnit
 pub mod TextPlaceLemmas
+pub mod HeldTexts

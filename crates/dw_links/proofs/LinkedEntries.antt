@@ -1,12 +1,10 @@
--- Where no rule on strings, addresses and references fails, values lead somewhere.
-use Rattle.std.proofs.Common.{rules, arith, ◌≡◌, ℕ, List, Option, Some, None, IsSome, refl, sym, ◌+◌, Bool, true, false, ap, ◌∙◌, inl, inr, subst}
+-- Where no rule on references fails, values lead to entries.
+use Rattle.std.proofs.Common.{rules, arith, ◌≡◌, ℕ, List, Option, Some, None, refl, sym, ◌+◌, Bool, true, false, ap, ◌∙◌, inl, inr, subst}
 use Rattle.std.specs.Prelude.{slice_get}
 use Rattle.std.proofs.lemmas.Option.{slice_get_within, slice_get-get_or, get_or_from_slice_get}
-use Rattle.dw_elf.specs.declared.sections.Sections.{Sections}
-use Rattle.dw_forms.specs.Codes.{DW_AT_str_offsets_base, DW_AT_addr_base, is_type_tag}
-use Rattle.dw_forms.specs.Value.{Datum, str_index, ref_info, ref_unit, ref_sig, addr_index}
-use Rattle.dw_forms.specs.declared.rule.Rule.TheVariants.{BadStrBase, BadAddrBase, NoEntry, WrongKind, NotNextSibling, NoSignature, BadTypeOffset}
-use Rattle.dw_entries.specs.declared.header.UnitHeader.{UnitHeader}
+use Rattle.dw_forms.specs.Codes.{is_type_tag}
+use Rattle.dw_forms.specs.Value.{Datum, ref_info, ref_unit, ref_sig}
+use Rattle.dw_forms.specs.declared.rule.Rule.TheVariants.{NoEntry, WrongKind, NotNextSibling, NoSignature, BadTypeOffset}
 use Rattle.dw_entries.specs.Units.{DebugUnit, Spells}
 use Rattle.dw_entries.specs.Entries.{Entry, PlacedUnit, entries_of, placed}
 use Rattle.dw_entries.specs.ByNumber.{no_entry, no_placed, entry_of}
@@ -17,15 +15,10 @@ use Rattle.dw_forms.specs.declared.rule.Rule.{Rule}
 use Rattle.dw_entries.specs.Places.{at_header, at_attribute}
 use Rattle.dw_entries.specs.EntryRules.{OffsetsRise, values_of}
 use Rattle.dw_entries.proofs.EntryFacts.{entries_rise}
-use Rattle.dw_forms.specs.declared.class.Class.TheVariants.{Address, String, Reference}
+use Rattle.dw_forms.specs.declared.class.Class.TheVariants.{Reference}
 use Rattle.dw_links.specs.Classes.{class_of}
-use Rattle.dw_links.specs.Bases.{base_in}
-use Rattle.dw_links.specs.Strings.{StringIndexFails, AddressIndexFails, StringFailures}
-use Rattle.dw_links.specs.ValueTexts.{text_of_value, address_of, indexed_text, indexed_address}
-use Rattle.dw_links.specs.AttributeTexts.{text_at, address_at}
-use Rattle.dw_links.specs.LinkLaws.{HaveTexts, HaveAddresses, HaveTargets, HaveTypes}
-use Rattle.dw_links.proofs.TableLemmas.{unit_of_entry}
-use Rattle.dw_links.proofs.SlotLemmas.{passes_string, found_value}
+use Rattle.dw_links.specs.LinkLaws.{HaveTargets, HaveTypes}
+use Rattle.dw_links.proofs.SlotLemmas.{found_value}
 use Rattle.dw_links.specs.References.{permits, permits_form, IsOtherThan, is_reference_value, ReferenceFailsBy, TypeUnitFails, ReferenceFailures}
 use Rattle.dw_links.specs.Signatures.{type_unit_of, HasSignature, first_signed}
 use Rattle.dw_links.specs.Targets.{reach_in_info, reach_in_unit, reach_of, target_of}
@@ -35,52 +28,6 @@ use Rattle.dw_links.proofs.TargetLemmas.{reach_in_unit_is, at_reach_in_unit, at_
 is_told : (o : Option ℕ) → (o ≡ None → ⊥) → (n : ℕ) × (o ≡ Some n)
 is_told None never = absurd (never refl)
 is_told (Some n) never = (n, refl)
-
--- an indexed string is in a unit that has a base, and so is an indexed address
-told_text : (sections : Sections) (base : Option ℕ) (index : ℕ) → (StringIndexFails sections base index BadStrBase → ⊥)
-    → IsSome (indexed_text sections base index)
-told_text sections None index never = absurd (never tt)
-told_text sections (Some base) index never = refl
-
-told_address : (sections : Sections) (header : UnitHeader) (base : Option ℕ) (index : ℕ)
-    → (AddressIndexFails sections header base index BadAddrBase → ⊥)
-    → IsSome (indexed_address sections header base index)
-told_address sections header None index never = absurd (never tt)
-told_address sections header (Some base) index never = refl
-
-has_text : (sections : Sections) (us : List DebugUnit) (id : ℕ) (e : Entry) (p : PlacedUnit) (attribute : ℕ) (v : Datum)
-    → HasNone (StringFailures sections us) → slice_get (entries_of us) id ≡ Some e
-    → slice_get (placed us) e.unit ≡ Some p
-    → value_at_entry e attribute ≡ Some v → class_of v ≡ String
-    → IsSome (text_of_value sections (base_in (entries_of us) p DW_AT_str_offsets_base) v)
-has_text sections us id e p attribute (str_index index) none is is_unit value class =
-    told_text sections (base_in (entries_of us) p DW_AT_str_offsets_base) index
-    (passes_string sections us id e p attribute (str_index index) none is is_unit value BadStrBase)
-has_text sections us id e p attribute _ none is is_unit value class = search rules
-
-has_address : (sections : Sections) (us : List DebugUnit) (id : ℕ) (e : Entry) (p : PlacedUnit) (attribute : ℕ)
-    (v : Datum) → HasNone (StringFailures sections us) → slice_get (entries_of us) id ≡ Some e
-    → slice_get (placed us) e.unit ≡ Some p
-    → value_at_entry e attribute ≡ Some v → class_of v ≡ Address
-    → IsSome (address_of sections p.unit.header (base_in (entries_of us) p DW_AT_addr_base) v)
-has_address sections us id e p attribute (addr_index index) none is is_unit value class =
-    told_address sections p.unit.header (base_in (entries_of us) p DW_AT_addr_base) index
-    (passes_string sections us id e p attribute (addr_index index) none is is_unit value BadAddrBase)
-has_address sections us id e p attribute _ none is is_unit value class = search rules
-
-pub have_texts : (sections : Sections) (us : List DebugUnit) → Spells sections.«abbrev».now us sections.info.now
-    → HasNone (StringFailures sections us) → HaveTexts sections us
-unfolding text_at
-have_texts sections us spells none id e is attribute v value class =
-    let (p, is_p) = unit_of_entry sections.«abbrev».now sections.info.now us id e spells is in
-    rw (is_p, value) (has_text sections us id e p attribute v none is is_p value class)
-
-pub have_addresses : (sections : Sections) (us : List DebugUnit) → Spells sections.«abbrev».now us sections.info.now
-    → HasNone (StringFailures sections us) → HaveAddresses sections us
-unfolding address_at
-have_addresses sections us spells none id e is attribute v value class =
-    let (p, is_p) = unit_of_entry sections.«abbrev».now sections.info.now us id e spells is in
-    rw (is_p, value) (has_address sections us id e p attribute v none is is_p value class)
 
 reference_value : (v : Datum) → class_of v ≡ Reference → is_reference_value v ≡ true
 reference_value (ref_info n) is = refl

@@ -80,12 +80,6 @@ map_all f xs ys i all before = before ∙ ap (map f) (take_all i xs all)
 
 -- ---- what is kept of an entry's unit
 
--- the unit of an entry
-pub unit_of_entry : («abbrev» info : List ℕ) (us : List DebugUnit) (id : ℕ) (e : Entry) → Spells «abbrev» us info
-    → slice_get (entries_of us) id ≡ Some e → (p : PlacedUnit) × (slice_get (placed us) e.unit ≡ Some p)
-unit_of_entry «abbrev» info us id e spells is =
-    there (placed us) e.unit (omega (arith, in_units «abbrev» info us id e spells is, length-placed_from 0 0 us))
-
 -- the unit of the entry with a number
 pub entry_unit : (entries : Entries) (id : ℕ) → id < length (all_entries entries)
     → slice_get (all_units entries) (entry_of (all_entries entries) id).unit

@@ -1,22 +1,30 @@
 -- Chapter: what each value has if no rule on strings, addresses and references fails: a target, a text, an address. The
 -- functions of `laws.rt` have the proofs.
-use Rattle.std.specs.Prelude.{◌≡◌, ℕ, ◌+◌, ◌<◌, true, List, Some, length, slice_get, IsSome}
+use Rattle.std.specs.Prelude.{◌≡◌, ℕ, ◌+◌, ◌<◌, true, List, Option, None, Some, length, slice_get}
 use Rattle.dw_elf.specs.declared.sections.Sections.{Sections}
-use Rattle.dw_forms.specs.Codes.{DW_AT_sibling}
-use Rattle.dw_forms.specs.Value.{Datum}
+use Rattle.dw_forms.specs.Codes.{DW_AT_sibling, DW_AT_str_offsets_base, DW_AT_addr_base}
+use Rattle.dw_forms.specs.Value.{Datum, str, line_str, str_index, addr_index}
+use Rattle.dw_entries.specs.declared.header.UnitHeader.{UnitHeader}
 use Rattle.dw_entries.specs.Units.{DebugUnit}
 use Rattle.dw_entries.specs.Entries.{Entry, PlacedUnit, entries_of, placed}
 use Rattle.dw_entries.specs.ByNumber.{entry_of}
-use Rattle.dw_entries.specs.EntryRules.{EachEntry}
+use Rattle.dw_entries.specs.EntryRules.{EachEntry, HasAttribute}
 use Rattle.dw_entries.specs.Lookups.{entry_head, value_at_entry}
 use Rattle.dw_entries.specs.EntriesAt.{IsEntryIn}
 use Rattle.dw_forms.specs.declared.class.Class.{Class}
-use Rattle.dw_forms.specs.declared.class.Class.TheVariants.{Address, Reference, String}
+use Rattle.dw_forms.specs.declared.class.Class.TheVariants.{Reference}
 use Rattle.dw_links.specs.Classes.{class_of}
 use Rattle.dw_links.specs.References.{permits, permits_form, HasType}
 use Rattle.dw_links.specs.Signatures.{type_unit_of, HasSignature, HaveDistinctSignatures}
 use Rattle.dw_links.specs.Targets.{reach_of, target_of}
-use Rattle.dw_links.specs.AttributeTexts.{text_at, address_at}
+use Rattle.dw_links.specs.Contributions.{slot_count, slot_at, HasZeroFrom}
+use Rattle.dw_links.specs.Bases.{base_in}
+use Rattle.dw_links.specs.Strings.{IsStringContribution, IsAddressContribution}
+
+-- each attribute of each entry, with its value
+abbrev pub EachValue : (Entry → ℕ → Datum → Type 0) → List Entry → Type 0
+EachValue P =
+    EachEntry (λ e. (position attribute : ℕ) (v : Datum) → HasAttribute e position attribute v → P e attribute v)
 
 -- a fact of each attribute that has a value of a class
 abbrev pub EachValueOf : Class → (Entry → ℕ → Datum → Type 0) → List Entry → Type 0
@@ -65,14 +73,30 @@ pub record HaveTypes (units : List DebugUnit) : Type 0 where
       → type_unit_of p.unit.header.kind ≡ Some (signature, type_offset)
       → HasType (entries_of units) number (p.at + type_offset)
 
--- each value of class string has a text
-abbrev pub HaveTexts : Sections → List DebugUnit → Type 0
-HaveTexts sections units =
-    EachValueOf String (λ e attribute v. IsSome (text_at sections (entries_of units) (placed units) e attribute))
-    (entries_of units)
+-- an index is below the count of the unit's contribution to .debug_str_offsets, and a string starts where the slot says
+abbrev pub HasStringAt : Sections → (base : Option ℕ) → ℕ → Type 0
+HasStringAt s None index = ⊥
+HasStringAt s (Some base) index =
+    IsStringContribution s base × (index < slot_count s.str_offsets.now 4 base)
+    × HasZeroFrom s.str.now (slot_at s.str_offsets.now 4 base index)
 
--- each value of class address is an address
-abbrev pub HaveAddresses : Sections → List DebugUnit → Type 0
-HaveAddresses sections units =
-    EachValueOf Address (λ e attribute v. IsSome (address_at sections (entries_of units) (placed units) e attribute))
-    (entries_of units)
+-- an index is below the count of the unit's contribution to .debug_addr
+abbrev pub HasAddressAt : Sections → UnitHeader → (base : Option ℕ) → ℕ → Type 0
+HasAddressAt s header None index = ⊥
+HasAddressAt s header (Some base) index =
+    IsAddressContribution s header base × (index < slot_count s.addr.now header.address_size base)
+
+-- a string or an address is there, by the unit's contributions (DWARF 5, 7.26 and 7.27)
+abbrev pub HasItsText : Sections → List Entry → PlacedUnit → Datum → Type 0
+HasItsText s entries unit (str offset) = HasZeroFrom s.str.now offset
+HasItsText s entries unit (line_str offset) = HasZeroFrom s.line_str.now offset
+HasItsText s entries unit (str_index index) = HasStringAt s (base_in entries unit DW_AT_str_offsets_base) index
+HasItsText s entries unit (addr_index index) =
+    HasAddressAt s unit.unit.header (base_in entries unit DW_AT_addr_base) index
+HasItsText s entries unit _ = Unit {0}
+
+-- each string ends in its section, and each index has its slot
+abbrev pub HasTexts : Sections → List DebugUnit → Type 0
+HasTexts s units =
+    EachValue (λ e attribute v. (unit : PlacedUnit) → slice_get (placed units) e.unit ≡ Some unit
+    → HasItsText s (entries_of units) unit v) (entries_of units)

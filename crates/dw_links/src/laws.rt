@@ -11,8 +11,7 @@ ghost use Rattle.dw_links.specs.References.{ReferenceFailures};
 ghost use Rattle.dw_links.specs.Signatures.{HaveDistinctSignatures};
 ghost use Rattle.dw_links.specs.Strings.{StringFailures};
 ghost use Rattle.dw_links.specs.Targets.{reach_of};
-ghost use Rattle.dw_links.specs.LinkLaws.{ReachesInInfo, ReachesBySignature, HaveTargets, HaveTypes, HaveTexts};
-ghost use Rattle.dw_links.specs.LinkLaws.{HaveAddresses};
+ghost use Rattle.dw_links.specs.LinkLaws.{ReachesInInfo, ReachesBySignature, HaveTargets, HaveTypes, HasTexts};
 
 /// The target of a reference, by its form: the one entry that begins at an offset of .debug_info, in which the first
 /// unit is at the base; that begins at an offset from the header of the value's unit; or at the type offset of the one
@@ -39,10 +38,7 @@ pub fn references_have_targets()
         → HasNone (ReferenceFailures units) → HaveTypes units }
 {}
 
-/// If no rule on strings and addresses fails, each string has a text, and each address is one.
+/// If no rule on strings and addresses fails, each string ends in its section, and each index has its slot.
 pub fn strings_have_texts()
-    ensures texts { (s : Sections) (units : List DebugUnit) → Spells s.«abbrev».now units s.info.now
-        → HasNone (StringFailures s units) → HaveTexts s units }
-    ensures addresses { (s : Sections) (units : List DebugUnit) → Spells s.«abbrev».now units s.info.now
-        → HasNone (StringFailures s units) → HaveAddresses s units }
+    ensures { (s : Sections) (units : List DebugUnit) → HasNone (StringFailures s units) → HasTexts s units }
 {}

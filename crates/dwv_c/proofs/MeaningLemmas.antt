@@ -33,7 +33,8 @@ use Rattle.dw_links.proofs.TableLemmas.{first_within, sized}
 use Rattle.dw_links.proofs.TargetLemmas.{reach_in_unit_is, type_is}
 use Rattle.dw_links.proofs.UnitToAll.{unit_below}
 use Rattle.dw_image.specs.declared.image.Image.{Image}
-use Rattle.dw_image.specs.Headline.{HasAddressAt, HasStringAt, IsImageOf, HasItsText}
+use Rattle.dw_links.specs.LinkLaws.{HasAddressAt, HasStringAt, HasItsText}
+use Rattle.dw_image.specs.Headline.{IsImageOf}
 use Rattle.dw_image.specs.Images.{entries_in, sections_in, unit_count, units_in}
 use Rattle.dwv_c.specs.declared.meaning.Meaning.TheVariants as means
 use Rattle.dwv_c.specs.declared.meaning.ValueRow.{ValueRow}

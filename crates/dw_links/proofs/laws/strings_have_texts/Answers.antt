@@ -1,8 +1,5 @@
-use Rattle.dw_links.proofs.LinkedEntries.{have_texts, have_addresses}
+use Rattle.dw_links.proofs.HeldTexts.{texts_of}
 use Rattle.dw_links.proofs.laws.strings_have_texts.Goals as goal
 
-pub returns-clause-texts : goal.returns-clause-texts
-returns-clause-texts c = have_texts
-
-pub returns-clause-addresses : goal.returns-clause-addresses
-returns-clause-addresses c = have_addresses
+pub returns : goal.returns
+returns c = texts_of
