@@ -167,8 +167,9 @@ fn found_of(counts: Counts, least: Option<Fault>) -> Found
     }
 }
 
-/// The counts of sound sections or the first fault, if no unit may refer to another one. None if one may, or if
-/// `verify` costs less: for one unit, and for units whose abbreviation tables are large. None says nothing.
+/// The counts of sound sections or the first fault, batch after batch of units, if no batch refers to another one. None
+/// if one may, or if `verify` costs less: for one unit, and for units whose abbreviation tables are large. None says
+/// nothing.
 pub fn verify_by_unit<'a>(alloc: Global, sections: &Sections<'a>) -> Result<Option<Found>, NoMemory>
     ensures { IfOk result (λ found. IfSome found (IsFoundIn sections.now)) }
 {
@@ -206,7 +207,8 @@ pub fn verify_by_unit<'a>(alloc: Global, sections: &Sections<'a>) -> Result<Opti
     Ok(Some(found_of(so_far.counts, so_far.least)))
 }
 
-/// Batches that are each valid alone, and have no value that may refer to another unit, are valid together.
+/// Batches that are each valid alone, at its base, and have no type unit and no value that refers to a unit by its
+/// signature, are valid together.
 pub fn units_join()
     ensures { JoinsUnits }
 {}
@@ -216,7 +218,8 @@ pub fn trees_of_units()
     ensures { TreesOfUnits }
 {}
 
-/// The first fault of batches without such values is the least, by group and then by batch, of the batches' own.
+/// The first fault of such batches is the least, by group and then by batch, of the batches' own. A missing entry (R1) is
+/// one of them only if its batch has no value that is an offset of .debug_info.
 pub fn first_of_units()
     ensures { FirstOfUnits }
 {}
