@@ -5,6 +5,7 @@ What is prepared has the counts of the file as the linker wrote it, and a file t
 prints one line a test and ends with 'N passed, N failed, N skipped'.
 """
 import contextlib
+import importlib.util
 import os
 import random
 import re
@@ -16,19 +17,23 @@ import sys
 import threading
 import time
 import urllib.request
+import zlib
 
 sys.dont_write_bytecode = True
 import common
 from dwv_tools import dwarf
 
 CHANGES = 30
+# Bytes of notes in a file.
+MANY_NOTES = 640_000
+COUNTS = "{} files with debugging information, {} ELF files without, {} other files"
 TYPES = "-gdwarf-5 -fdebug-types-section"
 SOURCE = """struct point { int x, y; struct point *next; }; __thread int many[3];
 union both { struct point p; long l; } both; enum colour { RED, GREEN = 300 } colour;
 typedef int (*call)(struct point *, ...); call called;
 int sum(struct point *p) { static struct point last; last = *p; return p->x + p->y + many[1]; }
 """
-tally = common.Tally(40)
+tally = common.Tally(66)
 
 
 def run(*words, **env):
@@ -388,34 +393,100 @@ def served(folder):
 
 
 def sizes(folder):
-    """Files that are not read: too large, a device. And a pipe, which is."""
+    """Files that are not read: too large, a device, a FIFO, a socket. And pipes without a name, which are."""
     large = folder / "large"
     with open(large, "wb") as file:
         file.truncate(5 << 30)
     said = line(large)
     tally.same("a file of 5 GB", said, ("fault E1 TooLarge at section 0", "by its size: it is not read"))
     large.unlink()
-    status, text, errors = run("/dev/zero")
-    tally.same("a device", (status, text, errors), (3, "", "check: /dev/zero: not a regular file\n"))
-    pipe = folder / "pipe"
+    pipe, place = folder / "pipe", folder / "socket"
     os.mkfifo(pipe)
-    writer = threading.Thread(target=lambda: pipe.write_bytes(common.SAMPLE.read_bytes()))
-    writer.start()
-    same("a pipe", pipe, "sound: 1 units, 2 entries, 1 types", "")
-    writer.join()
-    with open(common.SAMPLE, "rb") as file:
-        words = [common.PYTHON, common.TOP / "contrib/check", "-"]
-        ran = subprocess.run(words, stdin=file, capture_output=True, text=True, env={**os.environ, "DWV": common.DWV})
-    tally.same("standard input", ran.stdout, "-: sound: 1 units, 2 entries, 1 types\n")
+    with socket.socket(socket.AF_UNIX) as it:
+        it.bind(str(place))
+        for path, kind in (("/dev/zero", "a device"), (pipe, "a FIFO"), (place, "a socket"), (folder / "none", None)):
+            why = f"not a regular file: {kind}" if kind else "No such file or directory"
+            for script in ("check", "explain"):
+                said = common.script(script, path)
+                tally.same(f"{script}: {why}", said, (3, "", f"{script}: {path}: {why}\n"))
+    sample = common.SAMPLE.read_bytes()
+    for path in ("-", "/dev/stdin"):
+        words = [common.PYTHON, common.TOP / "contrib/check", path]
+        ran = subprocess.run(words, input=sample, capture_output=True, env={**os.environ, "DWV": common.DWV})
+        wanted = f"{path}: sound: 1 units, 2 entries, 1 types\n".encode()
+        tally.same(f"a pipe as {path}", (ran.stdout, ran.stderr), (wanted, b""))
+    ours, theirs = os.pipe()
+    ran = subprocess.run([*words[:2], "--seconds", "0.5", "-"], stdin=ours, capture_output=True, text=True,
+                         env={**os.environ, "DWV": common.DWV})
+    tally.same("a pipe that does not end", (ran.returncode, ran.stderr),
+               (3, "check: -: its end did not come within 0.5 s\n"))
+    os.close(ours), os.close(theirs)
+
+
+# Seconds that preparing a file of these may take, far above what it takes.
+SOON = 10
+
+
+def soon(name, path, wanted, *words):
+    """What the script says of a file, and that it is said soon."""
+    before = time.monotonic()
+    said = run(*words, path)[1].splitlines()[:1]
+    took = time.monotonic() - before
+    tally.add(name, None if said == [wanted] and took < SOON else (said, f"{took:.1f} s"), f"{took:.1f} s")
+
+
+def costly(folder):
+    """Files that are small and mean work for what prepares them."""
+    path, without = folder / "costly/file", "fault E9 NoInfo at section 0"
+    path.parent.mkdir()
+    found = f"{COUNTS.format(0, 1, 0)}"
+    # Notes of 12 bytes, of each type that pyelftools reads in a way of its own; one that is longer than the section.
+    for kind in (1, 3, 4, 5, 0x46494C45):
+        path.write_bytes(common.elf([(".note.gnu.build-id", 7, struct.pack("<III", 0, 0, kind) * (MANY_NOTES // 12))]))
+        soon(f"{MANY_NOTES:,} bytes of notes of type {kind}", path, f"{path}: {without}")
+        soon(f"{MANY_NOTES:,} bytes of notes of type {kind} in a folder", path.parent, found)
+    path.write_bytes(common.elf([(".note.gnu.build-id", 7, struct.pack("<III", 2**32 - 1, 2**32 - 1, 3))]))
+    soon("a note that passes the end", path, f"{path}: {without}")
+    # Sections that share a long name, whose end is far.
+    names = b"a" * (16 << 20) + b"\0"
+    headers = [bytes(64)] + [common.section(0, 1, 64, 0)] * 20_000 + [common.section(0, 3, 64, len(names))]
+    path.write_bytes(common.linked(names, headers))
+    soon("20,000 sections with one name of 16 MB", path, f"{path}: {without}")
+    # Streams of zlib of one byte each.
+    data = zlib.compress(b"\0") * 200_000
+    packed = b"ZLIB" + struct.pack(">Q", 200_000) + data
+    path.write_bytes(common.elf([(".debug_info", 1, b""), (".zdebug_str", 1, packed)]))
+    soon("200,000 streams of zlib", path, f"{path}: sound: 0 units, 0 entries, 0 types (decompressed)")
+    status, text, _ = run("--seconds", "0.01", path)
+    tally.same("a step that takes more than it may", (status, text),
+               (1, f"{path}: fault E7 Compressed at section 2 (not prepared: it takes more than 0.01 s)\n"))
+    status, text, _ = run("--memory", "1", path)
+    tally.add("a step that has no memory", None if status == 3 or "not prepared" in text else text)
+
+
+def interpreter(folder):
+    """A Python without pyelftools: the reason names it."""
+    path = folder / "no-elftools"
+    (path / "elftools").mkdir(parents=True)
+    (path / "elftools/__init__.py").write_text("raise ImportError\n")
+    packed = folder / "packed"
+    packed.write_bytes(common.elf([(".debug_info", 1, b""), (".zdebug_str", 1, b"ZLIB" + bytes(8))]))
+    text = run(packed, PYTHONPATH=str(path))[1]
+    wanted = f"not prepared: the Python package pyelftools is not installed for {common.PYTHON}"
+    tally.same("a Python without pyelftools", text, f"{packed}: fault E7 Compressed at section 2 ({wanted})\n")
 
 
 def main():
     common.build()
-    if common.run(common.PYTHON, "-c", "import elftools")[0]:
+    if not importlib.util.find_spec("elftools"):
+        if common.PYTHON != sys.executable:
+            os.execv(common.PYTHON, [common.PYTHON, *sys.argv])
         tally.lack("pyelftools is not installed")
         return tally.end()
     with common.empty_folder() as folder:
         sizes(folder)
+        costly(folder)
+        interpreter(folder)
         if common.has("gcc") and common.has("objcopy"):
             compressed(folder)
             if common.has("readelf"):

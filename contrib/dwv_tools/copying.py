@@ -6,6 +6,7 @@ may hide what is wrong with the file, so a copy is `Refused` if its sections can
 import io
 import shutil
 import struct
+import sys
 import zlib
 
 from dwv_tools.running import LARGEST, LARGEST_SECTION
@@ -14,6 +15,10 @@ SIX = (".debug_info", ".debug_abbrev", ".debug_str", ".debug_line_str", ".debug_
 # `explain` reads the line table too.
 READ = (*SIX, ".debug_line")
 NOBITS, COMPRESSED, ZLIB, ZSTD = "SHT_NOBITS", 0x800, 1, 2
+# How many bytes of a stream are read at first, and at most, at once.
+FIRST_PIECE, LAST_PIECE = 256, 2**20
+# The most bytes of a section's name that are read. No name that is looked for has as many.
+LONGEST_NAME = 64
 # A section header has 64 bytes: the name, the type and the flags are its first, its place and its size follow.
 NAME, FLAGS, PLACE = 0, 8, 24
 
@@ -28,14 +33,19 @@ def plain_name(name):
 
 
 def read_zlib(data, most):
-    """At most so many bytes of the streams of zlib in some data."""
-    made = bytearray()
-    while data and len(made) < most:
-        stream = zlib.decompressobj()
-        made += stream.decompress(data, most - len(made))
-        if not stream.eof and len(made) < most:
-            raise zlib.error("the data ends too early")
-        data = stream.unused_data
+    """At most so many bytes of the streams of zlib in some data.
+
+    A stream is given in pieces, first small ones, because all that is not of the stream is copied.
+    """
+    made, at, whole = bytearray(), 0, memoryview(data)
+    while at < len(whole) and len(made) < most:
+        stream, size = zlib.decompressobj(), FIRST_PIECE
+        while not stream.eof and len(made) < most:
+            piece = whole[at : at + size]
+            if not piece:
+                raise zlib.error("the data ends too early")
+            made += stream.decompress(piece, most - len(made))
+            at, size = at + len(piece) - len(stream.unused_data), min(2 * size, LAST_PIECE)
     return bytes(made)
 
 
@@ -44,7 +54,8 @@ def read_zstd(data, most):
     try:
         import zstandard
     except ImportError:
-        raise Refused("it is compressed by zstd, and the Python package zstandard is not installed") from None
+        why = f"it is compressed by zstd, and the Python package zstandard is not installed for {sys.executable}"
+        raise Refused(why) from None
     with zstandard.ZstdDecompressor().stream_reader(io.BytesIO(data), read_across_frames=True) as reader:
         return reader.read(most)
 
@@ -96,8 +107,24 @@ def open_elf(path):
     try:
         from elftools.elf.elffile import ELFFile
     except ImportError:
-        raise Refused("the Python package pyelftools is not installed") from None
-    elf = ELFFile(open(path, "rb"))
+        raise Refused(f"the Python package pyelftools is not installed for {sys.executable}") from None
+
+    class File(ELFFile):
+        """Reads the names of sections once, and of each no more than is compared. Many may share one long name."""
+
+        names = None
+
+        def _get_section_name(self, header):
+            table = self._section_header_stringtable
+            if table is None:
+                raise Refused("the names of its sections can't be read")
+            if self.names is None:
+                self.stream.seek(table["sh_offset"])
+                self.names = self.stream.read(min(table["sh_size"], LARGEST_SECTION))
+            name = self.names[header["sh_name"] : header["sh_name"] + LONGEST_NAME]
+            return name.partition(b"\0")[0].decode("latin-1")
+
+    elf = File(open(path, "rb"))
     if elf.elfclass != 64 or not elf.little_endian:
         raise Refused("it is for a 32-bit or a big-endian machine")
     end = elf["e_shoff"] + elf.num_sections() * elf["e_shentsize"]

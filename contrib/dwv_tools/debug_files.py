@@ -6,23 +6,43 @@ looks, and with --debuginfod by the program `debuginfod-find`.
 import os
 import pathlib
 import shutil
+import struct
 import subprocess
 import zlib
 
 from dwv_tools.copying import Refused, content, open_elf
 
 ROOT = "/usr/lib/debug"
+# The type of the note that has the build ID, and the most bytes of notes that are read of a file.
+BUILD_ID, NOTES = 3, 2**20
 GNU_LINK, GNU_ALT, SUPPLEMENT = ".gnu_debuglink", ".gnu_debugaltlink", ".debug_sup"
 
 
 def build_id(elf):
-    """The build ID of a file in hexadecimal, or None."""
-    from elftools.elf.sections import NoteSection
+    """The build ID of a file in hexadecimal, or None. It is looked for in the first bytes of the notes.
 
+    A note of pyelftools may have read all that is behind it, so that many notes take the square of their number.
+    """
+    left = NOTES
     for section in elf.iter_sections():
-        for note in section.iter_notes() if isinstance(section, NoteSection) else ():
-            if note["n_type"] == "NT_GNU_BUILD_ID":
-                return note["n_desc"]
+        if section["sh_type"] == "SHT_NOTE" and left > 0:
+            elf.stream.seek(section["sh_offset"])
+            data = elf.stream.read(min(section["sh_size"], left))
+            left -= len(data)
+            if number := build_id_in(data):
+                return number.hex()
+    return None
+
+
+def build_id_in(notes):
+    """The build ID in the bytes of notes, or None. Names and descriptions begin at multiples of four bytes."""
+    at = 0
+    while at + 12 <= len(notes):
+        name_size, size, kind = struct.unpack_from("<III", notes, at)
+        start = at + 12 + (name_size + 3 & ~3)
+        if kind == BUILD_ID and notes[at + 12 : at + 12 + name_size] == b"GNU\0":
+            return notes[start : start + size]
+        at = start + (size + 3 & ~3)
     return None
 
 

@@ -30,7 +30,7 @@ class Rewriter:
     def __init__(self, sections, plus, sizes, base):
         self.info, self.abbrev = sections[".debug_info"], sections[".debug_abbrev"]
         self.plus, self.sizes, self.base = plus, sizes, base
-        self.tables, self.codes, self.unit_at = {}, {}, 0
+        self.tables, self.codes, self.unit_at, self.read = {}, {}, 0, 0
 
     def cursor(self, data, at, end=None):
         return Cursor(data, Section("", 1, 0, 0, len(data)), at, end)
@@ -69,6 +69,10 @@ class Rewriter:
                     break
                 forms.append(form)
             found.setdefault(code, (has_children, tuple(forms)))
+        # Each table is read twice. Tables of which many have a part in common would be read again and again.
+        self.read += cursor.at - at
+        if self.read > 2 * len(self.abbrev):
+            raise Refused("its abbreviation tables overlap")
         return found
 
     def unit(self):

@@ -6,7 +6,7 @@ import struct
 import sys
 import time
 
-from dwv_tools import debug_files, results
+from dwv_tools import preparing, results
 from dwv_tools.results import OTHER, WITHOUT
 from dwv_tools.running import show_progress
 
@@ -87,15 +87,17 @@ def found(words, is_filtered):
 class Stripped:
     """Leaves files out that have no debugging information, here or in a file of their own."""
 
-    def __init__(self, checker, files, use_debuginfod):
-        self.checker, self.files, self.use_debuginfod = checker, files, use_debuginfod
+    def __init__(self, checker, files, use_debuginfod, limits):
+        self.checker, self.files, self.use_debuginfod, self.limits = checker, files, use_debuginfod, limits
 
     def __call__(self, path):
+        # A malformed file has no debug file either, nor has any file if pyelftools is not installed.
         try:
-            if not self.files[path] and debug_files.debug_file(path, self.use_debuginfod) is None:
+            words = ("E9", path, path, "", self.use_debuginfod, self.limits)
+            if not self.files[path] and preparing.asked(*words)[0] is None:
                 return results.left_out(path, WITHOUT)
-        except Exception:    # what pyelftools raises of a malformed file, or that it is not installed
-            return results.left_out(path, WITHOUT)
+        except preparing.Lost as error:
+            return results.unread(path, f"whether it has a debug file is not known: {error}")
         return self.checker(path)
 
 

@@ -1,16 +1,23 @@
 """Prepares what `dwv` does not read: a copy is made that it reads, or the file is found that has what is looked for.
 
-A step is only taken if `dwv` refuses the file for the rule that the step is for, and it is told in the note. It runs as
-a program of its own, so that limits of time and memory hold for it, and several files are prepared at once.
+A step is only taken if `dwv` refuses the file for the rule that the step is for, and it is told in the note. It runs in
+a program of its own, so that limits of time and memory hold for it, and several files are prepared at once. Each thread
+has such a program, which takes one step after another until it passes a limit.
 """
 import contextlib
+import gc
 import json
 import os
 import pathlib
+import select
+import signal
+import socket
 import stat
 import subprocess
 import sys
 import tempfile
+import threading
+import time
 
 sys.dont_write_bytecode = True
 if __name__ == "__main__":
@@ -64,17 +71,29 @@ def found(path, original, out, use_debuginfod):
 STEPS = {"E7": decompressed, "E3": linked, "A7": joined, "E9": found}
 
 
-def spooled(path, folder):
+# What is said of a file that is none with bytes in a folder.
+KINDS = ((stat.S_ISDIR, "a folder"), (stat.S_ISFIFO, "a FIFO"), (stat.S_ISSOCK, "a socket"), (stat.S_ISCHR, "a device"),
+         (stat.S_ISBLK, "a device"))
+
+
+def is_pipe(path):
+    """Whether a path, as /dev/fd/63, is that of a pipe without a name, which a program here writes."""
+    return os.path.basename(os.path.realpath(path)).startswith("pipe:[")
+
+
+def spooled(path, folder, limits):
     """The path of a file whose size is known: the file, or a copy of a pipe. `-` is standard input."""
     if path != "-":
         mode = os.stat(path).st_mode
         if stat.S_ISREG(mode):
             return path
-        if not (stat.S_ISFIFO(mode) or stat.S_ISSOCK(mode)):
-            raise OSError(0, "a folder" if stat.S_ISDIR(mode) else "not a regular file", path)
+        if not is_pipe(path):
+            kind = next((text for is_kind, text in KINDS if is_kind(mode)), "of an unknown kind")
+            raise OSError(0, f"not a regular file: {kind}", path)
     at, left = os.path.join(folder, "input"), running.LARGEST
-    with sys.stdin.buffer if path == "-" else open(path, "rb") as file, open(at, "wb") as out:
-        while block := file.read(2**20):
+    file = sys.stdin.buffer.raw if path == "-" else open(path, "rb", buffering=0)
+    with contextlib.nullcontext() if path == "-" else file, open(at, "wb") as out:
+        for block in blocks_of(file, limits.seconds):
             left -= len(block)
             if left < 0:
                 raise OSError(0, "larger than dwv reads", path)
@@ -82,25 +101,88 @@ def spooled(path, folder):
     return at
 
 
+def blocks_of(file, seconds):
+    """The bytes of a pipe in blocks. Its end must come within so many seconds, if that is not None."""
+    end = None if seconds is None else time.monotonic() + seconds
+    while True:
+        if end is not None and not select.select([file], [], [], max(end - time.monotonic(), 0))[0]:
+            raise OSError(0, f"its end did not come within {seconds:g} s", file.name)
+        block = file.read(2**20)
+        if not block:
+            return
+        yield block
+
+
+class Lost(Exception):
+    """A step takes more than it may; the text says of what."""
+
+
+class Helper:
+    """A program that takes steps within limits, one after another."""
+
+    def __init__(self, limits):
+        self.limits = limits
+        # A script ends when nobody reads what it writes into a pipe. Nothing happens to it by a socket.
+        self.socket, other = socket.socketpair()
+        with other:
+            self.process = subprocess.Popen(running.limited([sys.executable, __file__], limits), stdin=other,
+                                            stdout=other, stderr=subprocess.PIPE)
+
+    def ask(self, words):
+        """What a step with these words makes: the path and the notes."""
+        seconds, answer = self.limits.seconds, b""
+        end = None if seconds is None else time.monotonic() + seconds
+        try:
+            self.socket.sendall(json.dumps(words).encode() + b"\n", socket.MSG_NOSIGNAL)
+            while not answer.endswith(b"\n"):
+                self.socket.settimeout(end and max(end - time.monotonic(), 0.001))
+                block = self.socket.recv(2**16)
+                if not block:
+                    raise ConnectionError
+                answer += block
+        except TimeoutError:
+            raise Lost(f"it takes more than {seconds:g} s") from None
+        except ConnectionError:
+            said = self.process.stderr.read().decode(errors="replace").splitlines()
+            raise Lost(said[-1] if said else "its program was ended") from None
+        return tuple(json.loads(answer))
+
+    def end(self):
+        self.process.kill()
+        self.process.communicate()
+        self.socket.close()
+
+
+# The helper of each thread, if it has one.
+HELPERS = threading.local()
+
+
+def asked(code, path, original, out, use_debuginfod, limits):
+    """What a step makes, in a program of its own: the path and the notes, or None and why there is none."""
+    helper = getattr(HELPERS, "helper", None)
+    if helper is None or helper.limits != limits:
+        helper = HELPERS.helper = Helper(limits)
+    try:
+        return helper.ask([code, *map(os.fspath, (path, original, out)), use_debuginfod])
+    except Lost:
+        helper.end()
+        HELPERS.helper = None
+        raise
+
+
 def step(code, path, original, out, use_debuginfod, limits):
-    """What a step makes, as a program of its own: the path and the notes, or why there is none."""
-    words = [sys.executable, __file__, code, path, original, out, *(["--debuginfod"] if use_debuginfod else [])]
+    """What a step makes. If it takes more than it may, that is why there is none."""
     try:
-        ran = subprocess.run(running.limited(words, limits), capture_output=True, text=True, errors="replace",
-                             timeout=limits.seconds, stdin=subprocess.DEVNULL)
-    except subprocess.TimeoutExpired:
-        return None, [f"not prepared: it takes more than {limits.seconds} s"]
-    try:
-        return tuple(json.loads(ran.stdout))
-    except ValueError:
-        return None, [f"not prepared: {(ran.stderr.splitlines() or ['no reason is given'])[-1]}"]
+        return asked(code, path, original, out, use_debuginfod, limits)
+    except Lost as error:
+        return None, [f"not prepared: {error}"]
 
 
 @contextlib.contextmanager
 def checked(dwv, path, use_debuginfod=False, limits=running.Limits(), is_prepared=True):
     """The verdict on a file, and the path of what was checked: the file, or what was prepared in its place."""
     with tempfile.TemporaryDirectory(prefix="dwv-") as folder:
-        at = original = spooled(path, folder)
+        at = original = spooled(path, folder, limits)
         notes, done = [], set()
         while True:
             verdict = running.check(dwv, at, limits)
@@ -116,16 +198,27 @@ def checked(dwv, path, use_debuginfod=False, limits=running.Limits(), is_prepare
         yield verdict._replace(note=verdict.note or (f" ({', '.join(notes)})" if notes else "")), at
 
 
-def main():
-    code, path, original, out, *more = sys.argv[1:]
-    running.prepare()
+def taken(code, path, original, out, use_debuginfod):
+    """What a step makes, or why it makes nothing."""
     try:
-        made = STEPS[code](path, original, out, bool(more))
+        return STEPS[code](path, original, out, use_debuginfod)
     except Refused as error:
-        made = None, [f"not prepared: {error}"]
+        return None, [f"not prepared: {error}"]
+    except MemoryError:
+        return None, ["not prepared: it takes more memory than it may"]
     except Exception as error:    # pyelftools raises what it meets in a malformed file
-        made = None, [f"not prepared: {type(error).__name__}: {error}"]
-    print(json.dumps(made))
+        return None, [f"not prepared: {type(error).__name__}: {error}"]
+
+
+def main():
+    """Takes a step for each line of standard input, which has its words, until that ends."""
+    # An interrupt is for the script.
+    signal.signal(signal.SIGINT, signal.SIG_DFL)
+    running.prepare()
+    for line in sys.stdin:
+        print(json.dumps(taken(*json.loads(line))), flush=True)
+        # Files that pyelftools opened are closed.
+        gc.collect()
 
 
 if __name__ == "__main__":

@@ -23,8 +23,10 @@ BESIDE = ("../../crates/dwv/out/dwv", "../../../bin/dwv")
 # parentheses; the bytes that were checked; the exit status.
 Verdict = collections.namedtuple("Verdict", "what lines note size status")
 IS_SOUND, UNREAD = "sound", "not read"
-# How long `dwv` may take for a file, in seconds, and how much memory, in bytes; None is no limit.
-Limits = collections.namedtuple("Limits", "seconds memory", defaults=(None, None))
+# How long each step may take for a file, in seconds, and how much memory, in bytes: a run of `dwv`, a preparation, or
+# finding out what a file is. None is no limit. By default it is ten minutes, and three quarters of the memory there is.
+SECONDS, MEMORY = 600.0, os.sysconf("SC_PHYS_PAGES") * os.sysconf("SC_PAGE_SIZE") * 3 // 4
+Limits = collections.namedtuple("Limits", "seconds memory", defaults=(SECONDS, MEMORY))
 
 
 def parser_of(text):
