@@ -6,6 +6,7 @@ prints one line a test and ends with 'N passed, N failed, N skipped'.
 """
 import contextlib
 import importlib.util
+import io
 import os
 import random
 import re
@@ -21,11 +22,11 @@ import zlib
 
 sys.dont_write_bytecode = True
 import common
-from dwv_tools import dwarf
+from dwv_tools import dwarf, relocating
 
 CHANGES = 30
-# Bytes of notes in a file.
-MANY_NOTES = 640_000
+# Bytes of notes in a file, and tables of relocations that are applied in two ways.
+MANY_NOTES, TABLES_TRIED = 640_000, 2_000
 COUNTS = "{} files with debugging information, {} ELF files without, {} other files"
 TYPES = "-gdwarf-5 -fdebug-types-section"
 SOURCE = """struct point { int x, y; struct point *next; }; __thread int many[3];
@@ -33,7 +34,7 @@ union both { struct point p; long l; } both; enum colour { RED, GREEN = 300 } co
 typedef int (*call)(struct point *, ...); call called;
 int sum(struct point *p) { static struct point last; last = *p; return p->x + p->y + many[1]; }
 """
-tally = common.Tally(66)
+tally = common.Tally(68)
 
 
 def run(*words, **env):
@@ -476,6 +477,70 @@ def interpreter(folder):
     tally.same("a Python without pyelftools", text, f"{packed}: fault E7 Compressed at section 2 ({wanted})\n")
 
 
+def applied(data, table, values, known, is_whole):
+    """The bytes of a section after relocations, all at once or one after another, or why they are refused."""
+    made, kept = bytearray(data), relocating.numpy
+    relocating.numpy = kept if is_whole else None
+    try:
+        relocating.apply("it", made, table, values, known)
+        return bytes(made)
+    except relocating.Refused as error:
+        return str(error), bytes(made)
+    finally:
+        relocating.numpy = kept
+
+
+def at_once(folder):
+    """Relocations that are applied all at once: as one after another, and as pyelftools applies them."""
+    if relocating.numpy is None:
+        tally.skip("numpy is not installed")
+        return
+    chance, wrong, taken = random.Random(3), [], 0
+    ends = [0, 1, 2**31 - 1, 2**31, 2**32 - 1, 2**32, 2**63, 2**64 - 1]
+    for turn in range(TABLES_TRIED):
+        known, size = chance.choice(list(relocating.KNOWN.values())), chance.choice([16, 64, 200])
+        is_wild = turn % 3 == 0
+        data = chance.randbytes(size)
+        values = [chance.choice(ends) if is_wild else chance.randrange(1000) for _ in range(5)]
+        spots, table = chance.sample(range(0, size, 8), size // 8), b""
+        for k in range(chance.randrange(1, 12)):
+            kind = 99 if is_wild and chance.random() < 0.1 else chance.choice(list(known))
+            end = size + 4 if is_wild else size - 8
+            at = spots[k % len(spots)] if chance.random() < 0.9 else chance.randrange(end)
+            if 35 in known and chance.random() < 0.5:
+                kind, at = chance.choice([35, 39]), spots[0]
+            addend = chance.choice([1, -1]) * chance.choice(ends[:-1]) if is_wild else chance.randrange(-50, 50)
+            addend = max(-(2**63), min(2**63 - 1, addend))
+            table += struct.pack("<QQq", at, kind | chance.randrange(5 + is_wild) << 32, addend)
+        taken += relocating.apply_all(bytearray(data), table, values, known)
+        one, other = (applied(data, table, values, known, it) for it in (True, False))
+        if one != other:
+            wrong.append((turn, one, other))
+    tally.add(f"{TABLES_TRIED} tables of relocations, all at once and one after another", wrong or
+              (None if taken > TABLES_TRIED // 4 else f"only {taken} all at once"), f"{taken} all at once")
+    from elftools.elf.elffile import ELFFile
+    from elftools.elf.relocation import RelocationHandler
+
+    made, copy = folder / "beside.o", folder / "beside"
+    common.compiled(made, "gcc -gdwarf-5 -O1 -c", "shapes.c")
+    run("-o", copy, made)
+    wrong, found = [], dwarf.File(copy)
+    with open(made, "rb") as file:
+        elf = ELFFile(file)
+        handler = RelocationHandler(elf)
+        for name in (".debug_info", ".debug_line", ".debug_str_offsets", ".debug_addr"):
+            it = elf.get_section_by_name(name)
+            if it is None:
+                continue
+            stream, table = io.BytesIO(it.data()), handler.find_relocations_for_section(it)
+            if table:
+                handler.apply_section_relocations(stream, table)
+            own = found.section(name)
+            if found.data[own.start : own.start + own.size] != stream.getvalue():
+                wrong.append(name)
+    tally.add("the bytes that pyelftools makes of an object", wrong)
+
+
 def main():
     common.build()
     if not importlib.util.find_spec("elftools"):
@@ -492,6 +557,7 @@ def main():
             if common.has("readelf"):
                 objects(folder)
                 changed_objects(folder)
+                at_once(folder)
                 if common.has("dwz"):
                     by_dwz(folder)
             links(folder)

