@@ -126,8 +126,10 @@ same-answers:
 # Installs the program that `make` built, the scripts beside it (as dwv-explain, ..) with the Python package by which
 # they call the C library, the manual page, the completions, the integrations (in share/dwv/integrations), and the C
 # library if `make lib` built it. `make install PREFIX=$HOME/.local` chooses the folder. It builds and proves nothing.
-# DESTDIR is put before all paths, as packages need it.
+# DESTDIR is put before all paths, as packages need it. PYTHON is the interpreter of the scripts: with
+# `make install PYTHON=/usr/bin/python3` they run by that one, wherever another stands first in PATH.
 PREFIX = /usr/local
+PYTHON = /usr/bin/env python3
 bin = $(DESTDIR)$(PREFIX)/bin
 man = $(DESTDIR)$(PREFIX)/share/man/man1
 completions = $(DESTDIR)$(PREFIX)/share/bash-completion/completions
@@ -150,6 +152,7 @@ install:
 	install -m 644 contrib/dwv.fish "$(fish)/dwv.fish"
 	install -d "$(share)/dwv_tools"
 	install -m 755 $(scripts:%=contrib/%) "$(share)"
+	sed -i '1s|^#!/usr/bin/env python3$$|#!$(PYTHON)|' $(scripts:%="$(share)/%")
 	install -m 644 contrib/dwv_tools/*.py contrib/dwv_tools/*.txt "$(share)/dwv_tools"
 	install -d "$(share)/dwv"
 	install -m 644 $(filter-out %/tools.py,$(wildcard python/dwv/*.py)) "$(share)/dwv"

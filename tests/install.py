@@ -11,7 +11,7 @@ import common
 import pytest
 from common import SAMPLE, TOP
 
-LEAST = 20
+LEAST = 21
 PAGE = TOP / "docs/dwv.1"
 SCRIPTS = ("check", "explain", "c-header")
 INSTALLED = ["644 share/bash-completion/completions/dwv", "644 share/fish/vendor_completions.d/dwv.fish",
@@ -74,6 +74,13 @@ def test_files(root, installed):
     others = [it for it in files(installed) if " share/dwv/dwv_tools/" not in it]
     assert others == sorted(INSTALLED)
     assert len(files(root)) == len(others) + len(modules)
+
+
+def test_interpreter(tmp_path):
+    words = [f"DESTDIR={tmp_path}", "PREFIX=/usr", "PYTHON=/usr/bin/python3"]
+    assert common.make(tmp_path, "install", "library=", *words)[0] == 0
+    firsts = {(tmp_path / "usr/share/dwv" / it).read_text().partition("\n")[0] for it in SCRIPTS}
+    assert firsts == {"#!/usr/bin/python3"}
 
 
 def test_program(installed):
