@@ -53,6 +53,7 @@ test:
 	tests/examples.py
 	tests/real-programs.py
 	tests/hostile_files.py
+	tests/sweep.py --part --jobs $(checks)
 	tests/refused-growths.py
 	tests/endings.py
 	tests/check.py
@@ -116,6 +117,13 @@ SECONDS = 60
 fuzz: all
 	cd crates/slow_check && rt run
 	tests/fuzz.py $(SECONDS)
+
+# Runs the program and the calls of the library on files of many entries alike, of each tag, with each child in each use,
+# and writes a table of what took longest.
+.PHONY: sweep
+sweep:
+	mkdir -p tests/out
+	tests/sweep.py --jobs $(checks) --table tests/out/sweep.md
 
 # Compares the answers of two programs on compiled, hostile and changed files: `make same-answers OLD=/tmp/dwv.old`.
 NEW = crates/dwv/out/dwv

@@ -149,6 +149,32 @@ def run(*words, memory=None, seconds=None, timeout=60, **more):
     return ran.returncode, ran.stdout, ran.stderr
 
 
+class Failed(Exception):
+    """A run was ended by a signal, or by a limit; the text says how."""
+
+
+def spent(*words, memory=None, seconds=None):
+    """What a run of the program takes: its seconds of processor time, bytes of text, and bytes of memory.
+
+    It may take so many bytes of memory and seconds of processor time.
+    """
+    with subprocess.Popen([DWV, *words], stdout=subprocess.PIPE, stderr=subprocess.DEVNULL) as ran:
+        for what, most in ((resource.RLIMIT_AS, memory), (resource.RLIMIT_CPU, seconds)):
+            if most:
+                with contextlib.suppress(ProcessLookupError):
+                    resource.prlimit(ran.pid, what, (int(most), int(most)))
+        text = 0
+        while block := ran.stdout.read(1 << 20):
+            text += len(block)
+        _, status, used = os.wait4(ran.pid, 0)
+        ran.returncode = os.waitstatus_to_exitcode(status)
+    took = used.ru_utime + used.ru_stime
+    if ran.returncode not in (0, 1, 2):
+        how = f"the signal {-ran.returncode}" if ran.returncode < 0 else f"status {ran.returncode}"
+        raise Failed(f"ended with {how} after {took:.1f} s")
+    return took, text, used.ru_maxrss << 10
+
+
 def python():
     """A Python that has pyelftools: the one that runs this, or that of the system. If none has it, the one that runs.
     """
