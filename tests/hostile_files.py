@@ -2,13 +2,16 @@
 """Runs `dwv` on files that are small and mean work: deep trees, long chains, one string with many names, declarations
 of many attributes whose values take no bytes, typedefs whose names share their bytes.
 
-usage: hostile_files.py [--list]
+usage: hostile_files.py [--list] [--only PATTERN]
 
 For each the program must print the stated line, or `types` its whole text, within limits of time and memory, and no run
 may crash. The lines of `show` of a deep tree are far more bytes than the memory that it may have: it must say so, and
 write nothing. The script prints one line a run with the seconds it took, and ends with 'N passed, N failed, N skipped'.
-With --list it runs nothing, and prints each file with its limits, and what must not be slow, or large, in it.
+With --list it runs nothing, and prints each file with its limits, and what must not be slow, or large, in it. With
+--only it runs those with such a name. The files of doubled_files.py are run beside those of half the size, and the time
+may grow by 2.3.
 """
+import argparse
 import os
 import random
 import re
@@ -20,6 +23,7 @@ import time
 
 sys.dont_write_bytecode = True
 import common
+import doubled_files
 from common import DWV, linked, section, uleb, unit
 
 # Seconds that a run may take at most, far above what it takes, since other work may run beside it.
@@ -100,6 +104,13 @@ LONG = 16 << 20
 REFERRING = 8 << 20
 REFERRING_TIME = 1.5
 REFERRING_MEMORY = 60
+
+
+# Seconds of processor time and bytes of memory for each byte of the file that one of doubled_files may take, besides
+# those of the program; seconds for codes of ten bytes. How the time may grow where the size doubles, the least time
+# that is compared, and how often one is measured.
+DOUBLED_TIME, DOUBLED_MEMORY, TEN_BYTES_TIME = 1.5, 60, 2
+GROWTH, LEAST_TIME, TRIES = 2.3, 0.05, 5
 
 
 def elf(sections):
@@ -1006,6 +1017,65 @@ COUNT_ROWS = (sys.executable, "-c", """import sys
 sys.path.insert(0, sys.argv[1])
 import dwv
 print(dwv.table(sys.argv[2]))""", common.TOP / "python")
+# What prints how many units, entries and values the table of a file has, with room for nothing.
+COUNT_ALONE = (sys.executable, "-c", """import ctypes, sys
+sys.path.insert(0, sys.argv[1])
+import dwv
+data, counts, verdict = open(sys.argv[2], "rb").read(), (ctypes.c_size_t * 3)(), dwv._Verdict()
+dwv._library.dwv_table(data, len(data), None, 0, None, 0, None, 0, counts, ctypes.byref(verdict))
+print(*counts)""", common.TOP / "python")
+
+
+# What is returned of a file of which a command says what is wanted, in the time and memory that it may take.
+AS_WANTED = "as wanted"
+
+
+def taken(command, path):
+    """What a command says of a file, its seconds of processor time, and its bytes of memory."""
+    with subprocess.Popen([*command, path], stdout=subprocess.PIPE) as ran:
+        resource.prlimit(ran.pid, resource.RLIMIT_CPU, (LIMIT, LIMIT))
+        text = ran.stdout.read().decode(errors="replace")
+        _, ran.returncode, used = os.wait4(ran.pid, 0)
+    return text, used.ru_utime + used.ru_stime, used.ru_maxrss << 10
+
+
+def doubling(command, want, half, want_of_half, seconds):
+    """What returns AS_WANTED, or what a command says of a file or of one of half the size that is not wanted, or what
+    is wrong with what it takes: its seconds, its memory, or how its time grows from the file of half the size."""
+    def ask(path):
+        beside = path.with_name("half")
+        beside.write_bytes(half)
+        least = {path: LIMIT + 1, beside: LIMIT + 1}
+        for _ in range(TRIES):
+            for it in (beside, path):
+                text, took, had = taken(command, it)
+                least[it] = min(least[it], took)
+                if not text.startswith(want if it is path else want_of_half):
+                    return f"{text[:200]!r} of {'half ' if it is beside else ''}the size"
+                memory = had if it is path else 0
+            growth = least[path] / max(least[beside], LEAST_TIME / 2)
+            # No other work makes a time several times as long.
+            if least[path] <= seconds and growth <= GROWTH or least[path] > 3 * seconds:
+                break
+        most = path.stat().st_size * DOUBLED_MEMORY + PROGRAM_MEMORY
+        if memory > max(most, resource.getrusage(resource.RUSAGE_SELF).ru_maxrss << 10):
+            return f"{memory} bytes of memory\n"
+        if least[path] > seconds:
+            return f"{least[path]:.1f} seconds, x{growth:.1f}\n"
+        return AS_WANTED if growth <= GROWTH else f"x{growth:.2f}, {least[path]:.2f} seconds\n"
+
+    ask.limits = limits_of(seconds) + f", {DOUBLED_MEMORY} bytes of memory a byte, x{GROWTH} for the double size"
+    return ask
+
+
+def doubled():
+    """Each file of doubled_files, beside the one of half its size."""
+    for it in doubled_files.files():
+        (whole, want), (half, want_of_half) = it.make(it.count), it.make(it.count // 2)
+        command = COUNT_ALONE if it.command == "table" else (DWV, it.command)
+        seconds = TEN_BYTES_TIME if "ten bytes" in it.name else DOUBLED_TIME
+        ask = doubling(command, want, elf(half), want_of_half, seconds)
+        yield f"{it.command} of {it.name}", elf(whole), ask, AS_WANTED
 
 
 def ends():
@@ -1122,11 +1192,19 @@ def runs():
     tree = [(".debug_abbrev", TABLE), (".debug_info", unit(deep()))]
     yield (f"show of {MANY:,} nested structures", elf(tree), asking("show", memory=MEMORY),
            "dwv: out of memory\nstatus 4\n")
+    yield from doubled()
     yield f"{SECTIONS:,} sections with one name of 16 MB", alike(), check, "sound: 0 units, 0 entries, 0 types"
 
 
 # What each file is for, by words of its name: the first that occur decide.
 REASONS = (
+    ("(in|of) a declared structure", "What its parent is, is not read again for each member."),
+    ("other children|such an enumeration|behind a long text", "The children of a type are not passed for each use."),
+    ("many attributes without bytes", "Values are counted by declarations."),
+    ("(attributes|names) are found last", "An attribute that is present takes no search."),
+    ("behind values", "The values before those that are asked are not passed for each question."),
+    ("random chain|levels of", "What is kept of a type is found by its number."),
+    ("parities|in no order$", "A list takes little memory for each attribute, wherever it is read from."),
     ("^show of", "The text of a deep tree is far longer than the file. If it does not fit, nothing is written."),
     ("^size of", "A size is measured by the order of the types, and no chain is followed for one type."),
     ("dimensions in a unit|two units in turns", "The language of a unit is read once, and not for each dimension."),
@@ -1164,18 +1242,24 @@ def reason(name):
 
 
 def main():
-    if sys.argv[1:] == ["--list"]:
+    options = argparse.ArgumentParser(description=__doc__.partition("\n")[0])
+    options.add_argument("--list", action="store_true", help="print each file, and run nothing")
+    options.add_argument("--only", metavar="PATTERN", default="", help="only files with such a name")
+    given = options.parse_args()
+    if given.list:
         for name, _, ask, _ in runs():
             print(f"{name} (within {ask.limits}). {reason(name)}")
         return 0
     # The rows of tables need the library. Beside a program of DWV none is proved for them.
-    if "DWV" not in os.environ:
+    if "DWV" not in os.environ and not given.only:
         common.build_library()
     has_library = common.LIBRARY.exists() or "DWV_LIBRARY" in os.environ
-    tally = common.Tally(109 if has_library else 107)
+    tally = common.Tally(1 if given.only else 140 if has_library else 137)
     with common.empty_folder() as folder:
         path, unsaid = folder / "file", []
         for name, file, ask, want in runs():
+            if not re.search(given.only, name):
+                continue
             path.write_bytes(file)
             unsaid += [] if reason(name) else [name]
             if name.startswith("rows of ") and not has_library:
