@@ -1,0 +1,4 @@
+-- Chapters, in reading order.
+pub mod LineRules
+pub mod Header
+pub mod Files

@@ -1,0 +1,29 @@
+//! The files of a line program (DWARF 5, 6.2.4 and 6.2.4.1; DWARF 4, 6.2.4).
+
+ghost use Rattle.std.specs.Prelude.{◌≡◌};
+ghost use Rattle.dw_lines.specs.Files.{has_file};
+
+/// A file: its path, and the number of its directory.
+#[derive(Clone, Copy, Debug)]
+pub struct FileEntry<'a> {
+    pub path: &'a [u8],
+    pub directory: usize,
+}
+
+/// The files by number. Before version 5 the first has number 1, and an entry that is no file is in place of number 0.
+#[derive(Debug, Drop)]
+pub struct Files<'a> {
+    pub entries: Vec<FileEntry<'a>>,
+    /// The least number of a file: 0 in version 5, otherwise 1.
+    pub first: u8,
+}
+
+impl Files<'_> {
+    /// Whether a number is that of a file.
+    #[inline(always)]
+    pub fn has(&self, number: u64) -> bool
+        ensures { result ≡ has_file self.now number }
+    {
+        number >= u64::from(self.first) && number < self.entries.len() as u64
+    }
+}
