@@ -1,7 +1,249 @@
--- Chapter: the files of a line program (DWARF 5, 6.2.4; DWARF 4, 6.2.4).
-use Rattle.std.specs.Prelude.{ℕ, Bool, length, nat_le, nat_lt, ◌&&◌}
+-- Chapter: the directories and files of a line program (DWARF 5, 6.2.4 and 6.2.4.1; DWARF 4, 6.2.4).
+use Rattle.std.specs.Prelude.{ℕ, Bool, true, false, List, [], ◌∷◌, length, drop, Option, None, Some, nat_le, nat_lt}
+use Rattle.std.specs.Prelude.{◌==◌, ◌&&◌, ◌||◌, not, if◌then◌else◌}
+use Rattle.std.specs.List.{list_any}
+use Rattle.dw_forms.specs.declared.form.Form.{Form}
+use Rattle.dw_forms.specs.declared.form.Form.TheVariants as form
+use Rattle.dw_forms.specs.declared.value.ValueFault.{ValueFault}
+use Rattle.dw_forms.specs.declared.value.ValueFault.TheVariants as values
+use Rattle.dw_forms.specs.Formats.{Format, and_then, nothing, failing, mapped, inside, choose, found, tested, renamed}
+use Rattle.dw_forms.specs.FormCodes.{form_of}
+use Rattle.dw_forms.specs.Value.{Datum, text, str, line_str, unsigned, attribute_value}
+use Rattle.dw_lines.specs.declared.content.Content.{Content}
 use Rattle.dw_lines.specs.declared.files.Files.{Files}
+use Rattle.dw_lines.specs.declared.files.FileEntry.{FileEntry}
+use Rattle.dw_lines.specs.declared.item.LineItem.{LineItem}
+use Rattle.dw_lines.specs.declared.item.LineItem.TheVariants as items
+use Rattle.dw_lines.specs.declared.rule.LineRule.{LineRule}
+use Rattle.dw_lines.specs.declared.rule.LineRule.TheVariants.{LineCut, LineForm, LineString, LineDirectory, LineNumber}
+use Rattle.dw_lines.specs.declared.sections.LineSections.{LineSections}
+use Rattle.dw_lines.specs.Header.{byte, number, path, length_end}
+use Rattle.dw_lines.specs.Repeats.{times, up_to_end}
 
 -- whether a number is that of a file
 abbrev pub has_file : Files → ℕ → Bool
 has_file files number = nat_le files.first number && nat_lt number (length files.entries.items)
+
+-- a path, and the number of a directory
+pub record FileAt : Type 0 where
+  pub path : List ℕ
+  pub directory : ℕ
+
+-- what a file is, without where its path lies in memory
+abbrev pub file_view : FileEntry → FileAt
+file_view file = record { path = file.path.now; directory = file.directory }
+
+abbrev pub path_of : FileAt → List ℕ
+path_of file = file.path
+
+-- a directory that is one of so many
+abbrev pub in_directory : ℕ → ℕ → Format ℕ LineRule
+in_directory count directory = choose (nat_lt directory count) (nothing directory) (failing LineDirectory)
+
+-- ---- versions 2 to 4. A table has fewer entries than a program may have bytes
+
+-- a path, or an empty one, which ends a table
+unfoldable pub path_or_end : Format (Option (List ℕ)) LineRule
+path_or_end = mapped (λ p. if length p == 0 then None else Some p) path
+
+-- a path, its directory, a time and a size; or the end. There are so many directories
+unfoldable pub file_or_end : ℕ → Format (Option FileAt) LineRule
+file_or_end count = and_then path_or_end (λ o. found o (nothing None) (λ p.
+    and_then number (λ n. and_then (in_directory count n) (λ directory. and_then number (λ time.
+    mapped (λ size. Some (record { path = p; directory = directory })) number)))))
+
+-- directories from 1 on; an empty path is in place of 0, which is the directory of the compilation
+unfoldable pub directories4 : Format (List (List ℕ)) LineRule
+directories4 = mapped (λ paths. [] ∷ paths) (up_to_end length_end LineCut path_or_end)
+
+-- files from 1 on, after so many directories; an entry that is no file is in place of 0
+unfoldable pub files4 : ℕ → Format (List FileAt) LineRule
+files4 count = mapped (λ files. record { path = []; directory = 0 } ∷ files)
+    (up_to_end length_end LineCut (file_or_end count))
+
+-- ---- version 5: the formats of entries (6.2.4.1, 7.22)
+
+-- the codes of the contents of an entry
+abbrev pub DW_LNCT_path : ℕ
+DW_LNCT_path = 1
+
+abbrev pub DW_LNCT_directory_index : ℕ
+DW_LNCT_directory_index = 2
+
+abbrev pub DW_LNCT_timestamp : ℕ
+DW_LNCT_timestamp = 3
+
+abbrev pub DW_LNCT_size : ℕ
+DW_LNCT_size = 4
+
+abbrev pub DW_LNCT_MD5 : ℕ
+DW_LNCT_MD5 = 5
+
+-- the forms of a path. Those of strings by index are left out: they need the unit
+abbrev pub is_path_form : Form → Bool
+is_path_form form.Text = true
+is_path_form form.Strp = true
+is_path_form form.LineStrp = true
+is_path_form f = false
+
+-- the forms of a directory's number
+abbrev pub is_directory_form : Form → Bool
+is_directory_form form.Data1 = true
+is_directory_form form.Data2 = true
+is_directory_form form.Udata = true
+is_directory_form f = false
+
+-- the forms of a time
+abbrev pub is_time_form : Form → Bool
+is_time_form form.Udata = true
+is_time_form form.Data4 = true
+is_time_form form.Data8 = true
+is_time_form form.Block = true
+is_time_form f = false
+
+-- the forms of a size
+abbrev pub is_size_form : Form → Bool
+is_size_form form.Udata = true
+is_size_form form.Data1 = true
+is_size_form form.Data2 = true
+is_size_form form.Data4 = true
+is_size_form form.Data8 = true
+is_size_form f = false
+
+-- the form of a digest
+abbrev pub is_digest_form : Form → Bool
+is_digest_form form.Data16 = true
+is_digest_form f = false
+
+-- the forms of a content that the standard does not name are all of these
+abbrev pub is_content_form : Form → Bool
+is_content_form form.Block = true
+is_content_form form.Data16 = true
+is_content_form f = is_path_form f || is_size_form f
+
+-- whether a content may have a form
+abbrev pub may_have : ℕ → Form → Bool
+may_have kind f =
+    if kind == DW_LNCT_path then is_path_form f else
+    if kind == DW_LNCT_directory_index then is_directory_form f else
+    if kind == DW_LNCT_timestamp then is_time_form f else
+    if kind == DW_LNCT_size then is_size_form f else
+    if kind == DW_LNCT_MD5 then is_digest_form f else is_content_form f
+
+-- whether one of the contents is of this kind
+abbrev pub has_kind : ℕ → List Content → Bool
+has_kind kind contents = list_any (λ c. c.kind == kind) contents
+
+-- whether each content has a form that it may have, and none is there twice
+abbrev pub are_contents : List Content → Bool
+are_contents [] = true
+are_contents (c ∷ others) = may_have c.kind c.form && not (has_kind c.kind others) && are_contents others
+
+-- a content and its form
+unfoldable pub content_format : Format Content LineRule
+content_format = and_then number (λ kind. and_then number (λ code. found (form_of code) (failing LineForm) (λ f.
+    nothing (record { kind = kind; form = f }))))
+
+-- the format of the entries of a table
+unfoldable pub entry_format : Format (List Content) LineRule
+entry_format = tested are_contents LineForm (and_then byte (λ count. times count content_format))
+
+-- the format of entries, and how many there are; without a path there is none
+unfoldable pub table_head : Format (List Content × ℕ) LineRule
+table_head = tested (λ h. has_kind DW_LNCT_path h.0 || h.1 == 0) LineForm (
+    and_then entry_format (λ contents. mapped (λ count. (contents, count)) number))
+
+-- ---- version 5: entries
+
+-- what a content is read as
+pub data Item : Type 0 where
+  a_path : List ℕ → Item
+  a_number : ℕ → Item
+  other : Item
+
+-- the same, as it is returned
+abbrev pub item_view : LineItem → Item
+item_view (items.Path p) = a_path p.now
+item_view (items.Number n) = a_number n
+item_view items.Other = other
+
+-- the string at an offset of a section, up to the first zero byte
+unfoldable pub string_at : List ℕ → ℕ → Format (List ℕ) LineRule
+string_at section offset = choose (nat_lt offset (length section))
+    (mapped (λ s. s.0) (inside (drop offset section) (renamed (λ bytes fault. LineString) path)))
+    (failing LineString)
+
+-- the rule that a value violates
+abbrev pub value_rule_of : ValueFault → LineRule
+value_rule_of values.Cut = LineCut
+value_rule_of values.BadNumber = LineNumber
+value_rule_of values.BadIndirect = LineForm
+
+-- what a value is
+abbrev pub item_of : LineSections → Datum → Format Item LineRule
+item_of sections (text s) = nothing (a_path s)
+item_of sections (str offset) = mapped a_path (string_at sections.str.now offset)
+item_of sections (line_str offset) = mapped a_path (string_at sections.line_str.now offset)
+item_of sections (unsigned n) = nothing (a_number n)
+item_of sections datum = nothing other
+
+-- a content in a form
+unfoldable pub item : LineSections → Form → Format Item LineRule
+item sections f = and_then (renamed (λ bytes. value_rule_of) (attribute_value 5 f 8)) (item_of sections)
+
+-- an entry that has a content more
+abbrev pub with_item : ℕ → Item → FileAt → FileAt
+with_item kind (a_path p) e = if kind == DW_LNCT_path then record e { path = p } else e
+with_item kind (a_number n) e = if kind == DW_LNCT_directory_index then record e { directory = n } else e
+with_item kind other e = e
+
+-- the rest of an entry: what it has of these contents
+unfoldable pub entry_from : LineSections → List Content → FileAt → Format FileAt LineRule
+entry_from sections [] e = nothing e
+entry_from sections (c ∷ others) e = and_then (item sections c.form) (λ i.
+    entry_from sections others (with_item c.kind i e))
+
+-- an entry: a path, and the number of a directory, which is 0 where none is given
+abbrev pub entry : LineSections → List Content → Format FileAt LineRule
+entry sections contents = entry_from sections contents (record { path = []; directory = 0 })
+
+-- a file, after so many directories
+unfoldable pub file_entry : LineSections → List Content → ℕ → Format FileAt LineRule
+file_entry sections contents count = and_then (entry sections contents) (λ e.
+    mapped (λ directory. e) (in_directory count e.directory))
+
+-- the table of directories
+unfoldable pub directories5 : LineSections → Format (List (List ℕ)) LineRule
+directories5 sections = and_then table_head (λ h. times h.1 (mapped path_of (entry sections h.0)))
+
+-- the table of files, after so many directories
+unfoldable pub files5 : LineSections → ℕ → Format (List FileAt) LineRule
+files5 sections count = and_then table_head (λ h. times h.1 (file_entry sections h.0 count))
+
+-- ---- both
+
+-- directories and files, and the least number of a file: 1 before version 5, 0 from there on
+pub record Tables : Type 0 where
+  pub directories : List (List ℕ)
+  pub files : List FileAt
+  pub first_file : ℕ
+
+-- the tables of versions 2 to 4
+unfoldable pub tables4 : Format Tables LineRule
+tables4 = and_then directories4 (λ directories. mapped (λ files. record {
+  directories = directories;
+  files = files;
+  first_file = 1;
+}) (files4 (length directories)))
+
+-- the tables of version 5
+unfoldable pub tables5 : LineSections → Format Tables LineRule
+tables5 sections = and_then (directories5 sections) (λ directories. mapped (λ files. record {
+  directories = directories;
+  files = files;
+  first_file = 0;
+}) (files5 sections (length directories)))
+
+-- the tables of a version
+abbrev pub tables : LineSections → ℕ → Format Tables LineRule
+tables sections version = choose (nat_lt version 5) tables4 (tables5 sections)

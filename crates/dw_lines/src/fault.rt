@@ -2,10 +2,11 @@
 
 ghost use Rattle.std.specs.Prelude.{◌≡◌};
 ghost use Rattle.dw_forms.specs.declared.fault.Stop.TheVariants.{Fault};
+ghost use Rattle.dw_lines.specs.Files.{value_rule_of};
 ghost use Rattle.dw_lines.specs.Header.{header_rule_of};
 
 use crate::rule::LineRule;
-use dw_forms::{NumberFault, Stop};
+use dw_forms::{NumberFault, Stop, ValueFault};
 
 /// The first rule that a line program violates, and where.
 #[derive(Clone, Copy, Debug, PartialEq, Eq)]
@@ -22,6 +23,18 @@ impl From<NumberFault> for LineRule {
         match fault {
             NumberFault::Cut => LineRule::LineCut,
             NumberFault::BadNumber => LineRule::LineNumber,
+        }
+    }
+}
+
+impl From<ValueFault> for LineRule {
+    ghost from_gives = { λ f e. e ≡ value_rule_of f };
+
+    fn from(fault: ValueFault) -> LineRule {
+        match fault {
+            ValueFault::Cut => LineRule::LineCut,
+            ValueFault::BadNumber => LineRule::LineNumber,
+            ValueFault::BadIndirect => LineRule::LineForm,
         }
     }
 }

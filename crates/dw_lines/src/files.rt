@@ -1,7 +1,10 @@
 //! The files of a line program (DWARF 5, 6.2.4 and 6.2.4.1; DWARF 4, 6.2.4).
 
-ghost use Rattle.std.specs.Prelude.{◌≡◌};
-ghost use Rattle.dw_lines.specs.Files.{has_file};
+ghost use Rattle.std.specs.Prelude.{◌≡◌, ℕ, List};
+ghost use Rattle.dw_forms.specs.ValueReading.{Gives};
+ghost use Rattle.dw_lines.specs.Files.{has_file, in_directory as directory_format};
+
+use crate::rule::LineRule;
 
 /// A file: its path, and the number of its directory.
 #[derive(Clone, Copy, Debug)]
@@ -26,4 +29,14 @@ impl Files<'_> {
     {
         number >= u64::from(self.first) && number < self.entries.len() as u64
     }
+}
+
+/// The number of a directory, where there are so many.
+pub(crate) fn in_directory(count: usize, directory: u64) -> Result<usize, LineRule>
+    ensures { (bytes : List ℕ) → Gives (λ n. (n, bytes)) result ((directory_format count directory).read bytes) }
+{
+    if directory < count as u64 {
+        return Ok(directory as usize);
+    }
+    Err(LineRule::LineDirectory)
 }

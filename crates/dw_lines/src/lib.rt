@@ -1,12 +1,22 @@
 //! Line programs (DWARF 5, 6.2; DWARF 4, 6.2): their headers, the files that they name, and the rows that they make.
 #![tactic(auto)]
 
+mod content;
 mod fault;
+mod fields;
 mod files;
+mod header;
+mod item;
 mod parameters;
+mod program;
 mod rule;
+mod sections;
+mod tables4;
+mod tables5;
 
 pub use fault::LineFault;
 pub use files::{FileEntry, Files};
 pub use parameters::Parameters;
+pub use program::{LineHeader, Program, read_program};
 pub use rule::LineRule;
+pub use sections::LineSections;

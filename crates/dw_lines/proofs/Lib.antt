@@ -1,0 +1,2 @@
+pub mod RepeatLaws
+pub mod FormatLaws

@@ -1,0 +1,12 @@
+use Rattle.std.proofs.Common.{length, map}
+use Rattle.dw_lines.specs.declared.rule.LineRule.TheVariants.{LineCut}
+use Rattle.dw_lines.specs.Files.{file_or_end, file_view, files4}
+use Rattle.dw_lines.proofs.RepeatLaws.{ReadsOn}
+use Rattle.dw_lines.proofs.tables4.files.Given as goal
+
+abbrev pub invariant-loop-found : goal.invariant-loop-found
+invariant-loop-found l =
+    ReadsOn LineCut (file_or_end l.count) (map file_view l.files.items) l.rest ((files4 l.count).read l.bytes)
+
+abbrev pub decreases-loop-found : goal.decreases-loop-found
+decreases-loop-found l = length l.rest

@@ -1,0 +1,145 @@
+//! The fields of a header before its tables (DWARF 5, 6.2.4; DWARF 4, 6.2.4).
+
+ghost use Rattle.std.specs.Prelude.{◌≡◌, ◌+◌, ◌≤◌, ◌<◌, ◌⊎◌, length, take, drop, IfOk};
+ghost use Rattle.dw_forms.specs.ValueReading.{Gives};
+ghost use Rattle.dw_lines.specs.Header.{content as content_format, version as version_format, signed_byte as signed};
+ghost use Rattle.dw_lines.specs.Header.{address_size as size_format, maximum_operations as maximum_format, length_end};
+ghost use Rattle.dw_lines.specs.Header.{parameters as parameters_format, numbers_of, are_standard as are_standard_in};
+ghost use Rattle.dw_lines.specs.Header.{standard_opcode_lengths as lengths_format};
+
+use crate::fields::{byte, field};
+use crate::parameters::Parameters;
+use crate::rule::LineRule;
+
+/// The bytes of a program after its length, and the bytes after the program.
+#[tactic(auto, unfolding(crate::specs::Header::content, dw_forms::specs::BaseFormats::taken_at))]
+pub(crate) fn content(bytes: &[u8]) -> Result<(&[u8], &[u8]), LineRule>
+    ensures exact { Gives (λ x. (x.0.now, x.1.now)) result (content_format.read bytes.now) }
+    ensures short { IfOk result (λ x. length x.0.now < length_end) }
+    // The program is after the four bytes of its length.
+    ensures within { IfOk result (λ x. 4 + length x.0.now ≤ length bytes.now) }
+    ensures place { IfOk result (λ x. take (length x.0.now) (drop 4 bytes.now) ≡ x.0.now) }
+{
+    let (len, rest) = field(bytes, 4)?;
+    if len < 0xfffffff0 {
+        if (rest.len() as u64) < len {
+            return Err(LineRule::LineCut);
+        }
+        return Ok(rest.split_at(len as usize));
+    }
+    Err(LineRule::Line64)
+}
+
+/// The version.
+#[tactic(auto, unfolding(crate::specs::Header::version))]
+pub(crate) fn version(bytes: &[u8]) -> Result<(u16, &[u8]), LineRule>
+    ensures exact { Gives (λ x. (x.0, x.1.now)) result (version_format.read bytes.now) }
+{
+    let (version, rest) = field(bytes, 2)?;
+    if 2 <= version && version <= 5 {
+        return Ok((version as u16, rest));
+    }
+    Err(LineRule::LineVersion)
+}
+
+/// The bytes after the size of an address, which only headers of version 5 have. It is that of the unit.
+#[tactic(auto, unfolding(crate::specs::Header::address_size))]
+pub(crate) fn address_size(version: u16, size: u8, bytes: &[u8]) -> Result<&[u8], LineRule>
+    ensures { Gives (λ x. (size, x.now)) result ((size_format version size).read bytes.now) }
+{
+    if version < 5 {
+        return Ok(bytes);
+    }
+    let (own, rest) = byte(bytes)?;
+    let (segment, rest) = byte(rest)?;
+    if own == size && segment == 0 {
+        return Ok(rest);
+    }
+    Err(LineRule::LineAddressSize)
+}
+
+/// The number in two's complement in a byte.
+fn signed_byte(byte: u8) -> i8
+    ensures { result ≡ signed byte }
+{
+    if byte < 128 {
+        byte as i8
+    } else {
+        (i16::from(byte) - 256) as i8
+    }
+}
+
+/// The field maximum_operations_per_instruction, which versions before 4 don't have.
+#[tactic(auto, unfolding(crate::specs::Header::maximum_operations))]
+fn maximum_operations(version: u16, bytes: &[u8]) -> Result<(u8, &[u8]), LineRule>
+    ensures { Gives (λ x. (x.0, x.1.now)) result ((maximum_format version).read bytes.now) }
+{
+    if version < 4 {
+        return Ok((1, bytes));
+    }
+    byte(bytes)
+}
+
+/// The fields that say what opcodes mean.
+#[tactic(auto, unfolding(crate::specs::Header::parameters))]
+pub(crate) fn parameters(
+    version: u16,
+    size: u8,
+    bytes: &[u8],
+) -> Result<(Parameters, &[u8]), LineRule>
+    requires { (size ≡ 4) ⊎ (size ≡ 8) }
+    ensures { Gives (λ x. (numbers_of x.0, x.1.now)) result ((parameters_format version size).read bytes.now) }
+{
+    let (minimum, rest) = byte(bytes)?;
+    let (maximum, rest) = maximum_operations(version, rest)?;
+    let (default_is_stmt, rest) = byte(rest)?;
+    let (line_base, rest) = byte(rest)?;
+    let (line_range, rest) = byte(rest)?;
+    let (opcode_base, rest) = byte(rest)?;
+    if maximum == 0 || 1 < default_is_stmt || line_range == 0 || opcode_base == 0 {
+        return Err(LineRule::LineParameter);
+    }
+    let parameters = Parameters {
+        address_size: size,
+        minimum_instruction_length: minimum,
+        maximum_operations_per_instruction: maximum,
+        default_is_stmt: default_is_stmt == 1,
+        line_base: signed_byte(line_base),
+        line_range,
+        opcode_base,
+    };
+    Ok((parameters, rest))
+}
+
+/// The counts of operands of the opcodes 1 to 12 (DWARF 5, 6.2.5.2).
+const OPERAND_COUNTS: [u8; 12] = [0, 1, 1, 1, 1, 0, 0, 0, 1, 0, 0, 1];
+
+/// Whether the counts of operands of the standard opcodes are those of the standard.
+fn are_standard(lengths: &[u8]) -> bool
+    ensures { result ≡ are_standard_in lengths.now }
+{
+    if lengths.len() < 12 {
+        return OPERAND_COUNTS.starts_with(lengths);
+    }
+    OPERAND_COUNTS.starts_with(&lengths[..12])
+}
+
+/// The counts of operands of the opcodes below opcode_base.
+#[tactic(auto, unfolding(crate::specs::Header::standard_opcode_lengths, dw_forms::specs::BaseFormats::taken_at))]
+pub(crate) fn standard_opcode_lengths(
+    opcode_base: u8,
+    bytes: &[u8],
+) -> Result<(&[u8], &[u8]), LineRule>
+    requires { 1 ≤ opcode_base }
+    ensures { Gives (λ x. (x.0.now, x.1.now)) result ((lengths_format opcode_base).read bytes.now) }
+{
+    let count = usize::from(opcode_base - 1);
+    if bytes.len() < count {
+        return Err(LineRule::LineCut);
+    }
+    let (lengths, rest) = bytes.split_at(count);
+    if are_standard(lengths) {
+        return Ok((lengths, rest));
+    }
+    Err(LineRule::OpcodeLength)
+}
