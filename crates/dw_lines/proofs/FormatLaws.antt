@@ -1,15 +1,11 @@
--- What reading by a format says of the bytes: what it leaves is no longer; what it found begins them, and nothing else
--- does; a fault is the format's.
+-- What reading by a format says of the bytes: what is left of them is no longer, and where it is; what was found is at
+-- their front, and nothing else.
 use Rattle.std.proofs.Common.{◌≡◌, ℕ, ◌+◌, ◌-◌, ◌≤◌, List, length, take, drop, Result, Ok, Err, refl, sym, ap, subst, ◌∙◌, arith}
-use Rattle.std.specs.Prelude.{IfOk, IfErr}
 use Rattle.std.proofs.lemmas.List.{length-append, drop_at, drop-take, drop-drop}
-use Rattle.dw_forms.specs.declared.fault.Stop.{Stop}
-use Rattle.dw_forms.specs.declared.fault.Stop.TheVariants as stops
 use Rattle.dw_forms.specs.Formats.{Format}
-use Rattle.dw_forms.specs.Front.{BeginsWith, BeginsWithNone}
-use Rattle.dw_forms.specs.Readers.{takes, read_is, fault_is, not_both, reader_begins, reader_none, reader_fails}
+use Rattle.dw_forms.specs.Front.{BeginsWith}
+use Rattle.dw_forms.specs.Readers.{takes, read_is, not_both, reader_begins}
 use Rattle.dw_forms.specs.Steps.{◌>>=◌}
-use Rattle.dw_forms.specs.Stops.{IfFault, GivesOrMemory}
 
 module _ {V E : Type 0} (f : Format V E) (bytes : List ℕ) where
   pub leaves : (v : V) (rest : List ℕ) → f.read bytes ≡ Ok (v, rest) → length rest ≤ length bytes
@@ -29,29 +25,6 @@ module _ {V E : Type 0} (f : Format V E) (bytes : List ℕ) where
             (reader_begins f.read f.Spells f.Fails f.is_reader bytes x.0 x.1 is),
       )
   begins v (Err d) is e = absurd (not_both e)
-
-  fails : (d : E) (r : Result (V × List ℕ) E) → first r ≡ Err d → r ≡ Err d
-  fails d (Ok x) e = absurd (not_both (sym e))
-  fails d (Err same) e = ap (λ (g : E). let r : Result (V × List ℕ) E = Err g in r) (fault_is e)
-
-  pub found_by : {X : Type 0} (view : X → V) (r : Result X (Stop E)) → GivesOrMemory view r (first (f.read bytes))
-      → IfOk r (λ x. (len : ℕ) × BeginsWith f.Spells bytes (view x) len)
-  found_by view (Ok x) e = begins (view x) (f.read bytes) refl e
-  found_by view (Err error) e = tt
-
-  pub none_by : {X : Type 0} (view : X → V) (r : Result X (Stop E)) → GivesOrMemory view r (first (f.read bytes))
-      → IfErr r (IfFault (λ _. BeginsWithNone f.Spells bytes))
-  none_by view (Ok x) e = tt
-  none_by view (Err stops.Memory) e = tt
-  none_by view (Err (stops.Fault d)) e =
-      reader_none f.read f.Spells f.Fails f.is_reader bytes d (fails d (f.read bytes) e)
-
-  pub fails_by : {X : Type 0} (view : X → V) (r : Result X (Stop E)) → GivesOrMemory view r (first (f.read bytes))
-      → IfErr r (IfFault (f.Fails bytes))
-  fails_by view (Ok x) e = tt
-  fails_by view (Err stops.Memory) e = tt
-  fails_by view (Err (stops.Fault d)) e =
-      reader_fails f.read f.Spells f.Fails f.is_reader bytes d (fails d (f.read bytes) e)
 
 -- the bytes that reading leaves of a content after four bytes, by where they are in the section
 pub left_at : {V E : Type 0} (f : Format V E) (section content rest : List ℕ) (offset : ℕ) (v : V)

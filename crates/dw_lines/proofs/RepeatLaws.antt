@@ -20,7 +20,8 @@ after_none (Err e) = refl
 pub after_more : {X E : Type 0} (earlier : List X) (x : X) (r : Result (List X × List ℕ) E)
     → after earlier (r >>= λ xs. Ok (x ∷ xs.0, xs.1)) ≡ after (earlier ++ x ∷ []) r
 after_more {X} {E} earlier x (Ok xs) =
-    ap (λ (all : List X). let r : Result (List X × List ℕ) E = Ok (all, xs.1) in r) (sym (append_assoc earlier (x ∷ []) xs.0))
+    ap (λ (all : List X). let r : Result (List X × List ℕ) E = Ok (all, xs.1) in r)
+    (sym (append_assoc earlier (x ∷ []) xs.0))
 after_more earlier x (Err e) = refl
 
 -- reading gives this fault, whatever comes before

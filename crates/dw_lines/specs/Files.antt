@@ -33,6 +33,7 @@ pub record FileAt : Type 0 where
 abbrev pub file_view : FileEntry → FileAt
 file_view file = record { path = file.path.now; directory = file.directory }
 
+-- the path of an entry
 abbrev pub path_of : FileAt → List ℕ
 path_of file = file.path
 

@@ -7,6 +7,7 @@ mod fields;
 mod files;
 mod header;
 mod item;
+mod laws;
 mod parameters;
 mod program;
 mod rule;
@@ -16,6 +17,7 @@ mod tables5;
 
 pub use fault::LineFault;
 pub use files::{FileEntry, Files};
+pub use laws::programs_are_apart;
 pub use parameters::Parameters;
 pub use program::{LineHeader, Program, read_program};
 pub use rule::LineRule;

@@ -13,4 +13,5 @@ pub returns : goal.returns
 returns c = times_all _ _ _ _ _ (omega arith) c.loop.invariant
 
 pub loop-preserved : goal.loop-preserved
-loop-preserved c = rw c.in_ok-push.ensures.items (times_more _ _ _ _ _ _ _ _ (omega arith) c.loop.invariant c.in-Ok.ensures)
+loop-preserved c =
+    rw c.in_ok-push.ensures.items (times_more _ _ _ _ _ _ _ _ (omega arith) c.loop.invariant c.in-Ok.ensures)
