@@ -1,2 +1,5 @@
 pub mod RepeatLaws
 pub mod FormatLaws
+mod OpcodeSteps
+mod RunSteps
+mod RowLaws

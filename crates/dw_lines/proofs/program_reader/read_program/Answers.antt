@@ -1,7 +1,7 @@
 use Rattle.std.proofs.Common.{drop, refl}
 use Rattle.dw_lines.specs.Programs.{program_view, line_program}
 use Rattle.dw_lines.proofs.FormatLaws.{begins}
-use Rattle.dw_lines.proofs.program.read_program.Goals as goal
+use Rattle.dw_lines.proofs.program_reader.read_program.Goals as goal
 
 pub returns-in-Ok-clause-found : goal.returns-in-Ok-clause-found
 returns-in-Ok-clause-found c = begins (line_program c.args.sections.now c.args.size)

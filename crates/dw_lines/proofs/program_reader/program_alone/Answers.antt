@@ -4,7 +4,7 @@ use Rattle.dw_forms.specs.BaseFormats.{taken_at}
 use Rattle.dw_lines.specs.Header.{content}
 use Rattle.dw_lines.specs.Programs.{line_program, header}
 use Rattle.dw_lines.proofs.FormatLaws.{left_at}
-use Rattle.dw_lines.proofs.program.program_alone.Goals as goal
+use Rattle.dw_lines.proofs.program_reader.program_alone.Goals as goal
 
 pub returns-then-sections-offset-clause-exact : goal.returns-then-sections-offset-clause-exact
 unfolding line_program content taken_at

@@ -1,0 +1,123 @@
+-- What holds of each row of a run, and of the sequences of rows.
+use Rattle.std.proofs.Common.{◌≡◌, ℕ, zero, suc, ◌+◌, ◌≤◌, ◌⊎◌, Bool, true, false, List, [], ◌∷◌, length, All, inl, inr}
+use Rattle.std.proofs.Common.{Option, Some, None, Result, Ok, Err, refl, subst, arith}
+use Rattle.std.specs.Prelude.{IfOk, if◌then◌else◌, ◌||◌, unwrap_or, nat_lt}
+use Rattle.std.proofs.lemmas.Bool.{ltb-false}
+use Rattle.std.proofs.lemmas.List.Elements.{All-nil, All-cons}
+use Rattle.std.proofs.lemmas.Result.{MatchResult-weaker}
+use Rattle.dw_forms.specs.Formats.{as_other_says}
+use Rattle.dw_forms.specs.StepLaws.{bind_says, cond_says}
+use Rattle.dw_forms.specs.Steps.{◌>>=◌}
+use Rattle.dw_lines.specs.Files.{has_file}
+use Rattle.dw_lines.specs.Machine.{start, Turn, after, appends, cleared, last_after, checked, step, turn}
+use Rattle.dw_lines.specs.Opcodes.{opcode}
+use Rattle.dw_lines.specs.Rows.{Run, with_row, at_end, turn_at, after_turn, run_of, program_run}
+use Rattle.dw_lines.specs.Sequences.{HasFile, Ascend, AllEnd}
+use Rattle.dw_lines.specs.declared.fault.LineFault.{LineFault}
+use Rattle.dw_lines.specs.declared.files.Files.{Files}
+use Rattle.dw_lines.specs.declared.opcode.Opcode.{Opcode}
+use Rattle.dw_lines.specs.declared.parameters.Parameters.{Parameters}
+use Rattle.dw_lines.specs.declared.program.Program.{Program}
+use Rattle.dw_lines.specs.declared.row.Row.{Row}
+use Rattle.dw_lines.specs.declared.rule.LineRule.{LineRule}
+use Rattle.dw_lines.proofs.RunSteps.{all_ok, turn_shorter}
+
+-- what holds of the rows of a run, and if nothing is violated of their ends
+pub record GoodRun (files : Files) (last : Option ℕ) (run : Run) : Type 0 where
+  pub have_files : All (HasFile files) run.rows
+  pub ascend : Ascend last run.rows
+  pub all_end : run.fault ≡ None → AllEnd last run.rows
+
+-- a row that a turn appends, and what it leaves as the last address
+abbrev GoodTurn : Files → Option ℕ → Option Row → Option ℕ → Type 0
+GoodTurn files last None next = next ≡ last
+GoodTurn files last (Some r) next = HasFile files r × (unwrap_or last 0 ≤ r.address) × (next ≡ last_after r)
+
+either_true : (a b : Bool) → (a || b) ≡ true → (a ≡ true) ⊎ (b ≡ true)
+either_true true b h = inl refl
+either_true false b h = inr h
+
+checked_good : (files : Files) (last : Option ℕ) (r : Row)
+    → IfOk (checked files last r) (λ x. HasFile files x × (unwrap_or last 0 ≤ x.address))
+unfolding checked
+checked_good files last r =
+    cond_says (nat_lt r.address (unwrap_or last 0)) _ _ _ _ (λ low. tt) (λ high.
+    cond_says (r.end_sequence || has_file files r.file) _ _ (λ x. HasFile files x × (unwrap_or last 0 ≤ x.address)) _
+    (λ file. (either_true r.end_sequence (has_file files r.file) file, ltb-false _ _ high)) (λ none. tt))
+
+turn_good : (p : Parameters) (files : Files) (last : Option ℕ) (registers : Row) (o : Opcode) (rest : List ℕ)
+    → IfOk (turn p files last registers o rest) (λ t. GoodTurn files last t.row t.last)
+unfolding turn step
+turn_good p files last registers o rest = go (after p o registers) (appends o)
+  where
+    go : (a : Result Row LineRule) (b : Bool)
+        → IfOk ((a >>= λ next. if b then checked files last next else Ok next) >>= λ r. Ok (
+        if b then record { row = Some r; registers = cleared p r; last = last_after r; rest = rest }
+        else record { row = None; registers = r; last = last; rest = rest }))
+        (λ (t : Turn). GoodTurn files last t.row t.last)
+    go (Err rule) b = tt
+    go (Ok next) false = refl
+    go (Ok next) true =
+        bind_says (checked files last next) _ (λ x. HasFile files x × (unwrap_or last 0 ≤ x.address)) (λ e. Unit {0})
+        (λ (t : Turn). GoodTurn files last t.row t.last) (λ e. Unit {0}) (checked_good files last next)
+        (λ r h. (h.0, h.1, refl)) (λ e h. tt)
+
+with_good : (files : Files) (last next : Option ℕ) (o : Option Row) (run : Run) → GoodTurn files last o next
+    → GoodRun files next run → GoodRun files last (with_row o run)
+with_good files last next None run same good = subst (λ (l : Option ℕ). GoodRun files l run) same good
+with_good files last next (Some r) run t good =
+    let rest = subst (λ (l : Option ℕ). GoodRun files l run) t.2 good in
+    record {
+      have_files = All-cons (HasFile files) r run.rows t.0 rest.have_files;
+      ascend = (t.1, rest.ascend);
+      all_end = rest.all_end;
+    }
+
+faulty : (files : Files) (last : Option ℕ) (fault : LineFault)
+    → GoodRun files last (record { rows = []; fault = Some fault })
+faulty files last fault =
+    record { have_files = All-nil (HasFile files); ascend = tt; all_end = λ e. absurd (some_none e) }
+  where
+    some_none : ◌≡◌ {A = Option LineFault} (Some fault) None → ⊥
+    some_none e = cc
+
+after_good : (files : Files) (last : Option ℕ) (go : Row → Option ℕ → List ℕ → Run) (t : Result Turn LineFault)
+    → IfOk t (λ t. GoodTurn files last t.row t.last)
+    → IfOk t (λ t. (r : Row) (l : Option ℕ) → GoodRun files l (go r l t.rest))
+    → GoodRun files last (after_turn go t)
+after_good files last go (Err fault) h k = faulty files last fault
+after_good files last go (Ok t) h k =
+    with_good files last t.last t.row (go t.registers t.last t.rest) h (k t.registers t.last)
+
+module _ (p : Parameters) (lengths : List ℕ) (files : Files) (end : ℕ) where
+  turn_at_good : (registers : Row) (last : Option ℕ) (bytes : List ℕ)
+      → IfOk (turn_at p lengths files end registers last bytes) (λ t. GoodTurn files last t.row t.last)
+  turn_at_good registers last bytes =
+      let P : Turn → Type 0 = λ t. GoodTurn files last t.row t.last in
+      MatchResult-weaker (turn_at p lengths files end registers last bytes)
+      (as_other_says _ P (λ e. Unit {0}) _
+      (bind_says ((opcode p lengths).read bytes) _ (λ x. Unit {0}) (λ e. Unit {0}) P (λ e. Unit {0})
+      (all_ok ((opcode p lengths).read bytes)) (λ x h. turn_good p files last registers x.0 x.1) (λ e h. tt)))
+      (λ x h. h) (λ e h. tt)
+
+  end_good : (last : Option ℕ) → GoodRun files last (at_end end last)
+  end_good None = record { have_files = All-nil (HasFile files); ascend = tt; all_end = λ e. refl }
+  end_good (Some l) = faulty files (Some l) _
+
+  pub run_good : (n : ℕ) (registers : Row) (last : Option ℕ) (bytes : List ℕ) → length bytes ≤ n
+      → GoodRun files last (run_of p lengths files end n registers last bytes)
+  unfolding run_of
+  run_good n registers last [] h = end_good last
+  run_good zero registers last (b ∷ bytes) h = absurd (omega arith)
+  run_good (suc n) registers last (b ∷ bytes) h =
+      after_good files last (run_of p lengths files end n) (turn_at p lengths files end registers last (b ∷ bytes))
+      (turn_at_good registers last (b ∷ bytes))
+      (MatchResult-weaker (turn_at p lengths files end registers last (b ∷ bytes))
+      (turn_shorter p lengths files end registers last (b ∷ bytes))
+      (λ t short r l. run_good n r l t.rest (omega arith)) (λ e h. tt))
+
+pub program_good : (p : Program) → GoodRun p.header.files None (program_run p)
+program_good p =
+    run_good p.header.parameters p.header.standard_opcode_lengths.now p.header.files
+    (p.opcodes_at + length p.opcodes.now) (length p.opcodes.now) (start p.header.parameters.default_is_stmt) None
+    p.opcodes.now (omega arith)

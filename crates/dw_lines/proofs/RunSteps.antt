@@ -1,0 +1,141 @@
+-- The run of a program, one opcode after another.
+use Rattle.std.proofs.Common.{◌≡◌, ℕ, zero, suc, ◌-◌, ◌<◌, ◌≤◌, List, [], ◌∷◌, length, Option, Result, Ok, Err}
+use Rattle.std.proofs.Common.{refl, ap, ◌∙◌, arith, Bool, true, false}
+use Rattle.std.specs.Prelude.{IfOk, if◌then◌else◌}
+use Rattle.std.proofs.lemmas.List.{length-append}
+use Rattle.std.proofs.lemmas.Result.{IfOk-weaker, IfOk-at_ok, MatchResult-weaker}
+use Rattle.dw_forms.specs.Formats.{then_some, as_other_says}
+use Rattle.dw_forms.specs.StepLaws.{bind_says}
+use Rattle.dw_lines.specs.Machine.{Turn, appends, step, turn, then_turn}
+use Rattle.dw_lines.specs.Opcodes.{opcode, opcode_after}
+use Rattle.dw_lines.specs.Rows.{Run, failed, with_row, at_end, turn_at, after_turn, run_of, run}
+use Rattle.dw_lines.specs.Turns.{Turns}
+use Rattle.dw_lines.specs.declared.machine.Machine.{Machine}
+use Rattle.dw_lines.specs.declared.fault.LineFault.{LineFault}
+use Rattle.dw_lines.specs.declared.files.Files.{Files}
+use Rattle.dw_lines.specs.declared.opcode.Opcode.{Opcode}
+use Rattle.dw_lines.specs.declared.parameters.Parameters.{Parameters}
+use Rattle.dw_lines.specs.declared.row.Row.{Row}
+use Rattle.dw_lines.specs.declared.rule.LineRule.{LineRule}
+
+byte_some : (text : List ℕ) (b : ℕ) → text ≡ b ∷ [] → 0 < length text
+byte_some text b s = omega (arith, ap length s)
+
+pub all_ok : {A E : Type 0} (r : Result A E) → IfOk r (λ x. Unit {0})
+all_ok (Ok x) = tt
+all_ok (Err e) = tt
+
+either : {rest : List ℕ} (b : Bool) (t u : Turn) → t.rest ≡ rest → u.rest ≡ rest
+    → (if b then t else u).rest ≡ rest
+either true t u d e = d
+either false t u d e = e
+
+-- a turn leaves the bytes after its opcode
+turn_rest : (p : Parameters) (files : Files) (last : Option ℕ) (registers : Row) (o : Opcode) (rest : List ℕ)
+    → IfOk (turn p files last registers o rest) (λ t. t.rest ≡ rest)
+unfolding turn
+turn_rest p files last registers o rest =
+    bind_says (step p files last o registers) _ (λ r. Unit {0}) (λ e. Unit {0}) (λ t. t.rest ≡ rest) (λ e. Unit {0})
+    (all_ok (step p files last o registers)) (λ r h. either (appends o) _ _ refl refl) (λ e h. tt)
+
+same_after : (go to : Row → Option ℕ → List ℕ → Run) (t : Result Turn LineFault)
+    → IfOk t (λ t. (r : Row) (l : Option ℕ) → go r l t.rest ≡ to r l t.rest) → after_turn go t ≡ after_turn to t
+same_after go to (Err fault) h = refl
+same_after go to (Ok t) h = ap (with_row t.row) (h t.registers t.last)
+
+module _ (p : Parameters) (lengths : List ℕ) (files : Files) (end : ℕ) where
+  -- an opcode has a byte or more
+  read_shorter : (bytes : List ℕ) → IfOk ((opcode p lengths).read bytes) (λ x. length x.1 < length bytes)
+  read_shorter bytes =
+      MatchResult-weaker ((opcode p lengths).read bytes) ((opcode p lengths).is_reader.says bytes)
+      (λ x t.
+      let some = then_some byte_some t.text x.0 t.spelled in
+      omega (arith, some, ap length t.parts, length-append t.text x.1))
+      (λ e h. tt)
+
+  pub turn_shorter : (registers : Row) (last : Option ℕ) (bytes : List ℕ)
+      → IfOk (turn_at p lengths files end registers last bytes) (λ t. length t.rest < length bytes)
+  turn_shorter registers last bytes =
+      let P : Turn → Type 0 = λ t. length t.rest < length bytes in
+      MatchResult-weaker (turn_at p lengths files end registers last bytes)
+      (as_other_says _ P (λ e. Unit {0}) _
+      (bind_says ((opcode p lengths).read bytes) _ (λ x. length x.1 < length bytes) (λ e. Unit {0}) P (λ e. Unit {0})
+      (read_shorter bytes)
+      (λ x short. MatchResult-weaker (turn p files last registers x.0 x.1)
+      (turn_rest p files last registers x.0 x.1) (λ t e. omega (arith, ap length e)) (λ e h. tt))
+      (λ e h. tt)))
+      (λ x h. h) (λ e h. tt)
+
+  -- it is enough to run as many opcodes as there are bytes
+  same_run : (n m : ℕ) (bytes : List ℕ) → length bytes ≤ n → length bytes ≤ m → (registers : Row) (last : Option ℕ)
+      → run_of p lengths files end n registers last bytes ≡ run_of p lengths files end m registers last bytes
+  unfolding run_of
+  same_run n m [] h k registers last = refl
+  same_run zero m (b ∷ bytes) h k registers last = absurd (omega arith)
+  same_run (suc n) zero (b ∷ bytes) h k registers last = absurd (omega arith)
+  same_run (suc n) (suc m) (b ∷ bytes) h k registers last =
+      same_after (run_of p lengths files end n) (run_of p lengths files end m)
+      (turn_at p lengths files end registers last (b ∷ bytes))
+      (IfOk-weaker (turn_at p lengths files end registers last (b ∷ bytes)) (λ t. length t.rest < length (b ∷ bytes)) _
+      (λ t short. same_run n m t.rest (omega arith) (omega arith))
+      (turn_shorter registers last (b ∷ bytes)))
+
+  -- the turn of the first opcode, and the run after it
+  run_next : (registers : Row) (last : Option ℕ) (code : ℕ) (bytes : List ℕ)
+      → run p lengths files end registers last (code ∷ bytes)
+      ≡ after_turn (run p lengths files end) (turn_at p lengths files end registers last (code ∷ bytes))
+  unfolding run_of
+  run_next registers last code bytes =
+      let whole : List ℕ = code ∷ bytes in
+      let one : length whole ≡ suc (length bytes) = omega arith in
+      ap (λ (n : ℕ). run_of p lengths files end n registers last (code ∷ bytes)) one
+      ∙ same_after (run_of p lengths files end (length bytes)) (run p lengths files end)
+      (turn_at p lengths files end registers last (code ∷ bytes))
+      (IfOk-weaker (turn_at p lengths files end registers last (code ∷ bytes))
+      (λ t. length t.rest < length (code ∷ bytes)) _
+      (λ t short. same_run (length bytes) (length t.rest) t.rest (omega arith) (omega arith))
+      (turn_shorter registers last (code ∷ bytes)))
+
+  -- no opcode is left
+  pub run_done : (registers : Row) (last : Option ℕ) (bytes : List ℕ) (o : Option ℕ) → length bytes ≡ 0 → last ≡ o
+      → run p lengths files end registers last bytes ≡ at_end end o
+  unfolding run_of
+  run_done registers last [] o none e = ap (at_end end) e
+  run_done registers last (b ∷ bytes) o none e = absurd (omega arith)
+
+  module _ (registers : Row) (last : Option ℕ) (whole : List ℕ) where
+    module _ (code : ℕ) (bytes : List ℕ) (parts : whole ≡ code ∷ bytes) where
+      pub rest_shorter : (t : Turn)
+          → then_turn (opcode_after p lengths code) p files last registers bytes ≡ Ok t → length t.rest < length whole
+      rest_shorter t e =
+          let whole_turn : turn_at p lengths files end registers last (code ∷ bytes) ≡ Ok t = rw e refl in
+          omega (
+            arith,
+            ap length parts,
+            IfOk-at_ok (λ (t : Turn). length t.rest < length (code ∷ bytes)) whole_turn
+                (turn_shorter registers last (code ∷ bytes)),
+          )
+
+      -- an opcode that violates a rule
+      pub run_fails : (rule : LineRule)
+          → then_turn (opcode_after p lengths code) p files last registers bytes ≡ Err rule
+          → run p lengths files end registers last whole
+          ≡ failed (record { rule = rule; at = end - length whole })
+      run_fails rule e = rw parts (run_next registers last code bytes ∙ rw e refl)
+
+      -- an opcode that violates none
+      pub run_on : (t : Turn) → then_turn (opcode_after p lengths code) p files last registers bytes ≡ Ok t
+          → (o : Option Row) → t.row ≡ o
+          → run p lengths files end registers last whole
+          ≡ with_row o (run p lengths files end t.registers t.last t.rest)
+      run_on t e o row =
+          rw parts (run_next registers last code bytes ∙ rw e refl)
+          ∙ ap (λ (r : Option Row). with_row r (run p lengths files end t.registers t.last t.rest)) row
+
+      -- no opcode is added
+      pub rest_within : (result : Result (Option Row) LineRule) (old new : Machine) → old.rest.now ≡ whole
+          → Turns result (then_turn (opcode_after p lengths code) p files last registers bytes) old new
+          → length new.rest.now ≤ length whole
+      rest_within (Ok row) old new same t = let short = rest_shorter _ t in omega arith
+      rest_within (Err rule) old new same t =
+          omega (arith, ap (λ (m : Machine). length m.rest.now) t.1, ap length same)

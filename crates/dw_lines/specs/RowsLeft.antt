@@ -1,0 +1,7 @@
+-- State: the rows of a program that are left.
+use Rattle.dw_lines.specs.Rows.{Run, run}
+use Rattle.dw_lines.specs.declared.rows.Rows.{Rows}
+
+-- the run of a program from its next opcode
+abbrev pub run_left : Rows → Run
+run_left r = run r.parameters r.lengths.now r.files.now r.end r.machine.registers r.machine.last r.machine.rest.now

@@ -1,0 +1,172 @@
+//! Reading a line program: its header, and the bytes of its opcodes (DWARF 5, 6.2.4; DWARF 4, 6.2.4).
+
+ghost use Rattle.std.specs.Prelude.{◌≡◌, ◌+◌, ◌≤◌, ◌<◌, ◌⊎◌, ℕ, length, map, take, drop, IfOk, IfErr};
+ghost use Rattle.dw_forms.specs.Front.{BeginsWith, BeginsWithNone};
+ghost use Rattle.dw_forms.specs.Stops.{IfFault, GivesOrMemory};
+ghost use Rattle.dw_lines.specs.Files.{tables as tables_format, file_view};
+ghost use Rattle.dw_lines.specs.Header.{length_end};
+ghost use Rattle.dw_lines.specs.Programs.{fields_of, program_view, after_length as after_format};
+ghost use Rattle.dw_lines.specs.Programs.{measured as measured_format, header as header_format};
+ghost use Rattle.dw_lines.specs.Programs.{program_alone as alone, program_from};
+ghost use Rattle.dw_lines.specs.Programs.{SpellsProgram, ProgramFails};
+
+use crate::fault::LineFault;
+use crate::fields::field;
+use crate::files::Files;
+use crate::header::{address_size, content, parameters, standard_opcode_lengths, version};
+use crate::program::{LineHeader, Program};
+use crate::rule::LineRule;
+use crate::sections::LineSections;
+use crate::{tables4, tables5};
+use dw_forms::Stop;
+use std::alloc::Global;
+
+/// The tables of directories and files, and the bytes after them.
+#[tactic(auto, unfolding(crate::specs::Files::tables4, crate::specs::Files::tables5))]
+fn tables<'a>(
+    alloc: Global,
+    sections: &LineSections<'a>,
+    version: u16,
+    bytes: &'a [u8],
+) -> Result<(Vec<&'a [u8]>, Files<'a>, &'a [u8]), Stop<LineRule>>
+    requires { length bytes.now < length_end }
+    ensures { GivesOrMemory (λ x. (
+      record {
+        directories = map (λ path. path.now) x.0.items;
+        files = map file_view x.1.entries.items;
+        first_file = x.1.first;
+      },
+      x.2.now,
+    )) result ((tables_format sections.now version).read bytes.now) }
+{
+    if version < 5 {
+        let (directories, rest) = tables4::directories(alloc, bytes)?;
+        let (entries, rest) = tables4::files(alloc, directories.len(), rest)?;
+        return Ok((directories, Files { entries, first: 1 }, rest));
+    }
+    let (directories, rest) = tables5::directories(alloc, sections, bytes)?;
+    let (entries, rest) = tables5::files(alloc, sections, directories.len(), rest)?;
+    Ok((directories, Files { entries, first: 0 }, rest))
+}
+
+/// The fields after header_length, and the bytes after them.
+#[tactic(auto, unfolding(crate::specs::Programs::after_length))]
+fn after_length<'a>(
+    alloc: Global,
+    sections: &LineSections<'a>,
+    size: u8,
+    version: u16,
+    bytes: &'a [u8],
+) -> Result<(LineHeader<'a>, &'a [u8]), Stop<LineRule>>
+    requires size { (size ≡ 4) ⊎ (size ≡ 8) }
+    requires short { length bytes.now < length_end }
+    ensures exact { GivesOrMemory (λ x. (fields_of x.0, x.1.now)) result
+        ((after_format sections.now size version).read bytes.now) }
+    ensures within { IfOk result (λ x. length x.1.now ≤ length bytes.now) }
+{
+    let (parameters, rest) = parameters(version, size, bytes)?;
+    let (standard_opcode_lengths, rest) = standard_opcode_lengths(parameters.opcode_base, rest)?;
+    let (directories, files, rest) = tables(alloc, sections, version, rest)?;
+    let header = LineHeader {
+        version,
+        parameters,
+        standard_opcode_lengths,
+        directories,
+        files,
+    };
+    Ok((header, rest))
+}
+
+/// header_length and the fields after it, and the bytes of the opcodes.
+#[tactic(auto, unfolding(crate::specs::Programs::measured))]
+fn measured<'a>(
+    alloc: Global,
+    sections: &LineSections<'a>,
+    size: u8,
+    version: u16,
+    bytes: &'a [u8],
+) -> Result<(LineHeader<'a>, &'a [u8]), Stop<LineRule>>
+    requires size { (size ≡ 4) ⊎ (size ≡ 8) }
+    requires short { length bytes.now < length_end }
+    ensures { GivesOrMemory (λ x. (fields_of x.0, x.1.now)) result
+        ((measured_format sections.now size version).read bytes.now) }
+{
+    let (header_length, rest) = field(bytes, 4)?;
+    let (header, opcodes) = after_length(alloc, sections, size, version, rest)?;
+    if (rest.len() - opcodes.len()) as u64 == header_length {
+        return Ok((header, opcodes));
+    }
+    Err(Stop::Fault(LineRule::LineHeaderLength))
+}
+
+/// The header of a program that has these bytes after its length, and the bytes of the opcodes.
+#[tactic(auto, unfolding(crate::specs::Programs::header))]
+fn header<'a>(
+    alloc: Global,
+    sections: &LineSections<'a>,
+    size: u8,
+    bytes: &'a [u8],
+) -> Result<(LineHeader<'a>, &'a [u8]), Stop<LineRule>>
+    requires size { (size ≡ 4) ⊎ (size ≡ 8) }
+    requires short { length bytes.now < length_end }
+    ensures { GivesOrMemory (λ x. (fields_of x.0, x.1.now)) result
+        ((header_format sections.now size).read bytes.now) }
+{
+    let (version, rest) = version(bytes)?;
+    let rest = address_size(version, size, rest)?;
+    measured(alloc, sections, size, version, rest)
+}
+
+/// The program at an offset of `.debug_line`.
+#[tactic(auto, unfolding(crate::specs::Programs::line_program))]
+fn program_alone<'a>(
+    alloc: Global,
+    sections: &LineSections<'a>,
+    offset: usize,
+    size: u8,
+) -> Result<Program<'a>, Stop<LineRule>>
+    requires { (size ≡ 4) ⊎ (size ≡ 8) }
+    ensures place { IfOk result (λ p.
+        take (length p.opcodes.now) (drop p.opcodes_at sections.now.line.now) ≡ p.opcodes.now) }
+    ensures exact { GivesOrMemory program_view result
+        (alone sections.now size offset) }
+{
+    if sections.line.len() <= offset {
+        return Err(Stop::Fault(LineRule::LineOffset));
+    }
+    let (content, _) = content(&sections.line[offset..])?;
+    let (header, opcodes) = header(alloc, sections, size, content)?;
+    let opcodes_at = offset + 4 + (content.len() - opcodes.len());
+    Ok(Program {
+        header,
+        opcodes_at,
+        opcodes,
+    })
+}
+
+/// Reads the line program at an offset of `.debug_line`, up to its opcodes. The size is that of an address in the unit
+/// that names the program.
+pub fn read_program<'a>(
+    alloc: Global,
+    sections: &LineSections<'a>,
+    offset: usize,
+    size: u8,
+) -> Result<Program<'a>, Stop<LineFault>>
+    requires { (size ≡ 4) ⊎ (size ≡ 8) }
+    // Some bytes from the offset on are this program, and no others there are any.
+    ensures found { IfOk result (λ p. (len : ℕ) × BeginsWith (SpellsProgram sections.now size)
+        (drop offset sections.now.line.now) (program_view p) len) }
+    ensures none { IfErr result (IfFault (λ _.
+        BeginsWithNone (SpellsProgram sections.now size) (drop offset sections.now.line.now))) }
+    ensures fault { IfErr result (IfFault (ProgramFails sections.now size offset)) }
+    ensures place { IfOk result (λ p.
+        take (length p.opcodes.now) (drop p.opcodes_at sections.now.line.now) ≡ p.opcodes.now) }
+    // For callers that reason by steps.
+    ensures exact { GivesOrMemory program_view result (program_from sections.now size offset) }
+{
+    match program_alone(alloc, sections, offset, size) {
+        Ok(program) => Ok(program),
+        Err(Stop::Memory) => Err(Stop::Memory),
+        Err(Stop::Fault(rule)) => Err(Stop::Fault(LineFault { rule, at: offset })),
+    }
+}
