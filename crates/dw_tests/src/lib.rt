@@ -16,6 +16,8 @@ mod forms;
 #[cfg(test)]
 mod image;
 #[cfg(test)]
+mod lines;
+#[cfg(test)]
 mod links;
 #[cfg(test)]
 mod surface;
