@@ -188,17 +188,17 @@ item_of sections (line_str offset) = mapped a_path (string_at sections.line_str.
 item_of sections (unsigned n) = nothing (a_number n)
 item_of sections datum = nothing other
 
--- a content in a form
+-- a content in a form. None of these forms has the size of an address
 unfoldable pub item : LineSections → Form → Format Item LineRule
 item sections f = and_then (renamed (λ bytes. value_rule_of) (attribute_value 5 f 8)) (item_of sections)
 
--- an entry that has a content more
+-- an entry with a content of this kind added
 abbrev pub with_item : ℕ → Item → FileAt → FileAt
 with_item kind (a_path p) e = if kind == DW_LNCT_path then record e { path = p } else e
 with_item kind (a_number n) e = if kind == DW_LNCT_directory_index then record e { directory = n } else e
 with_item kind other e = e
 
--- the rest of an entry: what it has of these contents
+-- an entry with these contents added, one after another
 unfoldable pub entry_from : LineSections → List Content → FileAt → Format FileAt LineRule
 entry_from sections [] e = nothing e
 entry_from sections (c ∷ others) e = and_then (item sections c.form) (λ i.

@@ -33,7 +33,7 @@ pub(crate) fn content(bytes: &[u8]) -> Result<(&[u8], &[u8]), LineRule>
 /// The version.
 #[tactic(auto, unfolding(crate::specs::Header::version))]
 pub(crate) fn version(bytes: &[u8]) -> Result<(u16, &[u8]), LineRule>
-    ensures exact { Gives (λ x. (x.0, x.1.now)) result (version_format.read bytes.now) }
+    ensures { Gives (λ x. (x.0, x.1.now)) result (version_format.read bytes.now) }
 {
     let (version, rest) = field(bytes, 2)?;
     if 2 <= version && version <= 5 {

@@ -144,27 +144,27 @@ fn program_alone<'a>(
     })
 }
 
-/// Reads the line program at an offset of `.debug_line`, up to its opcodes. The size is that of an address in the unit
-/// that names the program.
+/// Reads the line program at an offset of `.debug_line`, up to its opcodes. The address size is that of the unit that names
+/// the program.
 pub fn read_program<'a>(
     alloc: Global,
     sections: &LineSections<'a>,
     offset: usize,
-    size: u8,
+    address_size: u8,
 ) -> Result<Program<'a>, Stop<LineFault>>
-    requires { (size ≡ 4) ⊎ (size ≡ 8) }
+    requires { (address_size ≡ 4) ⊎ (address_size ≡ 8) }
     // Some bytes from the offset on are this program, and no others there are any.
-    ensures found { IfOk result (λ p. (len : ℕ) × BeginsWith (SpellsProgram sections.now size)
+    ensures found { IfOk result (λ p. (len : ℕ) × BeginsWith (SpellsProgram sections.now address_size)
         (drop offset sections.now.line.now) (program_view p) len) }
     ensures none { IfErr result (IfFault (λ _.
-        BeginsWithNone (SpellsProgram sections.now size) (drop offset sections.now.line.now))) }
-    ensures fault { IfErr result (IfFault (ProgramFails sections.now size offset)) }
+        BeginsWithNone (SpellsProgram sections.now address_size) (drop offset sections.now.line.now))) }
+    ensures fault { IfErr result (IfFault (ProgramFails sections.now address_size offset)) }
     ensures place { IfOk result (λ p.
         take (length p.opcodes.now) (drop p.opcodes_at sections.now.line.now) ≡ p.opcodes.now) }
     // For callers that reason by steps.
-    ensures exact { GivesOrMemory program_view result (program_from sections.now size offset) }
+    ensures exact { GivesOrMemory program_view result (program_from sections.now address_size offset) }
 {
-    match program_alone(alloc, sections, offset, size) {
+    match program_alone(alloc, sections, offset, address_size) {
         Ok(program) => Ok(program),
         Err(Stop::Memory) => Err(Stop::Memory),
         Err(Stop::Fault(rule)) => Err(Stop::Fault(LineFault { rule, at: offset })),

@@ -22,7 +22,7 @@ pub enum LineRule {
     LineParameter,
     /// L8: a standard opcode has another count of operands.
     OpcodeLength,
-    /// L9: a format has a content twice, lacks a path, or a content in a form that it may not have.
+    /// L9: a format has a content twice or in a form that it may not have, or lacks a path where there are entries.
     LineForm,
     /// L10: a string starts outside its section, or no zero byte ends it there.
     LineString,
