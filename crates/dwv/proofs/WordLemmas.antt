@@ -121,11 +121,12 @@ are_request ws name m request file text have named is same = record {
 }
 
 -- what is read of a flag
-pub flag_read : (m : ArgMatches) (flag : Bool)
+pub flag_read : (m : ArgMatches) (flag : Bool) → (one_text (found_of m) (codes "json") ≡ None → flag ≡ false)
     → (one_text (found_of m) (codes "json") ≡ Some (codes "true") → flag ≡ true)
     → (one_text (found_of m) (codes "json") ≡ Some (codes "false") → flag ≡ false)
     → IsFlag (one_of (codes "json") (rows_of (found_of m))) flag
-flag_read m flag set unset = record {
+flag_read m flag absent set unset = record {
+  absent = λ is. absent (one_text-rows (found_of m) (codes "json") ∙ is);
   set = λ is. set (one_text-rows (found_of m) (codes "json") ∙ is);
   unset = λ is. unset (one_text-rows (found_of m) (codes "json") ∙ is);
 }

@@ -1,5 +1,5 @@
 -- Chapter: the words of the command line.
-use Rattle.std.specs.Prelude.{◌≡◌, ℕ, ◌≤◌, Bool, true, false, List, [], ◌∷◌, ◌++◌, codes, length, drop, Option, Some}
+use Rattle.std.specs.Prelude.{◌≡◌, ℕ, ◌≤◌, Bool, true, false, List, [], ◌∷◌, ◌++◌, codes, length, drop, Option, None, Some}
 use Rattle.std.specs.Str.Parse.{IsNumeral, digits_value}
 use Rattle.clap.specs.Simple.{Shape, new_shape}
 use Rattle.clap.specs.Words.{App, Row, Rule, Text, fault_of, first_of, new_rule, one_of, subcommand_of}
@@ -39,8 +39,9 @@ command_line = record {
       ∷ command (codes "size") (required_word (codes "FILE") ∷ required_word (codes "OFFSET") ∷ []) ∷ [];
 }
 
--- a flag whose value is `true`, or `false`
+-- a flag whose value is `true`, or `false`, or that is not there
 pub record IsFlag (value : Option Text) (flag : Bool) : Type 0 where
+  pub absent : value ≡ None → flag ≡ false
   pub set : value ≡ Some (codes "true") → flag ≡ true
   pub unset : value ≡ Some (codes "false") → flag ≡ false
 

@@ -88,12 +88,13 @@ fn offset_of(text: &str) -> Option<u32>
 /// Why words have none of the forms.
 fn refusal(error: &Error) -> WordsFault
     ensures usage { result ≡ WordsFault.BadUsage → kind_of error.now ≡ ErrorKind.OutOfMemory → ⊥ }
+    ensures memory { result ≡ WordsFault.Memory → kind_of error.now ≡ ErrorKind.OutOfMemory }
     ensures not_offset { result ≢ WordsFault.BadOffset }
 {
-    match error.kind() {
-        ErrorKind::OutOfMemory => WordsFault::Memory,
-        _ => WordsFault::BadUsage,
+    if matches!(error.kind(), ErrorKind::OutOfMemory) {
+        return WordsFault::Memory;
     }
+    WordsFault::BadUsage
 }
 
 /// The request that a command and its values are.

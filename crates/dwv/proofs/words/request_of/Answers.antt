@@ -4,7 +4,8 @@ use Rattle.dwv.proofs.words.request_of.Goals as goal
 
 pub returns-in-check-clause-ok : goal.returns-in-check-clause-ok
 returns-in-check-clause-ok c =
-    (search rules, flag_read c.args.matches.now c.get_flag.result c.get_flag.ensures.value c.get_flag.ensures.other)
+    let is = c.get_flag.ensures in
+    (search rules, flag_read c.args.matches.now c.get_flag.result is.none is.value is.other)
 
 pub returns-in_default-get_str-clause-bad_usage : goal.returns-in_default-get_str-clause-bad_usage
 returns-in_default-get_str-clause-bad_usage c =
