@@ -26,7 +26,9 @@ use Rattle.dw_links.specs.Bases.{base_in}
 use Rattle.dw_links.specs.Contributions.{HasZeroFrom, slot_at, string_at}
 use Rattle.dw_links.specs.References.{ReferenceFails, ReferenceFailures, is_reference_value}
 use Rattle.dw_links.specs.Targets.{reach_in_unit, reach_of}
-use Rattle.dw_links.specs.ValueTexts.{address_of, text_of_value}
+use Rattle.dw_links.specs.ValueTexts.{address_of, text_of_value, text_place_of}
+use Rattle.dw_links.specs.declared.texts.TextPlace.{TextPlace}
+use Rattle.dw_links.specs.declared.texts.TextPlace.TheVariants.{Str}
 use Rattle.dw_links.proofs.ClassLemmas.{unit_there}
 use Rattle.dw_links.proofs.SlotLemmas.{slot_within}
 use Rattle.dw_links.proofs.TableLemmas.{first_within, sized}
@@ -40,19 +42,39 @@ use Rattle.dwv_c.specs.declared.meaning.Meaning.TheVariants as means
 use Rattle.dwv_c.specs.declared.meaning.ValueRow.{ValueRow}
 use Rattle.dwv_c.specs.declared.places.Span.{Span}
 use Rattle.dwv_c.specs.declared.values.UnitAtHand.{UnitAtHand}
-use Rattle.dwv_c.specs.Meanings.{HasSlot, HasSpan, HasValue, IsAtHand, IsTextSpan, Means, is_address, is_text, place_at}
-use Rattle.dwv_c.specs.ValueRows.{TEXT, HasTextBytes, Holders, Says, SaysAddress, SaysText, address_in, held_in, value_text}
+use Rattle.dwv_c.specs.Meanings.{HasSlot, HasSpan, HasValue, IsAtHand, IsSpan, IsTextSpan, Means, is_address, is_text, place_at}
+use Rattle.dwv_c.specs.SectionPlaces.{Holders, held_in}
+use Rattle.dwv_c.specs.ValueRows.{TEXT, HasBytes, HasTextBytes, Says, SaysAddress, SaysText, address_in, value_place, value_text}
 
 -- ---- rows with bytes
 
-text_row : (h : Holders) (t : List ℕ) (s : Span) (r : ValueRow) → IsTextSpan h t s → HasSpan TEXT s r
-    → HasTextBytes h t r
-text_row h t s r is has = record {
+text_row : (h : Holders) (t : List ℕ) (p : TextPlace) (s : Span) (r : ValueRow) → IsTextSpan h t p s → HasSpan TEXT s r
+    → HasTextBytes h t p r
+text_row h t p s r is has = record {
   kind_is = has.kind_is;
+  section_is = has.section_is ∙ is.section_is;
+  number_is = has.start ∙ is.start_is;
   place =
       subst (λ (n : ℕ). IsAt (held_in h r.section) n (t ++ 0 ∷ [])) (sym has.start)
       (subst (λ (n : ℕ). IsAt (held_in h n) s.start (t ++ 0 ∷ [])) (sym has.section_is) is.place);
   length_is = has.length_is ∙ is.length_is;
+}
+
+pub span_row : (h : Holders) (kind section offset : ℕ) (bytes : List ℕ) (s : Span) (r : ValueRow)
+    → IsSpan h section offset bytes s → HasSpan kind s r → HasBytes h kind section offset bytes r
+span_row h kind section offset bytes s r is has = record {
+  kind_is = has.kind_is;
+  section_is = has.section_is ∙ is.section_is;
+  number_is = has.start ∙ is.start_is;
+  length_is = has.length_is ∙ is.length_is;
+  place =
+      subst (λ (n : ℕ). IsAt (held_in h r.section) n bytes) (sym has.start)
+      (subst (λ (n : ℕ). IsAt (held_in h n) s.start bytes) (sym has.section_is) is.place);
+  within =
+      let held : length (held_in h r.section) ≡ length (held_in h s.section) =
+      ap (λ (n : ℕ). length (held_in h n)) has.section_is in
+      let inside = is.within in
+      omega (arith, inside, has.start, has.length_is, held);
 }
 
 -- ---- the slots of indices
@@ -65,9 +87,13 @@ string_slot s (Some b) index has = (inl refl, slot_within s.str_offsets.now 4 0 
 pub string_leads : (s : Sections) (base : Option ℕ) (index n : ℕ) → HasStringAt s base index
     → IfSome base (λ b. n ≡ slot_at s.str_offsets.now 4 b index)
     → HasZeroFrom s.str.now n × (text_of_value s base (str_index index) ≡ Some (string_at s.str.now n))
+    × ((end : ℕ) → text_place_of s base (str_index index) end ≡ Some (Str n))
 string_leads s None index n has is = absurd has
-string_leads s (Some b) index n has is =
-    (subst (HasZeroFrom s.str.now) (sym is) has.2, ap (λ (m : ℕ). Some (string_at s.str.now m)) (sym is))
+string_leads s (Some b) index n has is = (
+  subst (HasZeroFrom s.str.now) (sym is) has.2,
+  ap (λ (m : ℕ). Some (string_at s.str.now m)) (sym is),
+  λ end. ap (λ (m : ℕ). Some (Str m)) (sym is),
+)
 
 pub address_slot : (s : Sections) (header : UnitHeader) (base : Option ℕ) (index : ℕ) → IsSize header.address_size
     → HasAddressAt s header base index → HasSlot s.addr.now header.address_size base index
@@ -84,19 +110,19 @@ address_told s header (Some b) index n has is = ap Some (sym is)
 
 -- ---- values of an entry of the unit at hand
 
-says_text : (h : Holders) (i : Image) (e : Entry) (v : Datum) (r : ValueRow) → is_text v ≡ true → SaysText h i e v r
-    → Says h i e v r
-says_text h i e (text bytes) r is says = says
-says_text h i e (str offset) r is says = says
-says_text h i e (line_str offset) r is says = says
-says_text h i e (str_index index) r is says = says
-says_text h i e _ r is says = absurd cc
+says_text : (h : Holders) (i : Image) (e : Entry) (end : ℕ) (v : Datum) (r : ValueRow) → is_text v ≡ true
+    → SaysText h i e end v r → Says h i e end v r
+says_text h i e end (text bytes) r is says = says
+says_text h i e end (str offset) r is says = says
+says_text h i e end (line_str offset) r is says = says
+says_text h i e end (str_index index) r is says = says
+says_text h i e end _ r is says = absurd cc
 
-says_address : (h : Holders) (i : Image) (e : Entry) (v : Datum) (r : ValueRow) → is_address v ≡ true
-    → SaysAddress i e v r → Says h i e v r
-says_address h i e (address n) r is says = says
-says_address h i e (addr_index index) r is says = says
-says_address h i e _ r is says = absurd cc
+says_address : (h : Holders) (i : Image) (e : Entry) (end : ℕ) (v : Datum) (r : ValueRow) → is_address v ≡ true
+    → SaysAddress i e v r → Says h i e end v r
+says_address h i e end (address n) r is says = says
+says_address h i e end (addr_index index) r is says = says
+says_address h i e end _ r is says = absurd cc
 
 -- ---- targets
 
@@ -172,22 +198,26 @@ module _ (i : Image) (u : UnitAtHand) (hand : IsAtHand i u) where
         sound.sound.texts id (entry_of (entries_in i) id) (slice_get-get_or (entries_in i) id no_entry x.within)
         x.position attribute v x.has (place_at i u) (its_unit v x)
 
-    pub text_means : (h : Holders) (v : Datum) (t : List ℕ) (s : Span) → HasValue i u id attribute v → is_text v ≡ true
+    pub text_means : (h : Holders) (end : ℕ) (v : Datum) (t : List ℕ) (p : TextPlace) (s : Span)
+        → HasValue i u id attribute v → is_text v ≡ true
         → text_of_value (sections_in i) (base_in (entries_in i) (place_at i u) DW_AT_str_offsets_base) v ≡ Some t
-        → IsTextSpan h t s
-        → Means h i (entry_of (entries_in i) id) v (means.Text s)
-    text_means h v t s x is told there =
+        → text_place_of (sections_in i) (base_in (entries_in i) (place_at i u) DW_AT_str_offsets_base) v end ≡ Some p
+        → IsTextSpan h t p s
+        → Means h i (entry_of (entries_in i) id) end v (means.Text s)
+    text_means h end v t p s x is told at there =
         let value : value_text i (entry_of (entries_in i) id) v ≡ Some t = rw (its_unit v x) told in
-        λ r has. says_text h i (entry_of (entries_in i) id) v r is (t, value, text_row h t s r there has)
+        let place : value_place i (entry_of (entries_in i) id) end v ≡ Some p = rw (its_unit v x) at in
+        λ r has. says_text h i (entry_of (entries_in i) id) end v r is
+        (t, p, value, place, text_row h t p s r there has)
 
-    pub address_means : (h : Holders) (v : Datum) (n : ℕ) → HasValue i u id attribute v → is_address v ≡ true
+    pub address_means : (h : Holders) (end : ℕ) (v : Datum) (n : ℕ) → HasValue i u id attribute v → is_address v ≡ true
         → address_of (sections_in i) (place_at i u).unit.header (base_in (entries_in i) (place_at i u) DW_AT_addr_base)
         v
         ≡ Some n
-        → Means h i (entry_of (entries_in i) id) v (means.Address n)
-    address_means h v n x is told =
+        → Means h i (entry_of (entries_in i) id) end v (means.Address n)
+    address_means h end v n x is told =
         let value : address_in i (entry_of (entries_in i) id) v ≡ Some n = rw (its_unit v x) told in
-        λ r has. says_address h i (entry_of (entries_in i) id) v r is (n, value, has)
+        λ r has. says_address h i (entry_of (entries_in i) id) end v r is (n, value, has)
 
     -- each reference has a target
     pub has_target : (v : Datum) → HasValue i u id attribute v → is_reference_value v ≡ true
@@ -268,13 +298,13 @@ module _ (i : Image) (u : UnitAtHand) (hand : IsAtHand i u) (sound : IsImageOf (
   pub index_slot : HasSlot (sections_in i).addr.now u.header.address_size u.addr_base index
   index_slot = address_slot (sections_in i) u.header u.addr_base index (unit_sized i u hand sound) address_here
 
-  pub index_means : (h : Holders) (n : ℕ)
+  pub index_means : (h : Holders) (end n : ℕ)
       → IfSome u.addr_base (λ b. n ≡ slot_at (sections_in i).addr.now u.header.address_size b index)
-      → Means h i (entry_of (entries_in i) id) (addr_index index) (means.Address n)
-  index_means h n is =
+      → Means h i (entry_of (entries_in i) id) end (addr_index index) (means.Address n)
+  index_means h end n is =
       let told : address_of (sections_in i) u.header u.addr_base (addr_index index)
       ≡ Some n = address_told (sections_in i) u.header u.addr_base index n address_here is in
-      address_means i u hand sound id attribute h (addr_index index) n x refl
+      address_means i u hand sound id attribute h end (addr_index index) n x refl
       (subst (λ (b : Option ℕ). address_of (sections_in i) (place_at i u).unit.header b (addr_index index) ≡ Some n)
       hand.addr_base
       (subst (λ (h : UnitHeader). address_of (sections_in i) h u.addr_base (addr_index index) ≡ Some n) hand.header
@@ -294,15 +324,18 @@ module _ (i : Image) (u : UnitAtHand) (hand : IsAtHand i u) (sound : IsImageOf (
       → HasZeroFrom (sections_in i).str.now n
   index_ends n is = (string_leads (sections_in i) u.str_base index n string_here is).0
 
-  pub index_text : (h : Holders) (n : ℕ) (s : Span)
+  pub index_text : (h : Holders) (end n : ℕ) (s : Span)
       → IfSome u.str_base (λ b. n ≡ slot_at (sections_in i).str_offsets.now 4 b index)
-      → IsTextSpan h (string_at (sections_in i).str.now n) s
-      → Means h i (entry_of (entries_in i) id) (str_index index) (means.Text s)
-  index_text h n s is there =
-      text_means i u hand sound id attribute h (str_index index) (string_at (sections_in i).str.now n) s x refl
+      → IsTextSpan h (string_at (sections_in i).str.now n) (Str n) s
+      → Means h i (entry_of (entries_in i) id) end (str_index index) (means.Text s)
+  index_text h end n s is there =
+      let leads = string_leads (sections_in i) u.str_base index n string_here is in
+      text_means i u hand sound id attribute h end (str_index index) (string_at (sections_in i).str.now n) (Str n) s x
+      refl
       (subst (λ (b : Option ℕ). text_of_value (sections_in i) b (str_index index)
-      ≡ Some (string_at (sections_in i).str.now n)) hand.str_base
-      (string_leads (sections_in i) u.str_base index n string_here is).1) there
+      ≡ Some (string_at (sections_in i).str.now n)) hand.str_base leads.1)
+      (subst (λ (b : Option ℕ). text_place_of (sections_in i) b (str_index index) end ≡ Some (Str n)) hand.str_base
+      (leads.2 end)) there
 
 -- ---- strings of the sections, as another image of them has them
 

@@ -4,35 +4,38 @@ use Rattle.std.specs.Prelude.{◌==◌, option_map, slice_get}
 use Rattle.std.specs.Option.{option_and_then, option_flatten}
 use Rattle.dw_forms.specs.Codes.{DW_AT_name, DW_AT_str_offsets_base}
 use Rattle.dw_forms.specs.Value.{Datum, address, block, unsigned, signed, wide, text, flag, str, line_str, str_index, ref_info, ref_unit, ref_sig, sec_offset, expr, addr_index, loc_index, rng_index}
-use Rattle.dw_entries.specs.EntryRules.{values_of}
 use Rattle.dw_entries.specs.Entries.{Entry, PlacedUnit, placed}
-use Rattle.dw_entries.specs.Lookups.{value_at_entry, value_in}
-use Rattle.dw_links.specs.AttributeTexts.{text_at}
+use Rattle.dw_entries.specs.Lookups.{value_at_entry}
+use Rattle.dw_entries.specs.ValuePlaces.{PlacedValue, placed_value_at, placed_value_in, placed_values}
+use Rattle.dw_entries.proofs.ValuePlaceLaws.{value_placed}
+use Rattle.dw_links.specs.AttributeTexts.{text_at, text_place_at}
 use Rattle.dw_links.specs.Bases.{base_in}
-use Rattle.dw_links.specs.ValueTexts.{text_of_value}
+use Rattle.dw_links.specs.ValueTexts.{text_of_value, text_place_of}
+use Rattle.dw_links.specs.declared.texts.TextPlace.{TextPlace}
 use Rattle.dw_image.specs.declared.image.Image.{Image}
-use Rattle.dw_image.specs.Images.{entries_in, name_in, sections_in, units_in}
+use Rattle.dw_image.specs.Images.{entries_in, name_in, name_place_in, sections_in, units_in}
 use Rattle.dwv_c.specs.declared.meaning.ValueRow.{ValueRow}
 use Rattle.dwv_c.specs.declared.places.Span.{Span}
 use Rattle.dwv_c.specs.Meanings.{named_after, text_span}
 use Rattle.dwv_c.specs.TableState.{IsNameSpan}
-use Rattle.dwv_c.specs.ValueRows.{ADDRESS, BLOCK, EXPRESSION, FLAG, LOCATION_LIST, RANGE_LIST, REFERENCE, SECTION_OFFSET, SIGNED, TEXT, UNSIGNED, WIDE, HasTextBytes, Holders, Says, value_text}
+use Rattle.dwv_c.specs.ValueRows.{ADDRESS, BLOCK, EXPRESSION, FLAG, LOCATION_LIST, RANGE_LIST, REFERENCE, SECTION_OFFSET, SIGNED, TEXT, UNSIGNED, WIDE, Says, SaysText, value_place, value_text}
+use Rattle.dwv_c.specs.SectionPlaces.{Holders}
 
 -- what is known of a name: no value so far is under its attribute, or the value is the text that is there, or no text
-abbrev pub IsNamed : (h : Holders) → Option (Option (List ℕ)) → Option (Option Span) → Type 0
-IsNamed h None None = Unit {0}
-IsNamed h (Some name) (Some s) = IsNameSpan h name s
-IsNamed h _ _ = ⊥
+abbrev pub IsNamed : (h : Holders) → Image → Entry → Option PlacedValue → Option (Option Span) → Type 0
+IsNamed h i e None None = Unit {0}
+IsNamed h i e (Some p) (Some s) = IsNameSpan h (value_text i e p.value) (value_place i e p.end p.value) s
+IsNamed h i e _ _ = ⊥
 
 -- ---- the value of an attribute, among more
 
-front_value : (xs ys : List (ℕ × Datum)) (attribute : ℕ) (v : Datum) → value_in xs attribute ≡ Some v
-    → value_in (xs ++ ys) attribute ≡ Some v
-front_value [] ys attribute v is = absurd cc
-front_value (x ∷ xs) ys attribute v is = search (rules, (front_value xs ys attribute v))
+front_value : (xs ys : List PlacedValue) (attribute : ℕ) (p : PlacedValue) → placed_value_in xs attribute ≡ Some p
+    → placed_value_in (xs ++ ys) attribute ≡ Some p
+front_value [] ys attribute p is = absurd cc
+front_value (x ∷ xs) ys attribute p is = search (rules, (front_value xs ys attribute p))
 
-back_value : (xs ys : List (ℕ × Datum)) (attribute : ℕ) → value_in xs attribute ≡ None
-    → value_in (xs ++ ys) attribute ≡ value_in ys attribute
+back_value : (xs ys : List PlacedValue) (attribute : ℕ) → placed_value_in xs attribute ≡ None
+    → placed_value_in (xs ++ ys) attribute ≡ placed_value_in ys attribute
 back_value [] ys attribute is = refl
 back_value (x ∷ xs) ys attribute is = search (rules, (back_value xs ys attribute))
 
@@ -41,10 +44,11 @@ back_value (x ∷ xs) ys attribute is = search (rules, (back_value xs ys attribu
 module _ (h : Holders) (i : Image) (e : Entry) where
   no_text : (v : Datum) (r : ValueRow) (kind : ℕ) → r.kind ≡ kind → (kind == TEXT) ≡ false
       → ((base : Option ℕ) → text_of_value (sections_in i) base v ≡ None)
-      → IsNameSpan h (value_text i e v) (text_span r)
-  no_text v r kind is other none =
+      → (end : ℕ) → IsNameSpan h (value_text i e v) (value_place i e end v) (text_span r)
+  no_text v r kind is other none end =
       let test : (r.kind == TEXT) ≡ false = ap (λ (k : ℕ). k == TEXT) is ∙ other in
-      subst (λ (t : Option (List ℕ)). IsNameSpan h t (text_span r)) (sym (go (slice_get (placed (units_in i)) e.unit)))
+      subst (λ (t : Option (List ℕ)). IsNameSpan h t (value_place i e end v) (text_span r))
+      (sym (go (slice_get (placed (units_in i)) e.unit)))
       (rw test tt)
     where
       go : (o : Option PlacedUnit) → option_and_then (λ (p : PlacedUnit).
@@ -52,64 +56,73 @@ module _ (h : Holders) (i : Image) (e : Entry) where
       go None = refl
       go (Some p) = none (base_in (entries_in i) p DW_AT_str_offsets_base)
 
-  some_text : (v : Datum) (r : ValueRow) (t : List ℕ) → value_text i e v ≡ Some t → HasTextBytes h t r
-      → IsNameSpan h (value_text i e v) (text_span r)
-  some_text v r t is has =
+  some_text : (v : Datum) (r : ValueRow) (end : ℕ) → SaysText h i e end v r
+      → IsNameSpan h (value_text i e v) (value_place i e end v) (text_span r)
+  some_text v r end (t, p, is, at, has) =
       let test : (r.kind == TEXT) ≡ true = ap (λ (k : ℕ). k == TEXT) has.kind_is in
-      subst (λ (o : Option (List ℕ)). IsNameSpan h o (text_span r)) (sym is)
-      (rw test (record { place = has.place; length_is = has.length_is }))
+      subst (λ (o : Option (List ℕ)). IsNameSpan h o (value_place i e end v) (text_span r)) (sym is)
+      (subst (λ (o : Option TextPlace). IsNameSpan h (Some t) o (text_span r)) (sym at)
+      (rw test (record {
+        section_is = has.section_is;
+        start_is = has.number_is;
+        length_is = has.length_is;
+        place = has.place;
+      })))
 
-  told_text : (v : Datum) (r : ValueRow) → Says h i e v r → IsNameSpan h (value_text i e v) (text_span r)
-  told_text (unsigned n) r says = no_text (unsigned n) r UNSIGNED says.kind_is refl (λ base. refl)
-  told_text (signed z) r says = no_text (signed z) r SIGNED says.kind_is refl (λ base. refl)
-  told_text (flag b) r says = no_text (flag b) r FLAG says.kind_is refl (λ base. refl)
-  told_text (address n) r says = no_text (address n) r ADDRESS says.2.kind_is refl (λ base. refl)
-  told_text (addr_index k) r says = no_text (addr_index k) r ADDRESS says.2.kind_is refl (λ base. refl)
-  told_text (text t) r says = some_text (text t) r says.0 says.1 says.2
-  told_text (str offset) r says = some_text (str offset) r says.0 says.1 says.2
-  told_text (line_str offset) r says = some_text (line_str offset) r says.0 says.1 says.2
-  told_text (str_index k) r says = some_text (str_index k) r says.0 says.1 says.2
-  told_text (block bytes) r says = no_text (block bytes) r BLOCK says.kind_is refl (λ base. refl)
-  told_text (expr bytes) r says = no_text (expr bytes) r EXPRESSION says.kind_is refl (λ base. refl)
-  told_text (wide bytes) r says = no_text (wide bytes) r WIDE says.kind_is refl (λ base. refl)
-  told_text (ref_info offset) r says = no_text (ref_info offset) r REFERENCE says.2.kind_is refl (λ base. refl)
-  told_text (ref_unit offset) r says = no_text (ref_unit offset) r REFERENCE says.2.kind_is refl (λ base. refl)
-  told_text (ref_sig signature) r says = no_text (ref_sig signature) r REFERENCE says.2.kind_is refl (λ base. refl)
-  told_text (sec_offset offset) r says = no_text (sec_offset offset) r SECTION_OFFSET says.kind_is refl (λ base. refl)
-  told_text (loc_index k) r says = no_text (loc_index k) r LOCATION_LIST says.kind_is refl (λ base. refl)
-  told_text (rng_index k) r says = no_text (rng_index k) r RANGE_LIST says.kind_is refl (λ base. refl)
+  told_text : (end : ℕ) (v : Datum) (r : ValueRow) → Says h i e end v r
+      → IsNameSpan h (value_text i e v) (value_place i e end v) (text_span r)
+  told_text end (unsigned n) r says = no_text (unsigned n) r UNSIGNED says.kind_is refl (λ base. refl) end
+  told_text end (signed z) r says = no_text (signed z) r SIGNED says.kind_is refl (λ base. refl) end
+  told_text end (flag b) r says = no_text (flag b) r FLAG says.kind_is refl (λ base. refl) end
+  told_text end (address n) r says = no_text (address n) r ADDRESS says.2.kind_is refl (λ base. refl) end
+  told_text end (addr_index k) r says = no_text (addr_index k) r ADDRESS says.2.kind_is refl (λ base. refl) end
+  told_text end (text t) r says = some_text (text t) r end says
+  told_text end (str offset) r says = some_text (str offset) r end says
+  told_text end (line_str offset) r says = some_text (line_str offset) r end says
+  told_text end (str_index k) r says = some_text (str_index k) r end says
+  told_text end (block bytes) r says = no_text (block bytes) r BLOCK says.kind_is refl (λ base. refl) end
+  told_text end (expr bytes) r says = no_text (expr bytes) r EXPRESSION says.kind_is refl (λ base. refl) end
+  told_text end (wide bytes) r says = no_text (wide bytes) r WIDE says.kind_is refl (λ base. refl) end
+  told_text end (ref_info offset) r says = no_text (ref_info offset) r REFERENCE says.2.kind_is refl (λ base. refl) end
+  told_text end (ref_unit offset) r says = no_text (ref_unit offset) r REFERENCE says.2.kind_is refl (λ base. refl) end
+  told_text end (ref_sig signature) r says =
+      no_text (ref_sig signature) r REFERENCE says.2.kind_is refl (λ base. refl) end
+  told_text end (sec_offset offset) r says =
+      no_text (sec_offset offset) r SECTION_OFFSET says.kind_is refl (λ base. refl) end
+  told_text end (loc_index k) r says = no_text (loc_index k) r LOCATION_LIST says.kind_is refl (λ base. refl) end
+  told_text end (rng_index k) r says = no_text (rng_index k) r RANGE_LIST says.kind_is refl (λ base. refl) end
 
   -- ---- the name
 
-  -- the text of the value under a name's attribute among these, if there is that value
-  abbrev pub name_among : List (ℕ × Datum) → Option (Option (List ℕ))
-  name_among values = option_map (value_text i e) (value_in values DW_AT_name)
+  -- the value under a name's attribute among these, if there is that value
+  abbrev pub name_among : List PlacedValue → Option PlacedValue
+  name_among values = placed_value_in values DW_AT_name
 
   -- after one value more
-  pub named_more : (done : List (ℕ × Datum)) (item : ℕ × Datum) (named : Option (Option Span)) (r : ValueRow)
-      → IsNamed h (name_among done) named → r.attribute ≡ item.0 → Says h i e item.1 r
-      → IsNamed h (name_among (done ++ item ∷ [])) (named_after named r)
-  named_more done item named r so_far attribute says = go (value_in done DW_AT_name) refl named so_far
+  pub named_more : (done : List PlacedValue) (item : PlacedValue) (named : Option (Option Span)) (r : ValueRow)
+      → IsNamed h i e (name_among done) named → r.attribute ≡ item.attribute → Says h i e item.end item.value r
+      → IsNamed h i e (name_among (done ++ item ∷ [])) (named_after named r)
+  named_more done item named r so_far attribute says = go (placed_value_in done DW_AT_name) refl named so_far
     where
-      by_code : (b : Bool) → (item.0 == DW_AT_name) ≡ b → IsNamed h (name_among (item ∷ [])) (named_after None r)
+      by_code : (b : Bool) → (item.attribute == DW_AT_name) ≡ b
+          → IsNamed h i e (name_among (item ∷ [])) (named_after None r)
       by_code true q =
           let test : (r.attribute == DW_AT_name) ≡ true = ap (λ (k : ℕ). k == DW_AT_name) attribute ∙ q in
-          rw (q, test) (told_text item.1 r says)
+          rw (q, test) (told_text item.end item.value r says)
       by_code false q =
           let test : (r.attribute == DW_AT_name) ≡ false = ap (λ (k : ℕ). k == DW_AT_name) attribute ∙ q in
           rw (q, test) tt
 
-      go : (o : Option Datum) → value_in done DW_AT_name ≡ o → (n : Option (Option Span))
-          → IsNamed h (option_map (value_text i e) o) n
-          → IsNamed h (name_among (done ++ item ∷ [])) (named_after n r)
+      go : (o : Option PlacedValue) → placed_value_in done DW_AT_name ≡ o → (n : Option (Option Span))
+          → IsNamed h i e o n → IsNamed h i e (name_among (done ++ item ∷ [])) (named_after n r)
       go None is None so_far =
-          subst (λ (o : Option Datum). IsNamed h (option_map (value_text i e) o) (named_after None r))
-          (sym (back_value done (item ∷ []) DW_AT_name is)) (by_code (item.0 == DW_AT_name) refl)
+          subst (λ (o : Option PlacedValue). IsNamed h i e o (named_after None r))
+          (sym (back_value done (item ∷ []) DW_AT_name is)) (by_code (item.attribute == DW_AT_name) refl)
       go None is (Some s) so_far = absurd so_far
-      go (Some v) is None so_far = absurd so_far
-      go (Some v) is (Some s) so_far =
-          subst (λ (o : Option Datum). IsNamed h (option_map (value_text i e) o) (Some s))
-          (sym (front_value done (item ∷ []) DW_AT_name v is)) so_far
+      go (Some p) is None so_far = absurd so_far
+      go (Some p) is (Some s) so_far =
+          subst (λ (o : Option PlacedValue). IsNamed h i e o (Some s))
+          (sym (front_value done (item ∷ []) DW_AT_name p is)) so_far
 
   swapped : {A B C : Type 0} (f : A → B → Option C) (o : Option A) (w : Option B)
       → option_and_then (λ (a : A). option_and_then (f a) w) o
@@ -125,13 +138,23 @@ module _ (h : Holders) (i : Image) (e : Entry) where
       swapped (λ (p : PlacedUnit). text_of_value (sections_in i) (base_in (entries_in i) p DW_AT_str_offsets_base))
       (slice_get (placed (units_in i)) e.unit) (value_at_entry e DW_AT_name)
 
+  name_place_is : name_place_in i e
+      ≡ option_and_then (λ (v : PlacedValue). value_place i e v.end v.value) (placed_value_at e DW_AT_name)
+  unfolding name_place_in text_place_at
+  name_place_is =
+      swapped (λ (p : PlacedUnit) (v : PlacedValue).
+      text_place_of (sections_in i) (base_in (entries_in i) p DW_AT_str_offsets_base) v.value v.end)
+      (slice_get (placed (units_in i)) e.unit) (placed_value_at e DW_AT_name)
+
   -- after all values of the entry
-  pub named_all : (named : Option (Option Span)) → IsNamed h (name_among (values_of e.head)) named
-      → IsNameSpan h (name_in i e) (option_flatten named)
-  named_all named is = rw name_is (go (value_at_entry e DW_AT_name) named is)
+  pub named_all : (named : Option (Option Span)) → IsNamed h i e (name_among (placed_values e)) named
+      → IsNameSpan h (name_in i e) (name_place_in i e) (option_flatten named)
+  named_all named is =
+      rw (name_is, name_place_is, value_placed e DW_AT_name) (go (placed_value_at e DW_AT_name) named is)
     where
-      go : (o : Option Datum) (n : Option (Option Span)) → IsNamed h (option_map (value_text i e) o) n
-          → IsNameSpan h (option_and_then (value_text i e) o) (option_flatten n)
+      go : (o : Option PlacedValue) (n : Option (Option Span)) → IsNamed h i e o n
+          → IsNameSpan h (option_and_then (value_text i e) (option_map (λ (p : PlacedValue). p.value) o))
+          (option_and_then (λ (p : PlacedValue). value_place i e p.end p.value) o) (option_flatten n)
       go None None is = tt
       go None (Some s) is = absurd is
       go (Some v) None is = absurd is

@@ -9,14 +9,16 @@ use Rattle.dw_entries.specs.ByNumber.{no_entry, entry_of}
 use Rattle.dw_entries.specs.Lookups.{nth_of}
 use Rattle.dw_entries.proofs.DepthLaws.{no_depth, one_deeper}
 use Rattle.dw_image.specs.declared.image.Image.{Image}
-use Rattle.dw_image.specs.Images.{entries_in, entry_count, name_in, units_in}
+use Rattle.dw_image.specs.Images.{entries_in, entry_count, name_in, name_place_in, units_in}
 use Rattle.dw_forms.specs.declared.fault.Stop.{Stop}
 use Rattle.dw_forms.specs.declared.fault.Stop.TheVariants.{Fault, Memory}
+use Rattle.dw_links.specs.declared.texts.TextPlace.{TextPlace}
 use Rattle.dw_report.specs.Shown.{entry_size}
 use Rattle.dwv_c.specs.declared.rows.EntryRow.{EntryRow}
 use Rattle.dwv_c.specs.declared.verdict.Verdict.{Verdict}
 use Rattle.dwv_c.specs.Filling.{HasPlace, IsNamePlace, depth_under}
 use Rattle.dwv_c.specs.Rows.{FillsRows, IsNameInRow, IsSizeInRow, HaveRows, IsRow, PutsRows, greatest, sound, fault, memory, whole}
+use Rattle.dwv_c.specs.SectionPlaces.{IsPlaceInFile}
 use Rattle.dwv_c.specs.Checked.{IsErrorOf, status_of, verdict_after}
 use Rattle.dwv_c.specs.Verdicts.{SOUND, IsSoundFile, IsFaultOfFile, of_image}
 
@@ -56,20 +58,26 @@ depth_told file i k e rows d is so_far told = go e.parent refl told
         let (above, at, deeper, less) = one_deeper (units_in i) k p e is under in
         by_row p above (slice_get rows p) deeper (so_far p above less at) told
 
-has_name : (file : List ℕ) (name : Option (List ℕ)) (place : Option (ℕ × ℕ)) (r : EntryRow)
-    → IsNamePlace file name place → HasPlace place r → IsNameInRow file name r
-has_name file None None r is has = has
-has_name file None (Some place) r is has = absurd is
-has_name file (Some text) None r is has = absurd is
-has_name file (Some text) (Some place) r is has =
-    (subst (λ (n : ℕ). IsAt file n (text ++ 0 ∷ [])) (sym has.0) is.0, has.1 ∙ is.1, has.2)
+has_name : (file : List ℕ) (name : Option (List ℕ)) (place : Option TextPlace) (found : Option (ℕ × ℕ)) (r : EntryRow)
+    → IsNamePlace file name place found → HasPlace found r → IsNameInRow file name place r
+has_name file None place None r is has = has
+has_name file None place (Some found) r is has = absurd is
+has_name file (Some text) None None r is has = absurd is
+has_name file (Some text) None (Some found) r is has = absurd is
+has_name file (Some text) (Some place) None r is has = absurd is
+has_name file (Some text) (Some place) (Some found) r is has = (
+  subst (λ (n : ℕ). IsAt file n (text ++ 0 ∷ [])) (sym has.0) is.0,
+  has.1 ∙ is.1,
+  has.2,
+  subst (IsPlaceInFile file place) (sym has.0) is.2,
+)
 
 -- what the look-ups of an entry tell makes its row
 pub row_told : (file : List ℕ) (i : Image) (k : ℕ) (rows : List EntryRow) (e : Entry) (offset tag : ℕ)
     (above : Option ℕ) (d : ℕ) (size : Option ℕ) (place : Option (ℕ × ℕ)) (r : EntryRow)
     → slice_get (entries_in i) k ≡ Some e → HaveRows file i k rows → offset ≡ e.at → tag ≡ e.head.decl.tag
     → above ≡ e.parent → depth_under rows above ≡ Some d → size ≡ entry_size i k e
-    → IsNamePlace file (name_in i e) place
+    → IsNamePlace file (name_in i e) (name_place_in i e) place
     → r.offset ≡ offset → r.depth ≡ d → r.tag ≡ tag → IsSizeInRow size r → HasPlace place r → IsRow file i k e r
 row_told file i k rows e offset tag above d size place r at so_far is_offset is_tag is_above is_depth is_size
     is_place r_offset r_depth r_tag r_size r_place =
@@ -78,7 +86,7 @@ row_told file i k rows e offset tag above d size place r at so_far is_offset is_
       depth = r_depth ∙ depth_told file i k e rows d at so_far (ap (depth_under rows) (sym is_above) ∙ is_depth);
       tag = r_tag ∙ is_tag;
       size = subst (λ (s : Option ℕ). IsSizeInRow s r) is_size r_size;
-      name = has_name file (name_in i e) place r is_place r_place;
+      name = has_name file (name_in i e) (name_place_in i e) place r is_place r_place;
     }
 
 -- the rows so far and that of the next entry

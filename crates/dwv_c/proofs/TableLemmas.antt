@@ -1,22 +1,25 @@
 -- Rows that are written one after another, and the values of entries in their order.
 use Rattle.std.proofs.Common.{◌≡◌, ℕ, zero, suc, ◌+◌, ◌-◌, ◌<◌, ◌≤◌, inl, inr, List, [], ◌∷◌, ◌++◌, length, take, drop, map, Option, Some, None, refl, sym, ap, subst, ◌∙◌, append_assoc, append-nil, length-append, drop-drop, drop_at, arith}
 use Rattle.std.proofs.lemmas.List.{drop-set-lt, length-map}
-use Rattle.std.proofs.lemmas.Option.{slice_get_within, slice_get-get_or}
-use Rattle.std.specs.Prelude.{slice_get, slice_set}
+use Rattle.std.proofs.lemmas.Option.{slice_get_within, slice_get-get_or, slice_get-map}
+use Rattle.std.specs.Prelude.{slice_get, slice_set, option_map}
 use Rattle.std.specs.Option.{IsSomeAnd, option_flatten}
 use Rattle.dw_forms.specs.Value.{Datum}
 use Rattle.dw_entries.specs.EntryRules.{values_of}
+use Rattle.dw_entries.specs.ValuePlaces.{PlacedValue, placed_values}
+use Rattle.dw_entries.proofs.ValuePlaceLaws.{placed_long, values_placed}
 use Rattle.dw_entries.specs.Entries.{Entry}
 use Rattle.dw_entries.specs.ByNumber.{no_entry, entry_of}
 use Rattle.dw_image.specs.declared.image.Image.{Image}
-use Rattle.dw_image.specs.Images.{entries_in, entry_count, name_in}
+use Rattle.dw_image.specs.Images.{entries_in, entry_count, name_in, name_place_in}
 use Rattle.dwv_c.specs.declared.meaning.ValueRow.{ValueRow}
 use Rattle.dwv_c.specs.declared.meaning.Meaning.{Meaning}
 use Rattle.dwv_c.specs.declared.values.UnitAtHand.{UnitAtHand}
 use Rattle.dwv_c.specs.declared.places.Span.{Span}
 use Rattle.dwv_c.specs.Meanings.{HasMeaning, HasValue, Means, named_after}
 use Rattle.dwv_c.specs.TableState.{IsNameSpan}
-use Rattle.dwv_c.specs.ValueRows.{Holders, IsValueRow, Told, told, values_from, values_in}
+use Rattle.dwv_c.specs.SectionPlaces.{Holders}
+use Rattle.dwv_c.specs.ValueRows.{IsValueRow, Told, told, values_from, values_in}
 use Rattle.dwv_c.specs.Tables.{HaveValues, value_count, values_before}
 use Rattle.dw_links.proofs.ListLookups.{there}
 use Rattle.dwv_c.proofs.NamedLemmas.{IsNamed, name_among, named_all, named_more}
@@ -64,16 +67,16 @@ rest_on {X} xs ys zs n m le more same =
 -- those from an entry on
 values_at : (n k m : ℕ) (es : List Entry) (e : Entry) → m ≡ n + k → slice_get es k ≡ Some e
     → drop (length (values_from n (take k es))) (values_from n es)
-    ≡ map (told m e) (values_of e.head) ++ values_from (suc m) (drop (suc k) es)
+    ≡ map (told m e) (placed_values e) ++ values_from (suc m) (drop (suc k) es)
 values_at n k m [] e sum is = absurd cc
 values_at n zero m (x ∷ es) e sum is =
     let same : x ≡ e = some_same (Some x) x e refl is in
     let number : n ≡ m = omega (arith, sum) in
-    subst (λ (y : Entry). values_from n (x ∷ es) ≡ map (told m y) (values_of y.head) ++ values_from (suc m) es) same
-    (subst (λ (p : ℕ). values_from n (x ∷ es) ≡ map (told p x) (values_of x.head) ++ values_from (suc p) es) number
+    subst (λ (y : Entry). values_from n (x ∷ es) ≡ map (told m y) (placed_values y) ++ values_from (suc m) es) same
+    (subst (λ (p : ℕ). values_from n (x ∷ es) ≡ map (told p x) (placed_values x) ++ values_from (suc p) es) number
     refl)
 values_at n (suc k) m (x ∷ es) e sum is =
-    let own : List Told = map (told n x) (values_of x.head) in
+    let own : List Told = map (told n x) (placed_values x) in
     let front : List Told = values_from (suc n) (take k es) in
     let more : List Told = values_from (suc n) es in
     ap (λ (l : ℕ). drop l (own ++ more)) (length-append own front)
@@ -88,11 +91,12 @@ values_counted n k [] e is = absurd cc
 values_counted n zero (x ∷ es) e is =
     let same : x ≡ e = some_same (Some x) x e refl is in
     let own : length (values_from n (x ∷ [])) ≡ length (values_of x.head) =
-    ap length (append-nil (map (told n x) (values_of x.head))) ∙ length-map (values_of x.head) (told n x) in
+    ap length (append-nil (map (told n x) (placed_values x))) ∙ length-map (placed_values x) (told n x)
+        ∙ placed_long x in
     let none_before : length (values_of e.head) ≡ 0 + length (values_of e.head) = omega arith in
     own ∙ ap (λ (y : Entry). length (values_of y.head)) same ∙ none_before
 values_counted n (suc k) (x ∷ es) e is =
-    let own : List Told = map (told n x) (values_of x.head) in
+    let own : List Told = map (told n x) (placed_values x) in
     let more = values_counted (suc n) k es e is in
     let a : length (own ++ values_from (suc n) (take (suc k) es))
     ≡ length own + length (values_from (suc n) (take (suc k) es)) =
@@ -117,19 +121,19 @@ pub values_rise : (i : Image) (n : ℕ) → n < entry_count i → values_before 
 values_rise i n below = let (e, is) = there (entries_in i) n below in omega (arith, counted_at i n e is)
 
 -- the walk over the values of an entry is at this value of all, and these are left
-pub record IsAtValue (h : Holders) (i : Image) (id at : ℕ) (left : List (ℕ × Datum)) (named : Option (Option Span))
+pub record IsAtValue (h : Holders) (i : Image) (id at : ℕ) (left : List PlacedValue) (named : Option (Option Span))
     : Type 0 where
   pub within : id < entry_count i
-  pub done : List (ℕ × Datum)
-  pub parts : values_of (entry_of (entries_in i) id).head ≡ done ++ left
+  pub done : List PlacedValue
+  pub parts : placed_values (entry_of (entries_in i) id) ≡ done ++ left
   pub tail : List Told
   pub all : drop at (values_in i) ≡ map (told id (entry_of (entries_in i) id)) left ++ tail
   pub next : at + length left ≡ values_before i (id + 1)
-  pub name : IsNamed h (name_among h i (entry_of (entries_in i) id) done) named
+  pub name : IsNamed h i (entry_of (entries_in i) id) (name_among h i (entry_of (entries_in i) id) done) named
 
 -- where it starts
-pub at_entry : (h : Holders) (i : Image) (id at : ℕ) (left : List (ℕ × Datum)) → id < entry_count i
-    → at ≡ values_before i id → left ≡ values_of (entry_of (entries_in i) id).head → IsAtValue h i id at left None
+pub at_entry : (h : Holders) (i : Image) (id at : ℕ) (left : List PlacedValue) → id < entry_count i
+    → at ≡ values_before i id → left ≡ placed_values (entry_of (entries_in i) id) → IsAtValue h i id at left None
 at_entry h i id at left below at_is left_is =
     let e = entry_of (entries_in i) id in
     let is = slice_get-get_or (entries_in i) id no_entry below in
@@ -139,9 +143,9 @@ at_entry h i id at left below at_is left_is =
       parts = sym left_is;
       tail = values_from (suc id) (drop (suc id) (entries_in i));
       all = ap (λ (n : ℕ). drop n (values_in i)) at_is ∙ values_at 0 id id (entries_in i) e (omega arith) is
-          ∙ ap (λ (vs : List (ℕ × Datum)). map (told id e) vs ++ values_from (suc id) (drop (suc id) (entries_in i)))
+          ∙ ap (λ (vs : List PlacedValue). map (told id e) vs ++ values_from (suc id) (drop (suc id) (entries_in i)))
           (sym left_is);
-      next = let counted = counted_at i id e is in omega (arith, counted, at_is, ap length left_is);
+      next = let counted = counted_at i id e is in omega (arith, counted, at_is, ap length left_is, placed_long e);
       name = tt;
     }
 
@@ -160,7 +164,7 @@ middle xs [] left x is = ap (λ (l : List _). slice_get l 0) is
 middle [] (d ∷ done) left x is = absurd cc
 middle (y ∷ xs) (d ∷ done) left x is = middle xs done left x (let e = is in cc)
 
-module _ (h : Holders) (i : Image) (id at : ℕ) (item : ℕ × Datum) (left : List (ℕ × Datum))
+module _ (h : Holders) (i : Image) (id at : ℕ) (item : PlacedValue) (left : List PlacedValue)
     (named : Option (Option Span)) (w : IsAtValue h i id at (item ∷ left) named) where
   here : (slice_get (values_in i) at ≡ Some (told id (entry_of (entries_in i) id) item))
       × (drop (suc at) (values_in i) ≡ map (told id (entry_of (entries_in i) id)) left ++ w.tail)
@@ -174,11 +178,18 @@ module _ (h : Holders) (i : Image) (id at : ℕ) (item : ℕ × Datum) (left : L
   pub at_within : at < value_count i
   at_within = slice_get_within (values_in i) at (told id (entry_of (entries_in i) id) item) value_here
 
-  pub has_here : slice_get (values_of (entry_of (entries_in i) id).head) (length w.done) ≡ Some item
-  has_here = middle (values_of (entry_of (entries_in i) id).head) w.done left item w.parts
+  pub has_here : slice_get (values_of (entry_of (entries_in i) id).head) (length w.done)
+      ≡ Some (item.attribute, item.value)
+  has_here =
+      let e = entry_of (entries_in i) id in
+      let pair : PlacedValue → ℕ × Datum = λ (p : PlacedValue). (p.attribute, p.value) in
+      ap (λ (l : List (ℕ × Datum)). slice_get l (length w.done)) (sym (values_placed e))
+      ∙ slice_get-map pair (placed_values e) (length w.done)
+      ∙ ap (option_map pair) (middle (placed_values e) w.done left item w.parts)
 
-  pub at_next : (m : Meaning) (row : ValueRow) → row.attribute ≡ item.0 → HasMeaning m row
-      → Means h i (entry_of (entries_in i) id) item.1 m → IsAtValue h i id (at + 1) left (named_after named row)
+  pub at_next : (m : Meaning) (row : ValueRow) → row.attribute ≡ item.attribute → HasMeaning m row
+      → Means h i (entry_of (entries_in i) id) item.end item.value m
+      → IsAtValue h i id (at + 1) left (named_after named row)
   at_next m row attribute has means = record {
     within = w.within;
     done = w.done ++ (item ∷ []);
@@ -189,26 +200,27 @@ module _ (h : Holders) (i : Image) (id at : ℕ) (item : ℕ × Datum) (left : L
     name = named_more h i (entry_of (entries_in i) id) w.done item named row w.name attribute (means row has);
   }
 
-pub at_last : (h : Holders) (i : Image) (id at : ℕ) (left : List (ℕ × Datum)) (named : Option (Option Span)) → left ≡ []
+pub at_last : (h : Holders) (i : Image) (id at : ℕ) (left : List PlacedValue) (named : Option (Option Span)) → left ≡ []
     → IsAtValue h i id at left named → at ≡ values_before i (id + 1)
 at_last h i id at left named none w = omega (arith, w.next, ap length none)
 
 -- the name is known then
-pub name_at_last : (h : Holders) (i : Image) (id at : ℕ) (left : List (ℕ × Datum)) (named : Option (Option Span))
+pub name_at_last : (h : Holders) (i : Image) (id at : ℕ) (left : List PlacedValue) (named : Option (Option Span))
     → left ≡ [] → IsAtValue h i id at left named
-    → IsNameSpan h (name_in i (entry_of (entries_in i) id)) (option_flatten named)
+    → IsNameSpan h (name_in i (entry_of (entries_in i) id)) (name_place_in i (entry_of (entries_in i) id))
+    (option_flatten named)
 name_at_last h i id at left named none w =
     let e = entry_of (entries_in i) id in
-    let all : w.done ≡ values_of e.head =
-    sym (append-nil w.done) ∙ ap (λ (l : List (ℕ × Datum)). w.done ++ l) (sym none) ∙ sym w.parts in
-    named_all h i e named (subst (λ (l : List (ℕ × Datum)). IsNamed h (name_among h i e l) named) all w.name)
+    let all : w.done ≡ placed_values e =
+    sym (append-nil w.done) ∙ ap (λ (l : List PlacedValue). w.done ++ l) (sym none) ∙ sym w.parts in
+    named_all h i e named (subst (λ (l : List PlacedValue). IsNamed h i e (name_among h i e l) named) all w.name)
 
 -- ---- the rows of values
 
 -- the value at hand is one of the entry
-pub value_of_entry : (h : Holders) (i : Image) (u : UnitAtHand) (id at : ℕ) (item : ℕ × Datum)
-    (left : List (ℕ × Datum)) (named : Option (Option Span)) → IsAtValue h i id at (item ∷ left) named
-    → u.number ≡ (entry_of (entries_in i) id).unit → HasValue i u id item.0 item.1
+pub value_of_entry : (h : Holders) (i : Image) (u : UnitAtHand) (id at : ℕ) (item : PlacedValue)
+    (left : List PlacedValue) (named : Option (Option Span)) → IsAtValue h i id at (item ∷ left) named
+    → u.number ≡ (entry_of (entries_in i) id).unit → HasValue i u id item.attribute item.value
 value_of_entry h i u id at item left named w unit = record {
   within = w.within;
   in_unit = sym unit;
@@ -217,10 +229,10 @@ value_of_entry h i u id at item left named w unit = record {
 }
 
 -- the row of its meaning is its row
-value_row_is : (h : Holders) (i : Image) (id at : ℕ) (item : ℕ × Datum) (left : List (ℕ × Datum))
+value_row_is : (h : Holders) (i : Image) (id at : ℕ) (item : PlacedValue) (left : List PlacedValue)
     (named : Option (Option Span)) → IsAtValue h i id at (item ∷ left) named
-    → (row : ValueRow) (m : Meaning) → row.entry ≡ id → row.attribute ≡ item.0 → HasMeaning m row → row.zero ≡ 0
-    → Means h i (entry_of (entries_in i) id) item.1 m
+    → (row : ValueRow) (m : Meaning) → row.entry ≡ id → row.attribute ≡ item.attribute → HasMeaning m row → row.zero ≡ 0
+    → Means h i (entry_of (entries_in i) id) item.end item.value m
     → (t : Told) → slice_get (values_in i) at ≡ Some t → IsValueRow h i t row
 value_row_is h i id at item left named w row m entry attribute has is_zero means t is =
     let same : told id (entry_of (entries_in i) id) item
@@ -232,11 +244,11 @@ value_row_is h i id at item left named w row m entry attribute has is_zero means
     (record { entry = entry; attribute_is = attribute; says = means row has; zero_is = is_zero })
 
 -- so the rows of the values up to it and with it
-pub values_more : (h : Holders) (i : Image) (id at : ℕ) (item : ℕ × Datum) (left : List (ℕ × Datum))
+pub values_more : (h : Holders) (i : Image) (id at : ℕ) (item : PlacedValue) (left : List PlacedValue)
     (named : Option (Option Span)) → IsAtValue h i id at (item ∷ left) named
     → (rows : List ValueRow) (row : ValueRow) (m : Meaning) → value_count i ≤ length rows → HaveValues h i at rows
-    → row.entry ≡ id → row.attribute ≡ item.0 → HasMeaning m row → row.zero ≡ 0
-    → Means h i (entry_of (entries_in i) id) item.1 m
+    → row.entry ≡ id → row.attribute ≡ item.attribute → HasMeaning m row → row.zero ≡ 0
+    → Means h i (entry_of (entries_in i) id) item.end item.value m
     → HaveValues h i (at + 1) (slice_set rows at row)
 values_more h i id at item left named w rows row m room so_far entry attribute has is_zero means =
     have_more (λ k t r. IsValueRow h i t r) (values_in i) at rows row
@@ -244,7 +256,7 @@ values_more h i id at item left named w rows row m room so_far entry attribute h
     (value_row_is h i id at item left named w row m entry attribute has is_zero means)
 
 -- after the last value of an entry
-pub counted_to : (h : Holders) (i : Image) (id at from : ℕ) (left : List (ℕ × Datum)) (named : Option (Option Span))
+pub counted_to : (h : Holders) (i : Image) (id at from : ℕ) (left : List PlacedValue) (named : Option (Option Span))
     → left ≡ [] → from ≡ values_before i id → IsAtValue h i id at left named
     → at ≡ from + length (values_of (entry_of (entries_in i) id).head)
 counted_to h i id at from left named none from_is w =

@@ -14,7 +14,8 @@ use Rattle.dw_forms.specs.declared.fault.Stop.{Stop}
 use Rattle.dw_forms.specs.declared.fault.Stop.TheVariants.{Fault, Memory}
 use Rattle.dw_image.specs.declared.image.Image.{Image}
 use Rattle.dw_image.specs.Headline.{IsImageOf}
-use Rattle.dw_image.specs.Images.{entries_in, name_in, sections_in, units_in}
+use Rattle.dw_image.specs.Images.{entries_in, name_in, name_place_in, sections_in, units_in}
+use Rattle.dw_links.specs.declared.texts.TextPlace.{TextPlace}
 use Rattle.dw_report.specs.Shown.{entry_size}
 use Rattle.dwv_c.specs.declared.places.Span.{Span}
 use Rattle.dwv_c.specs.declared.table_rows.Links.{Links}
@@ -28,7 +29,7 @@ use Rattle.dwv_c.specs.Rows.{greatest}
 use Rattle.dwv_c.specs.Tables.{AreTable, Arrays, HasName, HasRoom, HasSize, HaveEntries, IsTableEntry, LacksRoom, PutsTable, arrays, counts_of, row_of, sound, fault, memory, short, values_before, whole}
 use Rattle.dwv_c.specs.TableState.{HasLinks, HasNameSpan, IsNameSpan, Puts, depth_by, filled}
 use Rattle.dwv_c.specs.TableState as state
-use Rattle.dwv_c.specs.ValueRows.{Holders, held_in}
+use Rattle.dwv_c.specs.SectionPlaces.{Holders, held_in}
 use Rattle.dwv_c.specs.Verdicts.{NO_MEMORY, SOUND, TOO_SHORT, IsSoundFile, of_image}
 use Rattle.dwv_c.proofs.TableLemmas.{have_more}
 
@@ -53,22 +54,28 @@ depth_told h i k e rows d is so_far told = go e.parent refl told
         let (above, at, deeper, less) = one_deeper (units_in i) k p e is under in
         by_row p above (slice_get rows p) deeper (so_far p above less at) told
 
-has_name : (h : Holders) (name : Option (List ℕ)) (s : Option Span) (r : TableEntry) → IsNameSpan h name s
-    → HasNameSpan s r → HasName h name r
-has_name h None None r is has = has
-has_name h None (Some s) r is has = absurd is
-has_name h (Some text) None r is has = absurd is
-has_name h (Some text) (Some s) r is has = (
-  subst (λ (n : ℕ). IsAt (held_in h r.name_section) n (text ++ 0 ∷ [])) (sym has.0)
-      (subst (λ (n : ℕ). IsAt (held_in h n) s.start (text ++ 0 ∷ [])) (sym has.2) is.place),
-  has.1 ∙ is.length_is,
-)
+has_name : (h : Holders) (name : Option (List ℕ)) (place : Option TextPlace) (s : Option Span) (r : TableEntry)
+    → IsNameSpan h name place s → HasNameSpan s r → HasName h name place r
+has_name h None place None r is has = has
+has_name h None place (Some s) r is has = absurd is
+has_name h (Some text) None None r is has = absurd is
+has_name h (Some text) None (Some s) r is has = absurd is
+has_name h (Some text) (Some place) None r is has = absurd is
+has_name h (Some text) (Some place) (Some s) r is has = record {
+  section_is = has.2 ∙ is.section_is;
+  name_is = has.0 ∙ is.start_is;
+  length_is = has.1 ∙ is.length_is;
+  place =
+      subst (λ (n : ℕ). IsAt (held_in h r.name_section) n (text ++ 0 ∷ [])) (sym has.0)
+      (subst (λ (n : ℕ). IsAt (held_in h n) s.start (text ++ 0 ∷ [])) (sym has.2) is.place);
+}
 
 -- what is told of an entry makes its row
 pub entry_told : (h : Holders) (i : Image) (k : ℕ) (rows : List TableEntry) (e : Entry) (offset tag : ℕ)
     (above : Option ℕ) (d : ℕ) (size : Option ℕ) (name : Option Span) (l : Links) (r : TableEntry)
     → slice_get (entries_in i) k ≡ Some e → HaveEntries h i k rows → offset ≡ e.at → tag ≡ e.head.decl.tag
-    → above ≡ e.parent → depth_by rows above ≡ Some d → size ≡ entry_size i k e → IsNameSpan h (name_in i e) name
+    → above ≡ e.parent → depth_by rows above ≡ Some d → size ≡ entry_size i k e
+    → IsNameSpan h (name_in i e) (name_place_in i e) name
     → l.first_value ≡ values_before i k → l.values ≡ length (values_of e.head) → l.unit ≡ e.unit
     → l.parent ≡ e.parent → l.next_sibling ≡ e.next
     → r.offset ≡ offset → r.depth ≡ d → r.tag ≡ tag → HasSize size r → HasNameSpan name r → HasLinks l r
@@ -80,7 +87,7 @@ entry_told h i k rows e offset tag above d size name l r at so_far is_offset is_
       depth = r_depth ∙ depth_told h i k e rows d at so_far (ap (depth_by rows) (sym is_above) ∙ is_depth);
       tag = r_tag ∙ is_tag;
       size = subst (λ (s : Option ℕ). HasSize s r) is_size r_size;
-      name = has_name h (name_in i e) name r is_name r_name;
+      name = has_name h (name_in i e) (name_place_in i e) name r is_name r_name;
       first_value = r_links.first_value ∙ first;
       values = r_links.values ∙ ap (λ (n : ℕ). min n greatest) values;
       unit = r_links.unit ∙ unit;
@@ -99,42 +106,46 @@ entries_more h i n rows r room so_far says =
 -- ---- what a call returns
 
 -- one of the arrays is too short
-pub puts_short : (h : Holders) (i : Image) (old : Arrays) (counts counts' : TableCounts) (v v' : Verdict)
-    → LacksRoom i old → counts' ≡ counts_of i → v' ≡ of_image i → Puts h i old counts v TOO_SHORT old counts' v'
-puts_short h i old counts counts' v v' lacks is_counts is_v =
+pub puts_short : (AreHolders : Holders → Type 0) (i : Image) (old : Arrays) (counts counts' : TableCounts)
+    (v v' : Verdict) → LacksRoom i old → counts' ≡ counts_of i → v' ≡ of_image i
+    → Puts AreHolders i old counts v TOO_SHORT old counts' v'
+puts_short AreHolders i old counts counts' v v' lacks is_counts is_v =
     rw (is_counts, is_v) (filled TOO_SHORT old (short lacks))
 
 -- all rows are written
-pub puts_whole : (h : Holders) (i : Image) (old new : Arrays) (counts counts' : TableCounts) (v v' : Verdict)
-    → HasRoom i old → AreTable h i old new → counts' ≡ counts_of i → v' ≡ of_image i
-    → Puts h i old counts v SOUND new counts' v'
-puts_whole h i old new counts counts' v v' room are is_counts is_v =
-    rw (is_counts, is_v) (filled SOUND new (whole new room are))
+pub puts_whole : (AreHolders : Holders → Type 0) (i : Image) (old new : Arrays) (counts counts' : TableCounts)
+    (v v' : Verdict) → HasRoom i old → (h : Holders) × AreHolders h × AreTable h i old new → counts' ≡ counts_of i
+    → v' ≡ of_image i → Puts AreHolders i old counts v SOUND new counts' v'
+puts_whole AreHolders i old new counts counts' v v' room (h, held, are) is_counts is_v =
+    rw (is_counts, is_v) (filled SOUND new (whole h new held room are))
 
 -- an allocation failed
-pub puts_none : (h : Holders) (i : Image) (units units' : List UnitRow) (entries entries' : List TableEntry)
+pub puts_none : (AreHolders : Holders → Type 0) (i : Image) (units units' : List UnitRow)
+    (entries entries' : List TableEntry)
     (values values' : List ValueRow) (counts : TableCounts) (v : Verdict)
     → (units' ≡ units) × (entries' ≡ entries) × (values' ≡ values)
-    → Puts h i (arrays units entries values) counts v NO_MEMORY (arrays units' entries' values') counts v
-puts_none h i units units' entries entries' values values' counts v same =
+    → Puts AreHolders i (arrays units entries values) counts v NO_MEMORY (arrays units' entries' values') counts v
+puts_none AreHolders i units units' entries entries' values values' counts v same =
     rw (same.0, same.1, same.2) state.memory
 
-pub puts_found : (IsOfFault : Verdict → Type 0) (IsSoundBy : Image → Type 0) (holders : Image → Holders) (i : Image)
+pub puts_found : (IsOfFault : Verdict → Type 0) (IsSoundBy : Image → Type 0) (AreHolders : Image → Holders → Type 0)
+    (i : Image)
     (old new : Arrays) (counts counts' : TableCounts)
-    (v v' : Verdict) (status : ℕ) → IsSoundBy i → Puts (holders i) i old counts v status new counts' v'
-    → PutsTable IsOfFault IsSoundBy holders old counts v status new counts' v'
-puts_found IsOfFault IsSoundBy holders i old new counts counts' v v' status is (filled s n fills) =
+    (v v' : Verdict) (status : ℕ) → IsSoundBy i → Puts (AreHolders i) i old counts v status new counts' v'
+    → PutsTable IsOfFault IsSoundBy AreHolders old counts v status new counts' v'
+puts_found IsOfFault IsSoundBy AreHolders i old new counts counts' v v' status is (filled s n fills) =
     sound i status new is fills
-puts_found IsOfFault IsSoundBy holders i old new counts counts' v v' status is state.memory = memory
+puts_found IsOfFault IsSoundBy AreHolders i old new counts counts' v v' status is state.memory = memory
 
 -- for sections that are not sound, or if an allocation failed
-pub puts_fault : (IsOfFault : Verdict → Type 0) (IsSoundBy : Image → Type 0) (holders : Image → Holders) (old : Arrays)
+pub puts_fault : (IsOfFault : Verdict → Type 0) (IsSoundBy : Image → Type 0) (AreHolders : Image → Holders → Type 0)
+    (old : Arrays)
     (counts : TableCounts) (v v' : Verdict)
     (e : Stop Verdict) (status : ℕ) → status ≡ status_of (Err e) → v' ≡ verdict_after (Err e) v → IsErrorOf IsOfFault e
-    → PutsTable IsOfFault IsSoundBy holders old counts v status old counts v'
-puts_fault IsOfFault IsSoundBy holders old counts v v' (Fault f) status is_status is_v is =
+    → PutsTable IsOfFault IsSoundBy AreHolders old counts v status old counts v'
+puts_fault IsOfFault IsSoundBy AreHolders old counts v v' (Fault f) status is_status is_v is =
     rw (is_status, is_v) (fault f is)
-puts_fault IsOfFault IsSoundBy holders old counts v v' Memory status is_status is_v is = rw (is_status, is_v) memory
+puts_fault IsOfFault IsSoundBy AreHolders old counts v v' Memory status is_status is_v is = rw (is_status, is_v) memory
 
 -- an image is of its own sections
 pub own_sections : (s : Sections) (i : Image) → IsImageOf s i → IsImageOf (sections_in i) i

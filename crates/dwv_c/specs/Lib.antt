@@ -1,5 +1,6 @@
 -- Chapters, in reading order.
 pub mod Verdicts
+pub mod SectionPlaces
 pub mod Rows
 pub mod ValueRows
 pub mod Tables

@@ -3,7 +3,8 @@ use Rattle.std.specs.Prelude.{◌≡◌, ℕ, ◌+◌, ◌*◌, ◌≤◌, List,
 use Rattle.std.specs.Prelude.{if◌then◌else◌}
 use Rattle.std.specs.Prelude.{Option, None, Some, ◌<◌}
 use Rattle.std.specs.Int.{cast_unsigned, w64}
-use Rattle.dw_elf.specs.Sections.{IsAt}
+use Rattle.dw_elf.specs.Checks.{ChecksPass}
+use Rattle.dw_elf.specs.Sections.{AreSections, IsAt}
 use Rattle.dw_forms.specs.Codes.{DW_AT_name, DW_AT_str_offsets_base, DW_AT_addr_base}
 use Rattle.dw_forms.specs.Value.{Datum, address, block, unsigned, signed, wide, text, flag, str, line_str, str_index}
 use Rattle.dw_forms.specs.Value.{sec_offset, expr, addr_index, loc_index, rng_index}
@@ -13,14 +14,18 @@ use Rattle.dw_entries.specs.ByNumber.{entry_of, placed_of}
 use Rattle.dw_entries.specs.Header.{IsSize}
 use Rattle.dw_links.specs.Bases.{base_in}
 use Rattle.dw_image.specs.declared.image.Image.{Image}
-use Rattle.dw_image.specs.Images.{entries_in, unit_count, units_in}
+use Rattle.dw_image.specs.Images.{entries_in, sections_in, unit_count, units_in}
 use Rattle.dwv_c.specs.declared.meaning.Meaning.{Meaning}
 use Rattle.dwv_c.specs.declared.meaning.Meaning.TheVariants as means
+use Rattle.dwv_c.specs.declared.places.Ground.{Ground}
+use Rattle.dwv_c.specs.declared.places.Ground.TheVariants.{File, Sections as BySection}
 use Rattle.dwv_c.specs.declared.places.Places.{Places}
 use Rattle.dwv_c.specs.declared.places.Span.{Span}
 use Rattle.dwv_c.specs.declared.meaning.ValueRow.{ValueRow}
 use Rattle.dwv_c.specs.declared.values.UnitAtHand.{UnitAtHand}
-use Rattle.dwv_c.specs.ValueRows.{HasNumber, Holders, Says, held_in}
+use Rattle.dw_links.specs.declared.texts.TextPlace.{TextPlace}
+use Rattle.dwv_c.specs.SectionPlaces.{AreInFile, AreInImage, Holders, held_in, offset_of, section_of, start_in}
+use Rattle.dwv_c.specs.ValueRows.{HasNumber, Says}
 use Rattle.dwv_c.specs.ValueRows.{UNSIGNED, SIGNED, FLAG, ADDRESS, TEXT, BLOCK, EXPRESSION, WIDE, REFERENCE}
 use Rattle.dwv_c.specs.ValueRows.{SECTION_OFFSET, LOCATION_LIST, RANGE_LIST}
 
@@ -28,22 +33,44 @@ use Rattle.dwv_c.specs.ValueRows.{SECTION_OFFSET, LOCATION_LIST, RANGE_LIST}
 
 -- what places are counted from
 abbrev pub holders_of : Places → Holders
-holders_of p = record { info = p.info.bytes.now; str = p.str.bytes.now; line_str = p.line_str.bytes.now }
+holders_of p = record {
+  info = p.info.bytes.now;
+  str = p.str.bytes.now;
+  line_str = p.line_str.bytes.now;
+  info_start = p.info.start;
+  str_start = p.str.start;
+  line_str_start = p.line_str.start;
+}
 
 -- these bytes are in a section at an offset
 pub record IsPartOfSection (section : List ℕ) (offset : ℕ) (bytes : List ℕ) : Type 0 where
   pub place : IsAt section offset bytes
   pub within : offset + length bytes ≤ length section
 
--- these bytes are there
-pub record IsSpan (h : Holders) (bytes : List ℕ) (s : Span) : Type 0 where
-  pub place : IsAt (held_in h s.section) s.start bytes
+-- these bytes are there, at an offset of a section
+pub record IsSpan (h : Holders) (section offset : ℕ) (bytes : List ℕ) (s : Span) : Type 0 where
+  pub section_is : s.section ≡ section
+  pub start_is : s.start ≡ start_in h section + offset
   pub length_is : s.length ≡ length bytes
+  pub place : IsAt (held_in h s.section) s.start bytes
+  pub within : s.start + s.length ≤ length (held_in h s.section)
 
--- this text is there, and a zero byte follows it
-pub record IsTextSpan (h : Holders) (text : List ℕ) (s : Span) : Type 0 where
-  pub place : IsAt (held_in h s.section) s.start (text ++ 0 ∷ [])
+-- this text is there, at this place of a section, and a zero byte follows it
+pub record IsTextSpan (h : Holders) (text : List ℕ) (p : TextPlace) (s : Span) : Type 0 where
+  pub section_is : s.section ≡ section_of p
+  pub start_is : s.start ≡ start_in h (section_of p) + offset_of p
   pub length_is : s.length ≡ length text
+  pub place : IsAt (held_in h s.section) s.start (text ++ 0 ∷ [])
+
+-- what places are counted from
+abbrev pub AreOnGround : Ground → Image → Holders → Type 0
+AreOnGround (File file) i h = AreInFile file.now h
+AreOnGround BySection i h = AreInImage i h
+
+-- the file has the sections of an image
+abbrev pub IsGround : Ground → Image → Type 0
+IsGround (File file) i = ChecksPass file.now × AreSections file.now (sections_in i)
+IsGround BySection i = Unit {0}
 
 -- ---- meanings
 
@@ -69,9 +96,10 @@ HasMeaning (means.SectionOffset n) r = HasNumber SECTION_OFFSET n r
 HasMeaning (means.LocationList n) r = HasNumber LOCATION_LIST n r
 HasMeaning (means.RangeList n) r = HasNumber RANGE_LIST n r
 
--- a meaning is that of a value of an entry: a row that has it says what the row of the value must say
-abbrev pub Means : (h : Holders) → Image → Entry → Datum → Meaning → Type 0
-Means h i e v m = (r : ValueRow) → HasMeaning m r → Says h i e v r
+-- a meaning is that of a value of an entry, whose bytes end at this offset of .debug_info: a row that has it says what
+-- the row of the value must say
+abbrev pub Means : (h : Holders) → Image → Entry → (end : ℕ) → Datum → Meaning → Type 0
+Means h i e end v m = (r : ValueRow) → HasMeaning m r → Says h i e end v r
 
 -- the value is a number, a flag, or an offset or an index that no rule is on: its meaning is in itself
 abbrev pub has_own_meaning : Datum → Bool

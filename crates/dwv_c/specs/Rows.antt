@@ -4,10 +4,12 @@ use Rattle.std.specs.Option.{IsSomeAnd}
 use Rattle.dw_elf.specs.Sections.{IsAt}
 use Rattle.dw_entries.specs.Entries.{Entry}
 use Rattle.dw_image.specs.declared.image.Image.{Image}
-use Rattle.dw_image.specs.Images.{entries_in, entry_count, name_in}
+use Rattle.dw_image.specs.Images.{entries_in, entry_count, name_in, name_place_in}
+use Rattle.dw_links.specs.declared.texts.TextPlace.{TextPlace}
 use Rattle.dw_report.specs.Shown.{entry_size}
 use Rattle.dwv_c.specs.declared.rows.EntryRow.{EntryRow}
 use Rattle.dwv_c.specs.declared.verdict.Verdict.{Verdict}
+use Rattle.dwv_c.specs.SectionPlaces.{IsPlaceInFile}
 use Rattle.dwv_c.specs.Verdicts.{SOUND, FAULT, NO_MEMORY, TOO_SHORT, IsSoundFile, IsFaultOfFile, of_image}
 
 -- the greatest number that a field of 32 bits has
@@ -19,10 +21,13 @@ abbrev pub IsSizeInRow : Option ℕ → EntryRow → Type 0
 IsSizeInRow None r = (r.size ≡ 0) × (r.has_size ≡ 0)
 IsSizeInRow (Some n) r = (r.size ≡ n) × (r.has_size ≡ 1)
 
--- a row says where these bytes are in the file, with a zero byte after them, or that there are none
-abbrev pub IsNameInRow : (file : List ℕ) → Option (List ℕ) → EntryRow → Type 0
-IsNameInRow file None r = (r.name ≡ 0) × (r.name_length ≡ 0) × (r.has_name ≡ 0)
-IsNameInRow file (Some text) r = IsAt file r.name (text ++ 0 ∷ []) × (r.name_length ≡ length text) × (r.has_name ≡ 1)
+-- a row says where this name is in the file, at this place with a zero byte after it, or that there is none
+abbrev pub IsNameInRow : (file : List ℕ) → Option (List ℕ) → Option TextPlace → EntryRow → Type 0
+IsNameInRow file None place r = (r.name ≡ 0) × (r.name_length ≡ 0) × (r.has_name ≡ 0)
+IsNameInRow file (Some text) None r = ⊥
+IsNameInRow file (Some text) (Some place) r =
+    IsAt file r.name (text ++ 0 ∷ []) × (r.name_length ≡ length text) × (r.has_name ≡ 1)
+    × IsPlaceInFile file place r.name
 
 -- the row of the entry with a number: its offset, its depth (or the greatest number, if it does not fit), its tag, its
 -- size, and where its name is in the file
@@ -31,7 +36,7 @@ pub record IsRow (file : List ℕ) (i : Image) (number : ℕ) (e : Entry) (r : E
   pub depth : r.depth ≡ min e.depth greatest
   pub tag : r.tag ≡ e.head.decl.tag
   pub size : IsSizeInRow (entry_size i number e) r
-  pub name : IsNameInRow file (name_in i e) r
+  pub name : IsNameInRow file (name_in i e) (name_place_in i e) r
 
 -- the first n rows are those of the first n entries, in rising offset
 abbrev pub HaveRows : (file : List ℕ) → Image → ℕ → List EntryRow → Type 0

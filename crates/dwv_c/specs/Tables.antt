@@ -1,10 +1,9 @@
--- Chapter: all that a sound file says as rows in three arrays of the caller.
-use Rattle.std.specs.Prelude.{◌≡◌, ℕ, ◌<◌, ◌≤◌, ◌⊎◌, List, [], ◌∷◌, ◌++◌, length, take, drop, min, slice_get}
+-- Chapter: the units, the entries and the values of a sound file as rows in three arrays of the caller.
+use Rattle.std.specs.Prelude.{◌≡◌, ℕ, ◌+◌, ◌<◌, ◌≤◌, ◌⊎◌, List, [], ◌∷◌, ◌++◌, length, take, drop, min, slice_get}
 use Rattle.std.specs.Prelude.{Option, Some, None}
 use Rattle.std.specs.Prelude.{unwrap_or}
 use Rattle.std.specs.Option.{IsSomeAnd}
-use Rattle.dw_elf.specs.Checks.{ChecksPass}
-use Rattle.dw_elf.specs.Sections.{AreSections, IsAt}
+use Rattle.dw_elf.specs.Sections.{IsAt}
 use Rattle.dw_elf.specs.declared.sections.Sections.{Sections}
 use Rattle.dw_forms.specs.Codes.{DW_AT_language}
 use Rattle.dw_entries.specs.EntryRules.{values_of}
@@ -16,17 +15,17 @@ use Rattle.dw_links.specs.Bases.{section_offset_of}
 use Rattle.dw_links.specs.Constants.{constant_of, natural_of}
 use Rattle.dw_image.specs.declared.image.Image.{Image}
 use Rattle.dw_image.specs.Headline.{IsImageOf}
-use Rattle.dw_image.specs.Images.{entries_in, entry_count, name_in, sections_in, unit_count, units_in}
+use Rattle.dw_image.specs.Images.{entries_in, entry_count, name_in, name_place_in, sections_in, unit_count, units_in}
+use Rattle.dw_links.specs.declared.texts.TextPlace.{TextPlace}
 use Rattle.dw_report.specs.Shown.{entry_size}
 use Rattle.dwv_c.specs.declared.meaning.ValueRow.{ValueRow}
-use Rattle.dwv_c.specs.declared.places.Ground.{Ground}
-use Rattle.dwv_c.specs.declared.places.Ground.TheVariants.{File, Sections as BySection}
 use Rattle.dwv_c.specs.declared.table_rows.TableCounts.{TableCounts}
 use Rattle.dwv_c.specs.declared.table_rows.TableEntry.{TableEntry}
 use Rattle.dwv_c.specs.declared.table_rows.UnitRow.{UnitRow}
 use Rattle.dwv_c.specs.declared.verdict.Verdict.{Verdict}
 use Rattle.dwv_c.specs.Rows.{greatest}
-use Rattle.dwv_c.specs.ValueRows.{Holders, IsValueRow, Told, held_alone, held_by_file, held_in, values_from, values_in}
+use Rattle.dwv_c.specs.SectionPlaces.{Holders, held_in, offset_of, section_of, start_in}
+use Rattle.dwv_c.specs.ValueRows.{IsValueRow, Told, values_from, values_in}
 use Rattle.dwv_c.specs.Verdicts.{SOUND, FAULT, NO_MEMORY, TOO_SHORT, HaveBytes, of_image}
 
 -- where a unit's range lists are counted from in .debug_rnglists, and its location lists in .debug_loclists (DWARF 5,
@@ -75,10 +74,18 @@ abbrev pub HasSize : Option ℕ → TableEntry → Type 0
 HasSize None r = (r.size ≡ 0) × (r.has_size ≡ 0)
 HasSize (Some n) r = (r.size ≡ n) × (r.has_size ≡ 1)
 
--- a row says where this name is, with a zero byte after it, or that there is none
-abbrev pub HasName : (h : Holders) → Option (List ℕ) → TableEntry → Type 0
-HasName h None r = (r.name ≡ 0) × (r.name_length ≡ 0) × (r.name_section ≡ 0)
-HasName h (Some text) r = IsAt (held_in h r.name_section) r.name (text ++ 0 ∷ []) × (r.name_length ≡ length text)
+-- a row says where this name is: at this place of a section, and a zero byte follows it there
+pub record HasNameAt (h : Holders) (text : List ℕ) (p : TextPlace) (r : TableEntry) : Type 0 where
+  pub section_is : r.name_section ≡ section_of p
+  pub name_is : r.name ≡ start_in h (section_of p) + offset_of p
+  pub length_is : r.name_length ≡ length text
+  pub place : IsAt (held_in h r.name_section) r.name (text ++ 0 ∷ [])
+
+-- a row says where this name is, or that there is none
+abbrev pub HasName : (h : Holders) → Option (List ℕ) → Option TextPlace → TableEntry → Type 0
+HasName h None place r = (r.name ≡ 0) × (r.name_length ≡ 0) × (r.name_section ≡ 0)
+HasName h (Some text) None r = ⊥
+HasName h (Some text) (Some place) r = HasNameAt h text place r
 
 -- the row of the entry with a number: what dwv_entries says of it, and its place among the others
 pub record IsTableEntry (h : Holders) (i : Image) (number : ℕ) (e : Entry) (r : TableEntry) : Type 0 where
@@ -86,7 +93,7 @@ pub record IsTableEntry (h : Holders) (i : Image) (number : ℕ) (e : Entry) (r 
   pub depth : r.depth ≡ min e.depth greatest
   pub tag : r.tag ≡ e.head.decl.tag
   pub size : HasSize (entry_size i number e) r
-  pub name : HasName h (name_in i e) r
+  pub name : HasName h (name_in i e) (name_place_in i e) r
   pub first_value : r.first_value ≡ values_before i number
   pub values : r.values ≡ min (length (values_of e.head)) greatest
   pub unit : r.unit ≡ e.unit
@@ -134,10 +141,11 @@ pub record AreTable (h : Holders) (i : Image) (old new : Arrays) : Type 0 where
   pub other_entries : drop (entry_count i) new.entries ≡ drop (entry_count i) old.entries
   pub other_values : drop (value_count i) new.values ≡ drop (value_count i) old.values
 
--- what is returned for sound sections, and the arrays then
-pub data FillsTable (h : Holders) (i : Image) (old : Arrays) : ℕ → Arrays → Type 0 where
-  whole : (new : Arrays) → HasRoom i old → AreTable h i old new → FillsTable h i old SOUND new
-  short : LacksRoom i old → FillsTable h i old TOO_SHORT old
+-- what is returned for sound sections, and the arrays then; places are counted from such holders
+pub data FillsTable (AreHolders : Holders → Type 0) (i : Image) (old : Arrays) : ℕ → Arrays → Type 0 where
+  whole : (h : Holders) (new : Arrays) → AreHolders h → HasRoom i old → AreTable h i old new
+      → FillsTable AreHolders i old SOUND new
+  short : LacksRoom i old → FillsTable AreHolders i old TOO_SHORT old
 
 -- how many rows an image has
 abbrev pub counts_of : Image → TableCounts
@@ -145,13 +153,13 @@ counts_of i = record { units = unit_count i; entries = entry_count i; values = v
 
 -- what is returned, and the arrays, the counts and the verdict then. If an allocation failed, the arrays are as they
 -- were
-pub data PutsTable (IsOfFault : Verdict → Type 0) (IsSoundBy : Image → Type 0) (holders : Image → Holders)
+pub data PutsTable (IsOfFault : Verdict → Type 0) (IsSoundBy : Image → Type 0) (AreHolders : Image → Holders → Type 0)
     (old : Arrays) (counts : TableCounts) (v : Verdict) : ℕ → Arrays → TableCounts → Verdict → Type 0 where
-  sound : (i : Image) (status : ℕ) (new : Arrays) → IsSoundBy i → FillsTable (holders i) i old status new
-      → PutsTable IsOfFault IsSoundBy holders old counts v status new (counts_of i) (of_image i)
+  sound : (i : Image) (status : ℕ) (new : Arrays) → IsSoundBy i → FillsTable (AreHolders i) i old status new
+      → PutsTable IsOfFault IsSoundBy AreHolders old counts v status new (counts_of i) (of_image i)
   fault : (found : Verdict) → IsOfFault found
-      → PutsTable IsOfFault IsSoundBy holders old counts v FAULT old counts found
-  memory : PutsTable IsOfFault IsSoundBy holders old counts v NO_MEMORY old counts v
+      → PutsTable IsOfFault IsSoundBy AreHolders old counts v FAULT old counts found
+  memory : PutsTable IsOfFault IsSoundBy AreHolders old counts v NO_MEMORY old counts v
 
 -- the arrays of these rows
 abbrev pub arrays : List UnitRow → List TableEntry → List ValueRow → Arrays
@@ -162,17 +170,3 @@ pub record IsSoundSix (info abbrevs strs line_strs offsets addrs : List ℕ) (i 
   pub sections : Sections
   pub bytes : HaveBytes sections info abbrevs strs line_strs offsets addrs
   pub image : IsImageOf sections i
-
--- places are counted from the start of each section of an image
-abbrev pub held_by_image : Image → Holders
-held_by_image i = held_alone (sections_in i)
-
--- what places are counted from
-abbrev pub held_on : Ground → Image → Holders
-held_on (File file) i = held_by_file file.now
-held_on BySection i = held_by_image i
-
--- the file has the sections of an image
-abbrev pub IsGround : Ground → Image → Type 0
-IsGround (File file) i = ChecksPass file.now × AreSections file.now (sections_in i)
-IsGround BySection i = Unit {0}

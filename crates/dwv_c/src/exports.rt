@@ -5,8 +5,8 @@ ghost use Rattle.dw_report.specs.Reports.{status_code};
 ghost use Rattle.dwv_c.specs.Verdicts.{AreCountsOfFile, AreCountsOfSix, Checks, IsFaultOfFile, IsFaultOfSix};
 ghost use Rattle.dwv_c.specs.Verdicts.{AreOfFile, IsSoundFile, IsFaultOfSections};
 ghost use Rattle.dwv_c.specs.Rows.{PutsRows};
-ghost use Rattle.dwv_c.specs.Tables.{IsSoundSix, PutsTable, arrays, held_by_image};
-ghost use Rattle.dwv_c.specs.ValueRows.{held_by_file};
+ghost use Rattle.dwv_c.specs.SectionPlaces.{AreInFile, AreInImage};
+ghost use Rattle.dwv_c.specs.Tables.{IsSoundSix, PutsTable, arrays};
 ghost use Rattle.dwv_c.specs.Texts.{PutsReport, request_of};
 ghost use Rattle.dwv_c.specs.Checked.{status_of, verdict_after, IsErrorOf};
 ghost use Rattle.dw_image.specs.Headline.{IsImageOf};
@@ -247,7 +247,7 @@ pub extern "C" fn dwv_table(
     counts: &mut TableCounts,
     verdict: &mut Verdict,
 ) -> u32
-    ensures { PutsTable (IsFaultOfFile file.now) (IsSoundFile file.now) (λ _. held_by_file file.now)
+    ensures { PutsTable (IsFaultOfFile file.now) (IsSoundFile file.now) (λ _. AreInFile file.now)
         (arrays units.old entries.old values.old) counts.old verdict.old result
         (arrays units.new entries.new values.new) counts.new verdict.new }
 {
@@ -279,7 +279,7 @@ pub extern "C" fn dwv_table_sections(
     verdict: &mut Verdict,
 ) -> u32
     ensures { PutsTable (IsFaultOfSix info.now «abbrev».now str.now line_str.now str_offsets.now addr.now)
-        (IsSoundSix info.now «abbrev».now str.now line_str.now str_offsets.now addr.now) held_by_image
+        (IsSoundSix info.now «abbrev».now str.now line_str.now str_offsets.now addr.now) AreInImage
         (arrays units.old entries.old values.old) counts.old verdict.old result
         (arrays units.new entries.new values.new) counts.new verdict.new }
 {

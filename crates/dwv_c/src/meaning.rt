@@ -1,12 +1,13 @@
 //! What a value means, and its row.
 
-ghost use Rattle.std.specs.Prelude.{◌≡◌, true, IfSome};
+ghost use Rattle.std.specs.Prelude.{◌≡◌, ℕ, true, IfSome};
 ghost use Rattle.dw_entries.specs.Entries.{Entry};
 ghost use Rattle.dw_forms.specs.Value.{view};
 ghost use Rattle.dw_image.specs.declared.image.Image.{Image as ImageData};
 ghost use Rattle.dw_links.specs.Contributions.{slot_at};
 ghost use Rattle.dwv_c.specs.Meanings.{HasMeaning, HasSlot, HasSpan, Means, has_own_meaning, named_after, text_span};
-ghost use Rattle.dwv_c.specs.ValueRows.{HasNumber, Holders};
+ghost use Rattle.dwv_c.specs.SectionPlaces.{Holders};
+ghost use Rattle.dwv_c.specs.ValueRows.{HasNumber};
 
 use crate::places::Span;
 use dw_forms::constants::DW_AT_name;
@@ -164,7 +165,7 @@ pub fn slot(section: &[u8], size: u8, base: Option<u32>, index: u64) -> u64
 /// What a number, a flag, or an offset or an index that no rule is on means.
 pub fn plain_meaning(value: &Value<'_>) -> Meaning
     requires { has_own_meaning (view value.now) ≡ true }
-    ensures { (h : Holders) (i : ImageData) (e : Entry) → Means h i e (view value.now) result }
+    ensures { (h : Holders) (i : ImageData) (e : Entry) (end : ℕ) → Means h i e end (view value.now) result }
 {
     match *value {
         Value::Unsigned(number) => Meaning::Unsigned(number),

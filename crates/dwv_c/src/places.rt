@@ -1,12 +1,13 @@
 //! Where the bytes of sections are: in the bytes of a file, or in the sections themselves.
 
-ghost use Rattle.std.specs.Prelude.{◌≡◌, ◌++◌, ◌∷◌, [], ℕ, List, IfOk};
+ghost use Rattle.std.specs.Prelude.{◌≡◌, ◌+◌, ◌≤◌, ◌++◌, ◌∷◌, [], length, IfOk};
 ghost use Rattle.dw_elf.specs.Checks.{ChecksPass};
 ghost use Rattle.dw_elf.specs.Names.{name_of};
-ghost use Rattle.dw_elf.specs.Sections.{IsAt, IsSection};
+ghost use Rattle.dw_elf.specs.Sections.{IsAt, StartsAt};
 ghost use Rattle.dw_image.specs.Images.{sections_in};
 ghost use Rattle.dw_image.specs.Slots.{BeginsString};
 ghost use Rattle.dw_image.specs.ValueTexts.{text_there};
+ghost use Rattle.dw_links.specs.declared.texts.TextPlace.TheVariants.{Info};
 
 use crate::strings::Strings;
 use dw_elf::{DebugSection, section_start};
@@ -52,8 +53,7 @@ pub enum Ground<'a> {
 fn in_file(file: &[u8], section: DebugSection) -> Holder<'_>
     requires { ChecksPass file.now }
     ensures bytes { result.bytes ≡ file.entry }
-    ensures start { (bytes : List ℕ) → IsSection file.now (name_of section) bytes
-        → IsAt result.bytes.now result.start bytes }
+    ensures start { StartsAt file.now (name_of section) result.start }
 {
     Holder {
         bytes: file,
@@ -82,11 +82,12 @@ pub struct Places<'i, 'a> {
     ghost info_at: { IsAt info.bytes.now info.start (sections_in strings.image.now).info.now },
     ghost str_at: { IsAt str.bytes.now str.start (sections_in strings.image.now).str.now },
     ghost line_str_at: { IsAt line_str.bytes.now line_str.start (sections_in strings.image.now).line_str.now },
+    ghost info_within: { info.start + length (sections_in strings.image.now).info.now ≤ length info.bytes.now },
 }
 
 impl<'i, 'a> Places<'i, 'a> {
-    ghost use Rattle.dwv_c.specs.Meanings.{IsPartOfSection, IsSpan, IsTextSpan, holders_of};
-    ghost use Rattle.dwv_c.specs.Tables.{IsGround, held_on};
+    ghost use Rattle.dwv_c.specs.Meanings.{AreOnGround, IsGround, IsPartOfSection, IsSpan, IsTextSpan, holders_of};
+    ghost use Rattle.dwv_c.specs.SectionPlaces.{INFO as INFO_SECTION};
 
     /// Places in the sections of an image, counted from what is given.
     pub fn read(
@@ -95,7 +96,7 @@ impl<'i, 'a> Places<'i, 'a> {
         image: &'i Image<'a>,
     ) -> Result<Places<'i, 'a>, AllocError>
         requires { IsGround ground image.now }
-        ensures holders { IfOk result (λ it. holders_of it ≡ held_on ground.entry image.now) }
+        ensures holders { IfOk result (λ it. AreOnGround ground.entry image.now (holders_of it)) }
         ensures image { IfOk result (λ it. it.strings.image ≡ image.entry) }
     {
         let strings = Strings::read(alloc, image)?;
@@ -121,7 +122,7 @@ impl<'i, 'a> Places<'i, 'a> {
     /// Bytes at an offset of .debug_info.
     pub fn span(&self, offset: usize, bytes: &[u8]) -> Span
         requires { IsPartOfSection (sections_in self.now.strings.image.now).info.now offset bytes.now }
-        ensures { IsSpan (holders_of self.now) bytes.now result }
+        ensures { IsSpan (holders_of self.now) INFO_SECTION offset bytes.now result }
     {
         let _longest = self.info.bytes.len();
         Span {
@@ -134,7 +135,7 @@ impl<'i, 'a> Places<'i, 'a> {
     /// The text at an offset of .debug_info.
     pub fn text_in_info(&self, offset: usize, text: &[u8]) -> Span
         requires { IsPartOfSection (sections_in self.now.strings.image.now).info.now offset (text.now ++ 0 ∷ []) }
-        ensures { IsTextSpan (holders_of self.now) text.now result }
+        ensures { IsTextSpan (holders_of self.now) text.now (Info offset) result }
     {
         let _longest = self.info.bytes.len();
         Span {
@@ -148,7 +149,7 @@ impl<'i, 'a> Places<'i, 'a> {
     pub fn text_at(&self, place: TextPlace) -> Span
         requires { BeginsString (sections_in self.now.strings.image.now) place }
         ensures { IsTextSpan (holders_of self.now)
-            (text_there (sections_in self.now.strings.image.now) place) result }
+            (text_there (sections_in self.now.strings.image.now) place) place result }
     {
         let _longest = (
             self.info.bytes.len(),

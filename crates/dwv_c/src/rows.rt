@@ -2,13 +2,17 @@
 
 ghost use Rattle.std.specs.Prelude.{◌≡◌, ◌+◌, ◌<◌, ◌≤◌, ◌++◌, ◌∷◌, [], Some, length, drop, IfOk, IfSome};
 ghost use Rattle.dw_elf.specs.Checks.{ChecksPass};
-ghost use Rattle.dw_elf.specs.Sections.{AreSections, IsAt};
+ghost use Rattle.dw_elf.specs.Names.{name_of};
+ghost use Rattle.dw_elf.specs.Sections.{AreSections, IsAt, StartsAt};
+ghost use Rattle.dw_elf.specs.declared.sections.DebugSection.TheVariants.{Info as InfoSection, Str as StrSection};
+ghost use Rattle.dw_elf.specs.declared.sections.DebugSection.TheVariants.{LineStr as LineStrSection};
 ghost use Rattle.dw_entries.specs.ByNumber.{entry_of};
-ghost use Rattle.dw_image.specs.Images.{entries_in, entry_count, name_in, sections_in};
+ghost use Rattle.dw_image.specs.Images.{entries_in, entry_count, name_in, name_place_in, sections_in};
 ghost use Rattle.dw_image.specs.Slots.{BeginsString};
 ghost use Rattle.dw_image.specs.ValueTexts.{text_there};
 ghost use Rattle.dwv_c.specs.Verdicts.{IsSoundFile, of_image};
 ghost use Rattle.dwv_c.specs.Rows.{IsSizeInRow, HaveRows, IsRow, PutsRows};
+ghost use Rattle.dwv_c.specs.SectionPlaces.{IsPlaceInFile};
 ghost use Rattle.dwv_c.specs.Filling.{HasPlace, IsNamePlace, depth_under};
 
 use crate::strings::Strings;
@@ -29,6 +33,9 @@ pub struct Names<'i, 'a> {
     info_start: usize,
     str_start: usize,
     line_str_start: usize,
+    ghost info_starts: { StartsAt file.now (name_of InfoSection) info_start },
+    ghost str_starts: { StartsAt file.now (name_of StrSection) str_start },
+    ghost line_str_starts: { StartsAt file.now (name_of LineStrSection) line_str_start },
     ghost info_at: { IsAt file.now info_start (sections_in strings.image.now).info.now },
     ghost str_at: { IsAt file.now str_start (sections_in strings.image.now).str.now },
     ghost line_str_at: { IsAt file.now line_str_start (sections_in strings.image.now).line_str.now },
@@ -59,7 +66,9 @@ impl<'i, 'a> Names<'i, 'a> {
     /// Where a text starts in the file. A zero byte ends it there.
     fn start_of(&self, place: TextPlace) -> usize
         requires { BeginsString (sections_in self.now.strings.image.now) place }
-        ensures { IsAt self.now.file.now result (text_there (sections_in self.now.strings.image.now) place ++ 0 ∷ []) }
+        ensures text { IsAt self.now.file.now result
+            (text_there (sections_in self.now.strings.image.now) place ++ 0 ∷ []) }
+        ensures place { IsPlaceInFile self.now.file.now place result }
     {
         match place {
             TextPlace::Info(offset) => self.info_start + offset,
@@ -73,7 +82,8 @@ impl<'i, 'a> Names<'i, 'a> {
     fn place(&self, id: EntryId) -> Option<(u64, u32)>
         requires { id < length (entries_in self.now.strings.image.now) }
         ensures { IsNamePlace self.now.file.now
-            (name_in self.now.strings.image.now (entry_of (entries_in self.now.strings.image.now) id)) result }
+            (name_in self.now.strings.image.now (entry_of (entries_in self.now.strings.image.now) id))
+            (name_place_in self.now.strings.image.now (entry_of (entries_in self.now.strings.image.now) id)) result }
     {
         match self.strings.image.name_place(id) {
             Some(place) => {

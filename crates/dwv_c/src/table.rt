@@ -1,14 +1,16 @@
-//! All that sound sections say, as rows in three arrays of the caller.
+//! What sound sections say, as rows in three arrays of the caller.
 
 ghost use Rattle.std.specs.Prelude.{◌≡◌, ◌+◌, ◌<◌, ◌≤◌, length, drop};
 ghost use Rattle.std.specs.Bool.{OnTrue, OnFalse};
 ghost use Rattle.dw_entries.specs.EntryRules.{values_of};
 ghost use Rattle.dw_entries.specs.ByNumber.{entry_of};
 ghost use Rattle.dw_image.specs.Headline.{IsImageOf};
-ghost use Rattle.dw_image.specs.Images.{entries_in, entry_count, name_in, sections_in, unit_count};
-ghost use Rattle.dwv_c.specs.Meanings.{IsAtHand, holders_of};
+ghost use Rattle.dw_image.specs.Images.{entries_in, entry_count, name_in, name_place_in, sections_in};
+ghost use Rattle.dw_image.specs.Images.{unit_count};
+ghost use Rattle.dwv_c.specs.Meanings.{AreOnGround, IsAtHand, IsGround, holders_of};
 ghost use Rattle.dwv_c.specs.Tables.{AreTable, HasRoom, HaveEntries, HaveUnits, HaveValues, IsTableEntry, LacksRoom};
-ghost use Rattle.dwv_c.specs.Tables.{IsGround, arrays, counts_of, held_on, value_count, values_before};
+ghost use Rattle.dwv_c.specs.SectionPlaces.{Holders};
+ghost use Rattle.dwv_c.specs.Tables.{arrays, counts_of, value_count, values_before};
 ghost use Rattle.dwv_c.specs.TableState.{IsNameSpan, Puts};
 ghost use Rattle.dwv_c.specs.Verdicts.{of_image};
 
@@ -46,7 +48,8 @@ impl<'p, 'i, 'a> Resolver<'p, 'i, 'a> {
         ensures next { result.0 ≡ values_before self.now.image.now (id + 1) }
         ensures count { result.0 ≡ from + length (values_of (entry_of (entries_in self.now.image.now) id).head) }
         ensures name { IsNameSpan (holders_of self.now.places.now)
-            (name_in self.now.image.now (entry_of (entries_in self.now.image.now) id)) result.1 }
+            (name_in self.now.image.now (entry_of (entries_in self.now.image.now) id))
+            (name_place_in self.now.image.now (entry_of (entries_in self.now.image.now) id)) result.1 }
         ensures rows { HaveValues (holders_of self.now.places.now) self.now.image.now result.0 values.new }
         ensures rest { drop result.0 values.new ≡ drop result.0 values.old }
     {
@@ -82,7 +85,8 @@ impl<'p, 'i, 'a> Resolver<'p, 'i, 'a> {
         requires from { from ≡ values_before self.now.image.now id }
         requires next { next ≡ from + length (values_of (entry_of (entries_in self.now.image.now) id).head) }
         requires name { IsNameSpan (holders_of self.now.places.now)
-            (name_in self.now.image.now (entry_of (entries_in self.now.image.now) id)) name }
+            (name_in self.now.image.now (entry_of (entries_in self.now.image.now) id))
+            (name_place_in self.now.image.now (entry_of (entries_in self.now.image.now) id)) name }
         ensures { IsTableEntry (holders_of self.now.places.now) self.now.image.now id
             (entry_of (entries_in self.now.image.now) id) result }
     {
@@ -257,7 +261,7 @@ fn put_rows(
     requires sound { IsImageOf (sections_in image.now) image.now }
     requires ground { IsGround ground image.now }
     requires room { HasRoom image.now (arrays units.old entries.old values.old) }
-    ensures whole { OnTrue result (AreTable (held_on ground.entry image.now) image.now
+    ensures whole { OnTrue result ((h : Holders) × AreOnGround ground.entry image.now h × AreTable h image.now
         (arrays units.old entries.old values.old) (arrays units.new entries.new values.new)) }
     ensures none { OnFalse result ((units.new ≡ units.old) × (entries.new ≡ entries.old) × (values.new ≡ values.old)) }
 {
@@ -290,7 +294,7 @@ pub fn put_table(
 ) -> u32
     requires sound { IsImageOf (sections_in image.now) image.now }
     requires ground { IsGround ground image.now }
-    ensures { Puts (held_on ground.entry image.now) image.now (arrays units.old entries.old values.old) counts.old
+    ensures { Puts (AreOnGround ground.entry image.now) image.now (arrays units.old entries.old values.old) counts.old
         verdict.old result (arrays units.new entries.new values.new) counts.new verdict.new }
 {
     let count = count_values(image);

@@ -1,6 +1,6 @@
 //! What the values of entries mean, each resolved as far as the rules go.
 
-ghost use Rattle.std.specs.Prelude.{◌≡◌, ◌<◌, true, Some, IfSome};
+ghost use Rattle.std.specs.Prelude.{◌≡◌, ℕ, ◌<◌, true, Some, IfSome};
 ghost use Rattle.dw_entries.specs.ByNumber.{entry_of};
 ghost use Rattle.dw_entries.specs.Entries.{Entry, placed};
 ghost use Rattle.dw_entries.specs.Placed.{EndsAt};
@@ -115,8 +115,8 @@ impl<'p, 'i, 'a> Resolver<'p, 'i, 'a> {
         requires unit { IsAtHand self.now.image.now unit.now }
         requires value { HasValue self.now.image.now unit.now id attribute (view value.now) }
         requires reference { is_reference_value (view value.now) ≡ true }
-        ensures { Means (holders_of self.now.places.now) self.now.image.now
-            (entry_of (entries_in self.now.image.now) id) (view value.now) result }
+        ensures { (end : ℕ) → Means (holders_of self.now.places.now) self.now.image.now
+            (entry_of (entries_in self.now.image.now) id) end (view value.now) result }
     {
         match self.target(unit, value) {
             Some(target) => Meaning::Reference(target.number() as u32),
@@ -136,8 +136,8 @@ impl<'p, 'i, 'a> Resolver<'p, 'i, 'a> {
         requires unit { IsAtHand self.now.image.now unit.now }
         requires value { HasValue self.now.image.now unit.now id attribute (view value.now) }
         requires address { is_address (view value.now) ≡ true }
-        ensures { Means (holders_of self.now.places.now) self.now.image.now
-            (entry_of (entries_in self.now.image.now) id) (view value.now) result }
+        ensures { (end : ℕ) → Means (holders_of self.now.places.now) self.now.image.now
+            (entry_of (entries_in self.now.image.now) id) end (view value.now) result }
     {
         match *value {
             Value::Addr(address) => Meaning::Address(address),
@@ -165,7 +165,7 @@ impl<'p, 'i, 'a> Resolver<'p, 'i, 'a> {
         requires text { is_text (view value.now) ≡ true }
         requires place { EndsAt (sections_in self.now.image.now).info.now (view value.now) end }
         ensures { Means (holders_of self.now.places.now) self.now.image.now
-            (entry_of (entries_in self.now.image.now) id) (view value.now) result }
+            (entry_of (entries_in self.now.image.now) id) end (view value.now) result }
     {
         match *value {
             Value::Text(bytes) => {
@@ -188,10 +188,11 @@ impl<'p, 'i, 'a> Resolver<'p, 'i, 'a> {
     }
 
     /// What bytes mean, which end at this offset of .debug_info.
+    #[tactic(auto, using(crate::proofs::MeaningLemmas::span_row))]
     fn bytes(&self, value: &Value<'a>, end: usize) -> Meaning
         requires bytes { is_bytes (view value.now) ≡ true }
         requires place { EndsAt (sections_in self.now.image.now).info.now (view value.now) end }
-        ensures { (e : Entry) → Means (holders_of self.now.places.now) self.now.image.now e (view value.now) result }
+        ensures { (e : Entry) → Means (holders_of self.now.places.now) self.now.image.now e end (view value.now) result }
     {
         match *value {
             Value::Block(bytes) => Meaning::Block(self.places.span(end - bytes.len(), bytes)),
@@ -215,7 +216,7 @@ impl<'p, 'i, 'a> Resolver<'p, 'i, 'a> {
         requires value { HasValue self.now.image.now unit.now id attribute (view value.now) }
         requires place { EndsAt (sections_in self.now.image.now).info.now (view value.now) end }
         ensures { Means (holders_of self.now.places.now) self.now.image.now
-            (entry_of (entries_in self.now.image.now) id) (view value.now) result }
+            (entry_of (entries_in self.now.image.now) id) end (view value.now) result }
     {
         match *value {
             Value::Text(_) | Value::Str(_) | Value::LineStr(_) | Value::StrIndex(_) => {

@@ -1,5 +1,5 @@
 use Rattle.dwv_c.specs.Tables.{arrays}
-use Rattle.dwv_c.specs.ValueRows.{held_by_file}
+use Rattle.dwv_c.specs.SectionPlaces.{AreInFile}
 use Rattle.dwv_c.specs.Verdicts.{IsFaultOfFile, IsSoundFile}
 use Rattle.dwv_c.proofs.TableRowLemmas.{file_ground, own_sections, puts_fault, puts_found}
 use Rattle.dwv_c.proofs.exports.dwv_table.Goals as goal
@@ -13,7 +13,7 @@ put_table-requires-clause-ground c = file_ground c.args.file.now c.in-Ok.image c
 pub returns-in-Ok : goal.returns-in-Ok
 returns-in-Ok c =
     let bytes = c.args.file.now in
-    puts_found (IsFaultOfFile bytes) (IsSoundFile bytes) (λ _. held_by_file bytes) c.in-Ok.image
+    puts_found (IsFaultOfFile bytes) (IsSoundFile bytes) (λ _. AreInFile bytes) c.in-Ok.image
     (arrays c.args.units.now c.args.entries.now c.args.values.now)
     (arrays c.put_table.new.units c.put_table.new.entries c.put_table.new.values) c.args.counts.now
     c.put_table.new.counts c.args.verdict.now c.put_table.new.verdict c.put_table.result c.in-Ok.ensures
@@ -22,7 +22,7 @@ returns-in-Ok c =
 pub returns-in-Err : goal.returns-in-Err
 returns-in-Err c =
     let bytes = c.args.file.now in
-    puts_fault (IsFaultOfFile bytes) (IsSoundFile bytes) (λ _. held_by_file bytes)
+    puts_fault (IsFaultOfFile bytes) (IsSoundFile bytes) (λ _. AreInFile bytes)
     (arrays c.args.units.now c.args.entries.now c.args.values.now) c.args.counts.now c.args.verdict.now
     c.put_verdict.new.verdict c.in-Err.error c.put_verdict.result c.put_verdict.ensures.status
     c.put_verdict.ensures.verdict c.in-Err.ensures

@@ -1,4 +1,5 @@
-use Rattle.dwv_c.specs.Tables.{IsSoundSix, arrays, held_by_image}
+use Rattle.dwv_c.specs.SectionPlaces.{AreInImage}
+use Rattle.dwv_c.specs.Tables.{IsSoundSix, arrays}
 use Rattle.dwv_c.specs.Verdicts.{IsFaultOfSix}
 use Rattle.dwv_c.proofs.TableRowLemmas.{own_sections, puts_fault, puts_found}
 use Rattle.dwv_c.proofs.exports.dwv_table_sections.Goals as goal
@@ -13,7 +14,7 @@ returns-in-Ok c =
     c.args.addr.now)
     (IsSoundSix c.args.info.now c.args.abbrev.now c.args.str.now c.args.line_str.now c.args.str_offsets.now
     c.args.addr.now)
-    held_by_image c.in-Ok.image (arrays c.args.units.now c.args.entries.now c.args.values.now)
+    AreInImage c.in-Ok.image (arrays c.args.units.now c.args.entries.now c.args.values.now)
     (arrays c.put_table.new.units c.put_table.new.entries c.put_table.new.values) c.args.counts.now
     c.put_table.new.counts c.args.verdict.now c.put_table.new.verdict c.put_table.result c.in-Ok.ensures
     c.put_table.ensures
@@ -25,6 +26,6 @@ returns-in-Err c =
     c.args.addr.now)
     (IsSoundSix c.args.info.now c.args.abbrev.now c.args.str.now c.args.line_str.now c.args.str_offsets.now
     c.args.addr.now)
-    held_by_image (arrays c.args.units.now c.args.entries.now c.args.values.now) c.args.counts.now c.args.verdict.now
+    AreInImage (arrays c.args.units.now c.args.entries.now c.args.values.now) c.args.counts.now c.args.verdict.now
     c.put_verdict.new.verdict c.in-Err.error c.put_verdict.result c.put_verdict.ensures.status
     c.put_verdict.ensures.verdict c.in-Err.ensures

@@ -1,4 +1,4 @@
-use Rattle.std.proofs.Common.{rules, ◌+◌, ◌++◌, ◌∷◌, []}
+use Rattle.std.proofs.Common.{rules, ◌+◌, ◌++◌, ◌∷◌, [], refl}
 use Rattle.dw_elf.specs.Sections.{IsAt}
 use Rattle.dw_image.specs.Images.{sections_in}
 use Rattle.dw_image.specs.ValueTexts.{text_there}
@@ -23,18 +23,33 @@ returns-in-Info c =
     let place : IsAt c.args.self.now.info.bytes.now (c.args.self.now.info.start + c.in-Info.offset)
     (text_there (sections_in c.args.self.now.strings.image.now) c.args.place ++ 0 ∷ []) =
     search (rules, string_in_file) in
-    record { place = place; length_is = c.length-length.ensures }
+    rw c.in-Info.is (record {
+      section_is = refl;
+      start_is = refl;
+      length_is = rw c.in-Info.is at c.length-length.ensures;
+      place = rw c.in-Info.is at place;
+    })
 
 pub returns-in-Str : goal.returns-in-Str
 returns-in-Str c =
     let place : IsAt c.args.self.now.str.bytes.now (c.args.self.now.str.start + c.in-Str.offset)
     (text_there (sections_in c.args.self.now.strings.image.now) c.args.place ++ 0 ∷ []) =
     search (rules, string_in_file) in
-    record { place = place; length_is = c.length-length.ensures }
+    rw c.in-Str.is (record {
+      section_is = refl;
+      start_is = refl;
+      length_is = rw c.in-Str.is at c.length-length.ensures;
+      place = rw c.in-Str.is at place;
+    })
 
 pub returns-in-LineStr : goal.returns-in-LineStr
 returns-in-LineStr c =
     let place : IsAt c.args.self.now.line_str.bytes.now (c.args.self.now.line_str.start + c.in-LineStr.offset)
     (text_there (sections_in c.args.self.now.strings.image.now) c.args.place ++ 0 ∷ []) =
     search (rules, string_in_file) in
-    record { place = place; length_is = c.length-length.ensures }
+    rw c.in-LineStr.is (record {
+      section_is = refl;
+      start_is = refl;
+      length_is = rw c.in-LineStr.is at c.length-length.ensures;
+      place = rw c.in-LineStr.is at place;
+    })

@@ -1,9 +1,15 @@
 use Rattle.std.proofs.Common.{rules, ◌≡◌, ◌≤◌, ℕ, List, length, refl, ap, subst, ◌∙◌, arith}
-use Rattle.dw_forms.specs.Value.{Datum, view}
+use Rattle.dw_forms.specs.Value.{view}
+use Rattle.dw_entries.specs.ValuePlaces.{PlacedValue}
 use Rattle.dw_entries.specs.Placed.{EndsAt, placed_left}
 use Rattle.dw_image.specs.Images.{entries_in, units_in, sections_in}
 use Rattle.dw_entries.specs.ByNumber.{entry_of}
+use Rattle.dw_entries.specs.Entries.{Entry}
+use Rattle.dw_image.specs.declared.image.Image.{Image}
+use Rattle.dwv_c.specs.declared.meaning.Meaning.{Meaning}
 use Rattle.dwv_c.specs.Meanings.{Means, holders_of}
+use Rattle.dwv_c.specs.SectionPlaces.{Holders}
+use Rattle.dwv_c.specs.ValueRows.{Says}
 use Rattle.dw_forms.specs.declared.value.Value.{Value}
 use Rattle.dwv_c.specs.Tables.{value_count}
 use Rattle.dwv_c.proofs.TableLemmas.{IsAtValue, at_entry, at_last, at_next, counted_to, name_at_last, rest_more, value_of_entry, values_more}
@@ -26,7 +32,7 @@ pub meaning-meaning-requires-clause-value : goal.meaning-meaning-requires-clause
 meaning-meaning-requires-clause-value c =
     let h = holders_of c.args.self.now.places.now in
     let i = c.args.self.now.image.now in
-    let w = subst (λ (l : List (ℕ × Datum)). IsAtValue h i c.args.id c.items.at l c.items.named) c.in-Some.ensures.steps
+    let w = subst (λ (l : List PlacedValue). IsAtValue h i c.args.id c.items.at l c.items.named) c.in-Some.ensures.steps
     c.items.invariant.here in
     let own = value_of_entry h i c.args.unit.now c.args.id c.items.at _ (placed_left c.take.new.self) c.items.named w
     c.requires.in_unit in
@@ -38,21 +44,28 @@ meaning-meaning-requires-clause-place c =
     c.in-Some.ensures.place in
     search (rules, place)
 
+means_same : (h : Holders) (i : Image) (e : Entry) (n m : ℕ) (v w : Value) (meaning : Meaning) → n ≡ m → v ≡ w
+    → Means h i e n (view v) meaning → Means h i e m (view w) meaning
+means_same h i e n m v w meaning same_end same means r has =
+    subst (λ (k : ℕ). Says h i e k (view w) r) same_end
+    (subst (λ (x : Value). Says h i e n (view x) r) same (means r has))
+
 -- what the value that was taken means
 means_there : (c : goal.After-named_after-named)
     → Means (holders_of c.args.self.now.places.now) c.args.self.now.image.now
-    (entry_of (entries_in c.args.self.now.image.now) c.args.id) (view c.in-Some.value) c.meaning-meaning.result
+    (entry_of (entries_in c.args.self.now.image.now) c.args.id) c.in-Some.end (view c.in-Some.value)
+    c.meaning-meaning.result
 means_there c =
-    let same : ◌≡◌ {A = Value} _ c.in-Some.value = search (rules, c.in-Some.value-is) in
-    subst (λ (v : Value). Means (holders_of c.args.self.now.places.now) c.args.self.now.image.now
-    (entry_of (entries_in c.args.self.now.image.now) c.args.id) (view v) c.meaning-meaning.result) same
-    c.meaning-meaning.ensures
+    means_same (holders_of c.args.self.now.places.now) c.args.self.now.image.now
+    (entry_of (entries_in c.args.self.now.image.now) c.args.id) _ c.in-Some.end _ c.in-Some.value _
+        (search (rules, c.in-Some.end-is))
+    (search (rules, c.in-Some.value-is)) c.meaning-meaning.ensures
 
 pub items-preserved : goal.items-preserved
 items-preserved c =
     let h = holders_of c.args.self.now.places.now in
     let i = c.args.self.now.image.now in
-    let w = subst (λ (l : List (ℕ × Datum)). IsAtValue h i c.args.id c.items.at l c.items.named) c.in-Some.ensures.steps
+    let w = subst (λ (l : List PlacedValue). IsAtValue h i c.args.id c.items.at l c.items.named) c.in-Some.ensures.steps
     c.items.invariant.here in
     let row = c.value_row-row.result in
     let attribute : row.attribute ≡ c.in-Some.attribute = search rules in
