@@ -7,17 +7,19 @@
  *     default:        puts("out of memory");
  *     }
  *
- * For any bytes, each call returns, and it keeps nothing: what it allocates by malloc is freed before it returns. It
- * has no state of its own, opens no file, prints nothing and never ends the process. Calls may run in several threads
- * at once, each with its own verdict and buffer. docs/LIBRARY.md says what is proved of each call, if the caller sees
- * to this:
+ * For any bytes, each call returns, and it keeps nothing: what it allocates by malloc is freed before it returns. The C
+ * library may keep freed memory in its heap: dwv_check, dwv_check_sections and dwv_report allocate 4 MiB and free them
+ * so that it does. A call has no state of its own, opens no file, prints nothing and never ends the process. Calls may
+ * run in several threads at once, each with its own verdict and buffer. docs/LIBRARY.md says what is proved of each
+ * call, if the caller sees to this:
  *
  *   - No pointer is NULL, not even one to 0 bytes. Each is valid for its length, which is below 2^63.
  *   - During the call nothing else writes to the input, and nothing else reads or writes the verdict, the count and the
  *     buffer. None of them overlaps another one or the input.
  *   - So a file that is mapped must not be written or truncated during the call, by this or another process, even if it
  *     is mapped with MAP_PRIVATE. Read the file if it may change.
- *   - The verdict, the count and the buffer have some value before the call, for example {0}.
+ *   - The verdict, the count or counts, and the buffer have some value before the call, for example {0}. Arrays of rows
+ *     need none: any bytes are a row, and no row is read before it is written.
  *   - malloc, realloc and free belong to one allocator, which aligns blocks as C requires.
  *   - No call is made in a signal handler, nor in the child of a process with threads between fork and exec.
  *   - The stack has 64 KiB left, and the processor has the instructions of x86-64-v2.
@@ -171,7 +173,9 @@ struct dwv_table_entry {
     uint32_t next_sibling; /* the row of its next sibling, or DWV_NONE */
 };
 
-/* What a value means, and what `number` of its row is. `length` and `section` are 0 where no bytes are named. */
+/* What a value means, and what `number` of its row is. `length` and `section` are 0 where no bytes are named. Bytes of
+ * .debug_info are those of the value itself; a text of .debug_str or .debug_line_str is at the offset that the value or
+ * its slot in .debug_str_offsets gives. That holds of 0 bytes, too. */
 enum dwv_kind {
     DWV_UNSIGNED = 1,        /* a number without a sign; its attribute may say that its top bit is one */
     DWV_SIGNED = 2,          /* a number with a sign, as (int64_t)number */
@@ -206,8 +210,10 @@ struct dwv_counts {
 
 /* Checks a file, and writes a row for each unit, each entry and each value of a sound one, in the order of the file:
  * DWV_SOUND, DWV_FAULT, DWV_NO_MEMORY, or DWV_TOO_SHORT if one array has no room for all its rows: then `counts` says
- * how many there are, and no array is written. Rows past the last are not written. An entry of one byte may have many
- * values: make room by the counts of a first call, not by the length of the file. */
+ * how many there are, the verdict is that of a sound file, and no array is written. Rows past the last are not written.
+ * If the file is not sound, `counts` is not written. An entry of one byte may have many values: make room by the counts
+ * of a first call, not by the length of the file. No row has a form, the offset of an abbreviation table, whether an
+ * entry may have children, or the signature and the type entry of a type unit. */
 enum dwv_status dwv_table(
     const uint8_t *file, size_t file_length,
     struct dwv_unit *units, size_t unit_capacity,

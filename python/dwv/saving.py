@@ -1,4 +1,4 @@
-"""Writes all that a sound file says, for other tools: dwv-table [--csv | --sqlite] [--limit N] -o OUT FILE
+"""Writes the units, entries and values of a sound file: dwv-table [--csv | --sqlite] [--limit N] -o OUT FILE
 
 OUT is a file of numpy with three structured arrays, units, entries and values; with --sqlite a database with the tables
 units, entries and attributes, where tags, attributes, kinds, names and texts are text; with --csv a folder with the

@@ -1,4 +1,4 @@
-"""All that a sound file says, in three arrays: units, entries and values. `dwv.table` makes a Table.
+"""What a sound file says, in three arrays: units, entries and values. `dwv.table` makes a Table.
 
 An entry is named by its row, and so is a value. The arrays are the memory that the library wrote, and nothing is
 copied. The methods on one entry or value need no other module; `arrays` needs numpy, and the frames pandas.

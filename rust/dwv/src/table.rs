@@ -1,4 +1,4 @@
-//! All that a sound file says, in three arrays: its units, entries and values.
+//! What a sound file says, in three arrays: its units, entries and values.
 use crate::rows::{dwv_table, dwv_table_sections, Counts, EntryRow, ValueRow};
 use crate::{Error, Raw, Sections};
 use std::fmt;
