@@ -44,7 +44,10 @@ class Reader:
             return found.data() if found else b""
 
         self.dwarf = elf.get_dwarf_info(relocate_dwarf_sections=False)
-        self.str, self.line_str = section(".debug_str"), section(".debug_line_str")
+        self.parts, self.starts = {}, {}    # by the numbers of enum dwv_place
+        for number, name in enumerate((".debug_info", ".debug_str", ".debug_line_str"), 1):
+            found = elf.get_section_by_name(name)
+            self.parts[number], self.starts[number] = section(name), found["sh_offset"] if found else None
         self.offsets, self.addresses = section(".debug_str_offsets"), section(".debug_addr")
         self.rows, self.entries = {}, []
         for unit in self.dwarf.iter_CUs():
@@ -58,18 +61,30 @@ class Reader:
                 if entry.has_children:
                     above.append(self.rows[entry.offset])
 
-    def text(self, unit, form, value):
-        """The bytes of a text."""
-        if form == "DW_FORM_string":
-            return value
+    def place(self, unit, attribute):
+        """Where the bytes of a value are: the number of a section and an offset in it; None if it names no bytes."""
+        form, value, at = attribute.form, attribute.raw_value, attribute.offset + attribute.indirection_length
         if form.startswith("DW_FORM_strx"):
             base = unit.get_top_DIE().attributes["DW_AT_str_offsets_base"].value
-            value = int.from_bytes(self.offsets[base + 4 * value :][:4], "little")
-        section = self.line_str if form == "DW_FORM_line_strp" else self.str
-        return section[value : section.index(b"\0", value)]
+            return 2, int.from_bytes(self.offsets[base + 4 * value :][:4], "little")
+        if form in ("DW_FORM_strp", "DW_FORM_line_strp"):
+            return 2 if form == "DW_FORM_strp" else 3, value
+        if form in ("DW_FORM_string", "DW_FORM_data16"):
+            return 1, at
+        if form in ("DW_FORM_block", "DW_FORM_exprloc"):
+            while self.parts[1][at] >= 0x80:    # the bytes of the length but its last one
+                at += 1
+            return 1, at + 1
+        return (1, at + int(form[-1])) if form in BLOCKS else None
 
-    def meaning(self, unit, form, value):
+    def text(self, unit, attribute):
+        """The bytes of a text."""
+        number, at = self.place(unit, attribute)
+        return self.parts[number][at : self.parts[number].index(b"\0", at)]
+
+    def meaning(self, unit, attribute):
         """What a value means: its kind, and what `Table.value` must return."""
+        form, value = attribute.form, attribute.raw_value
         if form in NUMBERS:
             return "unsigned", value
         if form in ("DW_FORM_sdata", "DW_FORM_implicit_const"):
@@ -82,7 +97,7 @@ class Reader:
             size, base = unit["address_size"], unit.get_top_DIE().attributes["DW_AT_addr_base"].value
             return "address", int.from_bytes(self.addresses[base + size * value :][:size], "little")
         if form in ("DW_FORM_string", "DW_FORM_strp", "DW_FORM_line_strp") or form.startswith("DW_FORM_strx"):
-            return "text", self.text(unit, form, value)
+            return "text", self.text(unit, attribute)
         if form in BLOCKS or form == "DW_FORM_exprloc":
             return "block" if form in BLOCKS else "expression", bytes(value)
         if form == "DW_FORM_data16":
@@ -114,14 +129,21 @@ def differences(path):
             last[number, parent] = row
             for name, attribute in entry.attributes.items():
                 code = enums.ENUM_DW_AT.get(name, name)
-                wanted = (row, code, *found.meaning(unit, attribute.form, attribute.raw_value))
-                said = (values["entry"][value], values["attribute"][value], table.kind(value), table.value(value))
+                place = found.place(unit, attribute)
+                wanted = (row, code, *found.meaning(unit, attribute), *(place or (0,)))
+                said = (values["entry"][value], values["attribute"][value], table.kind(value), table.value(value),
+                        values["section"][value])
+                if place:
+                    said += (values["number"][value] - found.starts[place[0]],)
                 if said != wanted:
                     wrong.append(f"value {value}, {attribute.form}: {said}, wanted {wanted}")
-                is_text = wanted[2] == "text"
                 end = values["number"][value] + values["length"][value]
-                if is_text and table.parts[values["section"][value]][end] != 0:
+                if wanted[2] == "text" and table.parts[values["section"][value]][end] != 0:
                     wrong.append(f"value {value}: no zero byte ends the text")
+                if name == "DW_AT_name":
+                    said = tuple(entries[it][row] for it in ("name", "name_length", "name_section"))
+                    if said != tuple(values[it][value] for it in ("number", "length", "section")):
+                        wrong.append(f"entry {row}: its name, {said}")
                 value += 1
         wrong += [f"entry {row}: the last one has a sibling" for row in last.values() if
                   entries["next_sibling"][row] != NONE]

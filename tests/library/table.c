@@ -52,7 +52,10 @@ static void check_values(const uint8_t *file, size_t length, const struct table 
             else
                 NEED(value->number <= length && value->length <= length - value->number);
             if (value->kind == DWV_TEXT)
-                NEED(strlen((const char *)file + value->number) == value->length && value->section != DWV_NOWHERE);
+                NEED(strlen((const char *)file + value->number) == value->length && value->section >= DWV_INFO &&
+                     value->section <= DWV_LINE_STR);
+            else if (value->kind >= DWV_BLOCK && value->kind <= DWV_WIDE)
+                NEED(value->section == DWV_INFO);
         }
     }
     NEED(at == n->values);
@@ -75,27 +78,33 @@ static void print(const uint8_t *file, const struct table *t, const struct dwv_c
     }
 }
 
-/* A unit with an int, whose name is in .debug_str. */
+/* A unit with an int, whose name is in .debug_str, and a variable with an empty name, expression and block. */
 static void sections(void) {
     static const uint8_t table[] = {1, 0x11, 1, 0x03, 0x08, 0, 0, 2, 0x24, 0, 0x03, 0x0e, 0x0b, 0x0b, 0x3e, 0x0b, 0, 0,
-                                    0};
-    static const uint8_t info[] = {0x13, 0, 0, 0, 5, 0, 1, 8, 0, 0, 0, 0, 1, 'a', 0, 2, 1, 0, 0, 0, 4, 5, 0};
+                                    3, 0x34, 0, 0x03, 0x08, 0x02, 0x18, 0x1c, 0x0a, 0, 0, 0};
+    static const uint8_t info[] = {0x17, 0, 0, 0, 5, 0, 1, 8, 0, 0, 0, 0, 1, 'a', 0, 2, 1, 0, 0, 0, 4, 5, 3, 0, 0, 0, 0};
     static const uint8_t str[] = {0, 'i', 'n', 't', 0}, none[1];
     struct dwv_unit units[1] = {{0}};
-    struct dwv_table_entry entries[2] = {{0}};
-    struct dwv_value values[4] = {{0}};
+    struct dwv_table_entry entries[3] = {{0}};
+    struct dwv_value values[7] = {{0}};
     struct dwv_counts n = {0};
     struct dwv_verdict v = {0};
 #define TABLE(info_size) \
     dwv_table_sections(info, info_size, table, sizeof table, str, sizeof str, none, 0, none, 0, none, 0, units, 1, \
-                       entries, 2, values, 4, &n, &v)
+                       entries, 3, values, 7, &n, &v)
     NEED(TABLE(sizeof info - 1) == DWV_FAULT && !strcmp(v.rule, "U1") && n.entries == 0);
-    NEED(TABLE(sizeof info) == DWV_SOUND && n.units == 1 && n.entries == 2 && n.values == 4);
+    NEED(TABLE(sizeof info) == DWV_SOUND && n.units == 1 && n.entries == 3 && n.values == 7);
     NEED(entries[0].name == 13 && entries[0].name_section == DWV_INFO && entries[0].name_length == 1);
     NEED(entries[1].name == 1 && entries[1].name_section == DWV_STR && entries[1].name_length == 3);
     NEED(values[1].kind == DWV_TEXT && values[1].number == 1 && values[1].section == DWV_STR && values[1].length == 3);
     NEED(values[2].attribute == 0x0b && values[2].kind == DWV_UNSIGNED && values[2].number == 4);
     NEED(entries[1].parent == 0 && entries[0].parent == DWV_NONE && entries[1].size == 4 && entries[1].has_size == 1);
+    NEED(entries[2].name == 23 && entries[2].name_section == DWV_INFO && entries[2].name_length == 0);
+    static const uint32_t kinds[] = {DWV_TEXT, DWV_EXPRESSION, DWV_BLOCK};
+    static const uint64_t starts[] = {23, 25, 26};
+    for (int k = 0; k < 3; k++)
+        NEED(values[4 + k].kind == kinds[k] && values[4 + k].number == starts[k] && values[4 + k].length == 0 &&
+             values[4 + k].section == DWV_INFO);
 }
 
 int main(int argc, char **argv) {
