@@ -25,6 +25,7 @@ GROUPS = ["A U G", "K", "S", "R", "Y", "C", "Z"]
 ENUMS = {
     "ElfRule": ("crates/dw_elf/src/fault.rt", "E", "crates/dw_elf/specs/RuleTexts.antt"),
     "Rule": ("crates/dw_forms/src/rule.rt", "A U G K S R Y C Z", "crates/dw_forms/specs/Rules.antt"),
+    "LineRule": ("crates/dw_lines/src/rule.rt", "L M", "crates/dw_lines/specs/LineRules.antt"),
     "PrintFault": ("crates/dw_cprint/src/fault.rt", "P", "crates/dw_cprint/specs/Listings.antt"),
 }
 FAULTS = [file for file, _, _ in ENUMS.values()]
@@ -188,7 +189,7 @@ def with_definitions(text, rules):
 def made():
     """Each file that says what rules are, and what makes its text of the one that it has."""
     rules = table()
-    faults = [rule for rule in rules if rule.letter != "P"]
+    faults = [rule for rule in rules if rule.letter == "E" or rule.group]
     yield "docs/RULES.md", lambda text: put(text, "<!-- made by docs/make-rules.py:", "<!-- end -->",
                                             lambda groups: page_table(of(rules, groups)))
     yield "docs/REPORTS.md", lambda text: with_cells(text, of(rules, "P"))
