@@ -198,13 +198,7 @@ fn count_entry(image: &Image<'_>, id: EntryId) -> u32
     requires { id < length (entries_in image.now) }
     ensures { result ≡ length (values_of (entry_of (entries_in image.now) id).head) }
 {
-    let mut count = 0;
-    let mut left = image.scanned().decl(id).attributes();
-    'attributes: while let Some((_, after)) = left.split_first() {
-        count += 1;
-        left = after;
-    }
-    count
+    image.scanned().decl(id).attributes().count()
 }
 
 /// How many values the entries have.
