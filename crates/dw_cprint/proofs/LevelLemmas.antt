@@ -1,5 +1,5 @@
 -- The steps by value of an image: each entry has a level, and the order of a listing by them.
-use Rattle.std.proofs.Common.{rules, ◌≡◌, ℕ, zero, suc, ◌+◌, ◌<◌, List, [], ◌∷◌, length, get_or, inl, inr, arith, refl, sym, ◌∙◌, ◌-◌, ap, true, false}
+use Rattle.std.proofs.Common.{◌≡◌, ℕ, zero, suc, ◌+◌, ◌<◌, List, [], ◌∷◌, length, get_or, inl, inr, arith, refl, sym, ◌∙◌, ◌-◌, ap, true, false}
 use Rattle.std.specs.Prelude.{◌⊎◌, Contains, AllPairs}
 use Rattle.std.specs.List.{list_any}
 use Rattle.std.proofs.lemmas.Bool.{cases_Bool, eqb-true, eq-eqb}

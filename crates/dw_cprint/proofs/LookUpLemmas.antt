@@ -1,7 +1,7 @@
 -- What is read of an entry, and of its children from the first on.
-use Rattle.std.proofs.Common.{◌+◌, [], ◌∷◌, ◌≡◌, ℕ, ◌<◌, List, Option, Some, None, refl, ap, length, ◌++◌, sym, subst, append-nil, map}
+use Rattle.std.proofs.Common.{[], ◌∷◌, ◌≡◌, ℕ, ◌<◌, List, Option, Some, None, refl, ap, length, ◌++◌, sym, subst, append-nil, map}
 use Rattle.std.specs.List.{filter_map}
-use Rattle.std.specs.Prelude.{option_map, All, if◌then◌else◌}
+use Rattle.std.specs.Prelude.{option_map, All}
 use Rattle.std.proofs.lemmas.List.Elements.{All-head, All-tail}
 use Rattle.dw_entries.specs.Entries.{Entry}
 use Rattle.dw_cprint.specs.Children.{AreKept}

@@ -3,7 +3,6 @@ use Rattle.std.specs.Prelude.{◌≡◌, ℕ, suc, ◌<◌, ◌⊎◌, ◌↔◌
 use Rattle.std.specs.Prelude.{Option, Some, None, is_some, codes, ◌&&◌, nat_lt, if◌then◌else◌}
 use Rattle.std.specs.Prelude.{length, slice_index, flat_map, Contains, AllPairs, IsPermutation}
 use Rattle.std.specs.List.{range_with_len}
-use Rattle.dw_entries.specs.ByNumber.{entry_of}
 use Rattle.dw_image.specs.declared.image.Image.{Image}
 use Rattle.dw_image.specs.Images.{entries_in, steps_in}
 use Rattle.dw_types.specs.Paths.{Leads}
@@ -12,6 +11,7 @@ use Rattle.dw_types.specs.LongestRows.{IsLongest}
 use Rattle.dw_cprint.specs.Declarations.{declaration_of}
 use Rattle.dw_cprint.specs.Digits.{places}
 use Rattle.dw_cprint.specs.EntryShapes.{shape_in, subject_in}
+use Rattle.dw_cprint.specs.LookUps.{entry_offset}
 use Rattle.dw_cprint.specs.Refusals.{PrintFault, NotPrintable, BadName, Foreign, Unspeakable, TooDeep, TooLong, Memory}
 use Rattle.dw_cprint.specs.Refusals.{Refuses, IsPrinted}
 use Rattle.dw_cprint.specs.Shapes.{SubjectOf, typedef_subject, aggregate_subject, enumeration_subject}
@@ -107,10 +107,6 @@ abbrev pub refused_line : (offset : ℕ) → PrintFault → List ℕ
 refused_line offset rule =
     codes "/* 0x" ++ places 8 offset ++ codes " " ++ code_text rule ++ codes " " ++ name_text rule
     ++ (codes " */" ++ 10 ∷ [])
-
--- where an entry is
-abbrev pub entry_offset : Image → ℕ → ℕ
-entry_offset image id = (entry_of (entries_in image) id).at
 
 -- the line of an entry that is refused
 abbrev pub refused_line_in : Image → ℕ × PrintFault → List ℕ

@@ -1,6 +1,6 @@
 -- Chapter: spelling steps from an entry that is reached, and from the one that is declared. The latter are not the
 -- steps of the same entry where it is reached.
-use Rattle.std.specs.Prelude.{◌≡◌, ℕ, zero, suc, List, [], ◌∷◌, Option, Some, None, Contains, map}
+use Rattle.std.specs.Prelude.{ℕ, zero, suc, List, [], ◌∷◌, Option, Some, None, Contains, map}
 use Rattle.dw_types.specs.Paths.{Leads, IsOnCycle}
 use Rattle.dw_cprint.specs.Shapes.{Parameter, Typed, More, MemberOf}
 use Rattle.dw_cprint.specs.Shapes.{ShapeOf, qualified, pointer, array, function, body}

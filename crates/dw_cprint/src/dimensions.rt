@@ -1,7 +1,8 @@
-//! The dimensions of an array. Their counts are read from the image each time; what one pass over them finds is kept.
+//! The dimensions of an array. What one pass over them finds is kept, and their text if it is short compared with the
+//! entries that it is made from. Otherwise their counts are read from the image each time that they are written.
 
 ghost use Rattle.std.specs.Prelude.{◌≡◌, ◌<◌, ◌&&◌, ◌||◌, List, [], Option, ℕ, length, flat_map, sum_by, OnOk};
-ghost use Rattle.std.specs.Prelude.{if◌then◌else◌};
+ghost use Rattle.std.specs.Prelude.{if◌then◌else◌, IfOk, IfSome, Some, is_some, not};
 ghost use Rattle.std.specs.List.{cons_option};
 ghost use Rattle.dw_image.specs.Images.{entries_in};
 ghost use Rattle.dw_cprint.specs.Counted.{AreDimensions, DimensionsSoFar, IsDimensionsStart, count_bytes, is_unknown};
@@ -9,14 +10,15 @@ ghost use Rattle.dw_cprint.specs.Declarations.{is_miscounted};
 ghost use Rattle.dw_cprint.specs.EntryShapes.{dimension_counts, dimension_at};
 ghost use Rattle.dw_cprint.specs.Kept.{Writes};
 ghost use Rattle.dw_cprint.specs.Lengths.{capped};
+ghost use Rattle.dw_cprint.specs.LookUps.{is_short};
 ghost use Rattle.dw_cprint.specs.Writing.{count_tokens};
 ghost use Rattle.dw_cprint.specs.Wrong.{starts_open};
 
-use crate::source::tag_at;
+use crate::source::{is_short, tag_at};
 use crate::text::{Draft, digit_count, plus};
 use dw_entries::constants::*;
 use dw_image::{EntryId, Image};
-use std::alloc::AllocError;
+use std::alloc::{AllocError, Global};
 use std::marker::Model;
 
 /// The count of a child that is a dimension.
@@ -146,40 +148,73 @@ fn put_all(out: &mut Draft, image: &Image<'_>, id: EntryId) -> Result<(), AllocE
     Ok(())
 }
 
+/// The brackets of the dimensions of an array, if they are short. Those that are never printed have no text.
+fn short_text(
+    alloc: Global,
+    image: &Image<'_>,
+    id: EntryId,
+    tally: DimensionTally,
+) -> Result<Option<Box<Draft>>, AllocError>
+    requires { id < length (entries_in image.now) }
+    ensures short { IfOk result (λ text. is_some text
+        ≡ (not tally.wrong && is_short image.now id tally.length)) }
+    ensures text { IfOk result (λ text.
+        IfSome text (λ text. Writes (flat_map count_tokens (dimension_counts image.now id)) (Some []) text.value)) }
+{
+    if tally.wrong || !is_short(image, id, tally.length) {
+        return Ok(None);
+    }
+    let mut text = Draft::with_room(alloc, tally.length as usize)?;
+    put_all(&mut text, image, id)?;
+    Ok(Some(Box::new(alloc, text)?))
+}
+
 /// The counts of the dimensions of an array.
 #[derive(Drop)]
 pub struct Dimensions<'a> {
     image: &'a Image<'a>,
     id: EntryId,
     tally: DimensionTally,
+    text: Option<Box<Draft>>,
 }
 
 impl<'a> Model for Dimensions<'a> {
-    ghost use Rattle.std.specs.Prelude.{◌<◌, ℕ, List, Option, length};
+    ghost use Rattle.std.specs.Prelude.{◌<◌, ℕ, List, [], Option, Some, IfSome, flat_map, length};
     ghost use Rattle.dw_image.specs.Images.{entries_in};
 
     ghost Value = { List (Option ℕ) };
 
     ghost use Rattle.dw_cprint.specs.EntryShapes.{dimension_counts};
     ghost use Rattle.dw_cprint.specs.Counted.{AreDimensions};
+    ghost use Rattle.dw_cprint.specs.Kept.{Writes};
+    ghost use Rattle.dw_cprint.specs.Writing.{count_tokens};
 
     ghost view = { λ it. dimension_counts it.image.now it.id };
 
     ghost invariant = { λ it. (it.id < length (entries_in it.image.now))
-        × AreDimensions (dimension_counts it.image.now it.id) it.tally };
+        × AreDimensions (dimension_counts it.image.now it.id) it.tally
+        × IfSome it.text (λ text.
+        Writes (flat_map count_tokens (dimension_counts it.image.now it.id)) (Some []) text.value) };
 }
 
 impl<'a> Dimensions<'a> {
     /// Reads those of an array once.
-    pub fn read(image: &'a Image<'a>, id: EntryId) -> Dimensions<'a>
+    pub fn read(
+        alloc: Global,
+        image: &'a Image<'a>,
+        id: EntryId,
+    ) -> Result<Dimensions<'a>, AllocError>
         requires { id < length (entries_in image.now) }
-        ensures { result ≡ dimension_counts image.now id }
+        ensures { IfOk result (λ it. it ≡ dimension_counts image.now id) }
     {
-        Dimensions {
+        let tally = tally_of(image, id);
+        let text = short_text(alloc, image, id, tally)?;
+        Ok(Dimensions {
             image,
             id,
-            tally: tally_of(image, id),
-        }
+            tally,
+            text,
+        })
     }
 
     /// Whether the first count is unknown.
@@ -207,6 +242,9 @@ impl<'a> Dimensions<'a> {
     pub fn write(&self, out: &mut Draft) -> Result<(), AllocError>
         ensures { OnOk result (Writes (flat_map count_tokens self.now) out.old out.new) }
     {
-        put_all(out, self.image, self.id)
+        match &self.text {
+            Some(text) if !text.is_over() => out.put(text.bytes()),
+            _ => put_all(out, self.image, self.id),
+        }
     }
 }

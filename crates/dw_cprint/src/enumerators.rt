@@ -1,23 +1,25 @@
-//! The enumerators of an enumeration. They are read from the image each time; what one pass over them finds is kept.
+//! The enumerators of an enumeration. What one pass over them finds is kept, and their text if it is short compared with
+//! the entries that it is made from. Otherwise they are read from the image each time that they are written.
 
-ghost use Rattle.std.specs.Prelude.{◌≡◌, ◌<◌, ◌+◌, ◌&&◌, ◌||◌, List, Option, ℕ, length, IfOk, OnOk, option_map};
-ghost use Rattle.std.specs.Prelude.{if◌then◌else◌};
+ghost use Rattle.std.specs.Prelude.{◌≡◌, ◌<◌, ◌+◌, ◌&&◌, ◌||◌, List, [], Option, Some, ℕ, length, IfOk, OnOk};
+ghost use Rattle.std.specs.Prelude.{if◌then◌else◌, IfSome, option_map, is_some, not};
 ghost use Rattle.std.specs.List.{cons_option, list_any};
 ghost use Rattle.dw_image.specs.Images.{entries_in};
 ghost use Rattle.dw_cprint.specs.Counted.{AreEnumerators, EnumeratorsSoFar, IsEnumeratorsStart, lacks_identifier};
 ghost use Rattle.dw_cprint.specs.EntryShapes.{enumerator_at, enumerators_in};
 ghost use Rattle.dw_cprint.specs.Kept.{EnumeratorsLeft, WritesEnumerator, WritesEnumerators};
 ghost use Rattle.dw_cprint.specs.Lengths.{capped, enumerator_bytes, enumerators_bytes};
+ghost use Rattle.dw_cprint.specs.LookUps.{is_short};
 ghost use Rattle.dw_cprint.specs.Shapes.{EnumeratorOf, view_enumerator};
 ghost use Rattle.dw_cprint.specs.Wrong.{is_wrong_enumeration, lacks_name, lacks_value};
 
 use crate::names::lacks_name;
-use crate::source::{Source, integer_at, tag_at};
+use crate::source::{Source, integer_at, is_short, tag_at};
 use crate::text::{Draft, name_length, plus, put_comma, put_name, put_value, value_length};
 use crate::words::Name;
 use dw_entries::constants::*;
 use dw_image::EntryId;
-use std::alloc::AllocError;
+use std::alloc::{AllocError, Global};
 use std::marker::Model;
 
 /// An enumerator, and its DW_AT_const_value where that is a number.
@@ -170,16 +172,38 @@ fn put_all(out: &mut Draft, source: &Source<'_>, id: EntryId) -> Result<(), Allo
     out.put(b" }")
 }
 
+/// The text of the enumerators of an enumeration, if it is short. One that is never printed has none.
+fn short_text(
+    alloc: Global,
+    source: &Source<'_>,
+    id: EntryId,
+    tally: EnumeratorTally,
+) -> Result<Option<Box<Draft>>, AllocError>
+    requires { id < length (entries_in source.now.image.now) }
+    ensures short { IfOk result (λ text. is_some text
+        ≡ (not (tally.nameless || tally.wrong) && is_short source.now.image.now id tally.length)) }
+    ensures text { IfOk result (λ text.
+        IfSome text (λ text. WritesEnumerators (enumerators_in source.now.image.now id) (Some []) text.value)) }
+{
+    if tally.nameless || tally.wrong || !is_short(source.image, id, tally.length) {
+        return Ok(None);
+    }
+    let mut text = Draft::with_room(alloc, tally.length as usize)?;
+    put_all(&mut text, source, id)?;
+    Ok(Some(Box::new(alloc, text)?))
+}
+
 /// The enumerators of an enumeration.
 #[derive(Drop)]
 pub struct Enumerators<'a> {
     source: &'a Source<'a>,
     id: EntryId,
     tally: EnumeratorTally,
+    text: Option<Box<Draft>>,
 }
 
 impl<'a> Model for Enumerators<'a> {
-    ghost use Rattle.std.specs.Prelude.{◌<◌, List, length};
+    ghost use Rattle.std.specs.Prelude.{◌<◌, List, [], Some, IfSome, length};
     ghost use Rattle.dw_image.specs.Images.{entries_in};
     ghost use Rattle.dw_cprint.specs.Enumerators.{EnumeratorOf};
 
@@ -187,24 +211,34 @@ impl<'a> Model for Enumerators<'a> {
 
     ghost use Rattle.dw_cprint.specs.EntryShapes.{enumerators_in};
     ghost use Rattle.dw_cprint.specs.Counted.{AreEnumerators};
+    ghost use Rattle.dw_cprint.specs.Kept.{WritesEnumerators};
 
     ghost view = { λ it. enumerators_in it.source.now.image.now it.id };
 
     ghost invariant = { λ it. (it.id < length (entries_in it.source.now.image.now))
-        × AreEnumerators (enumerators_in it.source.now.image.now it.id) it.tally };
+        × AreEnumerators (enumerators_in it.source.now.image.now it.id) it.tally
+        × IfSome it.text (λ text.
+        WritesEnumerators (enumerators_in it.source.now.image.now it.id) (Some []) text.value) };
 }
 
 impl<'a> Enumerators<'a> {
     /// Reads those of an enumeration once.
-    pub fn read(source: &'a Source<'a>, id: EntryId) -> Enumerators<'a>
+    pub fn read(
+        alloc: Global,
+        source: &'a Source<'a>,
+        id: EntryId,
+    ) -> Result<Enumerators<'a>, AllocError>
         requires { id < length (entries_in source.now.image.now) }
-        ensures { result ≡ enumerators_in source.now.image.now id }
+        ensures { IfOk result (λ it. it ≡ enumerators_in source.now.image.now id) }
     {
-        Enumerators {
+        let tally = tally_of(source, id);
+        let text = short_text(alloc, source, id, tally)?;
+        Ok(Enumerators {
             source,
             id,
-            tally: tally_of(source, id),
-        }
+            tally,
+            text,
+        })
     }
 
     /// Whether one lacks an identifier.
@@ -232,6 +266,9 @@ impl<'a> Enumerators<'a> {
     pub fn write(&self, out: &mut Draft) -> Result<(), AllocError>
         ensures { OnOk result (WritesEnumerators self.now out.old out.new) }
     {
-        put_all(out, self.source, self.id)
+        match &self.text {
+            Some(text) if !text.is_over() => out.put(text.bytes()),
+            _ => put_all(out, self.source, self.id),
+        }
     }
 }

@@ -66,10 +66,14 @@ fn has_stride(image: &Image<'_>, id: EntryId) -> bool
 }
 
 /// The shape of an array.
-fn array_shape<'a>(image: &'a Image<'a>, id: EntryId) -> Shape<'a>
+fn array_shape<'a>(
+    alloc: Global,
+    image: &'a Image<'a>,
+    id: EntryId,
+) -> Result<Shape<'a>, AllocError>
     requires { id < length (entries_in image.now) }
-    ensures { view_shape result
-        ≡ array (dimension_counts image.now id) (is_strange image.now id) (type_at image.now id) }
+    ensures { IfOk result (λ shape. view_shape shape
+        ≡ array (dimension_counts image.now id) (is_strange image.now id) (type_at image.now id)) }
 {
     let strided = any_child(image, id, |child| {
         tag_at(image, child) == DW_TAG_subrange_type && has_stride(image, child)
@@ -80,11 +84,11 @@ fn array_shape<'a>(image: &'a Image<'a>, id: EntryId) -> Shape<'a>
             DW_TAG_enumeration_type | DW_TAG_generic_subrange
         )
     });
-    Shape::Array {
-        dimensions: Dimensions::read(image, id),
+    Ok(Shape::Array {
+        dimensions: Dimensions::read(alloc, image, id)?,
         strange: has_stride(image, id) || strided || other,
         element: type_at(image, id),
-    }
+    })
 }
 
 /// A child that is a parameter, or unspecified parameters.
@@ -182,7 +186,7 @@ fn tag_shape<'a>(
         }),
         TagKeyword::Enum => Ok(Shape::Enumeration {
             odd,
-            enumerators: Enumerators::read(source, id),
+            enumerators: Enumerators::read(alloc, source, id)?,
         }),
     }
 }
@@ -207,7 +211,7 @@ pub fn shape_of<'a>(
         DW_TAG_restrict_type => Ok(Shape::Qualified(Qualifier::Restrict, type_at(image, id))),
         DW_TAG_atomic_type => Ok(Shape::Qualified(Qualifier::Atomic, type_at(image, id))),
         DW_TAG_pointer_type => Ok(Shape::Pointer(type_at(image, id))),
-        DW_TAG_array_type => Ok(array_shape(image, id)),
+        DW_TAG_array_type => array_shape(alloc, image, id),
         DW_TAG_subroutine_type => function_shape(alloc, image, id),
         DW_TAG_structure_type => tag_shape(alloc, source, id, OfAggregate(Struct)),
         DW_TAG_union_type => tag_shape(alloc, source, id, OfAggregate(Union)),
@@ -243,7 +247,7 @@ pub fn defined_at<'a>(
         TagKeyword::Enum => Ok(Subject::Enumeration {
             name,
             odd,
-            enumerators: Enumerators::read(source, id),
+            enumerators: Enumerators::read(alloc, source, id)?,
         }),
     }
 }

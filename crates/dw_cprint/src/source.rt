@@ -1,6 +1,6 @@
 //! What is declared is read from: an image, and its strings. A string is not read again for each of its suffixes.
 
-ghost use Rattle.std.specs.Prelude.{◌≡◌, ◌<◌, ◌≤◌, length, drop, IfOk, IfSome, option_map};
+ghost use Rattle.std.specs.Prelude.{◌≡◌, ◌<◌, ◌≤◌, ◌^◌, length, drop, IfOk, IfSome, option_map};
 ghost use Rattle.dw_forms.specs.Value.{view};
 ghost use Rattle.dw_forms.specs.Codes.{DW_AT_bit_size};
 ghost use Rattle.dw_image.specs.Contributions.{string_at};
@@ -8,6 +8,7 @@ ghost use Rattle.dw_image.specs.Images.{entries_in, sections_in};
 ghost use Rattle.dw_image.specs.Slots.{IsTextPlace};
 ghost use Rattle.dw_image.specs.ValueTexts.{text_there};
 ghost use Rattle.dw_cprint.specs.LookUps.{name_at, tag_at, attribute_value_at, type_at, flag_at, integer_at};
+ghost use Rattle.dw_cprint.specs.LookUps.{bytes_at, is_short};
 ghost use Rattle.dw_cprint.specs.Shapes.{view_name};
 ghost use Rattle.dw_cprint.specs.StringSpans.{AreSpans, IsStringSpan};
 ghost use Rattle.dw_cprint.specs.EntryShapes.{bits_in};
@@ -222,4 +223,36 @@ pub fn bits_at(image: &Image<'_>, id: EntryId) -> Option<u64>
         Some(Value::Signed(n)) if n > 0 => Some(n as u64),
         Some(_) => Some(0),
     }
+}
+
+/// How many bytes there are from an entry to the next one.
+#[tactic(auto, unfolding(crate::specs::LookUps::bytes_at))]
+fn bytes_at(image: &Image<'_>, id: EntryId) -> usize
+    requires { id < length (entries_in image.now) }
+    ensures exact { result ≡ bytes_at image.now id }
+    ensures few { result < 2 ^ 32 }
+{
+    let end = match image.nth(id.number() + 1) {
+        Some(next) => image.offset(next) as usize,
+        None => image.sections().info.len(),
+    };
+    end.saturating_sub(image.offset(id) as usize)
+}
+
+/// Whether a text of so many bytes is short compared with the children of an entry, from which it is made: it has less
+/// than a quarter of their bytes. A short text is kept. All of them together have less than a quarter of the bytes of
+/// the file. To make any other text again takes time in proportion to its own bytes.
+pub fn is_short(image: &Image<'_>, id: EntryId, text_bytes: u32) -> bool
+    requires { id < length (entries_in image.now) }
+    ensures { result ≡ is_short image.now id text_bytes }
+{
+    let most = 4 * (text_bytes as usize + 16);
+    let mut bytes = 0;
+    for child in image.children(id) {
+        bytes += bytes_at(image, child);
+        if bytes > most {
+            return true;
+        }
+    }
+    false
 }

@@ -1,7 +1,7 @@
 //! The text of a declaration as it is written, up to the limit, and how many bytes its parts have.
 
 ghost use Rattle.std.specs.Prelude.{◌≡◌, ℕ, if◌then◌else◌, List, [], Option, None, Some, IfSome, OnOk, is_none};
-ghost use Rattle.std.specs.Prelude.{◌∷◌, length, ◌+◌};
+ghost use Rattle.std.specs.Prelude.{◌∷◌, length, ◌+◌, IfOk};
 ghost use Rattle.dw_cprint.specs.Drafts.{appended};
 ghost use Rattle.dw_cprint.specs.Declarators.{comma, gap, pointer_row};
 ghost use Rattle.dw_cprint.specs.Digits.{numeral};
@@ -42,6 +42,16 @@ impl Draft {
             bytes: Vec::new(alloc),
             over: false,
         }
+    }
+
+    /// A text without bytes, and room for so many.
+    pub fn with_room(alloc: Global, length: usize) -> Result<Draft, AllocError>
+        ensures { IfOk result (λ draft. draft ≡ Some []) }
+    {
+        Ok(Draft {
+            bytes: Vec::with_capacity(alloc, length)?,
+            over: false,
+        })
     }
 
     /// Removes all bytes.
