@@ -88,7 +88,7 @@ def functions_of(crate, file, text):
             free = number + 1  # the line of the comment and the attributes of what follows
         if open_at:
             has_body = has_body or line == indent + "{"
-            is_end = line.startswith((indent + "}", indent + "{}")) or line.endswith("{}")
+            is_end = line.startswith((indent + "}", indent + "{}")) or line.endswith("{}") and not has_body
             if is_end or line.endswith(";") and not has_body:
                 owner = [block] if indent else []
                 found.append(Function(short("::".join([crate.name, *module, *owner, name])), free, number))
