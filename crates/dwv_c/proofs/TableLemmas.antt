@@ -92,7 +92,7 @@ values_counted n zero (x ∷ es) e is =
     let same : x ≡ e = some_same (Some x) x e refl is in
     let own : length (values_from n (x ∷ [])) ≡ length (values_of x.head) =
     ap length (append-nil (map (told n x) (placed_values x))) ∙ length-map (placed_values x) (told n x)
-        ∙ placed_long x in
+    ∙ placed_long x in
     let none_before : length (values_of e.head) ≡ 0 + length (values_of e.head) = omega arith in
     own ∙ ap (λ (y : Entry). length (values_of y.head)) same ∙ none_before
 values_counted n (suc k) (x ∷ es) e is =

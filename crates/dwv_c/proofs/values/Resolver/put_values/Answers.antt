@@ -58,7 +58,7 @@ means_there : (c : goal.After-named_after-named)
 means_there c =
     means_same (holders_of c.args.self.now.places.now) c.args.self.now.image.now
     (entry_of (entries_in c.args.self.now.image.now) c.args.id) _ c.in-Some.end _ c.in-Some.value _
-        (search (rules, c.in-Some.end-is))
+    (search (rules, c.in-Some.end-is))
     (search (rules, c.in-Some.value-is)) c.meaning-meaning.ensures
 
 pub items-preserved : goal.items-preserved

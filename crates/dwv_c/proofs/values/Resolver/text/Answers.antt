@@ -12,7 +12,7 @@ returns-in-Text c =
     let longer : suc (length c.in-Text.bytes.now) ≡ length c.in-Text.bytes.now + 1 = omega arith in
     rw c.in-Text.is (text_means c.args.self.now.image.now c.args.unit.now c.requires.unit c.requires.sound c.args.id
     c.args.attribute (holders_of c.args.self.now.places.now) c.args.end (text c.in-Text.bytes.now) c.in-Text.bytes.now _
-        _
+    _
     (rw c.in-Text.is at c.requires.value) refl refl (ap (λ (n : ℕ). Some (Info (c.args.end - n))) longer)
     c.text_in_info.ensures)
 
