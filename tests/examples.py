@@ -42,8 +42,8 @@ def files():
 
 
 def rules():
-    """The codes and names of the rules in the tables of the page, in its order."""
-    return list(dict.fromkeys(re.findall(r"(?m)^\| ([A-Z]\d+) \| (\w+) \|", RULES.read_text())))
+    """The codes and names of the rules in the tables of the page, in its order. No command checks line programs (L, M)."""
+    return list(dict.fromkeys(re.findall(r"(?m)^\| ([A-KN-Z]\d+) \| (\w+) \|", RULES.read_text())))
 
 
 def rule_of(row):
