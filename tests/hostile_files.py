@@ -46,7 +46,7 @@ INSIDE_MEMORY = 64 << 20
 LONG_CODES = 40_000
 LONG_CODES_ATTRIBUTES = 35
 # Bytes of memory for each byte of .debug_abbrev, and seconds, that they may take.
-OVERLAP_MEMORY = 90
+OVERLAP_MEMORY = 98
 OVERLAP_TIME = 5
 # Bytes after each of many tables that no unit names.
 UNNAMED = 66
@@ -106,11 +106,18 @@ REFERRING_TIME = 1.5
 REFERRING_MEMORY = 60
 
 
-# Seconds of processor time and bytes of memory for each byte of the file that one of doubled_files may take, besides
-# those of the program; seconds for codes of ten bytes. How the time may grow where the size doubles, the least time
-# that is compared, and how often one is measured.
-DOUBLED_TIME, DOUBLED_MEMORY, TEN_BYTES_TIME = 1.5, 60, 2
-GROWTH, LEAST_TIME, TRIES = 2.3, 0.05, 5
+# Seconds of processor time that one of doubled_files may take, twice those of a quiet machine, and bytes of memory for
+# each byte of the file, besides those of the program. How the time may grow where the size doubles (that of a square
+# grows four times), the least time that is compared, and how often one is measured.
+DOUBLED = doubled_files.Limits(seconds=3, memory=60, growth=2.7)
+LEAST_TIME, TRIES = 0.05, 5
+# Those that may take more: the loads of each code or type miss the caches, and a list has a node for each offset.
+DOUBLED_MORE = {
+    "a random chain of typedefs": DOUBLED._replace(seconds=9, growth=3.3),
+    "entries with codes of ten bytes, found last": DOUBLED._replace(seconds=9, growth=3.3),
+    "lists of attributes that are read at two parities": DOUBLED._replace(memory=105),
+    "lists of attributes in no order": DOUBLED._replace(memory=75),
+}
 
 
 def elf(sections):
@@ -928,7 +935,7 @@ def leveled():
 
 # Entries of the types below, and the bytes of memory that `types` may have for each byte of them, besides its own.
 SMALL_TYPES = 4_000_000
-NODE_MEMORY = 50
+NODE_MEMORY = 54
 
 
 def nodes():
@@ -1039,7 +1046,7 @@ def taken(command, path):
     return text, used.ru_utime + used.ru_stime, used.ru_maxrss << 10
 
 
-def doubling(command, want, half, want_of_half, seconds):
+def doubling(command, want, half, want_of_half, limits):
     """What returns AS_WANTED, or what a command says of a file or of one of half the size that is not wanted, or what
     is wrong with what it takes: its seconds, its memory, or how its time grows from the file of half the size."""
     def ask(path):
@@ -1055,16 +1062,17 @@ def doubling(command, want, half, want_of_half, seconds):
                 memory = had if it is path else 0
             growth = least[path] / max(least[beside], LEAST_TIME / 2)
             # No other work makes a time several times as long.
-            if least[path] <= seconds and growth <= GROWTH or least[path] > 3 * seconds:
+            if least[path] <= limits.seconds and growth <= limits.growth or least[path] > 3 * limits.seconds:
                 break
-        most = path.stat().st_size * DOUBLED_MEMORY + PROGRAM_MEMORY
+        most = path.stat().st_size * limits.memory + PROGRAM_MEMORY
         if memory > max(most, resource.getrusage(resource.RUSAGE_SELF).ru_maxrss << 10):
             return f"{memory} bytes of memory\n"
-        if least[path] > seconds:
+        if least[path] > limits.seconds:
             return f"{least[path]:.1f} seconds, x{growth:.1f}\n"
-        return AS_WANTED if growth <= GROWTH else f"x{growth:.2f}, {least[path]:.2f} seconds\n"
+        return AS_WANTED if growth <= limits.growth else f"x{growth:.2f}, {least[path]:.2f} seconds\n"
 
-    ask.limits = limits_of(seconds) + f", {DOUBLED_MEMORY} bytes of memory a byte, x{GROWTH} for the double size"
+    ask.limits = (f"{limits_of(limits.seconds)}, {limits.memory} bytes of memory a byte, "
+                  f"x{limits.growth} for the double size")
     return ask
 
 
@@ -1073,8 +1081,7 @@ def doubled():
     for it in doubled_files.files():
         (whole, want), (half, want_of_half) = it.make(it.count), it.make(it.count // 2)
         command = COUNT_ALONE if it.command == "table" else (DWV, it.command)
-        seconds = TEN_BYTES_TIME if "ten bytes" in it.name else DOUBLED_TIME
-        ask = doubling(command, want, elf(half), want_of_half, seconds)
+        ask = doubling(command, want, elf(half), want_of_half, DOUBLED_MORE.get(it.name, DOUBLED))
         yield f"{it.command} of {it.name}", elf(whole), ask, AS_WANTED
 
 
