@@ -63,7 +63,7 @@ class Reader:
 
     def place(self, unit, attribute):
         """Where the bytes of a value are: the number of a section and an offset in it; None if it names no bytes."""
-        form, value, at = attribute.form, attribute.raw_value, attribute.offset + attribute.indirection_length
+        form, value, at = attribute.form, attribute.raw_value, attribute.offset
         if form.startswith("DW_FORM_strx"):
             base = unit.get_top_DIE().attributes["DW_AT_str_offsets_base"].value
             return 2, int.from_bytes(self.offsets[base + 4 * value :][:4], "little")
