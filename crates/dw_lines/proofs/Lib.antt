@@ -1,5 +1,6 @@
 pub mod RepeatLaws
 pub mod FormatLaws
+pub mod StringLaws
 mod OpcodeSteps
 mod RunSteps
 mod RowLaws

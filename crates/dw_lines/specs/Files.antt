@@ -1,7 +1,7 @@
 -- Chapter: the directories and files of a line program (DWARF 5, 6.2.4 and 6.2.4.1; DWARF 4, 6.2.4).
 use Rattle.std.specs.Prelude.{ℕ, Bool, true, false, List, [], ◌∷◌, length, drop, Option, None, Some, nat_le, nat_lt}
 use Rattle.std.specs.Prelude.{◌==◌, ◌&&◌, ◌||◌, not, if◌then◌else◌}
-use Rattle.std.specs.List.{list_any}
+use Rattle.std.specs.List.{list_any, before_first}
 use Rattle.dw_forms.specs.declared.form.Form.{Form}
 use Rattle.dw_forms.specs.declared.form.Form.TheVariants as form
 use Rattle.dw_forms.specs.declared.value.ValueFault.{ValueFault}
@@ -14,6 +14,8 @@ use Rattle.dw_lines.specs.declared.files.Files.{Files}
 use Rattle.dw_lines.specs.declared.files.FileEntry.{FileEntry}
 use Rattle.dw_lines.specs.declared.item.LineItem.{LineItem}
 use Rattle.dw_lines.specs.declared.item.LineItem.TheVariants as items
+use Rattle.dw_lines.specs.declared.path.LinePath.{LinePath}
+use Rattle.dw_lines.specs.declared.path.LinePath.TheVariants as paths
 use Rattle.dw_lines.specs.declared.rule.LineRule.{LineRule}
 use Rattle.dw_lines.specs.declared.rule.LineRule.TheVariants.{LineCut, LineForm, LineString, LineDirectory, LineNumber}
 use Rattle.dw_lines.specs.declared.sections.LineSections.{LineSections}
@@ -29,9 +31,14 @@ pub record FileAt : Type 0 where
   pub path : List ℕ
   pub directory : ℕ
 
+-- the bytes of a path. In another section they are those before the first zero byte
+abbrev pub path_view : LinePath → List ℕ
+path_view (paths.Header p) = p.now
+path_view (paths.Section p) = before_first (λ b. b == 0) p.now
+
 -- what a file is, without where its path lies in memory
 abbrev pub file_view : FileEntry → FileAt
-file_view file = record { path = file.path.now; directory = file.directory }
+file_view file = record { path = path_view file.path; directory = file.directory }
 
 -- the path of an entry
 abbrev pub path_of : FileAt → List ℕ
@@ -164,7 +171,7 @@ pub data Item : Type 0 where
 
 -- the same, as it is returned
 abbrev pub item_view : LineItem → Item
-item_view (items.Path p) = a_path p.now
+item_view (items.Path p) = a_path (path_view p)
 item_view (items.Number n) = a_number n
 item_view items.Other = other
 

@@ -8,7 +8,7 @@ use Rattle.dw_lines.specs.declared.program.Program.{Program}
 use Rattle.dw_lines.specs.declared.rule.LineRule.{LineRule}
 use Rattle.dw_lines.specs.declared.rule.LineRule.TheVariants.{LineOffset, LineHeaderLength}
 use Rattle.dw_lines.specs.declared.sections.LineSections.{LineSections}
-use Rattle.dw_lines.specs.Files.{Tables, tables, file_view}
+use Rattle.dw_lines.specs.Files.{Tables, tables, path_view, file_view}
 use Rattle.dw_lines.specs.Header.{LineParameters, numbers_of, field, content, version, address_size, parameters}
 use Rattle.dw_lines.specs.Header.{standard_opcode_lengths}
 use Rattle.dw_lines.specs.Repeats.{sized}
@@ -27,7 +27,7 @@ fields_of h = record {
   parameters = numbers_of h.parameters;
   standard_opcode_lengths = h.standard_opcode_lengths.now;
   tables = record {
-    directories = map (λ path. path.now) h.directories.items;
+    directories = map path_view h.directories.items;
     files = map file_view h.files.entries.items;
     first_file = h.files.first;
   };

@@ -4,12 +4,13 @@ ghost use Rattle.std.specs.Prelude.{◌≡◌, ℕ, List};
 ghost use Rattle.dw_forms.specs.ValueReading.{Gives};
 ghost use Rattle.dw_lines.specs.Files.{has_file, in_directory as directory_format};
 
+use crate::path::LinePath;
 use crate::rule::LineRule;
 
 /// A file: its path, and the number of its directory.
 #[derive(Clone, Copy, Debug)]
 pub struct FileEntry<'a> {
-    pub path: &'a [u8],
+    pub path: LinePath<'a>,
     pub directory: usize,
 }
 

@@ -3,12 +3,14 @@
 ghost use Rattle.std.specs.Prelude.{◌≡◌, ℕ, List, [], ◌∷◌};
 ghost use Rattle.dw_forms.specs.Value.{view};
 ghost use Rattle.dw_forms.specs.ValueReading.{Gives};
+ghost use Rattle.dw_lines.specs.SectionStrings.{IsAfterLastZero};
 ghost use Rattle.dw_lines.specs.Files.{string_at as string_format, item_of as item_of_format, item as item_format};
-ghost use Rattle.dw_lines.specs.Files.{item_view, file_view, with_item as with_item_in, entry as entry_format_of};
+ghost use Rattle.dw_lines.specs.Files.{item_view, path_view, file_view, with_item as with_item_in};
+ghost use Rattle.dw_lines.specs.Files.{entry as entry_format_of};
 
 use crate::content::{Content, DW_LNCT_directory_index, DW_LNCT_path};
-use crate::fields::path;
 use crate::files::FileEntry;
+use crate::path::LinePath;
 use crate::rule::LineRule;
 use crate::sections::LineSections;
 use dw_forms::{Form, Value, read_value};
@@ -16,21 +18,20 @@ use dw_forms::{Form, Value, read_value};
 /// What a content is read as.
 #[derive(Clone, Copy, Debug)]
 pub(crate) enum LineItem<'a> {
-    Path(&'a [u8]),
+    Path(LinePath<'a>),
     Number(u64),
     Other,
 }
 
-/// The string at an offset of a section, up to the first zero byte.
-#[tactic(auto, unfolding(crate::specs::Files::string_at))]
-fn string_at(section: &[u8], offset: u32) -> Result<&[u8], LineRule>
-    ensures { (bytes : List ℕ) → Gives (λ s. (s.now, bytes)) result ((string_format section.now offset).read bytes) }
+/// The string at an offset of a section, whose last zero byte is just before `end`. Where the string ends is not looked
+/// for, because any number of entries may have it.
+fn string_at(section: &[u8], end: usize, offset: u32) -> Result<LinePath<'_>, LineRule>
+    requires { IsAfterLastZero section.now end }
+    ensures { (bytes : List ℕ) → Gives (λ p. (path_view p, bytes)) result
+        ((string_format section.now offset).read bytes) }
 {
-    if (offset as usize) < section.len() {
-        return match path(&section[offset as usize..]) {
-            Ok((string, _)) => Ok(string),
-            Err(_) => Err(LineRule::LineString),
-        };
+    if (offset as usize) < end {
+        return Ok(LinePath::Section(&section[offset as usize..]));
     }
     Err(LineRule::LineString)
 }
@@ -41,9 +42,17 @@ fn item_of<'a>(sections: &LineSections<'a>, value: Value<'a>) -> Result<LineItem
         ((item_of_format sections.now (view value.entry)).read bytes) }
 {
     match value {
-        Value::Text(string) => Ok(LineItem::Path(string)),
-        Value::Str(offset) => Ok(LineItem::Path(string_at(sections.str, offset)?)),
-        Value::LineStr(offset) => Ok(LineItem::Path(string_at(sections.line_str, offset)?)),
+        Value::Text(string) => Ok(LineItem::Path(LinePath::Header(string))),
+        Value::Str(offset) => Ok(LineItem::Path(string_at(
+            sections.str,
+            sections.str_end,
+            offset,
+        )?)),
+        Value::LineStr(offset) => Ok(LineItem::Path(string_at(
+            sections.line_str,
+            sections.line_str_end,
+            offset,
+        )?)),
         Value::Unsigned(number) => Ok(LineItem::Number(number)),
         _ => Ok(LineItem::Other),
     }
@@ -88,7 +97,7 @@ pub(crate) fn entry<'a>(
         ((entry_format_of sections.now contents.now).read bytes.now) }
 {
     let mut entry = FileEntry {
-        path: &[],
+        path: LinePath::Header(&[]),
         directory: 0,
     };
     let mut rest = bytes;

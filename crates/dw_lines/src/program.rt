@@ -4,6 +4,7 @@ ghost use Rattle.std.specs.Prelude.{◌+◌, ◌<◌, ◌^◌, length};
 
 use crate::files::Files;
 use crate::parameters::Parameters;
+use crate::path::LinePath;
 
 /// What the header of a line program says.
 #[derive(Debug, Drop)]
@@ -15,7 +16,7 @@ pub struct LineHeader<'a> {
     pub standard_opcode_lengths: &'a [u8],
     /// The paths of the directories by number. Number 0 is the directory of the compilation: before version 5 the unit
     /// names it, and its path is empty here.
-    pub directories: Vec<&'a [u8]>,
+    pub directories: Vec<LinePath<'a>>,
     pub files: Files<'a>,
 }
 

@@ -3,7 +3,7 @@
 ghost use Rattle.std.specs.Prelude.{◌≡◌, ◌+◌, ◌≤◌, ◌<◌, ◌⊎◌, ℕ, length, map, take, drop, IfOk, IfErr};
 ghost use Rattle.dw_forms.specs.Front.{BeginsWith, BeginsWithNone};
 ghost use Rattle.dw_forms.specs.Stops.{IfFault, GivesOrMemory};
-ghost use Rattle.dw_lines.specs.Files.{tables as tables_format, file_view};
+ghost use Rattle.dw_lines.specs.Files.{tables as tables_format, path_view, file_view};
 ghost use Rattle.dw_lines.specs.Header.{length_end};
 ghost use Rattle.dw_lines.specs.Programs.{fields_of, program_view, after_length as after_format};
 ghost use Rattle.dw_lines.specs.Programs.{measured as measured_format, header as header_format};
@@ -14,6 +14,7 @@ use crate::fault::LineFault;
 use crate::fields::field;
 use crate::files::Files;
 use crate::header::{address_size, content, parameters, standard_opcode_lengths, version};
+use crate::path::LinePath;
 use crate::program::{LineHeader, Program};
 use crate::rule::LineRule;
 use crate::sections::LineSections;
@@ -28,11 +29,11 @@ fn tables<'a>(
     sections: &LineSections<'a>,
     version: u16,
     bytes: &'a [u8],
-) -> Result<(Vec<&'a [u8]>, Files<'a>, &'a [u8]), Stop<LineRule>>
+) -> Result<(Vec<LinePath<'a>>, Files<'a>, &'a [u8]), Stop<LineRule>>
     requires { length bytes.now < length_end }
     ensures { GivesOrMemory (λ x. (
       record {
-        directories = map (λ path. path.now) x.0.items;
+        directories = map path_view x.0.items;
         files = map file_view x.1.entries.items;
         first_file = x.1.first;
       },

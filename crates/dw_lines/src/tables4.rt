@@ -3,27 +3,28 @@
 ghost use Rattle.std.specs.Prelude.{◌≡◌, ◌≤◌, ◌<◌, length, map, option_map, IfOk};
 ghost use Rattle.dw_forms.specs.Stops.{GivesOrMemory};
 ghost use Rattle.dw_forms.specs.ValueReading.{Gives};
-ghost use Rattle.dw_lines.specs.Files.{path_or_end as path_format, file_or_end as file_format, file_view};
+ghost use Rattle.dw_lines.specs.Files.{path_or_end as path_format, file_or_end as file_format, path_view, file_view};
 ghost use Rattle.dw_lines.specs.Files.{in_directory as directory_format, directories4, files4};
 ghost use Rattle.dw_lines.specs.Header.{length_end};
 
 use crate::fields::{number, path};
 use crate::files::{FileEntry, in_directory};
+use crate::path::LinePath;
 use crate::rule::LineRule;
 use dw_forms::Stop;
 use std::alloc::Global;
 
 /// A path, or none where an empty one ends a table; and the bytes after it.
 #[tactic(auto, unfolding(crate::specs::Files::path_or_end))]
-fn path_or_end(bytes: &[u8]) -> Result<(Option<&[u8]>, &[u8]), LineRule>
-    ensures exact { Gives (λ x. (option_map (λ p. p.now) x.0, x.1.now)) result (path_format.read bytes.now) }
+fn path_or_end(bytes: &[u8]) -> Result<(Option<LinePath<'_>>, &[u8]), LineRule>
+    ensures exact { Gives (λ x. (option_map path_view x.0, x.1.now)) result (path_format.read bytes.now) }
     ensures shorter { IfOk result (λ x. length x.1.now < length bytes.now) }
 {
     let (path, rest) = path(bytes)?;
     if path.is_empty() {
         return Ok((None, rest));
     }
-    Ok((Some(path), rest))
+    Ok((Some(LinePath::Header(path)), rest))
 }
 
 /// A file after so many directories, or none at the table's end; and the bytes after it.
@@ -47,14 +48,13 @@ fn file_or_end(count: usize, bytes: &[u8]) -> Result<(Option<FileEntry<'_>>, &[u
 pub(crate) fn directories<'a>(
     alloc: Global,
     bytes: &'a [u8],
-) -> Result<(Vec<&'a [u8]>, &'a [u8]), Stop<LineRule>>
+) -> Result<(Vec<LinePath<'a>>, &'a [u8]), Stop<LineRule>>
     requires { length bytes.now < length_end }
-    ensures exact { GivesOrMemory (λ x. (map (λ p. p.now) x.0.items, x.1.now)) result (directories4.read bytes.now) }
+    ensures exact { GivesOrMemory (λ x. (map path_view x.0.items, x.1.now)) result (directories4.read bytes.now) }
     ensures within { IfOk result (λ x. length x.1.now ≤ length bytes.now) }
 {
-    let compilation: &'a [u8] = &[];
     let mut paths = Vec::new(alloc);
-    paths.push(compilation)?;
+    paths.push(LinePath::Header(&[]))?;
     let mut rest = bytes;
     loop {
         let (next, after) = match path_or_end(rest) {
@@ -80,7 +80,7 @@ pub(crate) fn files<'a>(
 {
     let mut files = Vec::new(alloc);
     files.push(FileEntry {
-        path: &[],
+        path: LinePath::Header(&[]),
         directory: 0,
     })?;
     let mut rest = bytes;

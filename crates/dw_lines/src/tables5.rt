@@ -5,12 +5,13 @@ ghost use Rattle.dw_forms.specs.Stops.{GivesOrMemory};
 ghost use Rattle.dw_forms.specs.ValueReading.{Gives};
 ghost use Rattle.dw_lines.specs.Files.{content_format, entry_format as format_of_entries, table_head as head_format};
 ghost use Rattle.dw_lines.specs.Repeats.{times};
-ghost use Rattle.dw_lines.specs.Files.{file_entry as file_format, file_view, directories5, files5};
+ghost use Rattle.dw_lines.specs.Files.{file_entry as file_format, path_view, file_view, directories5, files5};
 
 use crate::content::{Content, DW_LNCT_path, are_valid, has_kind};
 use crate::fields::{byte, number};
 use crate::files::{FileEntry, in_directory};
 use crate::item::entry;
+use crate::path::LinePath;
 use crate::rule::LineRule;
 use crate::sections::LineSections;
 use dw_forms::{Form, Stop};
@@ -79,8 +80,8 @@ pub(crate) fn directories<'a>(
     alloc: Global,
     sections: &LineSections<'a>,
     bytes: &'a [u8],
-) -> Result<(Vec<&'a [u8]>, &'a [u8]), Stop<LineRule>>
-    ensures { GivesOrMemory (λ x. (map (λ p. p.now) x.0.items, x.1.now)) result
+) -> Result<(Vec<LinePath<'a>>, &'a [u8]), Stop<LineRule>>
+    ensures { GivesOrMemory (λ x. (map path_view x.0.items, x.1.now)) result
         ((directories5 sections.now).read bytes.now) }
 {
     let (contents, count, rest) = table_head(alloc, bytes)?;

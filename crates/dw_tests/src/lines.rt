@@ -43,13 +43,9 @@ fn program(
     )
 }
 
-/// The program at an offset, where strings are `s` and `t`.
+/// The program at an offset, where strings are `s` and, without a zero byte after them, `r` and `t`.
 fn read<'a>(alloc: Global, line: &'a [u8], offset: usize) -> Result<Program<'a>, &'static str> {
-    let sections = LineSections {
-        line,
-        line_str: b"s\0",
-        str: b"t",
-    };
+    let sections = LineSections::new(line, b"s\0r", b"t");
     match read_program(alloc, &sections, offset, 8) {
         Ok(program) => Ok(program),
         Err(Stop::Memory) => Err("out of memory"),
@@ -72,9 +68,12 @@ fn headers(rt: HostRuntime) -> Result<(), Fail> {
         let files = &program.header.files;
         assert_eq!(rt; usize::from(files.first), file);
         assert!(rt; files.has(file as u64) && !files.has(file as u64 + 1));
-        assert_eq!(rt; files.entries[file].path, b"f".as_slice());
+        assert_eq!(rt; files.entries[file].path.bytes(), b"f".as_slice());
         assert_eq!(rt; files.entries[file].directory, directory);
-        assert_eq!(rt; program.header.directories[directory], b"d".as_slice());
+        assert_eq!(rt;
+            program.header.directories[directory].bytes(),
+            b"d".as_slice()
+        );
         assert_eq!(rt; program.header.parameters.line_base, -5);
         assert_eq!(rt; program.opcodes_at, opcodes_at);
         assert_eq!(rt; program.opcodes, [1].as_slice());
@@ -93,7 +92,10 @@ fn contents(rt: HostRuntime) -> Result<(), Fail> {
     ];
     let line = program(alloc, 5, &SIZES, &NUMBERS, &tables)?;
     match read(alloc, &line, 0) {
-        Ok(program) => assert_eq!(rt; program.header.files.entries[0].path, b"s".as_slice()),
+        Ok(program) => assert_eq!(rt;
+            program.header.files.entries[0].path.bytes(),
+            b"s".as_slice()
+        ),
         Err(code) => return Err(code.into()),
     }
     let line = program(alloc, 5, &SIZES, &NUMBERS, &[0, 0, 0, 0])?;
@@ -108,7 +110,7 @@ fn contents(rt: HostRuntime) -> Result<(), Fail> {
 #[test]
 fn header_rules(rt: HostRuntime) -> Result<(), Fail> {
     let alloc = rt.alloc();
-    let rows: [(u8, &[u8], &[u8], &[u8], &str); 16] = [
+    let rows: [(u8, &[u8], &[u8], &[u8], &str); 17] = [
         (1, &[], &NUMBERS, &TABLES_4, "L4"),
         (6, &SIZES, &NUMBERS, &TABLES_5, "L4"),
         (5, &[4, 0], &NUMBERS, &TABLES_5, "L5"),
@@ -122,6 +124,7 @@ fn header_rules(rt: HostRuntime) -> Result<(), Fail> {
         (5, &SIZES, &NUMBERS, &[1, 1, 0x0b, 0], "L9"),
         (5, &SIZES, &NUMBERS, &[0, 1], "L9"),
         (5, &SIZES, &NUMBERS, &[1, 1, 0x1f, 1, 2, 0, 0, 0], "L10"),
+        (5, &SIZES, &NUMBERS, &[1, 1, 0x1f, 1, 3, 0, 0, 0], "L10"),
         (5, &SIZES, &NUMBERS, &[1, 1, 0x0e, 1, 0, 0, 0, 0], "L10"),
         (4, &[], &NUMBERS, &[b'd', 0, 0, b'f', 0, 2, 0, 0, 0], "L11"),
         (

@@ -1,7 +1,7 @@
 use Rattle.std.proofs.Common.{arith, refl}
 use Rattle.std.proofs.lemmas.List.{map-append}
 use Rattle.dw_forms.specs.declared.fault.Stop.TheVariants as stops
-use Rattle.dw_lines.specs.Files.{directories4}
+use Rattle.dw_lines.specs.Files.{path_view, directories4}
 use Rattle.dw_lines.specs.Header.{length_end}
 use Rattle.dw_lines.proofs.RepeatLaws.{goes_to_end, goes_further, goes_wrong}
 use Rattle.dw_lines.proofs.tables4.directories.Goals as goal
@@ -25,6 +25,6 @@ pub loop-found-preserved : goal.loop-found-preserved
 loop-found-preserved c = record {
   within = omega (arith, c.in-Ok.ensures.shorter);
   goes_on = rw (c.in_ok-push-2.ensures.items, map-append)
-      (goes_further _ _ _ _ _ c.in-Some.path.now _ c.loop-found.invariant.goes_on
+      (goes_further _ _ _ _ _ (path_view c.in-Some.path) _ c.loop-found.invariant.goes_on
       (rw c.in-Some.is at c.in-Ok.ensures.exact) c.in-Ok.ensures.shorter);
 }

@@ -1,13 +1,13 @@
 use Rattle.std.proofs.Common.{◌≤◌, length, map}
 use Rattle.dw_lines.specs.declared.rule.LineRule.TheVariants.{LineCut}
-use Rattle.dw_lines.specs.Files.{path_or_end, directories4}
+use Rattle.dw_lines.specs.Files.{path_or_end, path_view, directories4}
 use Rattle.dw_lines.proofs.RepeatLaws.{ReadsOn}
 use Rattle.dw_lines.proofs.tables4.directories.Given as goal
 
 abbrev pub invariant-loop-found : goal.invariant-loop-found
 invariant-loop-found l = record {
   within : length l.rest ≤ length l.bytes;
-  goes_on : ReadsOn LineCut path_or_end (map (λ p. p.now) l.paths.items) l.rest (directories4.read l.bytes);
+  goes_on : ReadsOn LineCut path_or_end (map path_view l.paths.items) l.rest (directories4.read l.bytes);
 }
 
 abbrev pub decreases-loop-found : goal.decreases-loop-found
