@@ -1,6 +1,5 @@
 //! Headers of line programs as `read_program` returns them, and a smallest one that violates each rule.
 
-use crate::vectors::joined;
 use dw_entries::Stop;
 use dw_lines::{LineSections, Program, read_program};
 use std::alloc::{AllocError, Global};
@@ -28,19 +27,19 @@ fn program(
     numbers: &[u8],
     tables: &[u8],
 ) -> Result<Vec<u8>, AllocError> {
-    let header_length = (numbers.len() + tables.len()) as u8;
-    let length = 2 + sizes.len() as u8 + 4 + header_length + 1;
-    joined(
-        alloc,
-        &[
-            &[length, 0, 0, 0, version, 0],
-            sizes,
-            &[header_length, 0, 0, 0],
-            numbers,
-            tables,
-            &[1],
-        ],
-    )
+    let mut header = Vec::new(alloc);
+    header.extend_from_slice(numbers)?;
+    header.extend_from_slice(tables)?;
+    let mut content = Vec::new(alloc);
+    content.extend_from_slice(&[version, 0])?;
+    content.extend_from_slice(sizes)?;
+    content.extend_from_slice(&(header.len() as u64).to_le_bytes()[..4])?;
+    content.extend_from_slice(&header)?;
+    content.push(1)?;
+    let mut line = Vec::new(alloc);
+    line.extend_from_slice(&(content.len() as u64).to_le_bytes()[..4])?;
+    line.extend_from_slice(&content)?;
+    Ok(line)
 }
 
 /// The program at an offset, where strings are `s` and, without a zero byte after them, `r` and `t`.
