@@ -101,9 +101,13 @@ impl<'a> Table<'a> {
         (1..below).find(|k| self.name(*k) == Some(name))
     }
 
-    /// The bytes of the section of this name, and none where there is no such section.
+    /// The bytes of the section of this name. None where there is no such section, or the file does not have its bytes
+    /// as they are.
     fn section(&self, name: &[u8]) -> Option<&'a [u8]> {
         let header = self.header(self.find(name, self.count)?)?;
+        if header.kind == NO_BITS || header.flags & COMPRESSED != 0 {
+            return None;
+        }
         range(self.file, header.offset, header.size)
     }
 
@@ -146,10 +150,23 @@ fn is_read(name: &[u8]) -> bool {
         || name == b".debug_addr".as_slice()
 }
 
+/// Whether a file starts as one of ELF-64 with the lowest byte first.
+fn is_elf64(file: &[u8]) -> bool {
+    file.len() >= 64 && file.starts_with(b"\x7fELF\x02\x01\x01")
+}
+
+/// The bytes of a section of any name. None where the file is not read, or does not have them uncompressed.
+pub fn find_section<'a>(file: &'a [u8], name: &[u8]) -> Option<&'a [u8]> {
+    if !is_elf64(file) {
+        return None;
+    }
+    table_of(file)?.section(name)
+}
+
 /// The sections of a file, or the first rule of the file that it breaks.
 pub fn find_sections(file: &[u8]) -> Result<Sections<'_>, Fault> {
     let fails = |rule| Fault::File { rule, header: 0 };
-    if file.len() < 64 || !file.starts_with(b"\x7fELF\x02\x01\x01") {
+    if !is_elf64(file) {
         return Err(fails("E2 NotElf64"));
     }
     if !matches!(number(file, 16, 2), Some(2 | 3)) {
