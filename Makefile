@@ -52,6 +52,7 @@ test:
 	tests/rows.py
 	tests/examples.py
 	tests/real-programs.py
+	tests/lines.py
 	tests/hostile_files.py
 	tests/sweep.py --part --jobs $(checks)
 	tests/refused-growths.py

@@ -1,0 +1,221 @@
+#!/usr/bin/env python3
+"""Compares the rows that dw_lines makes of line programs with those of llvm-dwarfdump and of pyelftools.
+
+`crates/line_rows` prints the rows. They must be those of the two readers, row by row and field by field, on programs
+that compilers make. Small sections are cut at each byte, and each byte of them is changed: there must be rows, and then
+at most one fault that has a code. With --all there are more programs, and the files of this machine that have line
+programs. It prints a line a file and ends with 'N passed, N failed, N skipped'.
+"""
+import importlib.util
+import itertools
+import os
+import pathlib
+import re
+import shutil
+import subprocess
+import sys
+
+sys.dont_write_bytecode = True
+import common
+import generate
+
+CRATE = common.TOP / "crates/line_rows"
+LINE_ROWS = CRATE / "out/line_rows"
+RULES = set(re.findall(r'"([LM]\d+)"', (common.TOP / "crates/dw_lines/src/rule.rt").read_text()))
+FLAGS = ("is_stmt", "basic_block", "prologue_end", "epilogue_begin", "end_sequence")
+FIELDS = ("line", "column", "file", "isa", "discriminator", "op_index")
+WORDS = ("-O0", "-O2", "-gdwarf-2 -gstrict-dwarf", "-gdwarf-3", "-gdwarf-4", "-gdwarf-5",
+         "-O2 -ffunction-sections -Wl,--gc-sections", "-O2 -flto", "-O2 -gdwarf-4 -gno-column-info")
+OLD = re.compile(r"(?m)^Address .* Discriminator Flags$")
+tally = common.Tally(22)
+total = dict.fromkeys(("dw_lines", "llvm-dwarfdump", "pyelftools"), 0)
+
+
+def programs_of(text):
+    """The rows of each program by its offset, each row as a list of words, and the fault after them or None."""
+    found = {}
+    for part in re.split(r"(?m)^debug_line\[", text)[1:]:
+        rows = [line.split() for line in part.splitlines() if line.startswith("0x") and line[18:19] == " "]
+        fault = re.search(r"(?m)^fault (.*)$", part)
+        found[int(part[:10], 16)] = rows, fault and fault[1]
+    return found
+
+
+def printed(*paths):
+    """What line_rows prints of files, one after another."""
+    status, text, errors = common.run(LINE_ROWS, *paths, timeout=600, text=True, errors="replace")
+    if status or errors:
+        raise common.Failed(f"line_rows ends with status {status}: {errors[-200:]}")
+    return text
+
+
+def llvm_programs(tool, path):
+    """The programs as llvm-dwarfdump prints them, and whether its rows have op_index."""
+    text = common.run(tool, "--debug-line", path, timeout=600, text=True, errors="replace")[1]
+    return {at: rows for at, (rows, _) in programs_of(text).items()}, not OLD.search(text)
+
+
+def elftools_programs(path):
+    """The programs of units as pyelftools reads them."""
+    from elftools.construct import StaticField
+    from elftools.elf.elffile import ELFFile
+    found = {}
+    with open(path, "rb") as file:
+        dwarf = ELFFile(file).get_dwarf_info()
+        for unit in dwarf.iter_CUs():
+            at = unit.get_top_DIE().attributes.get("DW_AT_stmt_list")
+            if at and at.value not in found:
+                # Some versions of pyelftools lack this form, which clang gives checksums.
+                unit.structs.Dwarf_dw_form.setdefault("DW_FORM_data16", StaticField("", 16))
+                entries = dwarf.line_program_for_CU(unit).get_entries()
+                found[at.value] = [words_of(it.state) for it in entries if it.state]
+    return found
+
+
+def words_of(state):
+    """The words of a row of pyelftools."""
+    flags = [name for name in FLAGS if getattr(state, name)]
+    return [f"0x{state.address:016x}", *(str(getattr(state, name)) for name in FIELDS), *flags]
+
+
+def without_is_stmt(row):
+    """A row without what means nothing at the end of a sequence: pyelftools clears is_stmt there."""
+    return [it for it in row if it != "is_stmt"] if row[-1] == "end_sequence" else row
+
+
+def unlike(reader, ours, theirs, change):
+    """What is not the same in two readers."""
+    for at, rows in theirs.items():
+        own, fault = ours.get(at, ([], "not read"))
+        total[reader] += len(own)
+        own = [change(row) for row in own]
+        if fault:
+            yield f"0x{at:x}: {fault}, {reader} has {len(rows)} rows"
+        elif own != rows:
+            k = next((k for k, pair in enumerate(zip(own, rows)) if pair[0] != pair[1]), min(len(own), len(rows)))
+            yield f"0x{at:x}: row {k} is {own[k:k + 1]}, that of {reader} {rows[k:k + 1]}"
+
+
+def compare(title, path, tool, has_elftools):
+    """The rows of a file must be those of both readers."""
+    ours, wrong = programs_of(printed(path)), []
+    count = sum(len(rows) for rows, _ in ours.values())
+    total["dw_lines"] += count
+    if tool:
+        theirs, has_operations = llvm_programs(tool, path)
+        wrong += unlike("llvm-dwarfdump", ours, theirs, lambda row: row if has_operations else row[:6] + row[7:])
+        if ours.keys() != theirs.keys():
+            wrong.append(f"{len(ours)} programs, llvm-dwarfdump has {len(theirs)}")
+    if has_elftools:
+        theirs = {at: list(map(without_is_stmt, rows)) for at, rows in elftools_programs(path).items()}
+        wrong += unlike("pyelftools", ours, theirs, without_is_stmt)
+    wrong += [] if count else ["there is no row"]
+    tally.add(title, "; ".join(wrong[:3]), f"{len(ours)} programs, {count} rows")
+
+
+def compiled(folder, is_all):
+    """Programs of the compilers, each with its title."""
+    for language, compilers in (("c", ("gcc", "clang")), ("cpp", ("g++", "clang++"))):
+        megabytes = {"c": (0.03, 0.3), "cpp": (0.3, 1)}[language][is_all]
+        made = generate.sources(language, megabytes)
+        for name, text in made.items():
+            (folder / name).write_text(text)
+        for compiler, words in itertools.product(filter(tally.has, compilers), WORDS):
+            if is_all or language == "c" or words in WORDS[:2]:    # half a minute in the gate
+                title, path = f"{compiler} {words}", folder / "program"
+                sources = [folder / name for name in made]
+                standard = "-std=c++17" if language == "cpp" else ""
+                if common.compiled(path, f"{compiler} -g {words} {standard}", *sources):
+                    yield title, path
+                else:
+                    tally.skip(f"{title} does not compile")
+    if is_all and shutil.which("rustc"):
+        (folder / "main.rs").write_text(generate.sources("rs", 1)["main.rs"])
+        for words in ("-g", "-g -O", "-g -C dwarf-version=5"):
+            run = ("rustc", *words.split(), "-A", "warnings", "-o", folder / "program", folder / "main.rs")
+            if common.run(*run, timeout=600)[0] == 0:
+                yield f"rustc {words}", folder / "program"
+            else:
+                tally.skip(f"rustc {words} does not compile")
+
+
+def installed(folder):
+    """The files of this machine that have line programs, decompressed."""
+    for path in sorted({*pathlib.Path("/usr/bin").glob("*"), *pathlib.Path("/usr/lib/debug").rglob("*")}):
+        if path.is_file() and not path.is_symlink():
+            listed = common.run("readelf", "-SW", path, text=True, errors="replace")[1]
+            copy = folder / "installed"
+            if " .debug_line " in listed and common.run("objcopy", "--decompress-debug-sections", path, copy)[0] == 0:
+                yield str(path), copy
+
+
+def changed(section):
+    """Each prefix of a section, and the section with each byte changed to three other values."""
+    for end in range(len(section)):
+        yield section[:end]
+        for byte in (section[end] ^ 1, section[end] ^ 0x80, 255 - section[end]):
+            yield section[:end] + bytes([byte]) + section[end + 1:]
+
+
+def broken(folder, title, path):
+    """Rows, and then at most one fault of a program that has a code, on each changed section."""
+    part = folder / "section"
+    subprocess.run(["objcopy", "-O", "binary", "--only-section=.debug_line", "--set-section-flags",
+                    ".debug_line=alloc", path, part], check=True)
+    section, original, paths = part.read_bytes(), path.read_bytes(), []
+    at = original.index(section)
+    for k, it in enumerate(changed(section)):
+        # A prefix is all that is left: the header of the section says its size.
+        paths.append(folder / f"changed{k}")
+        paths[-1].write_bytes(with_section(original, at, len(section), it))
+    texts = re.split(r"(?m)^/\S+:$", printed(*paths))[1:]
+    wrong, faults = [] if len(texts) == len(paths) else [f"{len(texts)} of {len(paths)} files are read"], 0
+    for text in texts:
+        for program in re.split(r"(?m)^debug_line\[0x[0-9a-f]{8}\]$", text)[1:]:
+            rows = program.strip("\n").splitlines()
+            found = rows and re.fullmatch(r"fault ([LM]\d+) \w+ at 0x[0-9a-f]{8}", rows[-1])
+            rows, faults = rows[:-1] if found else rows, faults + bool(found)
+            if found and found[1] not in RULES or not all(line.startswith("0x") for line in rows):
+                wrong.append(program[:100])
+    tally.add(title, "; ".join(wrong[:3]) or (None if faults else "no fault"), f"{len(paths)} files, {faults} faults")
+
+
+def with_section(file, at, size, section):
+    """A file with other bytes in a section, and its size in the section's header."""
+    table, count = int.from_bytes(file[40:48], "little"), int.from_bytes(file[60:62], "little")
+    made = bytearray(file)
+    made[at:at + len(section)] = section
+    for header in range(table, table + 64 * count, 64):
+        if made[header + 24:header + 40] == at.to_bytes(8, "little") + size.to_bytes(8, "little"):
+            made[header + 32:header + 40] = len(section).to_bytes(8, "little")
+    return bytes(made)
+
+
+def main():
+    if not LINE_ROWS.exists():
+        subprocess.run(["rt", "run", "--", "data/X1"], cwd=CRATE, check=True, stdout=subprocess.DEVNULL)
+    is_all = "--all" in sys.argv[1:]
+    tool = next(filter(shutil.which, ("llvm-dwarfdump-19", "llvm-dwarfdump", "llvm-dwarfdump-14")), None)
+    if not tool:
+        tally.skip("llvm-dwarfdump is not installed")
+    with common.empty_folder() as folder:
+        more = installed(folder) if is_all else ()
+        for title, path in itertools.chain(compiled(folder, is_all), more):
+            compare(title, path, tool, HAS_ELFTOOLS)
+        for version in (5, 4) if tally.has("objcopy") else ():
+            path = folder / "small"
+            words = f"gcc -gdwarf-{version} -nostdlib -static -Wl,--build-id=none -Wl,-e,twice -x c"
+            (folder / "small.c").write_text("int twice(int x)\n{\n    return x * 2;\n}\n")
+            if common.compiled(path, words, folder / "small.c"):
+                broken(folder, f"version {version}, cut and changed", path)
+    print(", ".join(f"{count} rows of {reader}" for reader, count in total.items()))
+    return tally.end()
+
+
+HAS_ELFTOOLS = importlib.util.find_spec("elftools") is not None
+if __name__ == "__main__":
+    if not HAS_ELFTOOLS:
+        if common.PYTHON != sys.executable:
+            os.execv(common.PYTHON, [common.PYTHON, *sys.argv])
+        tally.lack("pyelftools is not installed")
+    sys.exit(main())
