@@ -108,11 +108,11 @@ fn section<'a>(file: &'a [u8], name: &[u8]) -> &'a [u8] {
 fn print_file<R: Files + Print + AllocGlobal>(rt: &R, name: &str) -> io::Result<()> {
     let file = fs::read(rt, name)?;
     println!(rt; "{name}:")?;
-    let sections = LineSections {
-        line: section(file.as_slice(), b".debug_line"),
-        line_str: section(file.as_slice(), b".debug_line_str"),
-        str: section(file.as_slice(), b".debug_str"),
-    };
+    let sections = LineSections::new(
+        section(file.as_slice(), b".debug_line"),
+        section(file.as_slice(), b".debug_line_str"),
+        section(file.as_slice(), b".debug_str"),
+    );
     print_programs(rt, &sections)
 }
 
