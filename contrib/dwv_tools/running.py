@@ -63,7 +63,9 @@ def prepare():
 
 def limited(words, limits):
     """The words of a command that has a limit of memory."""
-    if limits.memory is None:
+    # The script's own limit of memory may be lower. It can't be raised, and holds for what it runs.
+    _, most = resource.getrlimit(resource.RLIMIT_AS)
+    if limits.memory is None or resource.RLIM_INFINITY != most <= limits.memory:
         return words
     return ["sh", "-c", 'ulimit -v "$0" && exec "$@"', str(limits.memory // 1024), *words]
 
