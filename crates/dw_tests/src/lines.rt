@@ -59,20 +59,26 @@ fn headers(rt: HostRuntime) -> Result<(), Fail> {
     let alloc = rt.alloc();
     let five = program(alloc, 5, &SIZES, &NUMBERS, &TABLES_5)?;
     let four = program(alloc, 4, &[], &NUMBERS, &TABLES_4)?;
-    let rows: [(&[u8], usize, usize, usize); 2] = [(&five, 0, 0, 33), (&four, 1, 1, 25)];
-    for (line, file, directory, opcodes_at) in rows {
+    let rows: [(&[u8], usize, usize, usize, usize); 2] = [
+        (&five, 0, 1, 0, 33),
+        (&four, 1, 2, 1, 25),
+    ];
+    for (line, file, last, directory, opcodes_at) in rows {
         let Ok(program) = read(alloc, line, 0) else {
             return Err("a fault".into());
         };
-        let files = &program.header.files;
-        assert_eq!(rt; usize::from(files.first), file);
-        assert!(rt; files.has(file as u64) && !files.has(file as u64 + 1));
-        assert_eq!(rt; files.entries[file].path.bytes(), b"f".as_slice());
-        assert_eq!(rt; files.entries[file].directory, directory);
-        assert_eq!(rt;
-            program.header.directories[directory].bytes(),
-            b"d".as_slice()
-        );
+        let header = &program.header;
+        assert_eq!(rt; usize::from(header.files.first), file);
+        assert!(rt; header.files.has(file as u64) && !header.files.has(last as u64));
+        let Some(entry) = header.files.entries.get(file) else {
+            return Err("no file".into());
+        };
+        assert_eq!(rt; entry.path.bytes(), b"f".as_slice());
+        assert_eq!(rt; entry.directory, directory);
+        let Some(folder) = header.directories.get(directory) else {
+            return Err("no directory".into());
+        };
+        assert_eq!(rt; folder.bytes(), b"d".as_slice());
         assert_eq!(rt; program.header.parameters.line_base, -5);
         assert_eq!(rt; program.opcodes_at, opcodes_at);
         assert_eq!(rt; program.opcodes, [1].as_slice());
@@ -91,10 +97,10 @@ fn contents(rt: HostRuntime) -> Result<(), Fail> {
     ];
     let line = program(alloc, 5, &SIZES, &NUMBERS, &tables)?;
     match read(alloc, &line, 0) {
-        Ok(program) => assert_eq!(rt;
-            program.header.files.entries[0].path.bytes(),
-            b"s".as_slice()
-        ),
+        Ok(program) => match program.header.files.entries.first() {
+            Some(entry) => assert_eq!(rt; entry.path.bytes(), b"s".as_slice()),
+            None => return Err("no file".into()),
+        },
         Err(code) => return Err(code.into()),
     }
     let line = program(alloc, 5, &SIZES, &NUMBERS, &[0, 0, 0, 0])?;
@@ -146,8 +152,13 @@ fn header_rules(rt: HostRuntime) -> Result<(), Fail> {
     let mut line = program(alloc, 5, &SIZES, &NUMBERS, &TABLES_5)?;
     let end = line.len();
     assert_eq!(rt; read(alloc, &line, end).err(), Some("L1"));
-    assert_eq!(rt; read(alloc, &line[..end - 1], 0).err(), Some("L2"));
-    line[8] += 1;
+    let Some((_, cut)) = line.split_last() else {
+        return Err("no bytes".into());
+    };
+    assert_eq!(rt; read(alloc, cut, 0).err(), Some("L2"));
+    if let Some(header_length) = line.get_mut(8) {
+        *header_length = 0;
+    }
     assert_eq!(rt; read(alloc, &line, 0).err(), Some("L6"));
     assert_eq!(rt; read(alloc, &[0xf0, 0xff, 0xff, 0xff], 0).err(), Some("L3"));
     Ok(())
