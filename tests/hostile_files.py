@@ -113,8 +113,8 @@ DOUBLED = doubled_files.Limits(seconds=3, memory=60, growth=2.7)
 LEAST_TIME, TRIES = 0.05, 5
 # Those that may take more: the loads of each code or type miss the caches, and a list has a node for each offset.
 DOUBLED_MORE = {
-    "a random chain of typedefs": DOUBLED._replace(seconds=9, growth=3.3),
-    "entries with codes of ten bytes, found last": DOUBLED._replace(seconds=9, growth=3.3),
+    "a random chain of typedefs": DOUBLED._replace(seconds=18, growth=3.5),
+    "entries with codes of ten bytes, found last": DOUBLED._replace(seconds=18, growth=3.5),
     "lists of attributes that are read at two parities": DOUBLED._replace(memory=105),
     "lists of attributes in no order": DOUBLED._replace(memory=75),
 }

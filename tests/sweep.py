@@ -7,7 +7,7 @@ usage: sweep.py [--part] [--jobs N] [--only PATTERN] [--list] [--table FILE]
 
 A file has 30,000 entries of a kind, and one of half the size 15,000. Each command and each call must end within 1
 second of processor time and 1 GiB of memory, and take at most 2.5 times as long as for half the size. The times are
-processor times, each the least of up to six runs, so that other work on the machine does not count. A time below 0.03 s
+processor times, each the least of up to six runs, so that other work on the machine does not count. A time below 0.15 s
 is not compared: the steps of a square, 450 million, take longer. Where the text that must be written grows faster than
 the file, the time may grow with the text, and 1 second more is for every 200 MB of it.
 
@@ -37,7 +37,7 @@ from common import uleb, unit
 MANY = 30_000
 # How the time may grow where the size doubles, the seconds that a run may take, the least time that is compared, and
 # how often one is measured.
-GROWTH, SECONDS, FLOOR, TRIES = 2.5, 1.0, 0.03, 6
+GROWTH, SECONDS, FLOOR, TRIES = 2.5, 1.0, 0.15, 6
 # A time that is not measured again.
 HOPELESS = 3 * SECONDS
 # Bytes of memory that a run may have, and the bytes of text for which a run may take a second more.
@@ -545,7 +545,7 @@ def wrong_of(whole, half):
         return None
     most = GROWTH
     if text > LITTLE and half[1]:
-        most = max(GROWTH, 1.25 * text / half[1])
+        most = max(GROWTH, 1.5 * text / half[1])
     growth = seconds / max(half[0], FLOOR / 100)
     return f"x{growth:.2f}" if growth > most else None
 

@@ -60,8 +60,8 @@ ending_line (Refused fault) = words_line fault
 ending_line Unopened = codes "dwv: cannot open file"
 ending_line (Ran outcome) = line_of outcome
 
--- what `run` promises of a result, for the bytes of a reader, which may be known. A writer, with the bytes that it is known
--- to hold, has taken the report of them, or a prefix if writing failed
+-- what `run` promises of a result, for the bytes of a reader, which may be known. A writer, with the bytes that it is
+-- known to hold, has taken the report of them, or a prefix if writing failed
 pub record HasRun {W : Type 0} (contents : W → Option (List ℕ)) (request : Request) (input : Option (List ℕ))
     (old new : W) (outcome : Result Status RunFault) : Type 0 where
   pub written : IfOk outcome (λ s. IfSome input

@@ -1,5 +1,5 @@
--- Chapter: where bytes of .debug_info, .debug_str and .debug_line_str are: counted from the start of a file, or from the
--- start of each section.
+-- Chapter: where bytes of .debug_info, .debug_str and .debug_line_str are: counted from the start of a file, or from
+-- the start of each section.
 use Rattle.std.specs.Prelude.{◌≡◌, ℕ, ◌+◌, ◌==◌, List, [], if◌then◌else◌}
 use Rattle.dw_elf.specs.Names.{name_of}
 use Rattle.dw_elf.specs.Sections.{StartsAt}

@@ -192,7 +192,8 @@ impl<'p, 'i, 'a> Resolver<'p, 'i, 'a> {
     fn bytes(&self, value: &Value<'a>, end: usize) -> Meaning
         requires bytes { is_bytes (view value.now) ≡ true }
         requires place { EndsAt (sections_in self.now.image.now).info.now (view value.now) end }
-        ensures { (e : Entry) → Means (holders_of self.now.places.now) self.now.image.now e end (view value.now) result }
+        ensures { (e : Entry)
+            → Means (holders_of self.now.places.now) self.now.image.now e end (view value.now) result }
     {
         match *value {
             Value::Block(bytes) => Meaning::Block(self.places.span(end - bytes.len(), bytes)),
