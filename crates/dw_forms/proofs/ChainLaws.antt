@@ -119,6 +119,15 @@ unfolding number_where
 where_same p q same [] = refl
 where_same p q same (n ∷ chain) = same_here n.number _ _ (p n.item) (q n.item) (same n.item) (where_same p q same chain)
 
+-- the same for tests that pass the same items of a chain
+pub where_alike : {X : Type 0} → (items : List (X × ℕ)) (p q : X → Bool)
+    → ((number : ℕ) (x : X) → item_of items number ≡ Some x → p x ≡ q x) → (chain : List (Numbered X))
+    → AreNumbered items chain → number_where p chain ≡ number_where q chain
+unfolding number_where
+where_alike items p q same [] are = refl
+where_alike items p q same (n ∷ chain) are =
+    same_here n.number _ _ (p n.item) (q n.item) (same n.number n.item are.0) (where_alike items p q same chain are.1)
+
 -- the first item passes the test, or is passed over
 pub where_first : {X : Type 0} → (p : X → Bool) (n : Numbered X) (chain : List (Numbered X)) → p n.item ≡ true
     → number_where p (n ∷ chain) ≡ n.number

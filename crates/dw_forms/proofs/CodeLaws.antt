@@ -1,14 +1,14 @@
 -- Codes are found in chains of links, also with one link more.
 use Rattle.std.proofs.lemmas.Grind.{common_steps}
-use Rattle.std.proofs.Common.{rules, ◌≡◌, ℕ, zero, suc, ◌+◌, ◌-◌, ◌<◌, ◌≤◌, Bool, true, false, cond, List, [], ◌∷◌, ◌++◌, length, Some, refl, sym, ap, ◌∙◌, inl, inr, arith}
+use Rattle.std.proofs.Common.{rules, ◌≡◌, ℕ, suc, ◌+◌, ◌-◌, ◌<◌, ◌≤◌, Bool, true, false, cond, List, [], ◌∷◌, ◌++◌, length, Some, refl, sym, ap, ◌∙◌, inl, inr, arith}
 use Rattle.std.specs.Prelude.{get_or}
 use Rattle.std.proofs.lemmas.Bool.{cases_eq}
 use Rattle.std.proofs.lemmas.List.{length-append, length-map, map-append, get_or-map, get_or_append_left, get_or_at}
 use Rattle.dw_forms.specs.declared.chains.Link.{Link}
-use Rattle.dw_forms.specs.declared.chains.Branches.{Branches}
 use Rattle.dw_forms.specs.CodeBits.{parts}
 use Rattle.dw_forms.specs.Chains.{Numbered, item_of, number_where, number_in, codes_of, codes_in, AreNumbered, IsRun, AreBranches, AreBelow, IsFoundBy, AreFound}
-use Rattle.dw_forms.proofs.BitLaws.{differ, eq_true, parts_self}
+use Rattle.dw_forms.proofs.BitLaws.{parts_self}
+use Rattle.dw_forms.proofs.RunLaws.{run_more}
 use Rattle.dw_forms.proofs.ChainLaws.{chain_none, old_chain, new_chain, where_first, where_later, are_numbered, item_within, item_read}
 
 abbrev pub own : ℕ → Link → Numbered ℕ
@@ -51,49 +51,34 @@ pub none_number : (links : List Link) (chain code : ℕ) → chain ≡ 0 → 0 �
 unfolding number_where
 none_number links chain code none = rw (none, codes_none links) refl
 
--- a run with one link more
-run_more : (chain : List (Numbered ℕ)) (k : Link) (last : ℕ)
-    → ((i : ℕ) → i + 1 < k.run → number_in chain (k.code + (i + 1)) ≡ last - i)
-    → IsRun (own (suc last) k ∷ chain) k.run k.code (suc last)
-unfolding number_where
-run_more chain k last run zero few = search (rules, eq_true)
-run_more chain k last run (suc i) few =
-    let one : i + 1 ≡ suc i = omega arith in
-    let less : last - i ≡ suc last - suc i = omega arith in
-    ap (λ (b : Bool). cond b (suc last) (number_in chain (k.code + suc i)))
-    (differ k.code (k.code + suc i) (λ e. omega (arith, e)))
-    ∙ ap (λ (j : ℕ). number_in chain (k.code + j)) (sym one) ∙ run i (omega (arith, few)) ∙ less
-
 -- ---- how codes are found, with one link more
 
 -- none of the branches that are there changes
-pub branches_stay : (branches : List Branches) (more : Branches) (from count code : ℕ) (chain : List (Numbered ℕ))
+pub branches_stay : (branches : List ℕ) (more : ℕ) (from count code : ℕ) (chain : List (Numbered ℕ))
     → AreBranches branches from count code chain → AreBranches (branches ++ more ∷ []) from count code chain
 branches_stay branches more from count code chain are = search (rules, length-append, get_or_append_left)
 
-below_stay : (branches : List Branches) (more : Branches) (from count number : ℕ) → from + count ≤ length branches
+below_stay : (branches : List ℕ) (more : ℕ) (from count number : ℕ) → from + count ≤ length branches
     → AreBelow branches from count number → AreBelow (branches ++ more ∷ []) from count number
 below_stay branches more from count number within are = search (rules, get_or_append_left)
 
-pub found_stay : (branches : List Branches) (more : Branches) (links : List Link) → AreFound branches links
+pub found_stay : (branches : List ℕ) (more : ℕ) (links : List Link) → AreFound branches links
     → AreFound (branches ++ more ∷ []) links
 found_stay branches more links are = grind (arith, common_steps, below_stay, branches_stay)
 
-module _ (branches : List Branches) (links : List Link) (k : Link) (are : AreFound branches links) where
+module _ (branches : List ℕ) (links : List Link) (k : Link) (are : AreFound branches links) where
   old_found : (n : ℕ) (x : Link) → n ≤ length links → IsFoundBy branches links n x
       → IsFoundBy branches (links ++ k ∷ []) n x
   old_found n x within is = search (rules, old_codes)
 
   module _ (short : k.run ≤ length links + 1)
-      (run : (i : ℕ) → i + 1 < k.run → number_in (codes_in links k.rest) (k.code + (i + 1)) ≡ length links - i)
+      (run : IsRun (codes_in links k.rest) (k.run - 1) (k.code + 1) (length links))
       (below : AreBelow branches k.branches k.places (length links + 1))
       (is : AreBranches branches k.branches k.places k.code (codes_in links k.rest)) where
-    later : (place by : ℕ) → 0 < by
-        → number_where (parts k.code place by) (own (suc (length links)) k ∷ codes_in links k.rest)
-        ≡ number_where (parts k.code place by) (codes_in links k.rest)
-    later place by other =
-        where_later (parts k.code place by) (own (suc (length links)) k) (codes_in links k.rest)
-        (parts_self k.code place by other)
+    later : (place : ℕ) → number_where (parts k.code place) (own (suc (length links)) k ∷ codes_in links k.rest)
+        ≡ number_where (parts k.code place) (codes_in links k.rest)
+    later place =
+        where_later (parts k.code place) (own (suc (length links)) k) (codes_in links k.rest) (parts_self k.code place)
 
     new_found : IsFoundBy branches (links ++ k ∷ []) (suc (length links)) k
     new_found = record {
@@ -101,12 +86,12 @@ module _ (branches : List Branches) (links : List Link) (k : Link) (are : AreFou
           λ test is_own. rw (new_codes links k)
           (where_first test (own (suc (length links)) k) (codes_in links k.rest) is_own);
       short = omega (arith, short);
-      run = rw (new_codes links k) (run_more (codes_in links k.rest) k (length links) run);
-      below = λ place by less. let b = below place by less in omega (arith, b);
+      run = rw (new_codes links k) (run_more (codes_in links k.rest) k.run k.code (length links) run);
+      below = λ place less. let b = below place less in omega (arith, b);
       codes = rw (new_codes links k) (record {
         within = is.within;
-        each = λ place by less other small. is.each place by less other small ∙ sym (later place by other);
-        others = λ place by past fits other small. later place by other ∙ is.others place by past fits other small;
+        each = λ place less. is.each place less ∙ sym (later place);
+        others = λ place past fits. later place ∙ is.others place past fits;
       });
     }
 
@@ -138,7 +123,7 @@ pub number_within : (links : List Link) (chain code : ℕ) → number_in (codes_
 number_within links chain code = first_number links (codes_in links chain) code (are_numbered (codes_of links) chain)
 
 -- a link more, if there was memory for it
-pub found_either : (b : Bool) (branches : List Branches) (old new : List Link) (k : Link)
+pub found_either : (b : Bool) (branches : List ℕ) (old new : List Link) (k : Link)
     → new ≡ cond b (old ++ k ∷ []) old
     → AreFound branches old → AreFound branches (old ++ k ∷ []) → AreFound branches new
 found_either true branches old new k is without with = rw is with

@@ -1,6 +1,9 @@
 -- Tables of declarations that are kept, as one more is kept, and how codes are found in them.
-use Rattle.std.proofs.Common.{rules, ◌≡◌, ℕ, suc, ◌-◌, ◌<◌, ◌≤◌, Bool, true, false, cond, List, [], ◌∷◌, ◌++◌, length, map, Option, Some, refl, sym, ap, ◌∙◌, arith}
+use Rattle.std.proofs.Common.{rules, ◌≡◌, ℕ, zero, suc, ◌-◌, ◌<◌, ◌≤◌, Bool, true, false, cond, List, [], ◌∷◌, ◌++◌, length, map, Option, Some, None, refl, sym, ap, subst, ◌∙◌, arith}
 use Rattle.std.specs.Prelude.{◌==◌, find, get_or}
+use Rattle.std.specs.BTreeMap.{BTreeMap}
+use Rattle.std.proofs.lemmas.Grind.{common_steps}
+use Rattle.std.proofs.lemmas.Option.{slice_get_past}
 use Rattle.std.proofs.lemmas.List.{length-append, length-map, map-append, get_or-map}
 use Rattle.dw_forms.specs.declared.attribute_lists.Node.{Node}
 use Rattle.dw_forms.specs.declared.chains.Link.{Link}
@@ -8,11 +11,13 @@ use Rattle.dw_forms.specs.declared.attribute_lists.Step.{Step}
 use Rattle.dw_forms.specs.declared.decl.KeptDecl.{KeptDecl}
 use Rattle.dw_forms.specs.Abbrev.{Declaration}
 use Rattle.dw_forms.specs.AbbrevReading.{has_code}
-use Rattle.dw_forms.specs.Chains.{Numbered, items_of, chain_in, chains_of, number_where, AreNumbered, codes_of, codes_in, number_in as code_number}
-use Rattle.dw_forms.specs.KeptDecls.{kept_view, decls_of, tables_of, table_in, decl_of, decl_number_in, AreWithin, HaveDeclCodes}
+use Rattle.dw_forms.specs.Chains.{Numbered, items_of, chain_in, chains_of, item_of, number_where, AreNumbered, codes_of, codes_in, number_in as code_number}
+use Rattle.dw_forms.specs.KeptDecls.{kept_view, decls_of, tables_of, table_in, decl_of, decl_number_in, AreWithin, HaveDeclCodes, HaveLabels}
+use Rattle.dw_forms.specs.Labels.{label, HasLabel, AreLabels, LabelsStay}
 use Rattle.dw_forms.specs.DeclaredLists.{HasList}
 use Rattle.dw_forms.specs.Offsets.{Stay}
-use Rattle.dw_forms.proofs.ChainLaws.{chain_map, where_map, chains_long, chain_none, chains_more, are_numbered, item_read, none_has, some_has}
+use Rattle.dw_forms.proofs.ChainLaws.{chain_map, where_map, chains_long, chain_none, chains_more, are_numbered, item_read, where_alike, none_has, some_has}
+use Rattle.dw_forms.proofs.LabelLaws.{same_labels}
 use Rattle.dw_forms.proofs.CodeLaws.{codes_long, number_within}
 use Rattle.dw_forms.proofs.ListStarts.{lists_stay}
 
@@ -67,29 +72,79 @@ within_stays old new kept stay within k d less = has_stays old new _ _ _ _ _ sta
 
 -- ---- how codes are found
 
-codes_parts : (nodes : List Node) (kept : List KeptDecl)
-    → map {B = ℕ × ℕ} (λ (k : KeptDecl). (k.code, k.rest)) kept
-    ≡ map {B = ℕ × ℕ} (λ (x : Declaration × ℕ). (x.0.code, x.1)) (decls_of nodes kept)
-codes_parts nodes [] = refl
-codes_parts nodes (k ∷ kept) = ap (λ (rest : List (ℕ × ℕ)). (k.code, k.rest) ∷ rest) (codes_parts nodes kept)
+codes_parts : (long : BTreeMap ℕ ℕ) (nodes : List Node) (kept : List KeptDecl)
+    → map {B = ℕ × ℕ} (λ (k : KeptDecl). (label long k.code, k.rest)) kept
+    ≡ map {B = ℕ × ℕ} (λ (x : Declaration × ℕ). (label long x.0.code, x.1)) (decls_of nodes kept)
+codes_parts long nodes [] = refl
+codes_parts long nodes (k ∷ kept) =
+    ap (λ (rest : List (ℕ × ℕ)). (label long k.code, k.rest) ∷ rest) (codes_parts long nodes kept)
 
-pub code_is : (links : List Link) (nodes : List Node) (kept : List KeptDecl) (table code : ℕ) → HaveDeclCodes links kept
-    → code_number (codes_in links table) code ≡ decl_number_in (chain_in (tables_of nodes kept) table) code
-code_is links nodes kept table code are =
-    ap (λ (items : List (ℕ × ℕ)). code_number (chain_in (chains_of items) table) code) (are ∙ codes_parts nodes kept)
-    ∙ ap (λ (chain : List (Numbered ℕ)). code_number chain code)
-    (chain_map (λ (d : Declaration). d.code) (decls_of nodes kept) table)
-    ∙ where_map (λ c. c == code) (λ (d : Declaration). d.code) (chain_in (tables_of nodes kept) table)
+abbrev or_else : {X : Type 0} → X → Option X → X
+or_else x None = x
+or_else x (Some y) = y
 
-pub links_long : (links : List Link) (kept : List KeptDecl) → HaveDeclCodes links kept → length links ≡ length kept
-links_long links kept are =
-    sym (codes_long links) ∙ ap length are ∙ length-map {B = ℕ × ℕ} kept (λ (k : KeptDecl). (k.code, k.rest))
+label_of : (long : BTreeMap ℕ ℕ) (nodes : List Node) (kept : List KeptDecl) (number : ℕ) (d : Declaration)
+    → HaveLabels long kept → item_of (decls_of nodes kept) number ≡ Some d → HasLabel long d.code
+label_of long nodes kept zero d has is = let no : ◌≡◌ {A = Option Declaration} None (Some d) = is in absurd cc
+label_of long nodes [] (suc n) d has is = grind (arith, common_steps, slice_get_past)
+label_of long nodes (k ∷ kept) (suc zero) d has is =
+    subst (λ (x : Declaration). HasLabel long x.code) (ap (or_else (kept_view nodes k)) is) (has 0 k (omega arith))
+label_of long nodes (k ∷ kept) (suc (suc n)) d has is =
+    label_of long nodes kept (suc n) d (λ i x less. has (suc i) x (omega (arith, less))) is
 
-pub coded_more : (old new : List Link) (kept : List KeptDecl) (k : KeptDecl) → HaveDeclCodes old kept
-    → codes_of new ≡ codes_of old ++ (k.code, k.rest) ∷ [] → HaveDeclCodes new (kept ++ k ∷ [])
-coded_more old new kept k are more =
-    more ∙ ap (λ (items : List (ℕ × ℕ)). items ++ (k.code, k.rest) ∷ []) are
-    ∙ sym (map-append (λ (x : KeptDecl). (x.code, x.rest)) kept (k ∷ []))
+pub code_is : (links : List Link) (long : BTreeMap ℕ ℕ) (nodes : List Node) (kept : List KeptDecl) (table code : ℕ)
+    → AreLabels long → HaveLabels long kept → HaveDeclCodes links long kept
+    → code_number (codes_in links table) (label long code)
+    ≡ decl_number_in (chain_in (tables_of nodes kept) table) code
+code_is links long nodes kept table code labels has are =
+    ap (λ (items : List (ℕ × ℕ)). code_number (chain_in (chains_of items) table) (label long code))
+    (are ∙ codes_parts long nodes kept)
+    ∙ ap (λ (chain : List (Numbered ℕ)). code_number chain (label long code))
+    (chain_map (λ (d : Declaration). label long d.code) (decls_of nodes kept) table)
+    ∙ where_map (λ c. c == label long code) (λ (d : Declaration). label long d.code)
+    (chain_in (tables_of nodes kept) table)
+    ∙ where_alike (decls_of nodes kept) (λ (d : Declaration). label long d.code == label long code)
+    (λ (d : Declaration). d.code == code)
+    (λ number d is. same_labels long d.code code labels (label_of long nodes kept number d has is))
+    (chain_in (tables_of nodes kept) table) (are_numbered (decls_of nodes kept) table)
+
+pub links_long : (links : List Link) (long : BTreeMap ℕ ℕ) (kept : List KeptDecl) → HaveDeclCodes links long kept
+    → length links ≡ length kept
+links_long links long kept are =
+    sym (codes_long links) ∙ ap length are ∙ length-map {B = ℕ × ℕ} kept (λ (k : KeptDecl). (label long k.code, k.rest))
+
+-- codes with new labels change no others
+pub coded_stay : (links : List Link) (old new : BTreeMap ℕ ℕ) (kept : List KeptDecl) → LabelsStay old new
+    → HaveLabels old kept → HaveDeclCodes links old kept → HaveDeclCodes links new kept
+coded_stay links old new kept stay has are = are ∙ sym (map_same kept has) where
+  map_same : (kept : List KeptDecl) → HaveLabels old kept
+      → map {B = ℕ × ℕ} (λ (k : KeptDecl). (label new k.code, k.rest)) kept
+      ≡ map {B = ℕ × ℕ} (λ (k : KeptDecl). (label old k.code, k.rest)) kept
+  map_same [] has = refl
+  map_same (k ∷ kept) has = rw ((stay k.code (has 0 k (omega arith))).0)
+      (ap (λ (rest : List (ℕ × ℕ)). (label old k.code, k.rest) ∷ rest)
+      (map_same kept (λ i x less. has (suc i) x (omega (arith, less)))))
+
+pub labels_stay : (old new : BTreeMap ℕ ℕ) (kept : List KeptDecl) → LabelsStay old new → HaveLabels old kept
+    → HaveLabels new kept
+labels_stay old new kept stay has k d less = (stay (get_or kept k d).code (has k d less)).1
+
+-- a code is found by a label that it was given just now
+pub labelled_is : (links : List Link) (old new : BTreeMap ℕ ℕ) (nodes : List Node) (kept : List KeptDecl)
+    (table code : ℕ) → AreLabels new → LabelsStay old new → HaveLabels old kept → HaveDeclCodes links old kept
+    → (found : ℕ) → found ≡ label new code
+    → code_number (codes_in links table) found ≡ decl_number_in (chain_in (tables_of nodes kept) table) code
+labelled_is links old new nodes kept table code labels stay has are found is =
+    ap (λ (n : ℕ). code_number (codes_in links table) n) is
+    ∙ code_is links new nodes kept table code labels (labels_stay old new kept stay has)
+    (coded_stay links old new kept stay has are)
+
+pub coded_more : (old new : List Link) (long : BTreeMap ℕ ℕ) (kept : List KeptDecl) (k : KeptDecl)
+    → HaveDeclCodes old long kept → codes_of new ≡ codes_of old ++ (label long k.code, k.rest) ∷ []
+    → HaveDeclCodes new long (kept ++ k ∷ [])
+coded_more old new long kept k are more =
+    more ∙ ap (λ (items : List (ℕ × ℕ)). items ++ (label long k.code, k.rest) ∷ []) are
+    ∙ sym (map-append (λ (x : KeptDecl). (label long x.code, x.rest)) kept (k ∷ []))
 
 -- ---- the declaration of a code
 
@@ -126,17 +181,18 @@ some_code nodes kept table code some =
     (λ none. omega (arith, some, none))
 
 -- the declaration that is found by its code
-pub found_by : (links : List Link) (nodes : List Node) (kept : List KeptDecl) (table code : ℕ)
-    → HaveDeclCodes links kept
-    → decl_of nodes kept (code_number (codes_in links table) code)
+pub found_by : (links : List Link) (long : BTreeMap ℕ ℕ) (nodes : List Node) (kept : List KeptDecl) (table code : ℕ)
+    → AreLabels long → HaveLabels long kept → HaveDeclCodes links long kept
+    → decl_of nodes kept (code_number (codes_in links table) (label long code))
     ≡ find (λ d. d.code == code) (table_in (tables_of nodes kept) table)
-found_by links nodes kept table code are =
-    ap (decl_of nodes kept) (code_is links nodes kept table code are)
+found_by links long nodes kept table code labels has are =
+    ap (decl_of nodes kept) (code_is links long nodes kept table code labels has are)
     ∙ numbers_find nodes kept (chain_in (tables_of nodes kept) table) code (own_numbers nodes kept table)
 
-pub found_within : (links : List Link) (kept : List KeptDecl) (table code : ℕ) → HaveDeclCodes links kept
-    → code_number (codes_in links table) code ≤ length kept
-found_within links kept table code are = omega (arith, number_within links table code, links_long links kept are)
+pub found_within : (links : List Link) (long : BTreeMap ℕ ℕ) (kept : List KeptDecl) (table found : ℕ)
+    → HaveDeclCodes links long kept → code_number (codes_in links table) found ≤ length kept
+found_within links long kept table found are =
+    omega (arith, number_within links table found, links_long links long kept are)
 
 -- the declaration that is read at the place before a number
 pub decl_read : (nodes : List Node) (kept : List KeptDecl) (number : ℕ) (x : KeptDecl) → 0 < number

@@ -9,6 +9,7 @@ pub mod TableLaws
 pub mod TableFaults
 pub mod BitLaws
 pub mod ChainLaws
+pub mod RunLaws
 pub mod CodeLaws
 pub mod SearchLaws
 pub mod BranchLaws
@@ -20,6 +21,7 @@ pub mod PartLaws
 pub mod ListLaws
 pub mod ListStarts
 pub mod FrontLaws
+pub mod LabelLaws
 pub mod KeptLaws
 pub mod TailLaws
 pub mod StartLaws

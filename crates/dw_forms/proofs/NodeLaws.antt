@@ -1,20 +1,19 @@
 -- Codes are found in lists of attributes.
 use Rattle.std.proofs.Common.{rules, ◌≡◌, ℕ, zero, suc, ◌<◌, ◌≤◌, true, false, List, [], ◌∷◌, ◌++◌, length, map, refl, sym, ap, ◌∙◌, inl, inr, arith}
 use Rattle.std.proofs.lemmas.Grind.{common_steps}
-use Rattle.std.specs.Prelude.{◌==◌, not, get_or}
+use Rattle.std.specs.Prelude.{◌==◌, ◌≢◌, ◌+◌, not, get_or}
 use Rattle.std.proofs.lemmas.Bool.{cases_eq}
 use Rattle.std.proofs.lemmas.List.{length-append, length-map, map-append, get_or_append_left, get_or_at, get_or_default}
 use Rattle.std.proofs.lemmas.List.Elements.{All-nil}
 use Rattle.dw_forms.specs.declared.abbrev.AttributeSpec.{AttributeSpec}
 use Rattle.dw_forms.specs.declared.attribute_lists.Node.{Node}
-use Rattle.dw_forms.specs.declared.chains.Link.{Link}
 use Rattle.dw_forms.specs.Abbrev.{IsCode16, AreAttributeSpecs, attribute_of}
 use Rattle.dw_forms.specs.AbbrevReading.{has_attribute}
-use Rattle.dw_forms.specs.AttributeLists.{spec_of, specs_of, numbered_in, list_in, Knows, IsKnown, AreKnown, AreCoded}
-use Rattle.dw_forms.specs.Chains.{Numbered, chain_in, chains_of, codes_of, codes_in, number_in, number_where}
+use Rattle.dw_forms.specs.AttributeLists.{spec_of, specs_of, numbered_in, list_in, has_this, link_of, links_of, Knows, IsKnown, AreKnown}
+use Rattle.dw_forms.specs.Chains.{Numbered, chain_in, chains_of, codes_of, codes_in, number_in, number_where, AreBranches, AreBelow, AreFound}
 use Rattle.dw_forms.specs.LeadingWalks.{IsFirstStep}
 use Rattle.dw_forms.proofs.BitLaws.{eq_true, differ}
-use Rattle.dw_forms.proofs.CodeLaws.{codes_long}
+use Rattle.dw_forms.proofs.CodeLaws.{found_more}
 use Rattle.dw_forms.specs.Keys.{apart_cons, lacks_from}
 use Rattle.dw_forms.proofs.ChainLaws.{chain_none, chain_map, where_map, are_numbered, none_has, some_has, old_chain, new_chain}
 
@@ -22,38 +21,43 @@ use Rattle.dw_forms.proofs.ChainLaws.{chain_none, chain_map, where_map, are_numb
 abbrev pub code_part : (AttributeSpec × ℕ) → ℕ × ℕ
 code_part x = (x.0.attribute, x.1)
 
-codes_parts : (nodes : List Node) → map (λ (n : Node). (n.attribute, n.next)) nodes ≡ map code_part (specs_of nodes)
+codes_parts : (nodes : List Node) → codes_of (links_of nodes) ≡ map code_part (specs_of nodes)
 codes_parts [] = refl
 codes_parts (n ∷ nodes) = ap (λ (rest : List (ℕ × ℕ)). (n.attribute, n.next) ∷ rest) (codes_parts nodes)
 
 -- the first attribute with the code
 abbrev pub attribute_in : List Node → ℕ → ℕ → ℕ
-attribute_in nodes number code = number_where (λ (s : AttributeSpec). s.attribute == code) (numbered_in nodes number)
+attribute_in nodes number code = number_where (has_this code) (numbered_in nodes number)
 
-pub code_is : (links : List Link) (nodes : List Node) (number code : ℕ) → AreCoded links nodes
-    → number_in (codes_in links number) code ≡ attribute_in nodes number code
-code_is links nodes number code are =
-    ap (λ (items : List (ℕ × ℕ)). number_in (chain_in (chains_of items) number) code) (are ∙ codes_parts nodes)
+pub code_is : (nodes : List Node) (number code : ℕ)
+    → number_in (codes_in (links_of nodes) number) code ≡ attribute_in nodes number code
+code_is nodes number code =
+    ap (λ (items : List (ℕ × ℕ)). number_in (chain_in (chains_of items) number) code) (codes_parts nodes)
     ∙ ap (λ (chain : List (Numbered ℕ)). number_in chain code) (chain_map attribute_of (specs_of nodes) number)
     ∙ where_map (λ c. c == code) attribute_of (numbered_in nodes number)
 
-pub lacks : (links : List Link) (nodes : List Node) (number code : ℕ) → AreCoded links nodes
-    → number_in (codes_in links number) code ≡ 0 → has_attribute code (list_in nodes number) ≡ false
-lacks links nodes number code are none =
-    none_has (λ (s : AttributeSpec). s.attribute == code) (specs_of nodes) (numbered_in nodes number)
-    (are_numbered (specs_of nodes) number) (sym (code_is links nodes number code are) ∙ none)
+lacks : (nodes : List Node) (number code : ℕ) → attribute_in nodes number code ≡ 0
+    → has_attribute code (list_in nodes number) ≡ false
+lacks nodes number code none =
+    none_has (has_this code) (specs_of nodes) (numbered_in nodes number) (are_numbered (specs_of nodes) number) none
 
-pub has : (links : List Link) (nodes : List Node) (number code : ℕ) → AreCoded links nodes
-    → 0 < number_in (codes_in links number) code → has_attribute code (list_in nodes number) ≡ true
-has links nodes number code are some =
-    let same = code_is links nodes number code are in
-    some_has (λ (s : AttributeSpec). s.attribute == code) (numbered_in nodes number)
-    (λ none. omega (arith, none, same, some))
+has : (nodes : List Node) (number code : ℕ) → (attribute_in nodes number code ≡ 0 → ⊥)
+    → has_attribute code (list_in nodes number) ≡ true
+has nodes number code some = some_has (has_this code) (numbered_in nodes number) some
 
--- an attribute is in the list exactly if the search finds a link
-pub has_is : (links : List Link) (nodes : List Node) (number code found : ℕ) → AreCoded links nodes
-    → found ≡ number_in (codes_in links number) code → not (found == 0) ≡ has_attribute code (list_in nodes number)
-has_is links nodes number code found are is = search (rules, cases_eq, eq_true, lacks, differ, has)
+-- an attribute is in the list exactly if there is a first one with its code
+pub has_is : (nodes : List Node) (number code found : ℕ) → found ≡ attribute_in nodes number code
+    → not (found == 0) ≡ has_attribute code (list_in nodes number)
+has_is nodes number code found is = search (rules, cases_eq, eq_true, lacks, differ, has)
+
+-- the same, as it is found by the links
+pub lacks_code : (nodes : List Node) (number code : ℕ) → number_in (codes_in (links_of nodes) number) code ≡ 0
+    → has_attribute code (list_in nodes number) ≡ false
+lacks_code nodes number code none = lacks nodes number code (sym (code_is nodes number code) ∙ none)
+
+pub has_code : (nodes : List Node) (number code : ℕ) → number_in (codes_in (links_of nodes) number) code ≢ 0
+    → has_attribute code (list_in nodes number) ≡ true
+has_code nodes number code some = has nodes number code (λ none. some (code_is nodes number code ∙ none))
 
 -- ---- one attribute more
 
@@ -72,19 +76,19 @@ pub new_list : (nodes : List Node) (n : Node)
     ≡ record { number = suc (length nodes); item = spec_of n } ∷ numbered_in nodes n.next
 new_list nodes n = search (rules, length-map, specs_more, new_chain)
 
--- the links have its code, too
-pub coded_more : (old new : List Link) (nodes : List Node) (n : Node) → AreCoded old nodes
-    → codes_of new ≡ codes_of old ++ (n.attribute, n.next) ∷ [] → AreCoded new (nodes ++ n ∷ [])
-coded_more old new nodes n are more = search (rules, map-append)
+pub links_long : (nodes : List Node) → length (links_of nodes) ≡ length nodes
+links_long nodes = length-map nodes link_of
 
-pub coded_push : (old new : List Link) (nodes : List Node) (n : Node) (spec : AttributeSpec) (rest code : ℕ)
-    → spec_of n ≡ spec → n.next ≡ rest → code ≡ spec.attribute → AreCoded old nodes
-    → codes_of new ≡ codes_of old ++ (code, rest) ∷ [] → AreCoded new (nodes ++ n ∷ [])
-coded_push old new nodes n spec rest code spec_is next_is code_is are more = search (rules, code_is, coded_more)
-
-pub links_long : (links : List Link) (nodes : List Node) → AreCoded links nodes → length links ≡ length nodes
-links_long links nodes are =
-    sym (codes_long links) ∙ ap length are ∙ length-map {B = ℕ × ℕ} nodes (λ (n : Node). (n.attribute, n.next))
+-- attributes are found with one more
+pub found_push : (branches : List ℕ) (nodes : List Node) (n : Node) (spec : AttributeSpec) (rest from count : ℕ)
+    → spec_of n ≡ spec → n.next ≡ rest → n.branches ≡ from → n.places ≡ count → AreFound branches (links_of nodes)
+    → AreBelow branches from count (length (links_of nodes) + 1)
+    → AreBranches branches from count spec.attribute (codes_in (links_of nodes) rest)
+    → AreFound branches (links_of (nodes ++ n ∷ []))
+found_push branches nodes n spec rest from count spec_is next_is from_is count_is are below is =
+    rw (map-append link_of nodes (n ∷ []))
+    (found_more branches (links_of nodes) (link_of n) are (omega arith)
+    refl (rw (from_is, count_is) below) (rw (ap attribute_of spec_is, next_is, from_is, count_is) is))
 
 -- ---- what is known of the new list
 

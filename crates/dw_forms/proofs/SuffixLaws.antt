@@ -1,6 +1,6 @@
 -- Attributes from one on: the first of them, those after it, and those from the next one of a kind on.
 use Rattle.std.proofs.lemmas.Grind.{common_steps}
-use Rattle.std.proofs.Common.{rules, ◌≡◌, ◌≢◌, ℕ, ◌-◌, ◌≤◌, Bool, true, false, List, [], ◌∷◌, ◌++◌, length, take, Result, Ok, Err, refl, sym, ap, subst, ◌∙◌, append_assoc, append-nil, arith}
+use Rattle.std.proofs.Common.{rules, ◌≡◌, ◌≢◌, ℕ, ◌-◌, ◌≤◌, Bool, true, false, List, [], ◌∷◌, ◌++◌, length, take, Result, Ok, Err, refl, sym, ap, subst, ◌∙◌, append-nil, arith}
 use Rattle.std.specs.Prelude.{All, find, Some, None}
 use Rattle.std.specs.List.{list_any, slice_range}
 use Rattle.std.proofs.lemmas.Bool.{eqb-true, or_parts}
@@ -10,7 +10,7 @@ use Rattle.dw_forms.specs.declared.attribute_lists.Node.{Node}
 use Rattle.dw_forms.specs.declared.attributes.Attributes.{Attributes}
 use Rattle.dw_forms.specs.declared.value.ValueFault.{ValueFault}
 use Rattle.dw_forms.specs.AttributeLists.{IsKnown, spec_of, numbered_in, specs_of, has_this, varies}
-use Rattle.dw_forms.specs.Chains.{Numbered, items_of, number_where, number_in, codes_in}
+use Rattle.dw_forms.specs.Chains.{Numbered, items_of, number_where}
 use Rattle.dw_forms.specs.FirstPlaces.{StandsFirst, ReadsFirst, value_behind}
 use Rattle.dw_forms.specs.KnownValues.{values_end, known_flag, flag_by, flag_in, known_sum, rest_beyond, whole_in}
 use Rattle.dw_forms.specs.Steps.{◌>>=◌}
@@ -19,7 +19,6 @@ use Rattle.dw_forms.specs.Value.{Datum}
 use Rattle.dw_forms.specs.ValueReading.{value_at}
 use Rattle.dw_forms.proofs.ChainLaws.{chain_none, are_numbered, none_has, some_has}
 use Rattle.dw_forms.specs.Keys.{lacks_from}
-use Rattle.dw_forms.proofs.NodeLaws.{code_is, links_long}
 use Rattle.dw_forms.specs.Abbrev.{attribute_of}
 use Rattle.dw_forms.proofs.PartLaws.{IsSplit, split}
 use Rattle.dw_forms.proofs.PassSteps.{items_append, run}
@@ -52,11 +51,6 @@ specs_ends a b before e = ap items_of (numbered_ends a b before e) ∙ items_app
 pub first_specs : (all rest : Attributes) (spec : AttributeSpec)
     → Ends all rest (record { number = all.first; item = spec } ∷ []) → specs_in all ≡ spec ∷ specs_in rest
 first_specs all rest spec ends = specs_ends all rest (record { number = all.first; item = spec } ∷ []) ends
-
--- a list ends with what its end ends with
-pub ends_on : (a b c : Attributes) (xs ys : List (Numbered AttributeSpec)) → Ends a b xs → Ends b c ys
-    → Ends a c (xs ++ ys)
-ends_on a b c xs ys e f = search (rules, numbered_ends, append_assoc)
 
 -- ---- those from the next one of a kind on
 
@@ -98,24 +92,10 @@ pub none_from : (test : AttributeSpec → Bool) (all : Attributes) → all.first
     → IsFrom test all all
 none_from test all none is = record { nodes = refl; first = none ∙ sym (ap (number_where test) is ∙ none_number test) }
 
--- ---- the attribute of a code
-
-module _ (all : Attributes) (code : ℕ) where
-  pub first_within : all.first ≤ length all.lists.now.codes.links.items
-  first_within =
-      let w = all.within in omega (
-        arith,
-        w,
-        links_long all.lists.now.codes.links.items (nodes_of all)
-            all.lists.now.coded,
-      )
-
-  module _ (found : ℕ) (is : found ≡ number_in (codes_in all.lists.now.codes.links.items all.first) code) where
-    pub found_is : found ≡ number_where (has_this code) (numbered all)
-    found_is = is ∙ code_is all.lists.now.codes.links.items (nodes_of all) all.first code all.lists.now.coded
-
-    pub found_within : found ≤ length (nodes_of all)
-    found_within = let w = number_is_within (has_this code) all in omega (arith, found_is, w)
+-- the one of a code
+pub found_within : (all : Attributes) (code found : ℕ) → found ≡ number_where (has_this code) (numbered all)
+    → found ≤ length (nodes_of all)
+found_within all code found is = let w = number_is_within (has_this code) all in omega (arith, is, w)
 
 -- ---- the size of all values together
 

@@ -6,7 +6,8 @@ use Rattle.dw_forms.specs.declared.form.Form.{Form}
 use Rattle.dw_forms.specs.declared.value.Value.{Value}
 use Rattle.dw_forms.specs.declared.value.ValueFault.{ValueFault}
 use Rattle.dw_forms.specs.Front.{BeginsWith, BeginsWithNone}
-use Rattle.dw_forms.specs.Value.{view, Val, ValFails}
+use Rattle.dw_forms.specs.Value.{view}
+use Rattle.dw_forms.specs.ValueFormats.{Val, ValFails}
 use Rattle.dw_forms.specs.ValueReading.{Gives, value_at}
 use Rattle.dw_forms.specs.ValueLaws.{value_fails, value_none, value_begins}
 

@@ -11,7 +11,8 @@ tables_in t = tables_of t.lists.lists.nodes.items t.kept.items
 
 -- codes are found in the tables, and attributes in the declarations
 abbrev pub AreSearchable : AbbrevTables → Type 0
-AreSearchable t = AreReadable t.codes.links.items t.lists.lists.nodes.items t.places.items t.kept.items
+AreSearchable t =
+    AreReadable t.codes.links.items t.labels.long t.lists.lists.nodes.items t.places.items t.kept.items
 
 -- the tables are those of this section
 pub record AreTablesOf (section : List ℕ) (t : AbbrevTables) : Type 0 where

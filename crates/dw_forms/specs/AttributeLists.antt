@@ -7,7 +7,7 @@ use Rattle.dw_forms.specs.declared.attribute_lists.Node.{Node}
 use Rattle.dw_forms.specs.declared.chains.Link.{Link}
 use Rattle.dw_forms.specs.Abbrev.{AreAttributeSpecs}
 use Rattle.dw_forms.specs.AbbrevReading.{has_attribute}
-use Rattle.dw_forms.specs.Chains.{Numbered, items_of, chain_in, chains_of, number_where, codes_of}
+use Rattle.dw_forms.specs.Chains.{Numbered, items_of, chain_in, chains_of, number_where}
 use Rattle.dw_forms.specs.KnownValues.{known_sum, does_vary}
 use Rattle.dw_forms.specs.Classes.{is_open}
 use Rattle.dw_forms.specs.AttributeBits.{AreBitsOf}
@@ -21,6 +21,14 @@ spec_of n = record { attribute = n.attribute; form = n.form }
 -- the attributes, each with the number of the list after it
 abbrev pub specs_of : List Node → List (AttributeSpec × ℕ)
 specs_of nodes = map (λ (n : Node). (spec_of n, n.next)) nodes
+
+-- the node as a link of its attribute's code
+abbrev pub link_of : Node → Link
+link_of n = record { code = n.attribute; branches = n.branches; rest = n.next; run = 0; places = n.places }
+
+-- all nodes as links
+abbrev pub links_of : List Node → List Link
+links_of nodes = map link_of nodes
 
 -- the attributes of the list of this number, with their numbers
 abbrev pub numbered_in : List Node → ℕ → List (Numbered AttributeSpec)
@@ -66,10 +74,6 @@ pub record IsKnown (nodes : List Node) (number : ℕ) (n : Node) : Type 0 where
 -- each node tells what is known of its list
 abbrev pub AreKnown : List Node → Type 0
 AreKnown nodes = (k : ℕ) (n : Node) → k < length nodes → n ≡ get_or nodes k n → IsKnown nodes (suc k) n
-
--- the links have the codes of the attributes
-abbrev pub AreCoded : List Link → List Node → Type 0
-AreCoded links nodes = codes_of links ≡ map (λ (n : Node). (n.attribute, n.next)) nodes
 
 -- a node of this attribute before this list comes after the others
 pub record IsLast (spec : AttributeSpec) (rest : ℕ) (old new : List Node) : Type 0 where

@@ -1,9 +1,8 @@
 -- State: chains of items, in which each item is kept once. Items are numbered from 1 in the order in which they are
 -- kept. A chain is an item and the chain after it, and has the number of its first item; the chain 0 has no items.
-use Rattle.std.specs.Prelude.{◌≡◌, ℕ, zero, suc, ◌+◌, ◌-◌, ◌<◌, ◌≤◌, List, [], ◌∷◌, ◌++◌, length, map, Option}
+use Rattle.std.specs.Prelude.{◌≡◌, ℕ, zero, suc, ◌+◌, ◌-◌, ◌<◌, ◌≤◌, List, [], ◌∷◌, ◌++◌, length, take, map, Option}
 use Rattle.std.specs.Prelude.{Bool, true, None, Some, get_or, slice_get, option_map, ◌==◌, if◌then◌else◌}
 use Rattle.dw_forms.specs.declared.chains.Link.{Link}
-use Rattle.dw_forms.specs.declared.chains.Branches.{Branches}
 use Rattle.dw_forms.specs.CodeBits.{parts}
 
 -- an item of a chain, and its number
@@ -58,38 +57,28 @@ codes_in links number = chain_in (chains_of (codes_of links)) number
 abbrev pub number_in : List (Numbered ℕ) → ℕ → ℕ
 number_in chain code = number_where (λ c. c == code) chain
 
--- so many codes from this one on have the numbers from this one down
+-- so many codes, which count up from this one while their numbers count down from this one
+abbrev pub run_from : ℕ → ℕ → ℕ → List (Numbered ℕ)
+run_from zero code number = []
+run_from (suc run) code number = record { number = number; item = code } ∷ run_from run (suc code) (number - 1)
+
+-- the chain begins with them
 abbrev pub IsRun : List (Numbered ℕ) → ℕ → ℕ → ℕ → Type 0
-IsRun chain run code number = (i : ℕ) → i < run → number_in chain (code + i) ≡ number - i
+IsRun chain run code number = take run chain ≡ run_from run code number
 
--- no link at any of the differences
-abbrev pub no_branches : Branches
-no_branches = record { low = 0; high = 0; both = 0 }
-
--- the branch for codes that differ so, or this number if they do not
-abbrev pub branch_by : ℕ → Branches → ℕ → ℕ
-branch_by number branches by =
-    if by == 0 then number else (if by == 1 then branches.low else (if by == 2 then branches.high else branches.both))
-
--- the branch at a place for codes that differ so
-abbrev pub branch_at : List Branches → ℕ → ℕ → ℕ
-branch_at branches at by = branch_by 0 (get_or branches at no_branches) by
-
--- for each place, the branches have the chain's first links whose codes differ from this one at the place and not
--- below it, by how they differ. Those that are left out have none
-pub record AreBranches (branches : List Branches) (from count code : ℕ) (chain : List (Numbered ℕ)) : Type 0 where
+-- for each place, the branch is the chain's first link whose code has the same bits as this one below the place, but not
+-- at it. There is none at the places that are left out
+pub record AreBranches (branches : List ℕ) (from count code : ℕ) (chain : List (Numbered ℕ)) : Type 0 where
   pub within : from + count ≤ length branches
-  pub each : (place by : ℕ) → place < count → 0 < by → by < 4
-      → branch_at branches (from + place) by ≡ number_where (parts code place by) chain
-  pub others : (place by : ℕ) → count ≤ place → place < 32 → 0 < by → by < 4
-      → number_where (parts code place by) chain ≡ 0
+  pub each : (place : ℕ) → place < count → get_or branches (from + place) 0 ≡ number_where (parts code place) chain
+  pub others : (place : ℕ) → count ≤ place → place < 64 → number_where (parts code place) chain ≡ 0
 
 -- the branches have numbers below this one
-abbrev pub AreBelow : List Branches → ℕ → ℕ → ℕ → Type 0
-AreBelow branches from count number = (place by : ℕ) → place < count → branch_at branches (from + place) by < number
+abbrev pub AreBelow : List ℕ → ℕ → ℕ → ℕ → Type 0
+AreBelow branches from count number = (place : ℕ) → place < count → get_or branches (from + place) 0 < number
 
 -- the link of this number says how codes are found in its chain
-pub record IsFoundBy (branches : List Branches) (links : List Link) (number : ℕ) (l : Link) : Type 0 where
+pub record IsFoundBy (branches : List ℕ) (links : List Link) (number : ℕ) (l : Link) : Type 0 where
   pub first : (test : ℕ → Bool) → test l.code ≡ true → number_where test (codes_in links number) ≡ number
   pub short : l.run ≤ number
   pub run : IsRun (codes_in links number) l.run l.code number
@@ -97,7 +86,7 @@ pub record IsFoundBy (branches : List Branches) (links : List Link) (number : �
   pub codes : AreBranches branches l.branches l.places l.code (codes_in links number)
 
 -- codes are found in the chains of these links
-abbrev pub AreFound : List Branches → List Link → Type 0
+abbrev pub AreFound : List ℕ → List Link → Type 0
 AreFound branches links =
     (k : ℕ) (l : Link) → k < length links → l ≡ get_or links k l → IsFoundBy branches links (suc k) l
 

@@ -2,8 +2,6 @@
 use Rattle.std.specs.Prelude.{ℕ, Bool, true, false, not, List, [], ◌∷◌, if◌then◌else◌, nat_eq, Option, Some, None}
 use Rattle.std.specs.List.{list_any}
 use Rattle.dw_forms.specs.declared.abbrev.AttributeSpec.{AttributeSpec}
-use Rattle.dw_forms.specs.declared.form.Form.{Form}
-use Rattle.dw_forms.specs.declared.form.Form.TheVariants as form
 use Rattle.dw_forms.specs.Value.{Datum, address, block, unsigned, signed, wide, text, flag, str, line_str, str_index}
 use Rattle.dw_forms.specs.Value.{ref_info, ref_unit, ref_sig, sec_offset, expr, addr_index, loc_index, rng_index}
 use Rattle.dw_forms.specs.Codes.{DW_AT_sibling, DW_AT_name, DW_AT_byte_size, DW_AT_bit_size, DW_AT_import}
@@ -11,6 +9,7 @@ use Rattle.dw_forms.specs.Codes.{DW_AT_lower_bound, DW_AT_prototyped, DW_AT_bit_
 use Rattle.dw_forms.specs.Codes.{DW_AT_abstract_origin, DW_AT_count, DW_AT_data_member_location, DW_AT_declaration}
 use Rattle.dw_forms.specs.Codes.{DW_AT_encoding, DW_AT_specification, DW_AT_type, DW_AT_byte_stride, DW_AT_signature}
 use Rattle.dw_forms.specs.Codes.{DW_AT_data_bit_offset, DW_AT_str_offsets_base, DW_AT_addr_base}
+use Rattle.dw_forms.specs.FormTable.{form_class}
 use Rattle.dw_forms.specs.declared.class.Class.{Class}
 use Rattle.dw_forms.specs.declared.class.Class.TheVariants.{Address, Block, Constant, WideConstant, Exprloc, Flag}
 use Rattle.dw_forms.specs.declared.class.Class.TheVariants.{ListIndex, Reference, SectionOffset, String}
@@ -35,49 +34,6 @@ class_of (expr bytes) = Exprloc
 class_of (addr_index index) = Address
 class_of (loc_index index) = ListIndex
 class_of (rng_index index) = ListIndex
-
--- the class of each value in a form; a value in the form indirect names another form
-abbrev pub form_class : Form → Option Class
-form_class form.Addr = Some Address
-form_class form.Block2 = Some Block
-form_class form.Block4 = Some Block
-form_class form.Data2 = Some Constant
-form_class form.Data4 = Some Constant
-form_class form.Data8 = Some Constant
-form_class form.Text = Some String
-form_class form.Block = Some Block
-form_class form.Block1 = Some Block
-form_class form.Data1 = Some Constant
-form_class form.Flag = Some Flag
-form_class form.Sdata = Some Constant
-form_class form.Strp = Some String
-form_class form.Udata = Some Constant
-form_class form.RefAddr = Some Reference
-form_class form.Ref1 = Some Reference
-form_class form.Ref2 = Some Reference
-form_class form.Ref4 = Some Reference
-form_class form.Ref8 = Some Reference
-form_class form.RefUdata = Some Reference
-form_class form.Indirect = None
-form_class form.SecOffset = Some SectionOffset
-form_class form.Exprloc = Some Exprloc
-form_class form.FlagPresent = Some Flag
-form_class form.Strx = Some String
-form_class form.Addrx = Some Address
-form_class form.Data16 = Some WideConstant
-form_class form.LineStrp = Some String
-form_class form.RefSig8 = Some Reference
-form_class (form.ImplicitConst number) = Some Constant
-form_class form.Loclistx = Some ListIndex
-form_class form.Rnglistx = Some ListIndex
-form_class form.Strx1 = Some String
-form_class form.Strx2 = Some String
-form_class form.Strx3 = Some String
-form_class form.Strx4 = Some String
-form_class form.Addrx1 = Some Address
-form_class form.Addrx2 = Some Address
-form_class form.Addrx3 = Some Address
-form_class form.Addrx4 = Some Address
 
 -- the code is one of these
 abbrev pub is_one_of : List ℕ → ℕ → Bool

@@ -1,4 +1,5 @@
 -- Chapter: tags, attributes and languages by the standard's names (DWARF 5, 7.5.3, 7.5.4 and 7.12).
+-- All of it but its comments is made by docs/make-rules.py from docs/codes.tsv.
 use Rattle.std.specs.Prelude.{ℕ, Bool, ◌==◌, ◌||◌}
 
 -- ---- tags (table 7.3)

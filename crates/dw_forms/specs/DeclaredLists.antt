@@ -1,6 +1,6 @@
 -- State: what is kept of the attributes of a declaration.
-use Rattle.std.specs.Prelude.{◌≡◌, ◌≤◌, ◌<◌, ◌+◌, ◌%◌, ◌^◌, ◌==◌, ℕ, Bool, false, Option, if◌then◌else◌, List, [], ◌∷◌, length}
-use Rattle.std.specs.Prelude.{count_ones, get_or}
+use Rattle.std.specs.Prelude.{◌≡◌, ◌≤◌, ◌<◌, ◌+◌, ◌%◌, ◌^◌, ◌==◌, ℕ, Bool, false, Option}
+use Rattle.std.specs.Prelude.{if◌then◌else◌, List, [], ◌∷◌, length, count_ones, get_or}
 use Rattle.std.specs.Option.{ForSome}
 use Rattle.std.specs.Int.{bit_at}
 use Rattle.std.specs.List.{list_any}

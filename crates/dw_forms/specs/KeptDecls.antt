@@ -1,5 +1,6 @@
 -- State: the abbreviation tables of a section, with each declaration kept once. A table is a chain of declarations.
 use Rattle.std.specs.Prelude.{◌≡◌, ℕ, ◌==◌, List, map, All, Option}
+use Rattle.std.specs.BTreeMap.{BTreeMap}
 use Rattle.dw_forms.specs.declared.attribute_lists.Node.{Node}
 use Rattle.dw_forms.specs.declared.chains.Link.{Link}
 use Rattle.dw_forms.specs.declared.decl.DeclAt.{DeclAt}
@@ -9,6 +10,7 @@ use Rattle.dw_forms.specs.Abbrev.{Declaration}
 use Rattle.dw_forms.specs.AttributeLists.{list_in, numbered_in}
 use Rattle.dw_forms.specs.DeclaredLists.{HasList, HavePlaces}
 use Rattle.dw_forms.specs.Chains.{Numbered, items_of, chain_in, chains_of, item_of, number_where, codes_of}
+use Rattle.dw_forms.specs.Labels.{label, HasLabel}
 
 -- a declaration that is kept, with its attributes among those that are kept
 abbrev pub kept_view : List Node → KeptDecl → Declaration
@@ -56,13 +58,18 @@ abbrev pub HaveAllPlaces : List Node → List KnownPlace → List KeptDecl → T
 HaveAllPlaces nodes places kept =
     All (λ (k : KeptDecl). HavePlaces (numbered_in nodes k.first) k.bits k.first_place places) kept
 
--- the links have the codes of the declarations
-abbrev pub HaveDeclCodes : List Link → List KeptDecl → Type 0
-HaveDeclCodes links kept = codes_of links ≡ map (λ (k : KeptDecl). (k.code, k.rest)) kept
+-- the links have the labels of the codes of the declarations
+abbrev pub HaveDeclCodes : List Link → BTreeMap ℕ ℕ → List KeptDecl → Type 0
+HaveDeclCodes links long kept = codes_of links ≡ map (λ (k : KeptDecl). (label long k.code, k.rest)) kept
 
--- codes are found in the tables by the links, and attributes in the declarations by the nodes and the places
-pub record AreReadable (links : List Link) (nodes : List Node) (places : List KnownPlace) (kept : List KeptDecl)
-    : Type 0 where
-  pub coded : HaveDeclCodes links kept
+-- the code of each declaration has a label
+abbrev pub HaveLabels : BTreeMap ℕ ℕ → List KeptDecl → Type 0
+HaveLabels long kept = All (λ (k : KeptDecl). HasLabel long k.code) kept
+
+-- codes are found in the tables by their labels, and attributes in the declarations by the nodes and the places
+pub record AreReadable (links : List Link) (long : BTreeMap ℕ ℕ) (nodes : List Node) (places : List KnownPlace)
+    (kept : List KeptDecl) : Type 0 where
+  pub coded : HaveDeclCodes links long kept
+  pub labelled : HaveLabels long kept
   pub within : AreWithin nodes kept
   pub placed : HaveAllPlaces nodes places kept

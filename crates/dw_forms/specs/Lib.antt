@@ -19,12 +19,16 @@ pub mod Formats
 pub mod BaseFormats
 pub mod Elements
 pub mod ListFormats
+pub mod WithBytes
 pub mod Value
+pub mod FormTable
+pub mod ValueFormats
 pub mod ValueReading
 pub mod Classes
 pub mod Abbrev
 pub mod AbbrevReading
 -- Laws.
+pub mod Spans
 pub mod FormLaws
 pub mod ValueLaws
 pub mod TableGrammar
@@ -40,6 +44,7 @@ pub mod Places
 pub mod FirstPlaces
 pub mod CodeBits
 pub mod Chains
+pub mod Labels
 pub mod LeadingWalks
 pub mod Offsets
 pub mod AttributeLists

@@ -1,4 +1,5 @@
 -- Chapter: the groups of rules in the order in which they are checked, the number, the code and the name of each rule.
+-- Its equations, and what it uses of `Rule`, are made by docs/make-rules.py from docs/rules.tsv.
 use Rattle.std.specs.Prelude.{ℕ, List, codes}
 use Rattle.dw_forms.specs.declared.rule.Rule.{Rule}
 use Rattle.dw_forms.specs.declared.rule.Rule.TheVariants.{AbbrevCut, AbbrevNumber, CodeTwice, BadTag, BadChildren}

@@ -10,9 +10,11 @@ use Rattle.dw_forms.specs.declared.abbrev.AttributeSpec.{AttributeSpec}
 use Rattle.dw_forms.specs.declared.value.ValueFault.{ValueFault}
 use Rattle.dw_forms.specs.FormCodes.{is_allowed}
 use Rattle.dw_forms.specs.Steps.{◌>>=◌}
-use Rattle.dw_forms.specs.Value.{Datum, Layout, layout_of, fixed, leb, signed_leb, counted, leb_counted, ended, exactly}
+use Rattle.dw_forms.specs.Value.{Datum, Layout, fixed, exactly}
+use Rattle.dw_forms.specs.FormTable.{layout_of}
 use Rattle.dw_forms.specs.BaseFormats.{taken_at}
-use Rattle.dw_forms.specs.Value.{nothing, named, laid_out}
+use Rattle.dw_forms.specs.Value.{nothing}
+use Rattle.dw_forms.specs.ValueFormats.{laid_out}
 use Rattle.dw_forms.specs.ValueReading.{layout_at, value_at}
 use Rattle.dw_forms.specs.Sizes.{size_of, fixed_size_of, rest_at, plus, allowed_size, fixed_sum, ValuesEnd}
 

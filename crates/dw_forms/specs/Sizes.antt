@@ -7,7 +7,8 @@ use Rattle.dw_forms.specs.declared.value.ValueFault.{ValueFault}
 use Rattle.dw_forms.specs.declared.abbrev.AttributeSpec.{AttributeSpec}
 use Rattle.dw_forms.specs.FormCodes.{is_allowed}
 use Rattle.dw_forms.specs.Steps.{◌>>=◌}
-use Rattle.dw_forms.specs.Value.{Datum, Layout, layout_of, fixed, exactly, nothing}
+use Rattle.dw_forms.specs.Value.{Datum, Layout, fixed, exactly, nothing}
+use Rattle.dw_forms.specs.FormTable.{layout_of}
 use Rattle.dw_forms.specs.ValueReading.{value_at}
 
 -- the size that all values in this layout have

@@ -6,7 +6,9 @@ use Rattle.dw_forms.specs.declared.value.ValueFault.TheVariants.{BadIndirect}
 use Rattle.dw_forms.specs.Formats.{Format, choose, failing}
 use Rattle.dw_forms.specs.Front.{BeginsWith, BeginsWithNone}
 use Rattle.dw_forms.specs.Readers.{reader_fails, reader_none, reader_begins}
-use Rattle.dw_forms.specs.Value.{Datum, Val, ValFails, layout_of, laid_out, may_be_named, named_value, attribute_value}
+use Rattle.dw_forms.specs.Value.{Datum}
+use Rattle.dw_forms.specs.FormTable.{layout_of}
+use Rattle.dw_forms.specs.ValueFormats.{Val, ValFails, laid_out, may_be_named, named_value, attribute_value}
 use Rattle.dw_forms.specs.ValueReading.{value_at}
 
 -- ---- the form that an indirect value names

@@ -5,8 +5,9 @@ use Rattle.dw_forms.specs.declared.value.Value.{Value}
 use Rattle.dw_forms.specs.declared.value.ValueFault.{ValueFault}
 use Rattle.dw_forms.specs.declared.value.ValueFault.TheVariants.{Cut}
 use Rattle.dw_forms.specs.BaseFormats.{taken_at, null_terminated_at, fixed_number}
-use Rattle.dw_forms.specs.Value.{Datum, view, Layout, leb_number, counted_bytes, leb_counted_bytes}
-use Rattle.dw_forms.specs.Value.{laid_out, named_value, attribute_value}
+use Rattle.dw_forms.specs.Value.{Datum, view, Layout}
+use Rattle.dw_forms.specs.ValueFormats.{leb_number, counted_bytes, leb_counted_bytes}
+use Rattle.dw_forms.specs.ValueFormats.{laid_out, named_value, attribute_value}
 
 -- what a function returned, seen by view, is what reading gives
 abbrev pub Gives : {X Y E : Type 0} → (X → Y) → Result X E → Result Y E → Type 0

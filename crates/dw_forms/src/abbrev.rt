@@ -8,7 +8,7 @@ ghost use Rattle.dw_forms.specs.Abbrev.{table_view};
 ghost use Rattle.dw_forms.specs.Places.{IsIndex, IsPlace, StandsAt};
 ghost use Rattle.dw_forms.specs.AbbrevReading.{has_code};
 
-use crate::constants::{Attribute, Tag};
+use crate::code::{Attribute, Tag};
 use crate::form::Form;
 use std::alloc::{AllocError, Global};
 use std::collections::BTreeMap;

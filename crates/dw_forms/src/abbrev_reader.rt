@@ -14,7 +14,7 @@ ghost use Rattle.dw_forms.specs.Stops.{IfFault, GivesOrMemory};
 ghost use Rattle.dw_forms.specs.ValueReading.{Gives};
 
 use crate::abbrev::{AbbrevTable, AttributeSpec, Decl};
-use crate::constants::{Attribute, Tag};
+use crate::code::{Attribute, Tag};
 use crate::fault::{AbbrevFault, DeclFault, Stop};
 use crate::form::Form;
 use crate::leb::{read_sleb, read_uleb};

@@ -22,6 +22,7 @@ use crate::constants::DW_AT_declaration;
 use crate::decl::{DeclAt, Decls, KeptDecl};
 use crate::fault::{AbbrevFault, DeclFault, Stop};
 use crate::known_places::KnownPlace;
+use crate::labels::Labels;
 use crate::list_reader::KeptLists;
 use crate::offsets::{Offsets, Placed};
 use std::alloc::{AllocError, Global};
@@ -111,7 +112,9 @@ fn read_front(
 #[derive(Debug, Drop)]
 pub struct AbbrevTables {
     pub(crate) kept: Vec<KeptDecl>,
-    /// The codes of the declarations.
+    /// The labels of their codes.
+    pub(crate) labels: Labels,
+    /// The chains of these labels.
     pub(crate) codes: Chains,
     /// The lists of their attributes.
     pub(crate) lists: KeptLists,
@@ -125,6 +128,7 @@ pub struct AbbrevTables {
 /// in the table already. The lists are what the clauses are about.
 fn push(
     kept: &mut Vec<KeptDecl>,
+    labels: &mut Labels,
     codes: &mut Chains,
     places: &mut Vec<KnownPlace>,
     lists: &AttributeLists,
@@ -133,15 +137,17 @@ fn push(
 ) -> Result<Option<u32>, AllocError>
     requires rest { rest ≤ length kept.old.items }
     requires few { length kept.old.items < 0xffffffff }
-    requires kept { AreReadable codes.old.links.items lists.now.nodes.items places.old.items kept.old.items }
+    requires kept { AreReadable codes.old.links.items labels.old.long lists.now.nodes.items places.old.items
+        kept.old.items }
     requires list { HasList lists.now.nodes.items decl.first decl.step decl.bits decl.declared decl.whole }
-    ensures kept { OnOk result
-        (AreReadable codes.new.links.items lists.now.nodes.items places.new.items kept.new.items) }
+    ensures kept { OnOk result (AreReadable codes.new.links.items labels.new.long lists.now.nodes.items places.new.items
+        kept.new.items) }
     ensures added { IfOk result (IsAddedTable (kept_view lists.now.nodes.items decl) rest
         (tables_of lists.now.nodes.items kept.old.items) (tables_of lists.now.nodes.items kept.new.items)) }
 {
     kept.reserve(1)?;
-    let Some(number) = codes.push(rest, decl.code)? else {
+    let label = labels.enter(decl.code)?;
+    let Some(number) = codes.push(rest, label)? else {
         return Ok(None);
     };
     let first_place = places.len();
@@ -184,6 +190,7 @@ impl AbbrevTables {
     {
         AbbrevTables {
             kept: Vec::new(alloc),
+            labels: Labels::new(alloc),
             codes: Chains::new(alloc),
             lists: KeptLists::new(alloc),
             places: Vec::new(alloc),
@@ -213,6 +220,7 @@ impl AbbrevTables {
         while let Some(Placed { at, item: decl }) = decls.pop() {
             let kept = push(
                 &mut self.kept,
+                &mut self.labels,
                 &mut self.codes,
                 &mut self.places,
                 &self.lists.lists,
@@ -267,6 +275,7 @@ impl AbbrevTables {
     }
 
     /// The declaration of a table that has this code, and its number.
+    #[inline(always)]
     pub fn get(&self, table: u32, code: u64) -> Option<(u32, DeclAt<'_>)>
         requires searchable { AreSearchable self.now }
         requires table { table < length (tables_in self.now) }
@@ -274,7 +283,8 @@ impl AbbrevTables {
             (λ d. d.code == code) (table_in (tables_in self.now) table) }
         ensures number { IfSome result (λ found. found.0 ≡ decl_number_in (chain_in (tables_in self.now) table) code) }
     {
-        let number = self.codes.find(table, code);
+        let label = self.labels.find(code);
+        let number = self.codes.find(table, label);
         if number == 0 {
             return None;
         }

@@ -1,19 +1,20 @@
 //! The lists of attributes of a section, with each attribute kept once.
 
-ghost use Rattle.std.specs.Prelude.{◌≡◌, ◌≤◌, ◌<◌, ◌∷◌, List, [], length, IfOk, if◌then◌else◌};
+ghost use Rattle.std.specs.Prelude.{◌≡◌, ◌≤◌, ◌<◌, ◌∷◌, List, [], length, IfOk};
 ghost use Rattle.dw_forms.specs.KnownValues.{known_size, does_vary};
 ghost use Rattle.dw_forms.specs.LeadingWalks.{may_lead, does_lead, stops_at, reference_lead, value_lead, lead_of};
 ghost use Rattle.dw_forms.specs.LeadingWalks.{IsFirstStep};
 ghost use Rattle.dw_forms.specs.declared.abbrev.AttributeSpec.{AttributeSpec as SpecData};
-ghost use Rattle.dw_forms.specs.Chains.{Numbered};
+ghost use Rattle.dw_forms.specs.Chains.{Numbered, number_where, AreFound};
 ghost use Rattle.dw_forms.specs.Abbrev.{IsCode16};
 ghost use Rattle.dw_forms.specs.AbbrevReading.{has_attribute};
-ghost use Rattle.dw_forms.specs.AttributeLists.{Knows, AreKnown, AreCoded, AddedSpec, numbered_in, list_in, spec_of};
+ghost use Rattle.dw_forms.specs.AttributeLists.{Knows, AreKnown, AddedSpec, numbered_in, list_in, spec_of, links_of};
+ghost use Rattle.dw_forms.specs.AttributeLists.{has_this};
 
 use crate::abbrev::AttributeSpec;
 use crate::attribute_bits::{OWN_BITS, bit_of, mask_of};
-use crate::chains::Chains;
-use crate::class::is_open;
+use crate::attribute_class::is_open;
+use crate::chains::{Link, Links, number_or, push_branches, search};
 use crate::constants::*;
 use crate::form::Form;
 use std::alloc::{AllocError, Global};
@@ -205,6 +206,28 @@ pub struct Node {
     pub attribute: Attribute,
     /// Whether each form is one of version 4.
     pub in_version_4: bool,
+    /// For how many bits of the attribute's code there are branches to attributes of the list after it.
+    pub places: u8,
+    /// Where they begin among those of all attributes.
+    pub branches: usize,
+}
+
+impl Links for Vec<Node> {
+    ghost use Rattle.dw_forms.specs.AttributeLists.{links_of};
+
+    ghost links = { λ nodes. links_of nodes.items };
+
+    #[inline(always)]
+    fn link(&self, number: u32) -> Link {
+        let node = &self[(number - 1) as usize];
+        Link {
+            code: u64::from(node.attribute.0),
+            branches: node.branches,
+            rest: node.next,
+            run: 0,
+            places: node.places,
+        }
+    }
 }
 
 impl Node {
@@ -224,26 +247,30 @@ impl Node {
 #[derive(Debug, Drop)]
 pub struct AttributeLists {
     pub(crate) nodes: Vec<Node>,
-    pub(crate) codes: Chains,
+    /// The branches by which attributes are found.
+    branches: Vec<u32>,
     ghost known: { AreKnown nodes.items },
-    ghost coded: { AreCoded codes.links.items nodes.items },
+    ghost found: { AreFound branches.items (links_of nodes.items) },
 }
 
-/// The number, if this is true, and else another one.
-fn number_or(number: u32, is: bool, next: u32) -> u32
-    ensures { result ≡ (if is then number else next) }
-{
-    if is { number } else { next }
-}
-
-/// The node of an attribute before a list of which this is known, with the first step in it.
-fn node_before(number: u32, spec: AttributeSpec, rest: u32, next: Node, after: Step) -> Node
+/// The node of an attribute before a list of which this is known, with the first step in it, and with its branches.
+fn node_before(
+    number: u32,
+    spec: AttributeSpec,
+    rest: u32,
+    next: Node,
+    after: Step,
+    branches: usize,
+    places: u8,
+) -> Node
     requires small_4 { next.known_with_4 ≤ 0xffffff }
     requires small_8 { next.known_with_8 ≤ 0xffffff }
     requires few { next.count ≤ 0x10000 }
     ensures spec { spec_of result ≡ spec }
     ensures next { result.next ≡ rest }
     ensures after { result.after ≡ after }
+    ensures branches { result.branches ≡ branches }
+    ensures places { result.places ≡ places }
     ensures knows { (list : List (Numbered SpecData)) → Knows list next
         → Knows (record { number = number; item = spec } ∷ list) result }
 {
@@ -259,6 +286,8 @@ fn node_before(number: u32, spec: AttributeSpec, rest: u32, next: Node, after: S
         after,
         attribute: spec.attribute,
         in_version_4: next.in_version_4 && spec.form.allowed(4),
+        places,
+        branches,
     }
 }
 
@@ -278,6 +307,8 @@ fn no_node() -> Node
         after: no_step(),
         attribute: Attribute(0),
         in_version_4: true,
+        places: 0,
+        branches: 0,
     }
 }
 
@@ -288,7 +319,7 @@ impl AttributeLists {
     {
         AttributeLists {
             nodes: Vec::new(alloc),
-            codes: Chains::new(alloc),
+            branches: Vec::new(alloc),
         }
     }
 
@@ -331,7 +362,16 @@ impl AttributeLists {
         if bit_of(attribute) < OWN_BITS {
             return true;
         }
-        self.codes.search(list, u64::from(attribute.0)) != 0
+        self.find(list, attribute) != 0
+    }
+
+    /// The number of the first attribute of a list with this code, or 0.
+    #[inline(always)]
+    pub(crate) fn find(&self, list: u32, attribute: Attribute) -> u32
+        requires { list ≤ length self.now.nodes.items }
+        ensures { result ≡ number_where (has_this attribute) (numbered_in self.now.nodes.items list) }
+    {
+        search(&self.nodes, &self.branches, list, u64::from(attribute.0))
     }
 
     /// Adds an attribute before a list, and returns the list that begins with it. None if the list has it already.
@@ -343,15 +383,15 @@ impl AttributeLists {
     {
         let next = self.node(rest);
         let after = self.step(rest);
+        let number = self.nodes.len() as u32 + 1;
+        let branches = self.branches.len();
         self.nodes.reserve(1)?;
-        match self.codes.push(rest, u64::from(spec.attribute.0)) {
-            Ok(None) => Ok(None),
-            Ok(Some(number)) => {
-                let node = node_before(number, spec, rest, next, after);
-                self.nodes.push_reserved(node);
-                Ok(Some(number))
-            }
-            Err(error) => Err(error),
-        }
+        let code = u64::from(spec.attribute.0);
+        let Some(places) = push_branches(&self.nodes, &mut self.branches, rest, code)? else {
+            return Ok(None);
+        };
+        let node = node_before(number, spec, rest, next, after, branches, places as u8);
+        self.nodes.push_reserved(node);
+        Ok(Some(number))
     }
 }

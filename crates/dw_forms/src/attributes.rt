@@ -145,8 +145,7 @@ impl<'a> Attributes<'a> {
     pub fn find(&self, attribute: Attribute) -> Attributes<'a>
         ensures { IsFrom (has_this attribute) self.now result }
     {
-        let found = self.lists.codes.search(self.first, u64::from(attribute.0));
-        Attributes::new(self.lists, found)
+        Attributes::new(self.lists, self.lists.find(self.first, attribute))
     }
 
     /// Whether the flag with this code is true in each entry. None if that depends on the entry's value.

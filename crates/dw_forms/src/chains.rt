@@ -1,10 +1,10 @@
 //! Chains of codes, in which a code is found by its bits.
 
-ghost use Rattle.std.specs.Prelude.{◌≡◌, ◌≢◌, ◌+◌, ◌-◌, ◌<◌, ◌≤◌, ℕ, [], length, get_or, IfOk, IfSome, IfNone, OnErr};
-ghost use Rattle.std.specs.Prelude.{bit_xor};
-ghost use Rattle.dw_forms.specs.CodeBits.{difference};
-ghost use Rattle.dw_forms.specs.Chains.{codes_in, number_in, no_branches, branch_by, AreBranches, AreBelow, AreFound};
-ghost use Rattle.dw_forms.specs.Chains.{IsAddedChain};
+ghost use Rattle.std.specs.Prelude.{◌≡◌, ◌≢◌, ◌+◌, ◌-◌, ◌^◌, ◌<◌, ◌≤◌, List, [], length, get_or, if◌then◌else◌};
+ghost use Rattle.std.specs.Prelude.{IfOk, IfSome, IfNone, OnErr};
+ghost use Rattle.dw_forms.specs.CodeBits.{same_bit};
+ghost use Rattle.dw_forms.specs.declared.chains.Link.{Link as LinkData};
+ghost use Rattle.dw_forms.specs.Chains.{codes_in, number_in, AreBranches, AreBelow, AreFound, IsRun, IsAddedChain};
 
 use std::alloc::{AllocError, Global};
 
@@ -12,196 +12,159 @@ use std::alloc::{AllocError, Global};
 #[derive(Clone, Copy, Debug)]
 pub struct Link {
     pub code: u64,
-    /// The place of its branches among those of all links.
+    /// Where its branches begin among those of all links, from the lowest bit of its code on. Each is the first link of
+    /// its chain whose code differs from its own in that bit and in no bit below, or 0.
     pub branches: usize,
     /// The chain after it.
     pub rest: u32,
     /// How many codes count up from its own while their links' numbers count down, as far as is known.
-    pub run: u16,
-    /// At how many places of its code it has branches.
+    pub run: u32,
+    /// For how many bits of its code it has branches.
     pub places: u8,
 }
 
-/// The branches of a link at one place, which is two bits of its code. Each is the first link of its chain whose code
-/// differs from its own there and in no bit below, or 0.
-#[derive(Clone, Copy, Debug)]
-pub struct Branches {
-    /// For codes that differ in the lower bit alone.
-    pub low: u32,
-    /// For codes that differ in the upper bit alone.
-    pub high: u32,
-    /// For codes that differ in both bits.
-    pub both: u32,
+/// Links, which are numbered from 1. A chain has the number of its first link; the chain 0 has none.
+pub trait Links {
+    /// The links in the order of their numbers.
+    ghost links: { Self → List LinkData };
+
+    /// The link of a number.
+    fn link(&self, number: u32) -> Link
+        requires some { 0 < number }
+        requires within { number ≤ length (links self.now) }
+        ensures { result ≡ get_or (links self.now) (number - 1) result };
 }
 
-impl Branches {
-    /// The branch for codes that differ so, or this number if they do not.
+impl Links for Vec<Link> {
+    ghost links = { λ links. links.items };
+
     #[inline(always)]
-    fn by(&self, number: u32, difference: u32) -> u32
-        ensures { result ≡ branch_by number self.now difference }
-    {
-        match difference {
-            0 => number,
-            1 => self.low,
-            2 => self.high,
-            _ => self.both,
-        }
+    fn link(&self, number: u32) -> Link {
+        self[(number - 1) as usize]
     }
 }
 
-/// Chains of codes. Links are numbered from 1. A chain has the number of its first link; the chain 0 has none.
+/// Chains of codes.
 #[derive(Debug, Drop)]
 pub struct Chains {
     pub(crate) links: Vec<Link>,
-    /// The branches of all links, from the lowest place of each on.
-    pub(crate) branches: Vec<Branches>,
+    /// The branches of all links.
+    pub(crate) branches: Vec<u32>,
     ghost found: { AreFound branches.items links.items },
 }
 
-/// How two codes differ in the two bits at a place: 0 if they do not, 1 in the lower, 2 in the upper, 3 in both.
+/// The first number, if this is true, and else the other one.
 #[inline(always)]
-fn difference(code: u64, other: u64, place: u32) -> u32
-    requires { place < 32 }
-    ensures same { result ≡ difference code place other }
-    ensures small { result < 4 }
+pub(crate) fn number_or(number: u32, is: bool, other: u32) -> u32
+    ensures { result ≡ (if is then number else other) }
 {
-    (((code ^ other) >> (2 * place)) % 4) as u32
+    if is { number } else { other }
 }
 
-/// The branches of a link at a place.
+/// Whether two codes have the same bit at a place.
 #[inline(always)]
-fn branches_at(first: &Link, branches: &[Branches], place: u32) -> Branches
-    requires { first.now.branches + first.now.places ≤ length branches.now }
-    ensures kept { place < first.now.places → result ≡ get_or branches.now (first.now.branches + place) no_branches }
-    ensures none { first.now.places ≤ place → result ≡ no_branches }
+fn same_bit(code: u64, other: u64, place: u32) -> bool
+    requires { place < 64 }
+    ensures { result ≡ same_bit code place other }
 {
-    if place < first.places as u32 {
+    (code >> place) % 2 == (other >> place) % 2
+}
+
+/// The branch of the link of a number at a place, or 0. A link of its own run is as far off as the bit is worth, and no
+/// branch is read.
+#[inline(always)]
+fn branch_at(number: u32, first: &Link, branches: &[u32], place: u32) -> u32
+    requires place { place < 64 }
+    requires short { first.now.run ≤ number }
+    requires within { first.now.branches + first.now.places ≤ length branches.now }
+    ensures near { 2 ^ place < first.now.run → result ≡ number - 2 ^ place }
+    ensures kept { first.now.run ≤ 2 ^ place → place < first.now.places
+        → result ≡ get_or branches.now (first.now.branches + place) 0 }
+    ensures none { first.now.run ≤ 2 ^ place → first.now.places ≤ place → result ≡ 0 }
+{
+    let far = 1u64 << place;
+    if far < u64::from(first.run) {
+        number - far as u32
+    } else if place < first.places as u32 {
         branches[first.branches + place as usize]
     } else {
-        Branches {
-            low: 0,
-            high: 0,
-            both: 0,
-        }
+        0
     }
 }
 
-/// The branches of a new code by those of a link whose code differs so from it, and the branch for codes that do not
-/// differ from the new one.
-#[inline(always)]
-fn turned(number: u32, old: Branches, own: u32) -> (Branches, u32)
-    requires { own < 4 }
-    ensures low { result.0.low ≡ branch_by number old (bit_xor own 1) }
-    ensures high { result.0.high ≡ branch_by number old (bit_xor own 2) }
-    ensures both { result.0.both ≡ branch_by number old (bit_xor own 3) }
-    ensures next { result.1 ≡ branch_by number old own }
-{
-    match own {
-        0 => (old, number),
-        1 => {
-            let new = Branches {
-                low: number,
-                high: old.both,
-                both: old.high,
-            };
-            (new, old.low)
-        }
-        2 => {
-            let new = Branches {
-                low: old.both,
-                high: number,
-                both: old.low,
-            };
-            (new, old.high)
-        }
-        _ => {
-            let new = Branches {
-                low: old.high,
-                high: old.low,
-                both: number,
-            };
-            (new, old.both)
-        }
-    }
-}
-
-/// The number of the link of a chain that has this code, or 0. Each turn goes on among the links that have two more
-/// bits of the code at least, so there are at most 32.
-fn search(links: &[Link], branches: &[Branches], chain: u32, code: u64) -> u32
-    requires chain { chain ≤ length links.now }
-    requires found { AreFound branches.now links.now }
-    ensures { result ≡ number_in (codes_in links.now chain) code }
+/// The number of the link of a chain that has this code, or 0. Each turn goes on among the links that have one more bit
+/// of the code at least, so there are at most as many as the codes have bits.
+#[inline(never)]
+pub(crate) fn search<L: Links>(links: &L, branches: &[u32], chain: u32, code: u64) -> u32
+    requires chain { chain ≤ length (L.links links.now) }
+    requires found { AreFound branches.now (L.links links.now) }
+    ensures { result ≡ number_in (codes_in (L.links links.now) chain) code }
 {
     let mut number = chain;
     while number != 0 {
-        let first = &links[(number - 1) as usize];
+        let first = links.link(number);
         let differing = first.code ^ code;
         if differing == 0 {
             return number;
         }
-        let place = differing.trailing_zeros() / 2;
-        if place >= u32::from(first.places) {
-            return 0;
-        }
-        let by = difference(first.code, code, place);
-        number = branches[first.branches + place as usize].by(number, by);
+        number = branch_at(number, &first, branches, differing.trailing_zeros());
     }
     0
 }
 
-/// Appends the branches of a link with this code before a chain, and returns at how many places they are. None if the
+/// Appends the branches of a link with this code before a chain, and returns for how many bits they are. None if the
 /// chain has the code already.
-fn push_branches(
-    links: &[Link],
-    branches: &mut Vec<Branches>,
+pub(crate) fn push_branches<L: Links>(
+    links: &L,
+    branches: &mut Vec<u32>,
     rest: u32,
     code: u64,
 ) -> Result<Option<u32>, AllocError>
-    requires rest { rest ≤ length links.now }
-    requires found { AreFound branches.old.items links.now }
-    ensures found { AreFound branches.new.items links.now }
+    requires rest { rest ≤ length (L.links links.now) }
+    requires found { AreFound branches.old.items (L.links links.now) }
+    ensures found { AreFound branches.new.items (L.links links.now) }
     ensures branches { IfOk result (λ found. IfSome found (λ count. AreBranches branches.new.items
-        (length branches.old.items) count code (codes_in links.now rest))) }
+        (length branches.old.items) count code (codes_in (L.links links.now) rest))) }
     ensures below { IfOk result (λ found. IfSome found (λ count. AreBelow branches.new.items
-        (length branches.old.items) count (length links.now + 1))) }
-    ensures few { IfOk result (λ found. IfSome found (λ count. count ≤ 32)) }
-    ensures new { IfOk result (λ found. IfSome found (λ _. number_in (codes_in links.now rest) code ≡ 0)) }
-    ensures twice { IfOk result (λ found. IfNone found (number_in (codes_in links.now rest) code ≢ 0)) }
+        (length branches.old.items) count (length (L.links links.now) + 1))) }
+    ensures few { IfOk result (λ found. IfSome found (λ count. count ≤ 64)) }
+    ensures new { IfOk result (λ found. IfSome found (λ _. number_in (codes_in (L.links links.now) rest) code ≡ 0)) }
+    ensures twice { IfOk result (λ found. IfNone found (number_in (codes_in (L.links links.now) rest) code ≢ 0)) }
 {
     let mut number = rest;
-    for place in 0..32 {
+    for place in 0..64 {
         if number == 0 {
             return Ok(Some(place));
         }
-        let first = &links[(number - 1) as usize];
-        let own = difference(code, first.code, place);
-        let old = branches_at(first, branches, place);
-        let (new, next) = turned(number, old, own);
-        branches.push(new)?;
-        number = next;
+        let first = links.link(number);
+        let other = branch_at(number, &first, branches, place);
+        let same = same_bit(code, first.code, place);
+        branches.push(number_or(other, same, number))?;
+        number = number_or(number, same, other);
     }
     if number == 0 {
-        return Ok(Some(32));
+        return Ok(Some(64));
     }
     // Codes that agree in all bits are the same.
-    if links[(number - 1) as usize].code != code {
+    let last = links.link(number);
+    if last.code != code {
         unreachable!();
     }
     Ok(None)
 }
 
 /// How many codes count up from this one while their links' numbers count down, for the next link.
-fn run_before(links: &[Link], branches: &[Branches], rest: u32, code: u64) -> u16
+fn run_before(links: &[Link], branches: &[u32], rest: u32, code: u64) -> u32
     requires rest { rest ≤ length links.now }
+    requires few { length links.now < 0xffffffff }
     requires found { AreFound branches.now links.now }
     ensures short { result ≤ length links.now + 1 }
-    ensures run { (i : ℕ) → i + 1 < result → number_in (codes_in links.now rest) (code + (i + 1))
-        ≡ length links.now - i }
+    ensures run { IsRun (codes_in links.now rest) (result - 1) (code + 1) (length links.now) }
 {
     if rest != 0 && rest as usize == links.len() {
         let next = &links[(rest - 1) as usize];
         if code < next.code && next.code - code == 1 {
-            return next.run.saturating_add(1);
+            return next.run + 1;
         }
     }
     1
@@ -218,18 +181,9 @@ impl Chains {
         }
     }
 
-    /// The number of the link of a chain that has this code, or 0, for codes that do not count up.
-    #[inline(always)]
-    pub fn search(&self, chain: u32, code: u64) -> u32
-        requires { chain ≤ length self.now.links.items }
-        ensures { result ≡ number_in (codes_in self.now.links.items chain) code }
-    {
-        search(&self.links, &self.branches, chain, code)
-    }
-
     /// The number of the link of a chain that has this code, or 0.
     #[inline(always)]
-    #[tactic(auto, using(crate::proofs::CodeLaws::none_number))]
+    #[tactic(auto, using(crate::proofs::CodeLaws::none_number, crate::proofs::RunLaws::run_found))]
     pub fn find(&self, chain: u32, code: u64) -> u32
         requires { chain ≤ length self.now.links.items }
         ensures { result ≡ number_in (codes_in self.now.links.items chain) code }

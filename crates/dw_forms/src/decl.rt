@@ -12,7 +12,7 @@ use crate::abbrev::AttributeSpec;
 use crate::attribute_bits::{OWN_BITS, bit_of, count_below, mask_of};
 use crate::attribute_lists::{AttributeLists, Step};
 use crate::attributes::{Attributes, cut_at};
-use crate::constants::{Attribute, Tag};
+use crate::code::{Attribute, Tag};
 use crate::form::Form;
 use crate::known_places::KnownPlace;
 use crate::value::{Value, ValueFault};

@@ -1,8 +1,9 @@
 //! Forms, which say how the values of attributes are laid out (DWARF 5, 7.5.5 and 7.5.6).
+//! All but the comments and `may_be_named` is made by docs/make-rules.py from docs/codes.tsv.
 
 ghost use Rattle.std.specs.Prelude.{◌≡◌, ◌≤◌, IfSome};
 ghost use Rattle.dw_forms.specs.FormCodes.{form_of, is_allowed, may_lead_out, may_refer};
-ghost use Rattle.dw_forms.specs.Value.{may_be_named};
+ghost use Rattle.dw_forms.specs.ValueFormats.{may_be_named};
 ghost use Rattle.dw_forms.specs.Sizes.{fixed_size_of};
 
 /// The form of a value (DWARF 5, 7.5.6, Table 7.6). Offsets have 4 bytes, since all is 32-bit DWARF. The forms for

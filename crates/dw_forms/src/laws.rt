@@ -11,7 +11,8 @@ ghost use Rattle.dw_forms.specs.Abbrev.{Declaration, Decls, TableFails};
 ghost use Rattle.dw_forms.specs.FormCodes.{bare, code_of, form_of};
 ghost use Rattle.dw_forms.specs.TableGrammar.{IsReadByGrammar};
 ghost use Rattle.dw_forms.specs.Leb.{Uleb, UlebFails, Sleb, SlebFails};
-ghost use Rattle.dw_forms.specs.Value.{Datum, Val, ValFails};
+ghost use Rattle.dw_forms.specs.Value.{Datum};
+ghost use Rattle.dw_forms.specs.ValueFormats.{Val, ValFails};
 
 /// No unsigned number begins another, and bytes that begin with none have one fault.
 pub fn unsigned_numbers_are_apart()

@@ -75,7 +75,7 @@ pub(crate) fn text(bytes: &[u8]) -> Result<&[u8], ValueFault>
 }
 
 /// As many bytes as a number of so many bytes says.
-#[tactic(auto, unfolding(crate::specs::Value::counted_bytes))]
+#[tactic(auto, unfolding(crate::specs::ValueFormats::counted_bytes))]
 pub(crate) fn counted(bytes: &[u8], size: usize) -> Result<&[u8], ValueFault>
     requires some { 1 ≤ size }
     requires few { size ≤ 8 }
@@ -88,7 +88,7 @@ pub(crate) fn counted(bytes: &[u8], size: usize) -> Result<&[u8], ValueFault>
 }
 
 /// As many bytes as a LEB128 number says, and how many they are with that number.
-#[tactic(auto, unfolding(crate::specs::Value::leb_counted_bytes, crate::specs::Value::leb_number))]
+#[tactic(auto, unfolding(crate::specs::ValueFormats::leb_counted_bytes, crate::specs::ValueFormats::leb_number))]
 pub(crate) fn leb_counted(bytes: &[u8]) -> Result<(&[u8], usize), ValueFault>
     ensures within { IfOk result (λ x. x.1 ≤ length bytes.now) }
     ensures exact { Gives (λ x. (x.0.now, drop x.1 bytes.now)) result (leb_counted_at bytes.now) }
@@ -99,7 +99,7 @@ pub(crate) fn leb_counted(bytes: &[u8]) -> Result<(&[u8], usize), ValueFault>
 }
 
 /// A length of so many bytes, as many bytes, and how many bytes the value has.
-#[tactic(auto, unfolding(crate::specs::Value::laid_out))]
+#[tactic(auto, unfolding(crate::specs::ValueFormats::laid_out))]
 pub(crate) fn counted_block(bytes: &[u8], size: usize) -> Result<(Value<'_>, usize), ValueFault>
     requires some { 1 ≤ size }
     requires few { size ≤ 8 }
@@ -111,7 +111,7 @@ pub(crate) fn counted_block(bytes: &[u8], size: usize) -> Result<(Value<'_>, usi
 }
 
 /// A length as a LEB128 number, and as many bytes.
-#[tactic(auto, unfolding(crate::specs::Value::laid_out))]
+#[tactic(auto, unfolding(crate::specs::ValueFormats::laid_out))]
 pub(crate) fn leb_block(bytes: &[u8]) -> Result<(Value<'_>, usize), ValueFault>
     ensures within { IfOk result (λ x. x.1 ≤ length bytes.now) }
     ensures exact { GivesIn (leb_layout block_datum) bytes.now result }
@@ -121,7 +121,7 @@ pub(crate) fn leb_block(bytes: &[u8]) -> Result<(Value<'_>, usize), ValueFault>
 }
 
 /// A signed LEB128 number.
-#[tactic(auto, unfolding(crate::specs::Value::laid_out, crate::specs::Value::signed_leb_number))]
+#[tactic(auto, unfolding(crate::specs::ValueFormats::laid_out, crate::specs::ValueFormats::signed_leb_number))]
 pub(crate) fn leb_signed(bytes: &[u8]) -> Result<(Value<'_>, usize), ValueFault>
     ensures within { IfOk result (λ x. x.1 ≤ length bytes.now) }
     ensures exact { GivesIn (signed_leb signed) bytes.now result }

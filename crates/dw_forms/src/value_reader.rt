@@ -3,7 +3,9 @@
 ghost use Rattle.std.specs.Prelude.{◌≡◌, ◌≤◌, ◌⊎◌, length, drop, IfOk, IfErr, OnErr, IsTrue};
 ghost use Rattle.dw_forms.specs.declared.form.Form.TheVariants.{Indirect};
 ghost use Rattle.dw_forms.specs.Front.{BeginsWith, BeginsWithNone};
-ghost use Rattle.dw_forms.specs.Value.{view, layout_of, Val, ValFails};
+ghost use Rattle.dw_forms.specs.Value.{view};
+ghost use Rattle.dw_forms.specs.FormTable.{layout_of};
+ghost use Rattle.dw_forms.specs.ValueFormats.{Val, ValFails};
 ghost use Rattle.dw_forms.specs.FormCodes.{form_of, is_allowed};
 ghost use Rattle.dw_forms.specs.Sizes.{rest_at};
 ghost use Rattle.dw_forms.specs.ValueReading.{Gives, GivesIn, named_at, value_at};
@@ -17,7 +19,7 @@ use crate::value::{Value, ValueFault};
 
 /// The value of a form that names no other form, and how many bytes it has.
 #[inline(never)]
-#[tactic(auto, unfolding(crate::specs::Value::laid_out, crate::specs::Value::leb_number))]
+#[tactic(auto, unfolding(crate::specs::ValueFormats::laid_out, crate::specs::ValueFormats::leb_number))]
 fn plain(form: Form, address_size: u8, bytes: &[u8]) -> Result<(Value<'_>, usize), ValueFault>
     requires { (address_size ≡ 4) ⊎ (address_size ≡ 8) }
     ensures within { IfOk result (λ x. x.1 ≤ length bytes.now) }
@@ -115,7 +117,7 @@ fn named(
 /// The code of a form, and that form's value.
 #[cold]
 #[inline(never)]
-#[tactic(auto, unfolding(crate::specs::Value::leb_number))]
+#[tactic(auto, unfolding(crate::specs::ValueFormats::leb_number))]
 fn indirect(version: u16, address_size: u8, bytes: &[u8]) -> Result<(Value<'_>, usize), ValueFault>
     requires { (address_size ≡ 4) ⊎ (address_size ≡ 8) }
     ensures within { IfOk result (λ x. x.1 ≤ length bytes.now) }
@@ -131,7 +133,7 @@ fn indirect(version: u16, address_size: u8, bytes: &[u8]) -> Result<(Value<'_>, 
 /// read are offsets and short indexes of strings, references within a unit and numbers of one byte, which are read in
 /// place.
 #[inline(always)]
-#[tactic(auto, unfolding(crate::specs::Value::laid_out))]
+#[tactic(auto, unfolding(crate::specs::ValueFormats::laid_out))]
 pub(crate) fn read_any(
     version: u16,
     form: Form,
@@ -191,7 +193,7 @@ pub fn read_value(
 
 /// The length of a value whose form has no one size. Only an indirect one is read for it.
 #[inline(never)]
-#[tactic(auto, unfolding(crate::specs::Sizes::rest_at, crate::specs::Value::laid_out))]
+#[tactic(auto, unfolding(crate::specs::Sizes::rest_at, crate::specs::ValueFormats::laid_out))]
 pub(crate) fn skip_long(
     version: u16,
     form: Form,

@@ -1,5 +1,5 @@
 use Rattle.dw_forms.specs.Formats.{apart, one_fault}
-use Rattle.dw_forms.specs.Value.{attribute_value}
+use Rattle.dw_forms.specs.ValueFormats.{attribute_value}
 use Rattle.dw_forms.proofs.laws.values_are_apart.Goals as goal
 
 pub returns-clause-apart : goal.returns-clause-apart

@@ -1,6 +1,6 @@
 use Rattle.std.proofs.Common.{rules}
 use Rattle.dw_forms.specs.Sizes.{rest_at}
-use Rattle.dw_forms.specs.Value.{laid_out, leb_number, signed_leb_number}
+use Rattle.dw_forms.specs.ValueFormats.{laid_out, leb_number, signed_leb_number}
 use Rattle.dw_forms.proofs.value_reader.skip_long.Goals as goal
 
 pub returns-in_err-read_uleb-in-Udata-clause-exact : goal.returns-in_err-read_uleb-in-Udata-clause-exact

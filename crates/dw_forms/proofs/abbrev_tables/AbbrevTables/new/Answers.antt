@@ -6,11 +6,11 @@ use Rattle.dw_forms.proofs.abbrev_tables.AbbrevTables.new.Goals as goal
 pub returns-clause-tables : goal.returns-clause-tables
 returns-clause-tables c = λ section. record {
   searchable = search (rules);
-  lists = c.new-3.ensures.lists section;
+  lists = c.new-4.ensures.lists section;
   starts =
-      rw (c.new.ensures.items, c.new-5.ensures)
+      rw (c.new.ensures.items, c.new-6.ensures)
       (record {
-        long = sym (tables_long c.new-3.result.lists.nodes.items []);
+        long = sym (tables_long c.new-4.result.lists.nodes.items []);
         each = λ k less. absurd (omega (arith, less));
         apart = apart_none (length section);
       });

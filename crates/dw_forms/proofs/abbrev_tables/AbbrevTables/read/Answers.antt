@@ -18,6 +18,7 @@ keep-requires-clause-tables c =
       searchable =
           record {
             coded = c.requires.tables.searchable.coded;
+            labelled = c.requires.tables.searchable.labelled;
             placed =
                 all_lists_stay a.lists.lists.nodes.items new a.kept.items a.places.items c.in-Ok.ensures.more.stay
                 c.requires.tables.searchable.within c.requires.tables.searchable.placed;

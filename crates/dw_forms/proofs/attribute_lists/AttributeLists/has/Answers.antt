@@ -1,4 +1,4 @@
-use Rattle.std.proofs.Common.{rules, sym}
+use Rattle.std.proofs.Common.{sym}
 use Rattle.dw_forms.specs.AttributeLists.{list_in}
 use Rattle.dw_forms.proofs.NodeLaws.{has_is}
 use Rattle.dw_forms.proofs.OwnBits.{clear_bit, own_bit_set}
@@ -17,6 +17,4 @@ returns-then-bit_of-lt-OWN_BITS c =
     (rw c.bit_of.ensures.same at c.if-bit_of-lt-OWN_BITS.true) c.if-known-mask_of-eq0.false)
 
 pub returns : goal.returns
-returns c =
-    let a = c.args.self.now in
-    has_is a.codes.links.items a.nodes.items c.args.list c.args.attribute c.search.result a.coded (search rules)
+returns c = has_is c.args.self.now.nodes.items c.args.list c.args.attribute c.find.result c.find.ensures

@@ -11,10 +11,8 @@ invariant_of-self-2 c =
     let branches = rw c.in-Some.is at c.in_ok-places.ensures.branches in
     record {
       found =
-          found_either _ c.push_branches.new.branches.items links c.push.new.self.items _ c.push.ensures.items
-          (rw c.deref-3.ensures.value at kept)
-          (rw start (found_more c.push_branches.new.branches.items links _ (rw c.deref-3.ensures.value at kept)
+          found_either _ c.push_branches.new.branches.items links c.push.new.self.items _ c.push.ensures.items kept
+          (rw start (found_more c.push_branches.new.branches.items links _ kept
           (rw c.deref.ensures.value at c.run_before-run.ensures.short)
-          (rw c.deref.ensures.value at c.run_before-run.ensures.run)
-          (rw c.deref-3.ensures.value at below) (rw c.deref-3.ensures.value at branches)));
+          (rw c.deref.ensures.value at c.run_before-run.ensures.run) below branches));
     }
