@@ -1,3 +1,4 @@
+pub mod CheckLemmas
 pub mod NameLemmas
 pub mod PlaceLemmas
 pub mod SlotLemmas

@@ -7,9 +7,10 @@ use Rattle.std.proofs.lemmas.Grind.{common_steps}
 use Rattle.std.proofs.lemmas.Bool.{cases_Bool, eqb-true, eq-eqb}
 use Rattle.memchr.specs.Find.{Nowhere, NoneBefore, NoneAfter, Passes, is_byte}
 use Rattle.dw_elf.specs.declared.sections.DebugSection.{DebugSection}
-use Rattle.dw_elf.specs.Elf.{HasText, string_at}
-use Rattle.dw_elf.specs.Names.{name_of, IsWanted}
-use Rattle.dw_elf.specs.Reading.{IsAfterLastZero, StandsFor}
+use Rattle.dw_elf.specs.declared.sections.OtherSection.{OtherSection}
+use Rattle.dw_elf.specs.Elf.{HasText, string_at, IsAfterLastZero}
+use Rattle.dw_elf.specs.Names.{name_of, other_name, IsWanted}
+use Rattle.dw_elf.specs.Reading.{StandsFor}
 
 -- no byte is zero
 pub no_zero : (bytes : List ℕ) → Nowhere (Passes (is_byte 0) bytes) 0 (length bytes) → IsAfterLastZero bytes 0
@@ -49,9 +50,13 @@ front_before_first (suc n) (x ∷ xs) = search (rules, take_next, (front_before_
 name_short : (s : DebugSection) → length (name_of s) ≤ 18
 name_short s = grind (arith, common_steps)
 
+-- each of the others has fewer
+other_short : (s : OtherSection) → length (other_name s) ≤ 18
+other_short s = grind (arith, common_steps)
+
 -- so the first 19 bytes of a name stand for it
 first_bytes_stand : (name : List ℕ) → StandsFor (take 19 name) name
-first_bytes_stand name = search (rules, take-take, name_short, take_all, length-take)
+first_bytes_stand name = search (rules, take-take, name_short, other_short, take_all, length-take)
 
 -- the text at the front of the first 19 bytes stands for the text at the front of all
 part_stands : (bytes front : List ℕ) (offset : ℕ) → front ≡ take 19 (drop offset bytes)

@@ -31,5 +31,5 @@ info_within file start passes is bytes section = elim section [
         omega (arith, within, is k one, counted, length-take (section_size file k) (drop (section_offset file k) file))
     | inr out ↦ absurd (passes k SectionRange (one.header, (Info, one.named), λ inside. omega (arith, inside, out)))
   ]
-  | inr (none, same) ↦ absurd (passes (section_count file) NoInfo (refl, none))
+  | inr (none, same) ↦ absurd (passes (section_count file) NoInfo (refl, (Info, refl), none))
 ]

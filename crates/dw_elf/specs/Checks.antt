@@ -1,6 +1,6 @@
--- Chapter: the checks of a file in their order, and when each of them fails. The place of a check is 0 for the file, k
--- for section header k, and the count of the headers for all headers together. Sums are of whole numbers, so none of
--- them wraps.
+-- Chapter: the checks of a file in their order, and when each of them fails, by the names of the sections that are
+-- looked for (`sought`). The place of a check is 0 for the file, k for section header k, and the count of the headers
+-- for all headers together. Sums are of whole numbers, so none of them wraps.
 use Rattle.std.specs.Prelude.{◌≡◌, ◌≢◌, ℕ, ◌+◌, ◌*◌, ◌<◌, ◌≤◌, ◌⊎◌, List, length, take, bit_and}
 use Rattle.dw_elf.specs.declared.sections.DebugSection.TheVariants.{Info}
 use Rattle.dw_elf.specs.Limits.{section_limit}
@@ -35,6 +35,12 @@ pub record HasSectionTable (file : List ℕ) : Type 0 where
   pub names : IsHeader file (names_index file)
   pub names_have_bits : ¬ HasNoBits file (names_index file)
   pub names_in_file : IsInFile file (names_index file)
+
+-- the checks of the file pass: it has section headers
+pub record HasHeaders (file : List ℕ) : Type 0 where
+  pub elf : IsElf64 file
+  pub linked : IsLinked file
+  pub table : HasSectionTable file
 
 -- the name of section k starts inside the name table, and a zero byte ends it there
 abbrev pub IsNamed : List ℕ → ℕ → Type 0
@@ -85,24 +91,29 @@ turn TooLarge = 9
 turn NoInfo = 10
 
 -- a check fails at place k: the first three look at the file, the next two at every header, the five that
--- follow at the headers of the six sections, and the last at all headers together
-abbrev pub CheckFails : List ℕ → Check → ℕ → Type 0
-CheckFails file NotElf64 k = (k ≡ 0) × ¬ IsElf64 file
-CheckFails file NotLinked k = (k ≡ 0) × ¬ IsLinked file
-CheckFails file SectionTable k = (k ≡ 0) × ¬ HasSectionTable file
-CheckFails file SectionName k = IsHeader file k × ¬ IsNamed file k
-CheckFails file Zdebug k = IsHeader file k × IsZdebug (section_name file k)
-CheckFails file SectionTwice k = IsHeader file k × IsWanted (section_name file k) × IsNamedBefore file k
-CheckFails file NoBits k = IsHeader file k × IsWanted (section_name file k) × HasNoBits file k
-CheckFails file Compressed k = IsHeader file k × IsWanted (section_name file k) × IsCompressed file k
-CheckFails file SectionRange k = IsHeader file k × IsWanted (section_name file k) × ¬ IsInFile file k
-CheckFails file TooLarge k = IsHeader file k × IsWanted (section_name file k) × IsTooLarge file k
-CheckFails file NoInfo k = (k ≡ section_count file) × HasNoSection file (name_of Info)
+-- follow at the headers of the sections that are looked for, and the last, if .debug_info is, at all headers together
+abbrev pub CheckFails : (List ℕ → Type 0) → List ℕ → Check → ℕ → Type 0
+CheckFails sought file NotElf64 k = (k ≡ 0) × ¬ IsElf64 file
+CheckFails sought file NotLinked k = (k ≡ 0) × ¬ IsLinked file
+CheckFails sought file SectionTable k = (k ≡ 0) × ¬ HasSectionTable file
+CheckFails sought file SectionName k = IsHeader file k × ¬ IsNamed file k
+CheckFails sought file Zdebug k = IsHeader file k × IsZdebug (section_name file k)
+CheckFails sought file SectionTwice k = IsHeader file k × sought (section_name file k) × IsNamedBefore file k
+CheckFails sought file NoBits k = IsHeader file k × sought (section_name file k) × HasNoBits file k
+CheckFails sought file Compressed k = IsHeader file k × sought (section_name file k) × IsCompressed file k
+CheckFails sought file SectionRange k = IsHeader file k × sought (section_name file k) × ¬ IsInFile file k
+CheckFails sought file TooLarge k = IsHeader file k × sought (section_name file k) × IsTooLarge file k
+CheckFails sought file NoInfo k =
+    (k ≡ section_count file) × sought (name_of Info) × HasNoSection file (name_of Info)
 
 -- no check fails at place k
-abbrev pub Passes : List ℕ → ℕ → Type 0
-Passes file k = (c : Check) → ¬ CheckFails file c k
+abbrev pub Passes : (List ℕ → Type 0) → List ℕ → ℕ → Type 0
+Passes sought file k = (c : Check) → ¬ CheckFails sought file c k
 
 -- no check fails
+abbrev pub AllPass : (List ℕ → Type 0) → List ℕ → Type 0
+AllPass sought file = (k : ℕ) → Passes sought file k
+
+-- no check fails, where the six sections are looked for
 abbrev pub ChecksPass : List ℕ → Type 0
-ChecksPass file = (k : ℕ) → Passes file k
+ChecksPass file = AllPass IsWanted file

@@ -1,7 +1,8 @@
 -- Chapter: the layout of an ELF-64 file: its header, its section headers, and the names and bytes that these refer to
 -- (System V ABI, chapter 4). A file is a list of bytes. Offsets and sizes count bytes, an offset counts from the first
 -- byte of the file unless something else is said, and the lowest byte of a number comes first.
-use Rattle.std.specs.Prelude.{ℕ, ◌+◌, ◌*◌, ◌<◌, ◌==◌, List, [], ◌∷◌, ◌++◌, length, take, drop, codes, Contains}
+use Rattle.std.specs.Prelude.{◌≡◌, ◌≢◌, ℕ, ◌+◌, ◌*◌, ◌-◌, ◌<◌, ◌≤◌, ◌==◌, List, [], ◌∷◌, ◌++◌, length, take, drop}
+use Rattle.std.specs.Prelude.{codes, slice_index, bit_and, Contains}
 use Rattle.std.specs.List.{before_first}
 use Rattle.byteorder.specs.Endian.{little_number}
 
@@ -16,6 +17,12 @@ string_at bytes offset = before_first (λ b. b == 0) (drop offset bytes)
 -- a text starts at an offset inside these bytes, and a zero byte ends it inside them
 abbrev pub HasText : List ℕ → ℕ → Type 0
 HasText bytes offset = (offset < length bytes) × Contains (drop offset bytes) 0
+
+-- the end is just after the last zero byte, or 0 if no byte is zero: texts start before it
+abbrev pub IsAfterLastZero : List ℕ → ℕ → Type 0
+IsAfterLastZero bytes end =
+    (end ≤ length bytes) × (0 < end → slice_index bytes (end - 1) ≡ 0)
+    × ((k : ℕ) → end ≤ k → k < length bytes → slice_index bytes k ≢ 0)
 
 -- the class of files with 64-bit offsets
 abbrev pub ELFCLASS64 : ℕ
@@ -96,6 +103,24 @@ section_flags file k = number_at 8 file (header_offset file k + 8)
 -- the flag of a section whose bytes are compressed
 abbrev pub SHF_COMPRESSED : ℕ
 SHF_COMPRESSED = 0x800
+
+-- the flag of a section that has memory in the running program
+abbrev pub SHF_ALLOC : ℕ
+SHF_ALLOC = 2
+
+-- the flag of a section whose bytes are instructions
+abbrev pub SHF_EXECINSTR : ℕ
+SHF_EXECINSTR = 4
+
+-- section k is code that is loaded
+abbrev pub IsCode : List ℕ → ℕ → Type 0
+IsCode file k =
+    IsHeader file k × (bit_and (section_flags file k) SHF_ALLOC ≢ 0)
+    × (bit_and (section_flags file k) SHF_EXECINSTR ≢ 0)
+
+-- sh_addr of section k, where it is in memory: 8 bytes at 16 of the header
+abbrev pub section_address : List ℕ → ℕ → ℕ
+section_address file k = number_at 8 file (header_offset file k + 16)
 
 -- sh_offset of section k, where its bytes start: 8 bytes at 24 of the header
 abbrev pub section_offset : List ℕ → ℕ → ℕ

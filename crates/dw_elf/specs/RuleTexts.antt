@@ -1,8 +1,9 @@
 -- Chapter: the codes and the names of the rules, as reports print them.
+-- Its equations are made by docs/make-rules.py from docs/rules.tsv.
 use Rattle.std.specs.Prelude.{ℕ, List, codes}
-use Rattle.dw_elf.specs.declared.fault.ElfRule.{ElfRule}
-use Rattle.dw_elf.specs.declared.fault.ElfRule.TheVariants.{TooLarge, NotElf64, NotLinked, SectionTable, SectionName}
-use Rattle.dw_elf.specs.declared.fault.ElfRule.TheVariants.{SectionRange, Compressed, SectionTwice, NoInfo, NoBits}
+use Rattle.dw_elf.specs.declared.rule.ElfRule.{ElfRule}
+use Rattle.dw_elf.specs.declared.rule.ElfRule.TheVariants.{TooLarge, NotElf64, NotLinked, SectionTable, SectionName}
+use Rattle.dw_elf.specs.declared.rule.ElfRule.TheVariants.{SectionRange, Compressed, SectionTwice, NoInfo, NoBits}
 
 -- the code of a rule: the letter E and its number
 unfoldable pub code_text : ElfRule → List ℕ

@@ -4,14 +4,14 @@
 ghost use Rattle.std.specs.Prelude.{◌≡◌, ◌+◌, ◌*◌, ◌<◌, ◌≤◌, length, take, drop, IfOk, IfErr, IfSome, IfNone, OnOk};
 ghost use Rattle.std.specs.Prelude.{OnSome};
 ghost use Rattle.dw_elf.specs.Elf.{table_offset, header_offset, section_count, FILE_HEADER_SIZE, SECTION_HEADER_SIZE};
-ghost use Rattle.dw_elf.specs.Elf.{name_table, IsHeader, string_at, HasText};
-ghost use Rattle.dw_elf.specs.Checks.{HasSectionTable, Passes};
-ghost use Rattle.dw_elf.specs.Reading.{IsAfterLastZero, StandsFor};
+ghost use Rattle.dw_elf.specs.Elf.{name_table, section_bytes, IsHeader, string_at, HasText, IsAfterLastZero};
+ghost use Rattle.dw_elf.specs.Checks.{HasHeaders, HasSectionTable, Passes};
+ghost use Rattle.dw_elf.specs.Reading.{StandsFor};
 
 use crate::SECTION_LIMIT;
-use crate::fault::ElfRule;
 use crate::header::{is_elf64, is_linked, u16_at, u32_at, u64_at};
-use crate::sections::{Found, is_zdebug, section_named};
+use crate::rule::ElfRule;
+use crate::sections::{Found, OtherSection, is_zdebug, section_named};
 use memchr::{memchr, memrchr};
 
 /// The bytes of a section header.
@@ -32,6 +32,8 @@ pub(crate) struct SectionHeader {
     pub kind: u32,
     /// The flags of the section (`sh_flags`).
     pub flags: u64,
+    /// Where the section is in memory (`sh_addr`).
+    pub address: u64,
     /// Where the bytes of the section start, from the file's first byte (`sh_offset`).
     pub offset: u64,
     /// The count of the section's bytes (`sh_size`).
@@ -52,6 +54,7 @@ impl SectionHeader {
             name_offset: u32_at(file, at),
             kind: u32_at(file, at + 4),
             flags: u64_at(file, at + 8),
+            address: u64_at(file, at + 16),
             offset: u64_at(file, at + 24),
             size: u64_at(file, at + 32),
         }
@@ -71,12 +74,12 @@ fn range(file: &[u8], offset: u64, size: u64) -> Option<&[u8]>
     Some(&file[offset as usize..end as usize])
 }
 
-/// The count of bytes of a name table up to its last zero byte, with it, or 0.
+/// The count of bytes up to the last zero byte, with it, or 0. Texts that a zero byte ends start before it.
 #[tactic(auto, using(crate::proofs::NameLemmas::no_zero, crate::proofs::NameLemmas::last_zero))]
-fn end_of_names(names: &[u8]) -> usize
-    ensures { IsAfterLastZero names.now result }
+pub fn end_of_texts(bytes: &[u8]) -> usize
+    ensures { IsAfterLastZero bytes.now result }
 {
-    match memrchr(0, names) {
+    match memrchr(0, bytes) {
         Some(last) => last + 1,
         None => 0,
     }
@@ -108,14 +111,17 @@ pub(crate) struct SectionTable<'a> {
 }
 
 impl<'a> SectionTable<'a> {
+    ghost use Rattle.std.specs.Prelude.{None};
+    ghost use Rattle.dw_elf.specs.Limits.{section_limit};
+    ghost use Rattle.dw_elf.specs.Names.{other_name, IsWanted, IsNameOf};
     ghost use Rattle.dw_elf.specs.Rules.{FailsAt};
-    ghost use Rattle.dw_elf.specs.Reading.{SlotsUpTo};
+    ghost use Rattle.dw_elf.specs.Reading.{HasNoHeaders, IsHeaderAt, IsNotLent, IsSlot, MayBeLent, SlotsUpTo};
 
     /// Makes the checks of the file.
     pub(crate) fn of(file: &'a [u8]) -> Result<SectionTable<'a>, ElfRule>
         ensures file { IfOk result (λ table. table.file ≡ file.entry) }
-        ensures passes { OnOk result (Passes file.now 0) }
-        ensures fails { IfErr result (λ rule. FailsAt file.now 0 rule 0) }
+        ensures passes { OnOk result (HasHeaders file.now) }
+        ensures fails { IfErr result (HasNoHeaders file.now) }
     {
         if !is_elf64(file) {
             return Err(ElfRule::NotElf64);
@@ -150,13 +156,12 @@ impl<'a> SectionTable<'a> {
 
     /// Makes the checks of header `k`, where `found` is what lower headers name, and adds the section that this header
     /// names, if it is one of the six.
-    #[tactic(auto, unfolding(crate::specs::Elf::section_bytes))]
     pub(crate) fn check(&self, k: u16, found: &mut Found<'a>) -> Result<(), ElfRule>
         requires header { IsHeader self.now.file.now k }
         requires so_far { SlotsUpTo self.now.file.now k found.old }
-        ensures passes { OnOk result (Passes self.now.file.now k) }
+        ensures passes { OnOk result (Passes IsWanted self.now.file.now k) }
         ensures found { OnOk result (SlotsUpTo self.now.file.now (k + 1) found.new) }
-        ensures fails { IfErr result (λ rule. FailsAt self.now.file.now k rule k) }
+        ensures fails { IfErr result (λ rule. FailsAt IsWanted self.now.file.now k rule k) }
     {
         let header = SectionHeader::read(self.file, self.start, k);
         let Some(front) = self.front_at(header.name_offset) else {
@@ -171,6 +176,50 @@ impl<'a> SectionTable<'a> {
         if found[section.index()].is_some() {
             return Err(ElfRule::SectionTwice);
         }
+        found[section.index()] = Some(self.lend(k, header)?);
+        Ok(())
+    }
+
+    /// Makes the checks of header `k`, where `found` is what lower headers name, if they name this section. Returns the
+    /// same of the headers up to this one.
+    pub(crate) fn check_other(
+        &self,
+        k: u16,
+        section: OtherSection,
+        found: Option<&'a [u8]>,
+    ) -> Result<Option<&'a [u8]>, ElfRule>
+        requires header { IsHeader self.now.file.now k }
+        requires so_far { IsSlot self.now.file.now k (other_name section) found }
+        ensures passes { OnOk result (Passes (IsNameOf section) self.now.file.now k) }
+        ensures found { IfOk result (IsSlot self.now.file.now (k + 1) (other_name section)) }
+        ensures fails { IfErr result (λ rule. FailsAt (IsNameOf section) self.now.file.now k rule k) }
+    {
+        let header = SectionHeader::read(self.file, self.start, k);
+        let Some(front) = self.front_at(header.name_offset) else {
+            return Err(ElfRule::SectionName);
+        };
+        if is_zdebug(front) {
+            return Err(ElfRule::Compressed);
+        }
+        if front != section.name().as_bytes() {
+            return Ok(found);
+        }
+        if found.is_some() {
+            Err(ElfRule::SectionTwice)
+        } else {
+            Ok(Some(self.lend(k, header)?))
+        }
+    }
+
+    /// The bytes of section `k`, which is looked for, or the first of the last four checks of its header that fails.
+    #[tactic(auto, unfolding(crate::specs::Elf::section_bytes))]
+    fn lend(&self, k: u16, header: SectionHeader) -> Result<&'a [u8], ElfRule>
+        requires { IsHeaderAt self.now.file.now k header }
+        ensures bytes { IfOk result (λ bytes. bytes.now ≡ section_bytes self.now.file.now k) }
+        ensures small { IfOk result (λ bytes. length bytes.now ≤ section_limit) }
+        ensures passes { OnOk result (MayBeLent self.now.file.now k) }
+        ensures fails { IfErr result (IsNotLent self.now.file.now k) }
+    {
         if header.kind == SHT_NOBITS {
             return Err(ElfRule::NoBits);
         }
@@ -183,8 +232,7 @@ impl<'a> SectionTable<'a> {
         if bytes.len() > SECTION_LIMIT {
             return Err(ElfRule::TooLarge);
         }
-        found[section.index()] = Some(bytes);
-        Ok(())
+        Ok(bytes)
     }
 }
 
@@ -218,6 +266,6 @@ fn table_of(file: &[u8]) -> Option<SectionTable<'_>>
         start,
         count,
         names,
-        names_end: end_of_names(names),
+        names_end: end_of_texts(names),
     })
 }

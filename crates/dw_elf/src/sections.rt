@@ -1,9 +1,10 @@
-//! The six sections: their names, their bytes within the size limit, and what headers so far name of them.
+//! The six sections: their names, their bytes within the size limit, and what headers so far name of them. The names of
+//! the other sections.
 
 ghost use Rattle.std.specs.Prelude.{◌≡◌, ◌≢◌, ◌↔◌, ◌<◌, ◌≤◌, ◌⊎◌, ◌+◌, Some, None, [], length, unwrap_or, IfOk};
 ghost use Rattle.std.specs.Prelude.{IfSome, IfNone, IsTrue, IsErr};
 ghost use Rattle.std.specs.Option.{option_copied};
-ghost use Rattle.dw_elf.specs.Names.{name_of, IsWanted, IsZdebug};
+ghost use Rattle.dw_elf.specs.Names.{name_of, other_name, IsWanted, IsZdebug};
 ghost use Rattle.dw_elf.specs.Limits.{section_limit};
 
 use crate::SECTION_LIMIT;
@@ -35,6 +36,30 @@ impl DebugSection {
         ensures below { result < 6 }
     {
         self as usize
+    }
+}
+
+/// A section that `find` does not look for. `find_other` finds it for those who ask for it.
+#[derive(Clone, Copy, Debug, PartialEq, Eq)]
+pub enum OtherSection {
+    /// .debug_line: line programs (DWARF 5, 6.2)
+    Line,
+    /// .debug_rnglists: range lists of version 5 (7.28)
+    RngLists,
+    /// .debug_ranges: range lists of version 4 and earlier (DWARF 4, 7.23)
+    Ranges,
+}
+
+impl OtherSection {
+    /// The name of the section in a file.
+    pub fn name(self) -> &'static str
+        ensures { result.now ≡ other_name self }
+    {
+        match self {
+            OtherSection::Line => ".debug_line",
+            OtherSection::RngLists => ".debug_rnglists",
+            OtherSection::Ranges => ".debug_ranges",
+        }
     }
 }
 

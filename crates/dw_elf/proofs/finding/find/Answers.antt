@@ -3,8 +3,16 @@ use Rattle.std.proofs.lemmas.Grind.{common_steps}
 use Rattle.dw_elf.specs.declared.sections.DebugSection.TheVariants.{Info}
 use Rattle.dw_elf.specs.Elf.{section_count}
 use Rattle.dw_elf.specs.Checks.{NoInfo}
-use Rattle.dw_elf.proofs.SlotLemmas.{named_below, none_below, all_pass}
+use Rattle.dw_elf.specs.Names.{IsWanted}
+use Rattle.dw_elf.proofs.SlotLemmas.{named_below, none_below, all_pass, passes_below}
 use Rattle.dw_elf.proofs.finding.find.Goals as goal
+
+pub loop-k-preserved : goal.loop-k-preserved
+loop-k-preserved c =
+    record {
+      passed = passes_below IsWanted c.args.file.now c.loop-k.k c.loop-k.invariant.passed (search rules);
+      found = search rules;
+    }
 
 pub returns-then-is_none-clause-fault : goal.returns-then-is_none-clause-fault
 returns-then-is_none-clause-fault c =
