@@ -1,5 +1,5 @@
 -- How far the pass over a unit's body has come.
-use Rattle.std.proofs.Common.{rules, ◌≡◌, ◌≢◌, ℕ, suc, ◌+◌, ◌-◌, ◌<◌, ◌≤◌, Bool, map, true, false, cond, List, [], ◌∷◌, ◌++◌, length, Option, Some, None, Ok, Err, refl, sym, ap, ◌∙◌, append_assoc, append-nil, arith, length-append}
+use Rattle.std.proofs.Common.{rules, ◌≡◌, ◌≢◌, ℕ, suc, ◌+◌, ◌-◌, ◌<◌, ◌≤◌, Bool, map, true, false, cond, List, [], ◌∷◌, ◌++◌, length, reverse, Some, None, Ok, Err, refl, sym, ap, ◌∙◌, append_assoc, append-nil, arith, length-append}
 use Rattle.std.proofs.lemmas.List.{length-reverse}
 use Rattle.dw_entries.specs.declared.records.Record.{Record}
 use Rattle.dw_entries.specs.declared.tree.Level.{Level}
@@ -10,14 +10,16 @@ use Rattle.dw_entries.specs.Header.{fits_tag, unit_header_size}
 use Rattle.dw_entries.specs.declared.fault.Failing.{Failing}
 use Rattle.dw_entries.specs.Grammar.{Context, Head, head_bytes}
 use Rattle.dw_entries.specs.Tree.{Node, node_bytes, leaf, parent}
-use Rattle.dw_entries.specs.Items.{IsItem, Item, entry, null, AreItems, numbered_decl, item_bytes, items_bytes, node_items, depth_along, root_depth, tree_depth}
-use Rattle.dw_entries.specs.Reading.{seen, item_at, first_at}
+use Rattle.dw_entries.specs.Items.{IsItem, Item, entry, null, AreItems, entry_decl, item_bytes, items_bytes, node_items, depth_along, root_depth, tree_depth}
+use Rattle.dw_forms.specs.Formats.{mapped}
+use Rattle.dw_entries.specs.ItemFormats.{item, first_head}
 use Rattle.dw_entries.specs.Units.{nulls_bytes, head_of}
 use Rattle.dw_entries.specs.Faults.{Front, in_unit, BodyFails}
 use Rattle.dw_entries.specs.Walk.{Walk, walk_of, open_list, enter, leave, step, walk_along}
 use Rattle.dw_entries.specs.Stopped.{TreeOf}
 use Rattle.dw_entries.specs.Records.{node_records}
-use Rattle.dw_entries.specs.ReadingLaws.{item_some, item_takes, first_takes, seen_ok, seen_entry, item_shorter}
+use Rattle.dw_entries.specs.ItemLaws.{item_some, item_takes, first_takes}
+use Rattle.dw_forms.specs.WithBytes.{read_fails}
 use Rattle.dw_entries.proofs.HeadLaws.{all-append}
 use Rattle.dw_entries.proofs.ItemLaws.{items_bytes-append, node_of, node_spelled, nulls_spelled, depth_along-append}
 use Rattle.dw_entries.proofs.WalkLaws.{length-link_last, along_root}
@@ -36,23 +38,27 @@ length-open_list true id ls = refl
 length-open_list false id ls = refl
 
 -- after the first entry
-pub along_first : (t : Context) (numbers : ℕ → ℕ) (kind : HeaderKind) (at : ℕ) (body : List ℕ) (old : List Record)
-    (h : Head) (rest : List ℕ) (w : Walk) → first_at t kind body ≡ Ok (entry h, rest)
-    → enter at (numbers h.decl.code, h.decl) old [] ≡ w → Along t numbers kind at body old rest w
-along_first t numbers kind at body old h rest w read e =
-    let took = first_takes t kind body h rest read in
+pub first_turn : (t : Context) (numbers : ℕ → ℕ) (kind : HeaderKind) (at : ℕ) (body : List ℕ) (old : List Record)
+    (d : ℕ × Declaration) (rest : List ℕ) (w : Walk)
+    → (mapped (entry_decl numbers) (first_head t kind)).read body ≡ Ok (d, rest)
+    → w ≡ enter at d old [] → Along t numbers kind at body old rest w
+first_turn t numbers kind at body old d rest w read e =
+    let (h, is, parts, spelled, fits) = first_takes (entry_decl numbers) t kind body d rest read in
+    let entered : enter at (entry_decl numbers h) old [] ≡ w = ap (λ (x : ℕ × Declaration). enter at x old []) (sym is)
+    ∙ sym e in
     record {
       first = h;
       others = [];
       front =
           record {
-            are = (took.1, tt);
-            fits = took.2;
+            are = (spelled, tt);
+            fits = fits;
             at_depth = ap (λ (d : ℕ). Some d)
-                (sym (length-open_list h.decl.has_children (length old) []) ∙ ap (λ (x : Walk). length x.levels) e);
-            parts = took.0 ∙ ap (λ (b : List ℕ). b ++ rest) (sym (append-nil (head_bytes h)));
+                (sym (length-open_list h.decl.has_children (length old) [])
+                ∙ ap (λ (x : Walk). length x.levels) entered);
+            parts = parts ∙ ap (λ (b : List ℕ). b ++ rest) (sym (append-nil (head_bytes h)));
           };
-      walked = e;
+      walked = entered;
     }
 
 -- a step changes the depth as its item does
@@ -84,17 +90,22 @@ taken t numbers kind at body old rest w a =
 
 -- after one more item
 pub along_next : (t : Context) (numbers : ℕ → ℕ) (kind : HeaderKind) (at : ℕ) (body : List ℕ) (old : List Record)
-    (rest : List ℕ) (w v : Walk) (i : Item) (after : List ℕ) → Along t numbers kind at body old rest w → w.levels ≢ []
-    → item_at t rest ≡ Ok (i, after) → step numbers (at + (length body - length rest)) i w ≡ v
-    → Along t numbers kind at body old after v
-along_next t numbers kind at body old rest w v i after a more read e =
-    let took = item_takes t rest i after read in
+    (rest : List ℕ) (records : List Record) (outer : List Level) (own : Level) (v : Walk) (after : List ℕ)
+    → Along t numbers kind at body old rest (walk_of records outer (Some own))
+    → (mapped (λ i. step numbers (at + (length body - length rest)) i (walk_of records outer (Some own)))
+    (item t)).read rest ≡ Ok (v, after) → Along t numbers kind at body old after v
+along_next t numbers kind at body old rest records outer own v after a read =
+    let w : Walk = walk_of records outer (Some own) in
+    let more : w.levels ≢ [] = λ e. absurd cc in
+    let (i, is_step, parts, is_item) = item_takes (λ i. step numbers (at + (length body - length rest)) i w) t rest v
+    after read in
+    let e = sym is_step in
     let is : List Item = entry a.first ∷ a.others in
     let o : at + length (items_bytes is)
     ≡ at + (length body - length rest) = ap (λ (k : ℕ). at + k) (taken t numbers kind at body old rest w a) in
     let spelled : body ≡ items_bytes (is ++ i ∷ []) ++ after =
     a.front.parts ∙ ap (λ (b : List ℕ). items_bytes is ++ b)
-    (took.0 ∙ ap (λ (b : List ℕ). b ++ after) (sym (append-nil (item_bytes i))))
+    (parts ∙ ap (λ (b : List ℕ). b ++ after) (sym (append-nil (item_bytes i))))
     ∙ sym (append_assoc (items_bytes is) (item_bytes i ++ []) after)
     ∙ ap (λ (b : List ℕ). b ++ after) (sym (items_bytes-append is (i ∷ []))) in
     let deep : tree_depth (is ++ i ∷ []) ≡ Some (length v.levels) =
@@ -106,7 +117,7 @@ along_next t numbers kind at body old rest w v i after a more read e =
       others = a.others ++ i ∷ [];
       front =
           record {
-            are = all-append (IsItem t) is (i ∷ []) a.front.are (took.1, tt);
+            are = all-append (IsItem t) is (i ∷ []) a.front.are (is_item, tt);
             fits = a.front.fits;
             at_depth = deep;
             parts = spelled;
@@ -162,48 +173,47 @@ along_end t numbers kind at body old rest w a e =
           ∙ ap (λ (js : List Item). walk_along numbers at js start) (sym items) ∙ end);
     }
 
-pub first_fault : (t : Context) (kind : HeaderKind) (header start : ℕ) (body : List ℕ) (f : Failing)
-    (fault : PlainFault)
-    → start ≡ header + unit_header_size kind → first_at t kind body ≡ Err f → fault ≡ in_unit f header start
+pub first_fault : (t : Context) (numbers : ℕ → ℕ) (kind : HeaderKind) (header start : ℕ) (body : List ℕ) (f : Failing)
+    (fault : PlainFault) → start ≡ header + unit_header_size kind
+    → (mapped (entry_decl numbers) (first_head t kind)).read body ≡ Err f → fault ≡ in_unit f header start
     → BodyFails t kind header body fault
-first_fault t kind header start body f fault s read e = record {
+first_fault t numbers kind header start body f fault s read e = record {
   items = [];
   rest = body;
   depth = 1;
   failing = f;
   front = record { are = tt; fits = tt; at_depth = refl; parts = refl };
-  stops = read;
+  stops = read_fails (mapped (entry_decl numbers) (first_head t kind)) body f read;
   is =
       e ∙ ap (in_unit f header) s ∙ (let z : header + unit_header_size kind
       ≡ header + unit_header_size kind + 0 = omega arith in
       ap (λ (k : ℕ). in_unit f header k) z);
 }
 
--- ---- the same, in the words of the code
-
-pub first_turn : (t : Context) (numbers : ℕ → ℕ) (kind : HeaderKind) (at : ℕ) (body : List ℕ)
-    (old records : List Record) (outer : List Level) (inner : Option Level) (d : ℕ × Declaration) (rest : List ℕ)
-    → seen (numbered_decl numbers) (first_at t kind body) ≡ Ok (Some d, rest)
-    → walk_of records outer inner ≡ enter at d old []
-    → Along t numbers kind at body old rest (walk_of records outer inner)
-first_turn t numbers kind at body old records outer inner d rest read e = search (rules, seen_entry, along_first)
-
-some_level : (l : Level) (ls : List Level) → l ∷ ls ≢ []
-some_level l ls e = absurd cc
-
-pub next_turn : (t : Context) (numbers : ℕ → ℕ) (kind : HeaderKind) (at : ℕ) (body : List ℕ) (old : List Record)
-    (rest : List ℕ) (records : List Record) (outer : List Level) (own : Level) (more : List Record)
-    (around : List Level) (then : Option Level) (after : List ℕ)
-    → Along t numbers kind at body old rest (walk_of records outer (Some own))
-    → seen (λ i. step numbers (at + (length body - length rest)) i (walk_of records outer (Some own))) (item_at t rest)
-    ≡ Ok (walk_of more around then, after) → Along t numbers kind at body old after (walk_of more around then)
-next_turn t numbers kind at body old rest records outer own more around then after a read =
-    search (rules, seen_ok, along_next, some_level)
+pub turn_fault : (t : Context) (numbers : ℕ → ℕ) (kind : HeaderKind) (header start : ℕ) (body : List ℕ)
+    (old : List Record) (rest : List ℕ) (records : List Record) (outer : List Level) (own : Level) (f : Failing)
+    (fault : PlainFault) → start ≡ header + unit_header_size kind
+    → Along t numbers kind start body old rest (walk_of records outer (Some own)) → (item t).Fails rest f
+    → fault ≡ in_unit f header (start + (length body - length rest)) → BodyFails t kind header body fault
+turn_fault t numbers kind header start body old rest records outer own f fault s a stops e =
+    let here = taken t numbers kind start body old rest (walk_of records outer (Some own)) a in
+    let at : start + (length body - length rest)
+    ≡ header + unit_header_size kind + length (items_bytes (entry a.first ∷ a.others)) = omega (arith, s, here) in
+    record {
+      items = entry a.first ∷ a.others;
+      rest = rest;
+      depth = suc (length (reverse outer));
+      failing = f;
+      front = a.front;
+      stops = stops;
+      is = e ∙ ap (in_unit f header) at;
+    }
 
 pub turn_shorter : {B : Type 0} (f : Item → B) (t : Context) (rest : List ℕ) (y : B) (after : List ℕ)
-    → seen f (item_at t rest) ≡ Ok (y, after) → length after < length rest
+    → (mapped f (item t)).read rest ≡ Ok (y, after) → length after < length rest
 turn_shorter f t rest y after read =
-    let (i, was, is) = seen_ok f (item_at t rest) y after read in item_shorter t rest i after was
+    let (i, is, parts, is_item) = item_takes f t rest y after read in
+    omega (arith, ap length parts, length-append (item_bytes i) after, item_some t i is_item)
 
 -- ---- how much was made: one entry and one list for each item at most, and each item takes a byte
 

@@ -1,12 +1,11 @@
 -- The attributes that are passed, up to the first one that a test holds for.
-use Rattle.std.proofs.Common.{rules, ◌≡◌, ℕ, zero, suc, false, List, [], ◌∷◌, ◌++◌, map, length, take, drop, Option, Some, None, sym, ap, ◌∙◌, subst, append-nil}
-use Rattle.std.specs.Prelude.{Bool, IfSome, IfNone, OnSome, MatchOption}
+use Rattle.std.proofs.Common.{rules, ◌≡◌, ℕ, zero, suc, false, List, [], ◌∷◌, ◌++◌, map, length, take, drop, sym, ap, ◌∙◌, subst, append-nil}
+use Rattle.std.specs.Prelude.{Bool}
 use Rattle.std.specs.List.{list_any}
 use Rattle.std.proofs.lemmas.Bool.{or_parts}
 use Rattle.std.proofs.lemmas.List.{take-append-drop, length-map}
 use Rattle.dw_forms.specs.declared.attributes.Attributes.{Attributes}
 use Rattle.dw_forms.specs.declared.abbrev.AttributeSpec.{AttributeSpec}
-use Rattle.dw_forms.specs.declared.value.Value.{Value}
 use Rattle.dw_forms.specs.Chains.{items_of}
 use Rattle.dw_forms.specs.Suffixes.{specs_in, IsFrom, Ends}
 use Rattle.dw_forms.specs.Value.{Datum}
@@ -14,7 +13,6 @@ use Rattle.dw_forms.proofs.SuffixLaws.{specs_ends, first_specs, follow}
 use Rattle.dw_entries.specs.Grammar.{Context, Attribute, AreAttributes}
 use Rattle.dw_entries.specs.EntryRules.{value_of}
 use Rattle.dw_entries.specs.PassedAttributes.{ArePassed, IsNextOf, TakesFirst}
-use Rattle.dw_entries.specs.ValuesLeft.{viewed}
 
 module _ (test : AttributeSpec → Bool) (x : Context) where
   -- it fails for an attribute that is declared so
@@ -48,36 +46,28 @@ module _ (test : AttributeSpec → Bool) (x : Context) where
       search (rules, specs_ends, length-map, front_passed)
 
 -- the next one that is given is after those that are passed
-pub next_found : (X : Type 0) (Passes : AttributeSpec → Type 0) (items left behind : List (ℕ × Datum)) (k : ℕ)
-    (r : Option (ℕ × Value)) → MatchOption r X (λ y. left ≡ viewed y ∷ behind) → left ≡ drop k items
-    → ArePassed Passes (take k items)
-    → IfSome r (λ found. IsNextOf Passes items (viewed found) behind)
-next_found X Passes items left behind k None steps rest are = tt
-next_found X Passes items left behind k (Some y) steps rest are =
-    record {
-      passed = take k items;
-      parts = sym (take-append-drop k items) ∙ ap (λ (xs : List (ℕ × Datum)). take k items ++ xs) (sym rest ∙ steps);
-      are_passed = are;
-    }
+pub next_found : (Passes : AttributeSpec → Type 0) (items left behind : List (ℕ × Datum)) (k : ℕ) (found : ℕ × Datum)
+    → left ≡ found ∷ behind → left ≡ drop k items → ArePassed Passes (take k items)
+    → IsNextOf Passes items found behind
+next_found Passes items left behind k found steps rest are = record {
+  passed = take k items;
+  parts = sym (take-append-drop k items) ∙ ap (λ (xs : List (ℕ × Datum)). take k items ++ xs) (sym rest ∙ steps);
+  are_passed = are;
+}
 
 -- where no more is given, all are passed
-pub none_found : (X : Type 0) (Y : ℕ × Value → Type 0) (Passes : AttributeSpec → Type 0) (items left : List (ℕ × Datum))
-    (k : ℕ) (r : Option (ℕ × Value)) → MatchOption r ((left ≡ []) × X) Y → left ≡ drop k items
-    → ArePassed Passes (take k items)
-    → IfNone r (ArePassed Passes items)
-none_found X Y Passes items left k (Some y) ends rest are = tt
-none_found X Y Passes items left k None ends rest are =
+pub none_found : (Passes : AttributeSpec → Type 0) (items left : List (ℕ × Datum)) (k : ℕ) → left ≡ []
+    → left ≡ drop k items → ArePassed Passes (take k items) → ArePassed Passes items
+none_found Passes items left k ends rest are =
     let parts : take k items ≡ items = sym (append-nil (take k items))
-    ∙ ap (λ (xs : List (ℕ × Datum)). take k items ++ xs) (sym ends.0 ∙ rest) ∙ take-append-drop k items in
+    ∙ ap (λ (xs : List (ℕ × Datum)). take k items ++ xs) (sym ends ∙ rest) ∙ take-append-drop k items in
     subst (ArePassed Passes) parts are
 
 -- the first attribute of those that a search found is taken
 pub stop_taken : (test : AttributeSpec → Bool) (all from mid after : Attributes) → IsFrom test all from → mid ≡ from
-    → (r : Option (ℕ × Value))
-    → OnSome r ((spec : AttributeSpec) × Ends mid after (record { number = mid.first; item = spec } ∷ []))
-    → OnSome r (TakesFirst test (specs_in all) (specs_in after))
-stop_taken test all from mid after is same None first = tt
-stop_taken test all from mid after is same (Some y) first =
+    → (spec : AttributeSpec) × Ends mid after (record { number = mid.first; item = spec } ∷ [])
+    → TakesFirst test (specs_in all) (specs_in after)
+stop_taken test all from mid after is same first =
     let f = follow test all from is in
     let ends : Ends from after (record { number = from.first; item = first.0 } ∷ []) =
     subst (λ (m : Attributes). Ends m after (record { number = m.first; item = first.0 } ∷ [])) same first.1 in

@@ -1,5 +1,5 @@
 -- One list of units at most, one fault at most, and never both.
-use Rattle.std.proofs.Common.{rules, ◌≡◌, ℕ, zero, suc, true, true≢false, map, List, [], ◌∷◌, ◌++◌, length, Option, Some, Ok, Err, inl, inr, refl, sym, ap, ◌∙◌, append_assoc, append-nil, arith, length-append}
+use Rattle.std.proofs.Common.{rules, ◌≡◌, ℕ, zero, suc, true, map, List, [], ◌∷◌, ◌++◌, length, Option, Some, inl, inr, refl, sym, ap, ◌∙◌, append_assoc, append-nil, arith, length-append}
 use Rattle.std.specs.List.{AllByRecursion}
 use Rattle.dw_entries.specs.declared.fault.Failing.{Failing}
 use Rattle.dw_entries.specs.declared.fault.PlainFault.{PlainFault}
@@ -8,11 +8,13 @@ use Rattle.dw_entries.specs.Grammar.{Context}
 use Rattle.dw_entries.specs.Header.{fits_tag}
 use Rattle.dw_entries.specs.Tree.{Node, IsNode, node_bytes}
 use Rattle.dw_entries.specs.Items.{Item, entry, null, item_bytes, IsItem, AreItems, items_bytes, node_items, tree_depth}
-use Rattle.dw_entries.specs.Reading.{code_at, next_item_at, null_first}
+use Rattle.dw_forms.specs.Formats.{one_fault as one_fault_of}
+use Rattle.dw_entries.specs.ItemFormats.{next_item}
+use Rattle.dw_forms.specs.WithBytes.{value_or_fault}
 use Rattle.dw_entries.specs.Units.{DebugUnit, head_of, nulls_bytes, AreNulls, unit_bytes, IsUnit, units_bytes, Spells}
 use Rattle.dw_entries.specs.Faults.{FitsUnit, Stops, BodyFails, FailsHere, Fails}
 use Rattle.dw_entries.specs.Joined.{begins, append-is-nil}
-use Rattle.dw_entries.specs.ReadingLaws.{code_again, item_some, item_again, item_unique, first_again}
+use Rattle.dw_entries.specs.ItemLaws.{item_some, item_to, item_unique, first_to}
 use Rattle.dw_entries.specs.UnitLaws.{IsBased, with_base, bytes_based, unit_header, units_begin}
 use Rattle.dw_entries.proofs.HeadLaws.{all-append}
 use Rattle.dw_entries.proofs.NullLaws.{fits_node}
@@ -21,22 +23,21 @@ use Rattle.dw_entries.proofs.ItemLaws.{items_bytes-append, node_spelled, node_ar
 -- ---- the row of items in a body
 
 -- the first of these items is the unit's first entry, or comes after others
-next_again : (t : Context) (kind : HeaderKind) (is : List Item) (i : Item) (js : List Item) (rest : List ℕ) → IsItem t i
-    → FitsUnit kind (is ++ i ∷ js) → next_item_at t kind is (item_bytes i ++ rest) ≡ Ok (i, rest)
-next_again t kind [] (entry h) js rest p fits = first_again t kind h rest p fits
-next_again t kind [] (null z) js rest p fits = absurd fits
-next_again t kind (j ∷ is) i js rest p fits = item_again t i rest p
+next_to : (t : Context) (kind : HeaderKind) (is : List Item) (i : Item) (js : List Item) → IsItem t i
+    → FitsUnit kind (is ++ i ∷ js) → (next_item t kind is).Spells (item_bytes i) i
+next_to t kind [] (entry h) js p fits = (h, first_to t kind h p fits, refl)
+next_to t kind [] (null z) js p fits = absurd fits
+next_to t kind (j ∷ is) i js p fits = item_to t i p
 
 -- where a front stops, no item follows
 stops_there : (t : Context) (kind : HeaderKind) (is : List Item) (rest : List ℕ) (depth : ℕ) (f : Failing) (i : Item)
     (js : List Item) (after : List ℕ) (d : ℕ) → tree_depth is ≡ Some depth → Stops t kind is rest depth f → IsItem t i
     → FitsUnit kind (is ++ i ∷ js) → tree_depth (is ++ i ∷ js) ≡ Some d → rest ≡ item_bytes i ++ after → ⊥
 stops_there t kind is rest zero f (entry k) js after d depth stops p fits deep e = nothing_after is k js d depth deep
-stops_there t kind is rest zero f (null z) js after d depth stops p fits deep e =
-    let read : null_first (code_at rest)
-    ≡ true = ap (λ (b : List ℕ). null_first (code_at b)) e ∙ ap null_first (code_again z 0 after p) in
-    absurd (true≢false (sym read ∙ stops.1))
-stops_there t kind is rest (suc k) f i js after d depth stops p fits deep e = search (rules, next_again)
+stops_there t kind is rest zero f (null z) js after d depth stops p fits deep e = stops.1 z after p e
+stops_there t kind is rest (suc k) f i js after d depth stops p fits deep e =
+    value_or_fault (next_item t kind is) rest i after f
+    (record { text = item_bytes i; parts = e; spelled = next_to t kind is i js p fits }) stops
 
 no_items : (t : Context) (is : List Item) (rest : List ℕ) → AreItems t is → [] ≡ items_bytes is ++ rest → is ≡ []
 no_items t [] rest p e = refl
@@ -119,8 +120,7 @@ some_is a b e = cc
 stops_same : (t : Context) (kind : HeaderKind) (is : List Item) (rest : List ℕ) (d : ℕ) (f g : Failing)
     → Stops t kind is rest d f → Stops t kind is rest d g → f ≡ g
 stops_same t kind is rest zero f g p q = p.2 ∙ sym q.2
-stops_same t kind is rest (suc d) f g p q =
-    let a : next_item_at t kind is rest ≡ Err f = p in let b : next_item_at t kind is rest ≡ Err g = q in cc
+stops_same t kind is rest (suc d) f g p q = one_fault_of (next_item t kind is) rest f g p q
 
 -- a front that stops is the longest one
 longest : (t : Context) (kind : HeaderKind) (header : ℕ) (body : List ℕ) (f g : PlainFault)

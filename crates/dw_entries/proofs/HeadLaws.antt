@@ -1,5 +1,5 @@
 -- At each entry's offset is its head, in the context of its unit.
-use Rattle.std.proofs.Common.{rules, ◌≡◌, ℕ, zero, suc, ◌+◌, ◌<◌, List, [], ◌∷◌, ◌++◌, length, drop, Option, Some, None, Ok, refl, sym, ap, ◌∙◌, arith, length-append, length-drop, subst, append_assoc, append-nil, drop_at, drop-drop}
+use Rattle.std.proofs.Common.{◌≡◌, ℕ, zero, suc, ◌+◌, ◌<◌, List, [], ◌∷◌, ◌++◌, length, drop, Option, Some, None, Ok, refl, sym, ap, ◌∙◌, arith, length-append, length-drop, subst, append_assoc, append-nil, drop_at, drop-drop}
 use Rattle.std.specs.Prelude.{slice_get}
 use Rattle.std.specs.List.{flat_map, AllByRecursion}
 use Rattle.std.proofs.lemmas.Option.{slice_get_within, get_or_from_slice_get}
@@ -7,8 +7,8 @@ use Rattle.dw_entries.specs.Grammar.{Context, head_bytes, attribute_bytes, IsHea
 use Rattle.dw_entries.specs.Header.{unit_header_size}
 use Rattle.dw_entries.specs.UnitLaws.{header_long}
 use Rattle.dw_entries.specs.Items.{entry}
-use Rattle.dw_entries.specs.Reading.{seen, code_at}
-use Rattle.dw_entries.specs.ReadingLaws.{code_again, item_some}
+use Rattle.dw_entries.specs.ItemFormats.{code}
+use Rattle.dw_entries.specs.ItemLaws.{item_some}
 use Rattle.dw_entries.specs.Tree.{Node, Nodes, leaf, parent, none, ◌then◌, IsNode, AreNodes, node_bytes, nodes_bytes}
 use Rattle.dw_entries.specs.Units.{DebugUnit, context_of, body_bytes, nulls_bytes, unit_bytes, IsUnit, AreUnits, units_bytes, Spells}
 use Rattle.dw_entries.specs.Entries.{Entry, node_count, first_id, node_entries, nodes_entries, entries_from, entries_of}
@@ -141,9 +141,13 @@ head_stands a info us id e s is =
     (s.parts ∙ sym (append-nil (units_bytes us)))) is
 
 pub stands_code : (us : List DebugUnit) (info : List ℕ) (e : Entry) (s : Stands us info e)
-    → seen (λ c. c.number) (code_at (drop e.at info))
+    → code.read (drop e.at info)
     ≡ Ok (e.head.decl.code, flat_map attribute_bytes e.head.attributes ++ s.after)
-stands_code us info e s = search (rules, append_assoc, code_again)
+unfolding code
+stands_code us info e s =
+    let values : List ℕ = flat_map attribute_bytes e.head.attributes in
+    ap code.read (s.parts ∙ append_assoc e.head.code values s.after)
+    ∙ code.is_reader.again e.head.code (values ++ s.after) e.head.decl.code s.is.code
 
 pub stands_within : (us : List DebugUnit) (info : List ℕ) (e : Entry) → Stands us info e → e.at < length info
 stands_within us info e s =

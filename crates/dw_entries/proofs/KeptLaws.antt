@@ -20,10 +20,10 @@ use Rattle.dw_entries.specs.declared.header.UnitType.{UnitType}
 use Rattle.dw_entries.specs.declared.units.UnitHead.{UnitHead}
 use Rattle.dw_entries.specs.declared.records.Record.{Record}
 use Rattle.dw_entries.specs.declared.records.UnitRecord.{UnitRecord}
-use Rattle.dw_entries.specs.Grammar.{declared_in, attribute_bytes, Head, head_bytes}
+use Rattle.dw_entries.specs.Grammar.{declared_in, attribute_bytes, Head}
 use Rattle.dw_entries.specs.Header.{type_of}
-use Rattle.dw_entries.specs.Reading.{seen, code_at}
-use Rattle.dw_entries.specs.ReadingLaws.{ok_pair}
+use Rattle.dw_entries.specs.ItemFormats.{code}
+use Rattle.dw_forms.specs.WithBytes.{ok_pair}
 use Rattle.dw_entries.specs.Units.{DebugUnit, head_of}
 use Rattle.dw_entries.specs.Entries.{Entry, entries_of, PlacedUnit, placed}
 use Rattle.dw_entries.specs.ByNumber.{no_entry, no_placed, no_unit, entry_of, placed_of, unit_of}
@@ -117,7 +117,7 @@ module _ {base : ℕ} {a info : List ℕ} {tables : Tables} {rs : List UnitRecor
         let w = stands_within (found_units s) info (found_entry s id) k.stands in omega (arith, e, w)
 
     -- its code is read at its offset, and its values follow
-    code_read : seen (λ c. c.number) (code_at (take (length info - r.at) (drop r.at info)))
+    code_read : code.read (take (length info - r.at) (drop r.at info))
         ≡ Ok (
           (found_entry s id).head.decl.code,
           flat_map attribute_bytes (found_entry s id).head.attributes
@@ -126,32 +126,20 @@ module _ {base : ℕ} {a info : List ℕ} {tables : Tables} {rs : List UnitRecor
     code_read =
         let e : r.at ≡ (found_entry s id).at = ap (λ (q : Record). q.at) record_is in
         let w = at_within in
-        ap (λ (b : List ℕ). seen (λ c. c.number) (code_at b))
+        ap (λ (b : List ℕ). code.read b)
         (rest_of r.at info (omega (arith, w)) ∙ ap (λ (n : ℕ). drop n info) e)
         ∙ stands_code (found_units s) info (found_entry s id) k.stands
 
     pub never_unread : (f : Failing)
-        → seen (λ c. c.number) (code_at (take (length info - r.at) (drop r.at info))) ≡ Err f → ⊥
+        → code.read (take (length info - r.at) (drop r.at info)) ≡ Err f → ⊥
     never_unread f failed = let ok = code_read in cc
 
     pub values_are : (n : ℕ) (rest : List ℕ)
-        → seen (λ c. c.number) (code_at (take (length info - r.at) (drop r.at info))) ≡ Ok (n, rest)
+        → code.read (take (length info - r.at) (drop r.at info)) ≡ Ok (n, rest)
         → rest ≡ flat_map attribute_bytes (found_entry s id).head.attributes ++ k.stands.after
     values_are n rest got =
         (ok_pair {E = Failing} n (found_entry s id).head.decl.code rest
         (flat_map attribute_bytes (found_entry s id).head.attributes ++ k.stands.after) (sym got ∙ code_read)).1
-
-    pub values_follow : (n : ℕ) (rest : List ℕ)
-        → seen (λ c. c.number) (code_at (take (length info - r.at) (drop r.at info))) ≡ Ok (n, rest)
-        → (behind : List ℕ) × (rest ≡ flat_map attribute_bytes (found_entry s id).head.attributes ++ behind)
-    values_follow n rest got = (k.stands.after, values_are n rest got)
-
-    -- the entry is at the front of the bytes from its offset on
-    pub entry_parts : take (length info - r.at) (drop r.at info) ≡ head_bytes (found_entry s id).head ++ k.stands.after
-    entry_parts =
-        let e : r.at ≡ (found_entry s id).at = ap (λ (q : Record). q.at) record_is in
-        let w = at_within in
-        rest_of r.at info (omega (arith, w)) ∙ ap (λ (n : ℕ). drop n info) e ∙ k.stands.parts
 
   -- the header of a unit that has the number of the entry's
   pub header_is : (number : ℕ) (u : UnitRecord) → number ≡ (found_entry s id).unit → u ≡ get_or rs number u

@@ -1,11 +1,9 @@
--- The values that leads lead to: their forms, and what is made of their bytes.
-use Rattle.std.proofs.Common.{◌≡◌, ℕ, Bool, true, false, List, length, map, Some, Result, Ok, Err, refl, sym, ap, ◌∙◌}
-use Rattle.std.specs.Prelude.{slice_get, option_map, nat_lt}
+-- The values that leads lead to: their forms, and what is read of their bytes.
+use Rattle.std.proofs.Common.{◌≡◌, ℕ, Bool, true, false, List, length, Some, Result, Ok, Err, refl, sym, ap, subst, ◌∙◌}
+use Rattle.std.specs.Prelude.{⊤, nat_lt}
 use Rattle.std.specs.Bool.{OnTrue}
-use Rattle.dw_forms.specs.declared.attributes.Attributes.{Attributes}
 use Rattle.dw_forms.specs.declared.attribute_lists.Lead.{Lead}
 use Rattle.dw_forms.specs.declared.attribute_lists.Lead.TheVariants as lead
-use Rattle.dw_forms.specs.declared.attribute_lists.Step.{Step}
 use Rattle.dw_forms.specs.declared.abbrev.AttributeSpec.{AttributeSpec}
 use Rattle.dw_forms.specs.declared.form.Form.{Form}
 use Rattle.dw_forms.specs.declared.form.Form.TheVariants.{Ref4, Strp, Strx1, Strx2, Addrx}
@@ -13,76 +11,20 @@ use Rattle.dw_forms.specs.declared.value.ValueFault.{ValueFault}
 use Rattle.dw_forms.specs.declared.value.ValueFault.TheVariants.{Cut}
 use Rattle.dw_forms.specs.declared.value.Value.{Value}
 use Rattle.dw_forms.specs.declared.value.Value.TheVariants as value
-use Rattle.dw_forms.specs.Chains.{Numbered, items_of}
 use Rattle.dw_forms.specs.Steps.{◌>>=◌}
-use Rattle.dw_forms.specs.Suffixes.{nodes_of, numbered, specs_in}
 use Rattle.dw_forms.specs.BaseFormats.{taken_at}
-use Rattle.dw_forms.specs.Value.{Datum, laid_out, view, str, str_index, ref_unit, addr_index, fixed, leb}
+use Rattle.dw_forms.specs.Value.{Datum, view, str, str_index, ref_unit, addr_index, fixed, leb}
+use Rattle.dw_forms.specs.ValueFormats.{laid_out}
 use Rattle.dw_forms.specs.ValueReading.{layout_at, fixed_at, uleb_then}
-use Rattle.dw_forms.specs.LeadingWalks.{lead_of, does_lead, IsFirstStep}
+use Rattle.dw_forms.specs.LeadingWalks.{lead_of}
 use Rattle.dw_forms.proofs.LeadLaws.{lead_says}
-use Rattle.dw_forms.proofs.WalkSteps.{step_lead, step_none, step_nothing}
-use Rattle.dw_entries.specs.EntryRules.{value_of}
-use Rattle.dw_entries.specs.PassedAttributes.{ArePassed}
-use Rattle.dw_entries.specs.Grammar.{Context}
-use Rattle.dw_entries.specs.Leading.{DoesNotLead, IsMade, is_reference_lead}
-use Rattle.dw_entries.specs.ReadingLaws.{ok_pair}
-use Rattle.dw_entries.specs.Values.{Left, form_there, IsCutValue, IsThere}
-use Rattle.dw_entries.proofs.ChosenSteps.{all_passed}
+use Rattle.dw_entries.specs.Led.{IsMade, IsRead, is_index_lead, leads_on}
+use Rattle.dw_entries.specs.Leading.{form_of_lead}
+use Rattle.dw_forms.specs.WithBytes.{ok_pair}
+use Rattle.dw_entries.specs.Values.{IsCutValue}
 
--- ---- the form, by the lead
-
-module _ (a : Attributes) (step : Step) (is : IsFirstStep (numbered a) step) where
-  form_by : (l : Lead) (form : Form) → step.lead ≡ l → (l ≡ lead.Nothing → ⊥)
-      → ((spec : AttributeSpec) → lead_of spec ≡ l → spec.form ≡ form) → form_there a step.to ≡ Some form
-  form_by l form is_l some says =
-      let h = step_lead (nodes_of a) a.lists.now.known a.first a.within step is (λ none. some (sym is_l ∙ none)) in
-      ap (λ (ns : List (Numbered AttributeSpec)). option_map (λ (s : AttributeSpec). s.form)
-      (slice_get (items_of ns) 0)) h.begins ∙ ap (λ (f : Form). Some f) (says h.spec (h.leads ∙ is_l))
-
-  pub text_form : step.lead ≡ lead.Text → form_there a step.to ≡ Some Strp
-  text_form e = form_by lead.Text Strp e (λ no. cc) (λ spec l. (lead_says spec lead.Text l).0)
-
-  pub index1_form : step.lead ≡ lead.Index1 → form_there a step.to ≡ Some Strx1
-  index1_form e = form_by lead.Index1 Strx1 e (λ no. cc) (λ spec l. (lead_says spec lead.Index1 l).0)
-
-  pub index2_form : step.lead ≡ lead.Index2 → form_there a step.to ≡ Some Strx2
-  index2_form e = form_by lead.Index2 Strx2 e (λ no. cc) (λ spec l. (lead_says spec lead.Index2 l).0)
-
-  pub address_form : step.lead ≡ lead.Address → form_there a step.to ≡ Some Addrx
-  address_form e = form_by lead.Address Addrx e (λ no. cc) (λ spec l. (lead_says spec lead.Address l).0)
-
-  pub reference_form : is_reference_lead step.lead ≡ true → form_there a step.to ≡ Some Ref4
-  reference_form reference = by_lead step.lead refl reference
-    where
-      by_lead : (l : Lead) → step.lead ≡ l → is_reference_lead l ≡ true → form_there a step.to ≡ Some Ref4
-      by_lead lead.TypeEntry e r =
-          form_by lead.TypeEntry Ref4 e (λ no. cc) (λ spec l. (lead_says spec lead.TypeEntry l).0)
-      by_lead lead.Sibling e r = form_by lead.Sibling Ref4 e (λ no. cc) (λ spec l. (lead_says spec lead.Sibling l).0)
-      by_lead lead.Specification e r =
-          form_by lead.Specification Ref4 e (λ no. cc) (λ spec l. (lead_says spec lead.Specification l).0)
-      by_lead lead.Entry e r = form_by lead.Entry Ref4 e (λ no. cc) (λ spec l. (lead_says spec lead.Entry l).0)
-      by_lead _ e r = absurd cc
-
-  -- where it leads to nothing, nothing that is left leads elsewhere
-  pub nothing_left : (x : Context) (bytes : List ℕ) (l : Left x (specs_in a) bytes) → step.lead ≡ lead.Nothing
-      → ArePassed DoesNotLead (map value_of l.0.0)
-  nothing_left x bytes l none =
-      all_passed does_lead x (specs_in a) l.0.0 l.1.are
-      (step_none (nodes_of a) a.lists.now.known a.first a.within step is
-      (step_nothing (nodes_of a) a.lists.now.known a.first a.within step is none))
-
-  -- an attribute is there, unless it leads to nothing
-  pub lead_there : (step.lead ≡ lead.Nothing → ⊥) → IsThere a step.to
-  lead_there some =
-      let h = step_lead (nodes_of a) a.lists.now.known a.first a.within step is some in (
-        h.spec.form,
-        ap (λ (ns : List (Numbered AttributeSpec)). option_map (λ (s : AttributeSpec). s.form)
-            (slice_get (items_of ns) 0)) h.begins,
-      )
-
-  pub passed_there : step.lead ≡ lead.Passed → IsThere a step.to
-  passed_there e = lead_there (λ none. let no : lead.Passed ≡ lead.Nothing = sym e ∙ none in cc)
+form_is : {f g : Form} → Some f ≡ Some g → f ≡ g
+form_is e = cc
 
 -- ---- the value, by the form
 
@@ -120,34 +62,107 @@ leb_made of bytes behind d e = by_read (uleb_then bytes) e
     by_read (Ok x) e = (x.0, (ok_pair {E = ValueFault} d (of x.0) behind x.1 (sym e)).0)
     by_read (Err f) e = absurd cc
 
-module _ (version size : ℕ) where
-  pub text_made : (d : Datum) → IsMade version Strp size d → (m : ℕ) × (d ≡ str m)
-  text_made d made = fixed_made 4 str made.bytes made.behind d made.reads
+text_made : (d : Datum) → IsMade Strp d → (m : ℕ) × (d ≡ str m)
+text_made d made = fixed_made 4 str made.bytes made.behind d made.reads
 
-  pub reference_made : (d : Datum) → IsMade version Ref4 size d → (m : ℕ) × (d ≡ ref_unit m)
-  reference_made d made = fixed_made 4 ref_unit made.bytes made.behind d made.reads
+reference_made : (d : Datum) → IsMade Ref4 d → (m : ℕ) × (d ≡ ref_unit m)
+reference_made d made = fixed_made 4 ref_unit made.bytes made.behind d made.reads
 
-  pub index1_made : (d : Datum) → IsMade version Strx1 size d → (m : ℕ) × (d ≡ str_index m)
-  index1_made d made = fixed_made 1 str_index made.bytes made.behind d made.reads
+index1_made : (d : Datum) → IsMade Strx1 d → (m : ℕ) × (d ≡ str_index m)
+index1_made d made = fixed_made 1 str_index made.bytes made.behind d made.reads
 
-  pub index2_made : (d : Datum) → IsMade version Strx2 size d → (m : ℕ) × (d ≡ str_index m)
-  index2_made d made = fixed_made 2 str_index made.bytes made.behind d made.reads
+index2_made : (d : Datum) → IsMade Strx2 d → (m : ℕ) × (d ≡ str_index m)
+index2_made d made = fixed_made 2 str_index made.bytes made.behind d made.reads
 
-  pub address_made : (d : Datum) → IsMade version Addrx size d → (m : ℕ) × (d ≡ addr_index m)
-  address_made d made = leb_made addr_index made.bytes made.behind d made.reads
+address_made : (d : Datum) → IsMade Addrx d → (m : ℕ) × (d ≡ addr_index m)
+address_made d made = leb_made addr_index made.bytes made.behind d made.reads
 
-pub reference_value : (v : Value) (m : ℕ) → view v ≡ ref_unit m → v ≡ value.RefUnit m
+reference_value : (v : Value) (m : ℕ) → view v ≡ ref_unit m → v ≡ value.RefUnit m
 reference_value (value.RefUnit x) m e = let same : x ≡ m = cc in ap (λ (n : ℕ). value.RefUnit n) same
 reference_value _ m e = absurd cc
 
-pub index_value : (v : Value) (m : ℕ) → view v ≡ str_index m → v ≡ value.StrIndex m
+index_value : (v : Value) (m : ℕ) → view v ≡ str_index m → v ≡ value.StrIndex m
 index_value (value.StrIndex x) m e = let same : x ≡ m = cc in ap (λ (n : ℕ). value.StrIndex n) same
 index_value _ m e = absurd cc
 
-pub address_value : (v : Value) (m : ℕ) → view v ≡ addr_index m → v ≡ value.AddrIndex m
+address_value : (v : Value) (m : ℕ) → view v ≡ addr_index m → v ≡ value.AddrIndex m
 address_value (value.AddrIndex x) m e = let same : x ≡ m = cc in ap (λ (n : ℕ). value.AddrIndex n) same
 address_value _ m e = absurd cc
 
-pub str_value : (v : Value) (m : ℕ) → view v ≡ str m → v ≡ value.Str m
+str_value : (v : Value) (m : ℕ) → view v ≡ str m → v ≡ value.Str m
 str_value (value.Str x) m e = let same : x ≡ m = cc in ap (λ (n : ℕ). value.Str n) same
 str_value _ m e = absurd cc
+
+-- ---- the value, by the lead
+
+-- a value that has this lead is one of these
+abbrev pub HoldsBy : Lead → Datum → Type 0
+HoldsBy lead.TypeEntry v = (m : ℕ) × (v ≡ ref_unit m)
+HoldsBy lead.Sibling v = (m : ℕ) × (v ≡ ref_unit m)
+HoldsBy lead.Specification v = (m : ℕ) × (v ≡ ref_unit m)
+HoldsBy lead.Entry v = (m : ℕ) × (v ≡ ref_unit m)
+HoldsBy lead.Text v = (m : ℕ) × (v ≡ str m)
+HoldsBy lead.Index1 v = (m : ℕ) × (v ≡ str_index m)
+HoldsBy lead.Index2 v = (m : ℕ) × (v ≡ str_index m)
+HoldsBy lead.Address v = (m : ℕ) × (v ≡ addr_index m)
+HoldsBy lead.Other v = ⊤
+HoldsBy lead.Nothing v = ⊥
+HoldsBy lead.Passed v = ⊥
+
+-- the form of an attribute that has this lead
+pub lead_form : (l : Lead) (f : Form) (spec : AttributeSpec) → form_of_lead l ≡ Some f → lead_of spec ≡ l
+    → spec.form ≡ f
+lead_form lead.TypeEntry f spec e is = (lead_says spec lead.TypeEntry is).0 ∙ form_is e
+lead_form lead.Sibling f spec e is = (lead_says spec lead.Sibling is).0 ∙ form_is e
+lead_form lead.Specification f spec e is = (lead_says spec lead.Specification is).0 ∙ form_is e
+lead_form lead.Entry f spec e is = (lead_says spec lead.Entry is).0 ∙ form_is e
+lead_form lead.Text f spec e is = (lead_says spec lead.Text is).0 ∙ form_is e
+lead_form lead.Index1 f spec e is = (lead_says spec lead.Index1 is).0 ∙ form_is e
+lead_form lead.Index2 f spec e is = (lead_says spec lead.Index2 is).0 ∙ form_is e
+lead_form lead.Address f spec e is = (lead_says spec lead.Address is).0 ∙ form_is e
+lead_form _ f spec e is = absurd cc
+
+pub holds_by : (l : Lead) (spec : AttributeSpec) (item : ℕ × Datum) → leads_on l ≡ true → lead_of spec ≡ l
+    → IsRead spec item → HoldsBy l item.1
+holds_by l spec item on is read = by_lead l on (λ f e. subst (λ (g : Form). IsMade g item.1) (lead_form l f spec e is)
+    read.made)
+  where
+    by_lead : (l : Lead) → leads_on l ≡ true → ((f : Form) → form_of_lead l ≡ Some f → IsMade f item.1)
+        → HoldsBy l item.1
+    by_lead lead.TypeEntry on made = reference_made item.1 (made Ref4 refl)
+    by_lead lead.Sibling on made = reference_made item.1 (made Ref4 refl)
+    by_lead lead.Specification on made = reference_made item.1 (made Ref4 refl)
+    by_lead lead.Entry on made = reference_made item.1 (made Ref4 refl)
+    by_lead lead.Text on made = text_made item.1 (made Strp refl)
+    by_lead lead.Index1 on made = index1_made item.1 (made Strx1 refl)
+    by_lead lead.Index2 on made = index2_made item.1 (made Strx2 refl)
+    by_lead lead.Address on made = address_made item.1 (made Addrx refl)
+    by_lead lead.Other on made = tt
+    by_lead _ on made = absurd cc
+
+-- which leaves no lead but `Other`
+pub other_reference : (l : Lead) (offset : ℕ) → HoldsBy l (ref_unit offset) → (l ≡ lead.TypeEntry → ⊥)
+    → (l ≡ lead.Sibling → ⊥) → (l ≡ lead.Specification → ⊥) → (l ≡ lead.Entry → ⊥) → l ≡ lead.Other
+other_reference lead.TypeEntry offset h a b c d = absurd (a refl)
+other_reference lead.Sibling offset h a b c d = absurd (b refl)
+other_reference lead.Specification offset h a b c d = absurd (c refl)
+other_reference lead.Entry offset h a b c d = absurd (d refl)
+other_reference lead.Other offset h a b c d = refl
+other_reference lead.Nothing offset h a b c d = absurd h
+other_reference lead.Passed offset h a b c d = absurd h
+other_reference _ offset h a b c d = absurd (let no = h.1 in cc)
+
+pub other_value : (l : Lead) (v : Value) → HoldsBy l (view v) → ((m : ℕ) → v ≡ value.RefUnit m → ⊥)
+    → ((m : ℕ) → v ≡ value.Str m → l ≡ lead.Text → ⊥) → ((m : ℕ) → v ≡ value.StrIndex m → is_index_lead l ≡ true → ⊥)
+    → ((m : ℕ) → v ≡ value.AddrIndex m → l ≡ lead.Address → ⊥) → l ≡ lead.Other
+other_value lead.TypeEntry v h a b c d = absurd (a h.0 (reference_value v h.0 h.1))
+other_value lead.Sibling v h a b c d = absurd (a h.0 (reference_value v h.0 h.1))
+other_value lead.Specification v h a b c d = absurd (a h.0 (reference_value v h.0 h.1))
+other_value lead.Entry v h a b c d = absurd (a h.0 (reference_value v h.0 h.1))
+other_value lead.Text v h a b c d = absurd (b h.0 (str_value v h.0 h.1) refl)
+other_value lead.Index1 v h a b c d = absurd (c h.0 (index_value v h.0 h.1) refl)
+other_value lead.Index2 v h a b c d = absurd (c h.0 (index_value v h.0 h.1) refl)
+other_value lead.Address v h a b c d = absurd (d h.0 (address_value v h.0 h.1) refl)
+other_value lead.Other v h a b c d = refl
+other_value lead.Nothing v h a b c d = absurd h
+other_value lead.Passed v h a b c d = absurd h

@@ -8,6 +8,7 @@ pub mod WalkLaws
 pub mod AlongLaws
 pub mod NullLaws
 pub mod OrderLaws
+pub mod OverLaws
 pub mod UnitRanges
 pub mod DepthLaws
 pub mod UnitSteps
@@ -26,6 +27,5 @@ pub mod LeftLaws
 pub mod UnitTurns
 pub mod FindLaws
 pub mod RunLaws
-pub mod TextLaws
 pub mod PlacedLaws
 pub mod ValuePlaceLaws

@@ -1,5 +1,5 @@
 -- The nulls after a unit's tree.
-use Rattle.std.proofs.Common.{rules, ◌≡◌, ℕ, ◌+◌, ◌-◌, ◌<◌, map, true, List, [], ◌∷◌, ◌++◌, length, Ok, refl, sym, ap, ◌∙◌, append_assoc, append-nil, arith, length-append}
+use Rattle.std.proofs.Common.{rules, ◌≡◌, ◌≢◌, ℕ, ◌+◌, ◌-◌, ◌<◌, map, true, List, [], ◌∷◌, ◌++◌, length, Ok, refl, sym, ap, ◌∙◌, append_assoc, append-nil, arith, length-append}
 use Rattle.std.proofs.lemmas.List.Concat.{flat_map-append}
 use Rattle.dw_entries.specs.declared.records.Record.{Record}
 use Rattle.dw_entries.specs.declared.header.HeaderKind.{HeaderKind}
@@ -9,11 +9,12 @@ use Rattle.dw_entries.specs.Grammar.{Context, IsNull}
 use Rattle.dw_entries.specs.Header.{fits_tag, unit_header_size}
 use Rattle.dw_entries.specs.Tree.{Node, leaf, parent, node_bytes}
 use Rattle.dw_entries.specs.Items.{Item, null, items_bytes, node_items}
-use Rattle.dw_entries.specs.Reading.{Code, seen, code_at}
+use Rattle.dw_entries.specs.ItemFormats.{code}
 use Rattle.dw_entries.specs.Units.{AreNulls, nulls_bytes, head_of}
-use Rattle.dw_entries.specs.Faults.{FitsUnit, in_unit, BodyFails}
+use Rattle.dw_entries.specs.Faults.{BeginsNoNull, FitsUnit, in_unit, BodyFails}
 use Rattle.dw_entries.specs.Stopped.{TreeOf, AreAllNulls, NullsThen}
-use Rattle.dw_entries.specs.ReadingLaws.{code_takes, code_has_byte, seen_ok}
+use Rattle.dw_entries.specs.ItemLaws.{code_has_byte}
+use Rattle.dw_forms.specs.WithBytes.{read_takes}
 use Rattle.dw_entries.proofs.HeadLaws.{all-append}
 use Rattle.dw_entries.proofs.ItemLaws.{items_bytes-append, node_are_items, node_spelled, nulls_are_items, nulls_spelled, whole_depth}
 
@@ -23,27 +24,31 @@ pub record NullsTo (bytes rest : List ℕ) : Type 0 where
   pub are : AreNulls nulls
   pub parts : bytes ≡ nulls_bytes nulls ++ rest
 
-pub nulls_next : (bytes rest after : List ℕ) → NullsTo bytes rest → seen (λ c. c.number) (code_at rest) ≡ Ok (0, after)
+pub nulls_next : (bytes rest after : List ℕ) → NullsTo bytes rest → code.read rest ≡ Ok (0, after)
     → NullsTo bytes after
+unfolding code
 nulls_next bytes rest after n e =
-    let (c, was, zero_code) = seen_ok (λ (c : Code). c.number) (code_at rest) 0 after e in
-    let took = code_takes rest c after was in
+    let took = read_takes code rest 0 after e in
     record {
-      nulls = n.nulls ++ c.bytes ∷ [];
-      are = all-append IsNull n.nulls (c.bytes ∷ []) n.are (rw zero_code at took.1, tt);
+      nulls = n.nulls ++ took.text ∷ [];
+      are = all-append IsNull n.nulls (took.text ∷ []) n.are (took.spelled, tt);
       parts =
           n.parts ∙ ap (λ (b : List ℕ). nulls_bytes n.nulls ++ b)
-          (took.0 ∙ ap (λ (b : List ℕ). b ++ after) (sym (append-nil c.bytes)))
-          ∙ sym (append_assoc (nulls_bytes n.nulls) (c.bytes ++ []) after)
-          ∙ ap (λ (b : List ℕ). b ++ after) (sym (flat_map-append (λ (z : List ℕ). z) n.nulls (c.bytes ∷ [])));
+          (took.parts ∙ ap (λ (b : List ℕ). b ++ after) (sym (append-nil took.text)))
+          ∙ sym (append_assoc (nulls_bytes n.nulls) (took.text ++ []) after)
+          ∙ ap (λ (b : List ℕ). b ++ after) (sym (flat_map-append (λ (z : List ℕ). z) n.nulls (took.text ∷ [])));
     }
 
-pub null_shorter : (rest after : List ℕ) → seen (λ c. c.number) (code_at rest) ≡ Ok (0, after)
-    → length after < length rest
+pub null_shorter : (rest after : List ℕ) → code.read rest ≡ Ok (0, after) → length after < length rest
+unfolding code
 null_shorter rest after e =
-    let (c, was, zero_code) = seen_ok (λ (c : Code). c.number) (code_at rest) 0 after e in
-    let took = code_takes rest c after was in
-    omega (arith, ap length took.0, length-append c.bytes after, code_has_byte c.bytes c.number took.1)
+    let took = read_takes code rest 0 after e in
+    omega (arith, ap length took.parts, length-append took.text after, code_has_byte took.text 0 took.spelled)
+
+-- where no null is read, none is there
+pub no_null : (bytes : List ℕ) → ((after : List ℕ) → code.read bytes ≢ Ok (0, after)) → BeginsNoNull bytes
+unfolding code
+no_null bytes unread z rest zero parts = unread rest (ap code.read parts ∙ code.is_reader.again z rest 0 zero)
 
 -- ---- the tree and the nulls
 

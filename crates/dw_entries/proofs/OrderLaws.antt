@@ -12,7 +12,7 @@ use Rattle.dw_entries.specs.Units.{nulls_bytes, DebugUnit, context_of, unit_byte
 use Rattle.dw_entries.specs.Entries.{node_count, first_id}
 use Rattle.dw_entries.specs.Records.{node_records, nodes_records, records_from, records_kept}
 use Rattle.dw_entries.specs.Items.{entry}
-use Rattle.dw_entries.specs.ReadingLaws.{item_some}
+use Rattle.dw_entries.specs.ItemLaws.{item_some}
 
 -- the offsets rise, from low on and below high
 abbrev pub Rises : ℕ → ℕ → List Record → Type 0

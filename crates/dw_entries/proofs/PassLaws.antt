@@ -1,5 +1,5 @@
 -- Values that are passed together, and the value after them.
-use Rattle.std.proofs.Common.{◌≡◌, ◌≢◌, ℕ, zero, suc, ◌-◌, Bool, true, false, List, [], ◌∷◌, ◌++◌, length, take, drop, map, Option, Some, None, Result, Ok, Err, refl, sym, ap, subst, ◌∙◌, append_assoc, arith}
+use Rattle.std.proofs.Common.{◌≡◌, ◌≢◌, ℕ, zero, suc, ◌+◌, ◌-◌, Bool, true, false, List, [], ◌∷◌, ◌++◌, length, take, drop, map, Option, Some, None, Result, Ok, Err, refl, sym, ap, subst, ◌∙◌, append_assoc, length-append, length-drop, arith}
 use Rattle.std.specs.Prelude.{◌&&◌, slice_index_or, option_map}
 use Rattle.std.specs.List.{flat_map, slice_range}
 use Rattle.std.proofs.lemmas.Bool.{ne_eqb, eq-eqb}
@@ -14,13 +14,16 @@ use Rattle.dw_forms.specs.Sizes.{rest_at, are_allowed}
 use Rattle.dw_forms.specs.KnownValues.{values_end}
 use Rattle.dw_forms.specs.FirstPlaces.{StandsFirst, value_behind, ReadsFirst, AnswersFirst}
 use Rattle.dw_entries.specs.Grammar.{Context, Attribute, IsAttribute, AreAttributes, attribute_bytes}
-use Rattle.dw_entries.specs.Reading.{bytes_after, attributes_at}
-use Rattle.dw_entries.specs.ReadingLaws.{value_again, bind_ok}
+use Rattle.dw_entries.specs.ItemFormats.{bytes_after, attributes}
+use Rattle.dw_entries.specs.ItemLaws.{value_again}
+use Rattle.dw_forms.specs.WithBytes.{bind_ok}
 use Rattle.dw_entries.specs.EntryRules.{value_of}
 use Rattle.dw_entries.specs.Lookups.{value_in}
+use Rattle.dw_entries.specs.OwnBytes.{IsRest}
+use Rattle.dw_entries.specs.ValuePlaces.{placed_values_from}
 use Rattle.dw_entries.specs.Values.{Left}
 use Rattle.dw_entries.specs.ValueLaws.{left_unique}
-use Rattle.dw_entries.proofs.ReadingSteps.{attributes_cons, attribute_skipped}
+use Rattle.dw_entries.proofs.ReadingSteps.{attributes_turn, attribute_ends}
 use Rattle.dw_entries.proofs.ValueSteps.{value_of_none}
 use Rattle.dw_entries.proofs.LeftLaws.{declares_none}
 
@@ -32,14 +35,16 @@ both_true false b e = absurd cc
 
 -- where all forms are allowed, values that are read one after the other are the attributes at the front
 pub all_after : (t : Context) (specs : List AttributeSpec) (bytes rest : List ℕ) → are_allowed t.version specs ≡ true
-    → values_end t.version t.address_size specs bytes ≡ Ok rest → bytes_after (attributes_at t specs bytes) ≡ Ok rest
-unfolding values_end attributes_at
+    → values_end t.version t.address_size specs bytes ≡ Ok rest
+    → bytes_after ((attributes t specs).read bytes) ≡ Ok rest
+unfolding values_end attributes
 all_after t [] bytes rest allowed e = let same : ◌≡◌ {A = Result (List ℕ) ValueFault} (Ok bytes) (Ok rest) = e in cc
 all_after t (s ∷ specs) bytes rest allowed e =
     let both = both_true (is_allowed t.version s.form) (are_allowed t.version specs) allowed in
     let next = bind_ok (rest_at t.version s.form t.address_size bytes)
     (λ b. values_end t.version t.address_size specs b) rest e in
-    attributes_cons t s specs bytes next.0 (attribute_skipped t s t.version bytes next.0 refl (sym both.0) next.1)
+    let first = attribute_ends t s t.version bytes (Ok next.0) refl (sym both.0) next.1 in
+    sym (attributes_turn t s (s ∷ specs) specs bytes _ (Ok next.0) refl first refl)
     ∙ all_after t specs next.0 rest both.1 next.2
 
 -- ---- values that are left
@@ -50,21 +55,38 @@ pub record Passed (x : Context) (front back : List AttributeSpec) (bs : List Att
     pub behind : List ℕ
     pub others : List Attribute
     pub ends : values_end x.version x.address_size front bytes ≡ Ok behind
+    pub before : List ℕ
+    pub parts : bytes ≡ before ++ behind
     pub are : AreAttributes x back others
     pub spelled : behind ≡ flat_map attribute_bytes others ++ rest
     pub values : map value_of others ≡ drop (length front) (map value_of bs)
+    pub placed : (at : ℕ) → placed_values_from (at + length before) others
+        ≡ drop (length front) (placed_values_from at bs)
 
 pub one_end : (x : Context) (s : AttributeSpec) (b : Attribute) (rest : List ℕ) → IsAttribute x s b
     → rest_at x.version s.form x.address_size (b.bytes ++ rest) ≡ Ok rest
 unfolding rest_at
 one_end x s b rest p = rw (value_again x s b rest p) refl
 
+longer : (at : ℕ) (a b : List ℕ) → at + length (a ++ b) ≡ (at + length a) + length b
+longer at a b = let long = length-append a b in omega (arith, long)
+
 pub passed : (x : Context) (front back : List AttributeSpec) (bs : List Attribute) (rest bytes : List ℕ)
     → AreAttributes x (front ++ back) bs → bytes ≡ flat_map attribute_bytes bs ++ rest
     → Passed x front back bs rest bytes
 unfolding values_end
 passed x [] back bs rest bytes are spelled =
-    record { behind = bytes; others = bs; ends = refl; are = are; spelled = spelled; values = refl }
+    record {
+      behind = bytes;
+      others = bs;
+      ends = refl;
+      before = [];
+      parts = refl;
+      are = are;
+      spelled = spelled;
+      values = refl;
+      placed = λ at. ap (λ (n : ℕ). placed_values_from n bs) (omega arith);
+    }
 passed x (s ∷ front) back [] rest bytes are spelled = absurd are
 passed x (s ∷ front) back (b ∷ bs) rest bytes are spelled =
     let here : bytes ≡ b.bytes ++ (flat_map attribute_bytes bs ++ rest) = spelled
@@ -79,10 +101,24 @@ passed x (s ∷ front) back (b ∷ bs) rest bytes are spelled =
       ends =
           ap (λ (r : Result (List ℕ) ValueFault). r >>= λ more. values_end x.version x.address_size front more) first
           ∙ p.ends;
+      before = b.bytes ++ p.before;
+      parts =
+          here ∙ ap (λ (c : List ℕ). b.bytes ++ c) p.parts ∙ sym (append_assoc b.bytes p.before p.behind);
       are = p.are;
       spelled = p.spelled;
       values = p.values;
+      placed =
+          λ at. ap (λ (n : ℕ). placed_values_from n p.others) (longer at b.bytes p.before)
+          ∙ p.placed (at + length b.bytes);
     }
+
+-- where bytes start that follow others at the end of a section
+start_of : (section bytes before rest : List ℕ) → IsRest section bytes → bytes ≡ before ++ rest
+    → length section - length rest ≡ (length section - length bytes) + length before
+start_of section bytes before rest is parts =
+    let all = sym (length-drop (length section - length bytes) section) ∙ ap length is in
+    let both = ap length parts ∙ length-append before rest in
+    omega (arith, all, both)
 
 module _ (x : Context) (specs front back : List AttributeSpec) (parts : specs ≡ front ++ back) (bytes : List ℕ)
     (l : Left x specs bytes) where
@@ -94,15 +130,22 @@ module _ (x : Context) (specs front back : List AttributeSpec) (parts : specs �
   pub never_cut : (f : ValueFault) → values_end x.version x.address_size front bytes ≡ Err f → ⊥
   never_cut f e = let ok = those.ends in cc
 
+  behind_is : (rest : List ℕ) → values_end x.version x.address_size front bytes ≡ Ok rest → those.behind ≡ rest
+  behind_is rest e =
+      let both : ◌≡◌ {A = Result (List ℕ) ValueFault} (Ok those.behind) (Ok rest) = sym those.ends ∙ e in cc
+
+  -- their bytes are the first
+  pub passed_parts : (rest : List ℕ) → values_end x.version x.address_size front bytes ≡ Ok rest
+      → bytes ≡ those.before ++ rest
+  passed_parts rest e = those.parts ∙ ap (λ (b : List ℕ). those.before ++ b) (behind_is rest e)
+
   -- what is left after them
   pub left_on : (rest : List ℕ) → values_end x.version x.address_size front bytes ≡ Ok rest
       → (m : Left x back rest) × (map value_of m.0.0 ≡ drop (length front) (map value_of l.0.0))
-  left_on rest e =
-      let same : those.behind ≡ rest = is_ok (sym those.ends ∙ e) in
-      (((those.others, l.0.1), record { are = those.are; spelled = sym same ∙ those.spelled }), those.values)
-    where
-      is_ok : {a b : List ℕ} → ◌≡◌ {A = Result (List ℕ) ValueFault} (Ok a) (Ok b) → a ≡ b
-      is_ok e = cc
+  left_on rest e = (
+    ((those.others, l.0.1), record { are = those.are; spelled = sym (behind_is rest e) ∙ those.spelled }),
+    those.values,
+  )
 
   pub left_rest : (k : ℕ) → k ≡ length front → (rest : List ℕ)
       → values_end x.version x.address_size front bytes ≡ Ok rest → (n : Left x back rest)
@@ -111,6 +154,29 @@ module _ (x : Context) (specs front back : List AttributeSpec) (parts : specs �
       let m = left_on rest e in
       ap (λ (z : Left x back rest). map value_of z.0.0) (left_unique x back rest n m.0) ∙ m.1
       ∙ ap (λ (i : ℕ). drop i (map value_of l.0.0)) (sym k_is)
+
+  -- with their places
+  placed_on : (rest : List ℕ) → values_end x.version x.address_size front bytes ≡ Ok rest
+      → (m : Left x back rest) × ((at : ℕ) → placed_values_from (at + length those.before) m.0.0
+      ≡ drop (length front) (placed_values_from at l.0.0))
+  placed_on rest e = (
+    ((those.others, l.0.1), record { are = those.are; spelled = sym (behind_is rest e) ∙ those.spelled }),
+    those.placed,
+  )
+
+  -- in a section that ends with these bytes
+  pub placed_rest : (k : ℕ) → k ≡ length front → (rest : List ℕ)
+      → values_end x.version x.address_size front bytes ≡ Ok rest → (section : List ℕ) → IsRest section bytes
+      → (n : Left x back rest) → placed_values_from (length section - length rest) n.0.0
+      ≡ drop k (placed_values_from (length section - length bytes) l.0.0)
+  placed_rest k k_is rest e section is n =
+      let m = placed_on rest e in
+      ap (λ (z : Left x back rest). placed_values_from (length section - length rest) z.0.0)
+      (left_unique x back rest n m.0)
+      ∙ ap (λ (i : ℕ). placed_values_from i m.0.0.0)
+      (start_of section bytes those.before rest is (passed_parts rest e))
+      ∙ m.1 (length section - length bytes)
+      ∙ ap (λ (i : ℕ). drop i (placed_values_from (length section - length bytes) l.0.0)) (sym k_is)
 
 -- ---- the value of the first attribute with a code
 

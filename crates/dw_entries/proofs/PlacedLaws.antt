@@ -1,76 +1,75 @@
 -- The bytes of a value are the last of its spelling, and where they are in .debug_info.
-use Rattle.std.proofs.Common.{◌≡◌, ℕ, ◌+◌, ◌-◌, List, [], ◌++◌, length, take, drop, refl, sym, ap, subst, ◌∙◌, append_assoc, append-nil, length-append, length-drop, drop_at, map, take-append-drop, ◌∷◌, Option, Some, None, Ok, arith}
+use Rattle.std.proofs.Common.{◌≡◌, ℕ, ◌+◌, ◌-◌, List, [], ◌++◌, ◌≤◌, length, take, drop, refl, sym, ap, subst, ◌∙◌, append_assoc, append-nil, length-append, length-drop, length-take, drop_at, take-append-drop, ◌∷◌, Some, Ok, arith}
 use Rattle.dw_forms.specs.declared.form.Form.{Form}
 use Rattle.dw_forms.specs.declared.form.Form.TheVariants as form
-use Rattle.std.specs.Borrow.{Bor}
-use Rattle.std.specs.Prelude.{MatchOption, slice_get}
+use Rattle.std.specs.Prelude.{slice_get}
 use Rattle.std.specs.List.{flat_map}
-use Rattle.dw_forms.specs.declared.value.Value.{Value}
 use Rattle.dw_forms.specs.FormCodes.{form_of}
-use Rattle.dw_forms.specs.Value.{Datum, Val, layout_of, laid_out, counted_bytes, leb_counted_bytes, view}
+use Rattle.dw_forms.specs.Value.{Datum}
+use Rattle.dw_forms.specs.FormTable.{layout_of}
+use Rattle.dw_forms.specs.ValueFormats.{Val, laid_out, counted_bytes, leb_counted_bytes}
 use Rattle.dw_forms.specs.ValueLaws.{named_plain}
 use Rattle.dw_forms.specs.KeptDecls.{Tables}
 use Rattle.dw_entries.specs.declared.records.Record.{Record}
 use Rattle.dw_entries.specs.declared.records.UnitRecord.{UnitRecord}
-use Rattle.dw_entries.specs.Grammar.{Attribute, attribute_bytes, head_bytes}
-use Rattle.dw_entries.specs.Reading.{code_at, seen}
+use Rattle.dw_entries.specs.Grammar.{Attribute, attribute_bytes}
+use Rattle.dw_entries.specs.ItemFormats.{code}
 use Rattle.dw_entries.specs.Scanned.{Scanned, found_units}
 use Rattle.dw_entries.specs.Entries.{Entry}
 use Rattle.dw_entries.proofs.HeadLaws.{stands_within}
 use Rattle.dw_entries.proofs.KeptLaws.{KeptEntry, found_entry, values_are}
-use Rattle.dw_entries.specs.OwnBytes.{bytes_of, IsRest, Leaves}
-use Rattle.dw_entries.specs.EntryRules.{value_of}
-use Rattle.dw_entries.specs.Placed.{EndsAt, placed_value}
-use Rattle.dw_entries.specs.ValuePlaces.{placed_values_from}
+use Rattle.dw_entries.proofs.ScanLaws.{rest_of}
+use Rattle.dw_entries.specs.OwnBytes.{bytes_of, EndsAt, HasNoZero, IsRest, Leaves}
+use Rattle.dw_entries.specs.ValuePlaces.{FollowCode, placed_value, placed_values_from}
 use Rattle.dw_entries.specs.ValuesLeft.{BeginWith}
 
 -- bytes that end with those of a value
 record EndWithBytes (bytes : List ℕ) (v : Datum) : Type 0 where
   pub before : List ℕ
   pub parts : bytes ≡ before ++ bytes_of v
-
--- a value that has no bytes itself
-no_bytes : (bytes : List ℕ) (v : Datum) → bytes_of v ≡ [] → EndWithBytes bytes v
-no_bytes bytes v none = record {
-  before = bytes;
-  parts = sym (append-nil bytes) ∙ ap (λ (b : List ℕ). bytes ++ b) (sym none);
-}
+  pub no_zero : HasNoZero v
 
 -- a value that has these bytes after some others
-after_count : (count content bytes : List ℕ) (v : Datum) → bytes ≡ count ++ content → bytes_of v ≡ content
-    → EndWithBytes bytes v
-after_count count content bytes v parts is = record {
+after_count : (count content bytes : List ℕ) (v w : Datum) → bytes ≡ count ++ content → v ≡ w → content ≡ bytes_of w
+    → HasNoZero w → EndWithBytes bytes v
+after_count count content bytes v w parts is same no_zero = record {
   before = count;
-  parts = parts ∙ ap (λ (b : List ℕ). count ++ b) (sym is);
+  parts = parts ∙ ap (λ (b : List ℕ). count ++ b) (same ∙ ap bytes_of (sym is));
+  no_zero = subst HasNoZero (sym is) no_zero;
 }
+
+-- a value that has no bytes itself
+no_bytes : (bytes : List ℕ) (v w : Datum) → v ≡ w → bytes_of w ≡ [] → HasNoZero w → EndWithBytes bytes v
+no_bytes bytes v w is none = after_count bytes [] bytes v w (sym (append-nil bytes)) is (sym none)
 
 plain_bytes : (size : ℕ) (f : Form) (bytes : List ℕ) (v : Datum) → (laid_out (layout_of size f)).Spells bytes v
     → EndWithBytes bytes v
 unfolding laid_out counted_bytes leb_counted_bytes
 plain_bytes size form.Block1 bytes v (content, counted, is) =
-    after_count counted.first counted.second bytes v counted.parts (ap bytes_of is ∙ sym counted.is_second.same)
+    after_count counted.first counted.second bytes v _ counted.parts is counted.is_second.same tt
 plain_bytes size form.Block2 bytes v (content, counted, is) =
-    after_count counted.first counted.second bytes v counted.parts (ap bytes_of is ∙ sym counted.is_second.same)
+    after_count counted.first counted.second bytes v _ counted.parts is counted.is_second.same tt
 plain_bytes size form.Block4 bytes v (content, counted, is) =
-    after_count counted.first counted.second bytes v counted.parts (ap bytes_of is ∙ sym counted.is_second.same)
+    after_count counted.first counted.second bytes v _ counted.parts is counted.is_second.same tt
 plain_bytes size form.Block bytes v (content, counted, is) =
-    after_count counted.first counted.second bytes v counted.parts (ap bytes_of is ∙ sym counted.is_second.same)
+    after_count counted.first counted.second bytes v _ counted.parts is counted.is_second.same tt
 plain_bytes size form.Exprloc bytes v (content, counted, is) =
-    after_count counted.first counted.second bytes v counted.parts (ap bytes_of is ∙ sym counted.is_second.same)
+    after_count counted.first counted.second bytes v _ counted.parts is counted.is_second.same tt
 plain_bytes size form.Text bytes v (content, ended, is) =
-    after_count [] bytes bytes v refl (ap bytes_of is ∙ sym ended.parts)
+    after_count [] bytes bytes v _ refl is ended.parts ended.none_before
 plain_bytes size form.Data16 bytes v (content, exactly, is) =
-    after_count [] bytes bytes v refl (ap bytes_of is ∙ sym exactly.same)
+    after_count [] bytes bytes v _ refl is exactly.same tt
 plain_bytes size form.Indirect bytes v p = absurd p
-plain_bytes size form.FlagPresent bytes v p = no_bytes bytes v (ap bytes_of p.1)
-plain_bytes size (form.ImplicitConst number) bytes v p = no_bytes bytes v (ap bytes_of p.1)
-plain_bytes size _ bytes v p = no_bytes bytes v (ap bytes_of p.2)
+plain_bytes size form.FlagPresent bytes v p = no_bytes bytes v _ p.1 refl tt
+plain_bytes size (form.ImplicitConst number) bytes v p = no_bytes bytes v _ p.1 refl tt
+plain_bytes size _ bytes v p = no_bytes bytes v _ p.2 refl tt
 
 after_code : (code content bytes : List ℕ) (v : Datum) → bytes ≡ code ++ content → EndWithBytes content v
     → EndWithBytes bytes v
 after_code code content bytes v parts end = record {
   before = code ++ end.before;
   parts = parts ∙ ap (λ (b : List ℕ). code ++ b) end.parts ∙ sym (append_assoc code end.before (bytes_of v));
+  no_zero = end.no_zero;
 }
 
 -- the spelling of a value ends with its bytes
@@ -87,9 +86,9 @@ spelled_bytes version size form.Block bytes v p = plain_bytes size form.Block by
 spelled_bytes version size form.Exprloc bytes v p = plain_bytes size form.Exprloc bytes v p
 spelled_bytes version size form.Text bytes v p = plain_bytes size form.Text bytes v p
 spelled_bytes version size form.Data16 bytes v p = plain_bytes size form.Data16 bytes v p
-spelled_bytes version size form.FlagPresent bytes v p = no_bytes bytes v (ap bytes_of p.1)
-spelled_bytes version size (form.ImplicitConst number) bytes v p = no_bytes bytes v (ap bytes_of p.1)
-spelled_bytes version size _ bytes v p = no_bytes bytes v (ap bytes_of p.2)
+spelled_bytes version size form.FlagPresent bytes v p = no_bytes bytes v _ p.1 refl tt
+spelled_bytes version size (form.ImplicitConst number) bytes v p = no_bytes bytes v _ p.1 refl tt
+spelled_bytes version size _ bytes v p = no_bytes bytes v _ p.2 refl tt
 
 -- the bytes of a value that was read, and those that follow
 pub leaves : (version size len : ℕ) (f : Form) (bytes rest : List ℕ) (v : Datum) → Val version f size (take len bytes) v
@@ -101,6 +100,7 @@ leaves version size len f bytes rest v spelled rest_is =
       parts = sym (take-append-drop len bytes) ∙ ap (λ (b : List ℕ). b ++ drop len bytes) end.parts
           ∙ append_assoc end.before (bytes_of v) (drop len bytes)
           ∙ ap (λ (b : List ℕ). end.before ++ (bytes_of v ++ b)) (sym rest_is);
+      no_zero = end.no_zero;
     }
 
 -- what a section ends with
@@ -110,49 +110,45 @@ rest_after section before bytes parts =
     ap (drop (length section - length bytes)) parts
     ∙ drop_at before bytes (length section - length bytes) (omega (arith, long))
 
-module _ (section bytes rest : List ℕ) (v : Datum) (is : IsRest section bytes) (l : Leaves v bytes rest) where
-  front : List ℕ
-  front = take (length section - length bytes) section
+-- and without the first of these bytes
+pub rest_on : (section bytes before rest : List ℕ) → IsRest section bytes → bytes ≡ before ++ rest
+    → IsRest section rest
+rest_on section bytes before rest is parts =
+    let front : List ℕ = take (length section - length bytes) section in
+    rest_after section (front ++ before) rest
+    (sym (take-append-drop (length section - length bytes) section) ∙ ap (λ (b : List ℕ). front ++ b) (is ∙ parts)
+    ∙ sym (append_assoc front before rest))
 
-  before : List ℕ
-  before = front ++ l.before
+-- as a slice has them
+pub rest_of_slice : (section bytes : List ℕ) (n : ℕ) → IsRest section bytes → n ≤ length bytes
+    → IsRest section (take (length bytes - n) (drop n bytes))
+rest_of_slice section bytes n is within =
+    rest_on section bytes (take n bytes) _ is
+    (sym (take-append-drop n bytes) ∙ ap (λ (b : List ℕ). take n bytes ++ b) (sym (rest_of n bytes within)))
 
-  whole : section ≡ before ++ (bytes_of v ++ rest)
-  unfolding before front
-  whole = sym (take-append-drop (length section - length bytes) section)
-      ∙ ap (λ (b : List ℕ). front ++ b) (is ∙ l.parts)
-      ∙ sym (append_assoc front l.before (bytes_of v ++ rest))
-
-  counted : length section ≡ length before + (length (bytes_of v) + length rest)
-  counted =
-      ap length whole ∙ length-append before (bytes_of v ++ rest)
-      ∙ ap (λ (n : ℕ). length before + n) (length-append (bytes_of v) rest)
-
-  -- after a value is what follows it
-  pub rest_left : IsRest section rest
-  rest_left = rest_after section (before ++ bytes_of v) rest (whole ∙ sym (append_assoc before (bytes_of v) rest))
-
-  -- where a value ends
-  pub ends_at : EndsAt section v (length section - length rest)
-  ends_at = record { before = before; rest = rest; parts = whole; end_is = omega (arith, counted) }
-
--- what a section ends with after one attribute was taken, or none
-pub take_keeps : (section : List ℕ) (old new : Bor (List ℕ)) (result : Option (ℕ × Value)) → IsRest section old.now
-    → MatchOption result (new ≡ old) (λ item. Leaves (view item.1) old.now new.now) → IsRest section new.now
-take_keeps section old new None is kept = subst (λ (b : Bor (List ℕ)). IsRest section b.now) (sym kept) is
-take_keeps section old new (Some item) is kept = rest_left section old.now new.now (view item.1) is kept
+-- where a value ends
+pub ends_at : (section bytes rest : List ℕ) (v : Datum) → IsRest section bytes → Leaves v bytes rest
+    → EndsAt section v (length section - length rest)
+ends_at section bytes rest v is l =
+    let front : List ℕ = take (length section - length bytes) section in
+    let whole : section ≡ (front ++ l.before) ++ (bytes_of v ++ rest) =
+    sym (take-append-drop (length section - length bytes) section)
+    ∙ ap (λ (b : List ℕ). front ++ b) (is ∙ l.parts) ∙ sym (append_assoc front l.before (bytes_of v ++ rest)) in
+    record {
+      before = front ++ l.before;
+      rest = rest;
+      parts = whole;
+      end_is =
+          omega (
+            arith,
+            ap length whole,
+            length-append (front ++ l.before) (bytes_of v ++ rest),
+            length-append (bytes_of v) rest,
+          );
+      no_zero = l.no_zero;
+    }
 
 -- ---- attributes with their places
-
-none_placed : (at : ℕ) (attributes : List Attribute) → map value_of attributes ≡ []
-    → placed_values_from at attributes ≡ []
-none_placed at [] none = refl
-none_placed at (a ∷ more) none = absurd cc
-
--- no attribute is left before and after none was taken
-pub no_places : (at at' : ℕ) (old new : List Attribute) → (map value_of old ≡ []) × (map value_of new ≡ [])
-    → (placed_values_from at old ≡ []) × (placed_values_from at' new ≡ [])
-no_places at at' old new none = (none_placed at old none.0, none_placed at' new none.1)
 
 -- the attribute that is taken ends where the bytes that are left start
 pub place_taken : (section bytes rest : List ℕ) (old new : List Attribute) (attribute : ℕ) (v : Datum)
@@ -171,35 +167,25 @@ place_taken section bytes rest old new attribute v is first =
     ap (placed_values_from from) first.left
     ∙ (λ i. placed_value (code i) (value i) (end i) ∷ placed_values_from (end i) new)
 
--- what follows the code of an entry, .debug_info ends with
-module _ {base : ℕ} {a info : List ℕ} {tables : Tables} {rs : List UnitRecord} {records : List Record}
-    {s : Scanned base a info tables rs records} {id : ℕ} (k : KeptEntry a info tables rs records s id) where
-  pub code_before : (r : Record) → slice_get records id ≡ Some r → (n : ℕ) (rest : List ℕ)
-      → seen (λ c. c.number) (code_at (take (length info - r.at) (drop r.at info))) ≡ Ok (n, rest) → IsRest info rest
-  code_before r read n rest got =
-      let values = values_are k r read n rest got in
-      let at_is : info ≡ take (found_entry s id).at info ++ (head_bytes (found_entry s id).head ++ k.stands.after) =
-      sym (take-append-drop (found_entry s id).at info)
-      ∙ ap (λ (b : List ℕ). take (found_entry s id).at info ++ b) k.stands.parts in
-      let front : List ℕ = take (found_entry s id).at info in
-      let code : List ℕ = (found_entry s id).head.code in
-      let own : List ℕ = flat_map attribute_bytes (found_entry s id).head.attributes in
-      let whole : info ≡ (front ++ code) ++ rest =
-      at_is ∙ ap (λ (b : List ℕ). front ++ b) (append_assoc code own k.stands.after)
-      ∙ sym (append_assoc front code (own ++ k.stands.after))
-      ∙ ap (λ (b : List ℕ). (front ++ code) ++ b) (sym values) in
-      rest_after info (front ++ code) rest whole
-
-  -- and where they start
-  pub code_placed : (r : Record) → slice_get records id ≡ Some r → (n : ℕ) (rest : List ℕ)
-      → seen (λ c. c.number) (code_at (take (length info - r.at) (drop r.at info))) ≡ Ok (n, rest)
-      → length info - length rest ≡ (found_entry s id).at + length (found_entry s id).head.code
-  code_placed r read n rest got =
-      let e : Entry = found_entry s id in
-      let code : List ℕ = e.head.code in
-      let own : List ℕ = flat_map attribute_bytes e.head.attributes in
-      let within = stands_within (found_units s) info e k.stands in
-      let parts : drop e.at info ≡ code ++ rest =
-      k.stands.parts ∙ append_assoc code own k.stands.after
-      ∙ ap (λ (b : List ℕ). code ++ b) (sym (values_are k r read n rest got)) in
-      omega (arith, within, ap length parts, length-append code rest, length-drop e.at info)
+-- .debug_info ends with what follows the code of an entry
+pub follow_code : {base : ℕ} {a info : List ℕ} {tables : Tables} {rs : List UnitRecord} {records : List Record}
+    {s : Scanned base a info tables rs records} {id : ℕ} (k : KeptEntry a info tables rs records s id) (r : Record)
+    → slice_get records id ≡ Some r → (n : ℕ) (rest : List ℕ)
+    → code.read (take (length info - r.at) (drop r.at info)) ≡ Ok (n, rest) → FollowCode info (found_entry s id) rest
+follow_code {info = info} {s = s} {id = id} k r read n rest got =
+    let e : Entry = found_entry s id in
+    let front : List ℕ = take e.at info in
+    let values = values_are k r read n rest got in
+    let within = stands_within (found_units s) info e k.stands in
+    record {
+      before = front ++ e.head.code;
+      rest = k.stands.after;
+      parts =
+          sym (take-append-drop e.at info)
+          ∙ ap (λ (b : List ℕ). front ++ b)
+          (k.stands.parts ∙ append_assoc e.head.code (flat_map attribute_bytes e.head.attributes) k.stands.after
+          ∙ ap (λ (b : List ℕ). e.head.code ++ b) (sym values))
+          ∙ sym (append_assoc front e.head.code rest);
+      start = omega (arith, within, length-append front e.head.code, length-take e.at info);
+      spelled = values;
+    }

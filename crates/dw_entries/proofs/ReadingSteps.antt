@@ -1,83 +1,66 @@
 -- One turn of the loop that reads attributes.
-use Rattle.std.proofs.Common.{rules, ◌≡◌, ℕ, true, List, [], ◌∷◌, Result, Ok, Err, refl, ap, ◌∙◌}
+use Rattle.std.proofs.Common.{◌≡◌, ℕ, true, List, [], ◌∷◌, Result, Ok, Err, refl, sym, ap, ◌∙◌}
 use Rattle.dw_forms.specs.declared.abbrev.AttributeSpec.{AttributeSpec}
+use Rattle.dw_forms.specs.Formats.{as_other}
 use Rattle.dw_forms.specs.Steps.{◌>>=◌}
 use Rattle.dw_entries.specs.declared.fault.Failing.{Failing}
-use Rattle.dw_entries.specs.Grammar.{Context}
+use Rattle.dw_entries.specs.Grammar.{Context, Attribute}
 use Rattle.dw_forms.specs.declared.value.ValueFault.{ValueFault}
 use Rattle.dw_forms.specs.FormCodes.{is_allowed}
 use Rattle.dw_forms.specs.Value.{Datum}
+use Rattle.dw_forms.specs.ValueReading.{value_at}
 use Rattle.dw_forms.specs.Sizes.{rest_at}
-use Rattle.dw_entries.specs.Reading.{fails, value_rule, bytes_after, as_attribute, attribute_at, attributes_at}
+use Rattle.dw_entries.specs.ItemFormats.{failing_by, value_rule, bytes_after, value_in, as_attribute, attribute, attributes}
+use Rattle.dw_forms.specs.WithBytes.{with_front}
 
-abbrev done : {A : Type 0} → A → Result A Failing
-done x = Ok x
+after_then : {A B : Type 0} (r : Result (A × List ℕ) Failing) (f : A × List ℕ → Result (B × List ℕ) Failing)
+    (g : List ℕ → Result (List ℕ) Failing) → ((x : A × List ℕ) → bytes_after (f x) ≡ g x.1)
+    → bytes_after (r >>= f) ≡ (bytes_after r >>= g)
+after_then (Ok x) f g same = same x
+after_then (Err e) f g same = refl
 
-ok_is : {A : Type 0} (x y : A) → done x ≡ done y → x ≡ y
-ok_is x y e = cc
+after_more : (a : Attribute) (r : Result (List Attribute × List ℕ) Failing)
+    → bytes_after (r >>= λ more. Ok (a ∷ more.0, more.1)) ≡ bytes_after r
+after_more a (Ok x) = refl
+after_more a (Err e) = refl
 
-after_bind : {A B : Type 0} (r : Result (A × List ℕ) Failing) (f : A → B)
-    → bytes_after (r >>= λ x. Ok (f x.0, x.1)) ≡ bytes_after r
-after_bind (Ok x) f = refl
-after_bind (Err e) f = refl
+-- the first of the values, and then those after it
+pub attributes_cons : (t : Context) (f : AttributeSpec) (fs : List AttributeSpec) (bytes : List ℕ)
+    → bytes_after ((attributes t (f ∷ fs)).read bytes)
+    ≡ (bytes_after ((attribute t f).read bytes) >>= λ rest. bytes_after ((attributes t fs).read rest))
+unfolding attributes
+attributes_cons t f fs bytes =
+    after_then ((attribute t f).read bytes) (λ x. (attributes t fs).read x.1 >>= λ more. Ok (x.0 ∷ more.0, more.1))
+    (λ rest. bytes_after ((attributes t fs).read rest)) (λ x. after_more x.0 ((attributes t fs).read x.1))
 
-after_ok : {A B : Type 0} (r : Result (A × List ℕ) Failing) (f : A × List ℕ → Result (B × List ℕ) Failing)
-    (g : List ℕ → Result (List ℕ) Failing) (rest : List ℕ) → bytes_after r ≡ Ok rest
-    → ((x : A × List ℕ) → bytes_after (f x) ≡ g x.1) → bytes_after (r >>= f) ≡ g rest
-after_ok (Ok x) f g rest e h = let same : x.1 ≡ rest = ok_is x.1 rest e in h x ∙ ap g same
-after_ok (Err d) f g rest e h = absurd cc
-
-after_err : {A B : Type 0} (r : Result (A × List ℕ) Failing) (f : A × List ℕ → Result (B × List ℕ) Failing)
-    (d : Failing) → bytes_after r ≡ Err d → bytes_after (r >>= f) ≡ Err d
-after_err (Ok x) f d e = absurd cc
-after_err (Err c) f d e = let same : c ≡ d = cc in ap (λ (x : Failing). Err x) same
-
-pub attributes_cons : (t : Context) (f : AttributeSpec) (fs : List AttributeSpec) (bytes rest : List ℕ)
-    → bytes_after (attribute_at t f bytes) ≡ Ok rest
-    → bytes_after (attributes_at t (f ∷ fs) bytes) ≡ bytes_after (attributes_at t fs rest)
-unfolding attributes_at
-attributes_cons t f fs bytes rest e = search (rules, after_ok, after_bind)
-
-pub attributes_step : (t : Context) (f : AttributeSpec) (left fs : List AttributeSpec) (bytes rest : List ℕ)
-    (total : Result (List ℕ) Failing) → left ≡ f ∷ fs → bytes_after (attribute_at t f bytes) ≡ Ok rest
-    → bytes_after (attributes_at t left bytes) ≡ total → bytes_after (attributes_at t fs rest) ≡ total
-attributes_step t f left fs bytes rest total parts ok so_far = search (rules, attributes_cons)
-
-pub attributes_err : (t : Context) (f : AttributeSpec) (left fs : List AttributeSpec) (bytes : List ℕ)
-    (failing : Failing) (total : Result (List ℕ) Failing) → left ≡ f ∷ fs
-    → bytes_after (attribute_at t f bytes) ≡ Err failing
-    → bytes_after (attributes_at t left bytes) ≡ total → total ≡ Err failing
-unfolding attributes_at
-attributes_err t f left fs bytes failing total parts err so_far = search (rules, after_err)
+-- a turn of the loop gives the total, whatever reading the first value gives
+pub attributes_turn : (t : Context) (f : AttributeSpec) (left fs : List AttributeSpec) (bytes : List ℕ)
+    (total first : Result (List ℕ) Failing) → left ≡ f ∷ fs → bytes_after ((attribute t f).read bytes) ≡ first
+    → bytes_after ((attributes t left).read bytes) ≡ total
+    → (first >>= λ rest. bytes_after ((attributes t fs).read rest)) ≡ total
+attributes_turn t f left fs bytes total first parts read so_far =
+    ap (λ (r : Result (List ℕ) Failing). r >>= λ rest. bytes_after ((attributes t fs).read rest)) (sym read)
+    ∙ sym (attributes_cons t f fs bytes)
+    ∙ ap (λ (specs : List AttributeSpec). bytes_after ((attributes t specs).read bytes)) (sym parts) ∙ so_far
 
 pub attributes_end : (t : Context) (left : List AttributeSpec) (bytes : List ℕ) → left ≡ []
-    → bytes_after (attributes_at t left bytes) ≡ Ok bytes
-unfolding attributes_at
-attributes_end t left bytes none = ap (λ (gs : List AttributeSpec). bytes_after (attributes_at t gs bytes)) none
+    → bytes_after ((attributes t left).read bytes) ≡ Ok bytes
+unfolding attributes
+attributes_end t left bytes none = ap (λ (gs : List AttributeSpec). bytes_after ((attributes t gs).read bytes)) none
 
--- ---- values that are skipped
+after_value : (spec : AttributeSpec) (t : Context) (bytes : List ℕ) (r : Result (Datum × List ℕ) ValueFault)
+    → bytes_after (as_other (λ f. failing_by (value_rule f) spec.attribute)
+    ((r >>= with_front (value_in t spec) bytes) >>= λ v. Ok (as_attribute spec.attribute v.0, v.1)))
+    ≡ as_other (λ f. failing_by (value_rule f) spec.attribute) (r >>= λ x. Ok x.1)
+after_value spec t bytes (Ok x) = refl
+after_value spec t bytes (Err f) = refl
 
-after_value : (code : ℕ) (bytes rest : List ℕ) (r : Result (Datum × List ℕ) ValueFault) → (r >>= λ x. Ok x.1) ≡ Ok rest
-    → bytes_after (as_attribute code bytes r) ≡ Ok rest
-after_value code bytes rest (Ok x) e = let same : ◌≡◌ {A = Result (List ℕ) ValueFault} (Ok x.1) (Ok rest) = e in cc
-after_value code bytes rest (Err f) e = let no : ◌≡◌ {A = Result (List ℕ) ValueFault} (Err f) (Ok rest) = e in absurd cc
-
-after_value_err : (code : ℕ) (bytes : List ℕ) (f : ValueFault) (r : Result (Datum × List ℕ) ValueFault)
-    → (r >>= λ x. Ok x.1) ≡ Err f → bytes_after (as_attribute code bytes r) ≡ fails (value_rule f) code
-after_value_err code bytes f (Ok x) e = let no : ◌≡◌ {A = Result (List ℕ) ValueFault} (Ok x.1) (Err f) = e in absurd cc
-after_value_err code bytes f (Err g) e =
-    let same : ◌≡◌ {A = Result (List ℕ) ValueFault} (Err g) (Err f) = e in let is : g ≡ f = cc in
-    ap (λ (h : ValueFault). fails (value_rule h) code) is
-
--- one value is skipped
-pub attribute_skipped : (t : Context) (s : AttributeSpec) (version : ℕ) (bytes rest : List ℕ) → version ≡ t.version
-    → true ≡ is_allowed version s.form → rest_at version s.form t.address_size bytes ≡ Ok rest
-    → bytes_after (attribute_at t s bytes) ≡ Ok rest
-unfolding attribute_at rest_at
-attribute_skipped t s version bytes rest v allowed read = search (rules, after_value)
-
-pub attribute_fails : (t : Context) (s : AttributeSpec) (version : ℕ) (bytes : List ℕ) (f : ValueFault)
-    → version ≡ t.version → true ≡ is_allowed version s.form → rest_at version s.form t.address_size bytes ≡ Err f
-    → bytes_after (attribute_at t s bytes) ≡ fails (value_rule f) s.attribute
-unfolding attribute_at rest_at
-attribute_fails t s version bytes f v allowed read = search (rules, after_value_err)
+-- an attribute ends where its value does
+pub attribute_ends : (t : Context) (spec : AttributeSpec) (version : ℕ) (bytes : List ℕ)
+    (r : Result (List ℕ) ValueFault) → version ≡ t.version → true ≡ is_allowed version spec.form
+    → rest_at version spec.form t.address_size bytes ≡ r
+    → bytes_after ((attribute t spec).read bytes) ≡ as_other (λ f. failing_by (value_rule f) spec.attribute) r
+unfolding attribute rest_at
+attribute_ends t spec version bytes r v allowed is =
+    let here : is_allowed t.version spec.form ≡ true = ap (λ (n : ℕ). is_allowed n spec.form) (sym v) ∙ sym allowed in
+    rw (← is, v, here) (after_value spec t bytes (value_at t.version spec.form t.address_size bytes))

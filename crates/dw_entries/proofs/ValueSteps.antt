@@ -1,16 +1,29 @@
 -- One attribute of those that are left.
-use Rattle.std.proofs.Common.{rules, ◌≡◌, ℕ, ◌≤◌, subst, List, [], ◌∷◌, ◌++◌, ◌-◌, length, take, drop, map, None, Result, Ok, Err, refl, sym, ap, ◌∙◌, append_assoc, false}
+use Rattle.std.proofs.Common.{rules, ◌≡◌, ℕ, ◌≤◌, subst, List, [], ◌∷◌, ◌++◌, ◌-◌, length, take, drop, map, Option, Some, None, Result, Ok, Err, refl, sym, ap, ◌∙◌, append_assoc, true, false}
 use Rattle.std.specs.List.{flat_map}
+use Rattle.std.specs.Option.{unwrap_or}
+use Rattle.std.specs.Prelude.{IfSome}
 use Rattle.dw_forms.specs.declared.abbrev.AttributeSpec.{AttributeSpec}
+use Rattle.dw_forms.specs.declared.attributes.Attributes.{Attributes}
+use Rattle.dw_forms.specs.declared.form.Form.{Form}
 use Rattle.dw_forms.specs.declared.value.ValueFault.{ValueFault}
+use Rattle.dw_forms.specs.FormCodes.{is_allowed}
+use Rattle.dw_forms.specs.Sizes.{rest_at}
+use Rattle.dw_forms.specs.Steps.{◌>>=◌}
+use Rattle.dw_forms.specs.Suffixes.{Ends, specs_in}
 use Rattle.dw_forms.specs.Value.{Datum}
 use Rattle.dw_forms.specs.ValueReading.{value_at}
+use Rattle.dw_forms.proofs.SuffixLaws.{first_specs}
+use Rattle.dw_entries.specs.declared.values.Values.{Values}
 use Rattle.dw_entries.specs.Grammar.{Context, Attribute, IsAttribute, AreAttributes, attribute_bytes}
-use Rattle.dw_entries.specs.ReadingLaws.{value_again, ok_pair}
+use Rattle.dw_entries.specs.ItemLaws.{value_again}
+use Rattle.dw_forms.specs.WithBytes.{ok_pair}
+use Rattle.dw_entries.specs.Leading.{BeginsWithForm, DoesNotLead, ReadsFirst}
+use Rattle.dw_entries.specs.PassedAttributes.{IsPassed}
 use Rattle.dw_entries.specs.EntryRules.{value_of}
 use Rattle.dw_entries.specs.Lookups.{declares, value_in}
-use Rattle.dw_entries.specs.Values.{Left}
-use Rattle.dw_entries.specs.ValuesLeft.{BeginWith}
+use Rattle.dw_entries.specs.Values.{Left, value_context}
+use Rattle.dw_entries.specs.ValuesLeft.{BeginWith, specs_left}
 use Rattle.dw_entries.proofs.ScanLaws.{rest_of}
 use Rattle.dw_entries.specs.ValueLaws.{left_unique}
 
@@ -83,12 +96,116 @@ value_of_none x [] (a ∷ bs) attribute p e = absurd p
 value_of_none x (s ∷ specs) [] attribute p e = absurd p
 value_of_none x (s ∷ specs) (a ∷ bs) attribute p e = search (rules, (value_of_none x specs bs attribute p.1))
 
--- where no attribute is left, no value is
-pub none_left : (x : Context) (specs : List AttributeSpec) (bytes : List ℕ) (l : Left x specs bytes) → specs ≡ []
-    → map value_of l.0.0 ≡ []
-none_left x specs bytes l none = search (rules)
-
 -- the bytes from a length on, as a slice has them
 pub read_on : (bytes : List ℕ) (len : ℕ) (r : Result (Datum × List ℕ) ValueFault) {v : Datum} → len ≤ length bytes
     → r ≡ Ok (v, drop len bytes) → r ≡ Ok (v, take (length bytes - len) (drop len bytes))
 read_on bytes len r {v} within e = e ∙ ap (λ (b : List ℕ). Ok (v, b)) (sym (rest_of len bytes within))
+
+-- ---- the first attribute, read in a form that is given or in its own
+
+form_given : (given : Option Form) (specs others : List AttributeSpec) (spec : AttributeSpec)
+    → IfSome given (BeginsWithForm specs) → specs ≡ spec ∷ others → spec.form ≡ unwrap_or given spec.form
+form_given None specs others spec fits e = refl
+form_given (Some f) specs others spec fits e = fits spec others e
+
+module _ (v : Values) (given : Option Form) (spec : AttributeSpec) (rest : Attributes) (form : Form)
+    (first : Ends v.attributes rest (record { number = v.attributes.first; item = spec } ∷ []))
+    (fits : IfSome given (BeginsWithForm (specs_left v))) (form_is : form ≡ unwrap_or given spec.form) where
+  abbrev here : Context
+  here = value_context v.version v.address_size
+
+  parts_are : specs_left v ≡ spec ∷ specs_in rest
+  parts_are = first_specs v.attributes rest spec first
+
+  same : spec.form ≡ form
+  same = form_given given (specs_left v) (specs_in rest) spec fits parts_are ∙ sym form_is
+
+  pub form_allowed : is_allowed v.version form ≡ true
+  form_allowed = rw same at (left_goes here (specs_left v) spec (specs_in rest) v.bytes.now v.left parts_are).is.allowed
+
+  pub form_reads : (f : ValueFault) → value_at v.version form v.address_size v.bytes.now ≡ Err f → ⊥
+  form_reads f read =
+      never_fails here (specs_left v) spec (specs_in rest) v.bytes.now v.left parts_are f
+      ((λ i. value_at v.version (same i) v.address_size v.bytes.now) ∙ read)
+
+  module _ (d : Datum) (len : ℕ) (within : len ≤ length v.bytes.now)
+      (read : value_at v.version form v.address_size v.bytes.now ≡ Ok (d, drop len v.bytes.now)) where
+    abbrev after : List ℕ
+    after = take (length v.bytes.now - len) (drop len v.bytes.now)
+
+    own_read : value_at v.version spec.form v.address_size v.bytes.now ≡ Ok (d, after)
+    own_read =
+        (λ i. value_at v.version (same i) v.address_size v.bytes.now)
+        ∙ read_on v.bytes.now len (value_at v.version form v.address_size v.bytes.now) within read
+
+    pub left_after : Left here (specs_in rest) after
+    left_after = next_left here (specs_left v) spec (specs_in rest) v.bytes.now v.left parts_are d after own_read
+
+    pub steps_after : (m : Left here (specs_in rest) after)
+        → map value_of v.left.0.0 ≡ (spec.attribute, d) ∷ map value_of m.0.0
+    steps_after = steps here (specs_left v) spec (specs_in rest) v.bytes.now v.left parts_are d after own_read
+
+    pub takes_after : (m : Left here (specs_in rest) after)
+        → BeginWith v.left.0.0 m.0.0 v.bytes.now after (spec.attribute, d)
+    takes_after = takes here (specs_left v) spec (specs_in rest) v.bytes.now v.left parts_are d after own_read
+
+    pub reads_first : ReadsFirst (specs_left v) (specs_in rest) (spec.attribute, d)
+    reads_first = record {
+      spec = spec;
+      parts = parts_are;
+      is_read =
+          record {
+            has_code = refl;
+            made =
+                record {
+                  version = v.version;
+                  size = v.address_size;
+                  bytes = v.bytes.now;
+                  behind = after;
+                  reads = own_read;
+                };
+          };
+    }
+
+-- ---- the first attribute, skipped
+
+-- a value, by the bytes after it
+value_there : (r : Result (Datum × List ℕ) ValueFault) (rest : List ℕ) → (r >>= λ x. Ok x.1) ≡ Ok rest
+    → (d : Datum) × (r ≡ Ok (d, rest))
+value_there (Ok x) rest e = let same : x.1 ≡ rest = cc in (x.0, ap (λ (b : List ℕ). Ok (x.0, b)) same)
+value_there (Err f) rest e = absurd cc
+
+none_there_at : (r : Result (Datum × List ℕ) ValueFault) (f : ValueFault) → (r >>= λ x. Ok x.1) ≡ Err f → r ≡ Err f
+none_there_at (Ok x) f e = absurd cc
+none_there_at (Err g) f e = let same : g ≡ f = cc in ap (λ (h : ValueFault). Err h) same
+
+module _ (v : Values) (spec : AttributeSpec) (rest : Attributes)
+    (first : Ends v.attributes rest (record { number = v.attributes.first; item = spec } ∷ [])) where
+  pub skipped : (len : ℕ) → rest_at v.version spec.form v.address_size v.bytes.now ≡ Ok (drop len v.bytes.now)
+      → (d : Datum) × (value_at v.version spec.form v.address_size v.bytes.now ≡ Ok (d, drop len v.bytes.now))
+  unfolding rest_at
+  skipped len e = value_there (value_at v.version spec.form v.address_size v.bytes.now) (drop len v.bytes.now) e
+
+  pub skips_on : (f : ValueFault) → rest_at v.version spec.form v.address_size v.bytes.now ≡ Err f → ⊥
+  unfolding rest_at
+  skips_on f e =
+      form_reads v None spec rest spec.form first tt refl f
+      (none_there_at (value_at v.version spec.form v.address_size v.bytes.now) f e)
+
+  -- it is declared so
+  pub item_passed : DoesNotLead spec → (d : Datum) (len : ℕ) → len ≤ length v.bytes.now
+      → value_at v.version spec.form v.address_size v.bytes.now ≡ Ok (d, drop len v.bytes.now)
+      → IsPassed DoesNotLead (spec.attribute, d)
+  item_passed quiet d len within read =
+      let x = value_context v.version v.address_size in
+      let parts = first_specs v.attributes rest spec first in
+      let g = left_goes x (specs_left v) spec (specs_in rest) v.bytes.now v.left parts in
+      record {
+        context = x;
+        spec = spec;
+        passes = quiet;
+        declared = g.first;
+        is_attribute = g.is;
+        is_item =
+            first_value x (specs_left v) spec (specs_in rest) v.bytes.now v.left parts d (drop len v.bytes.now) read;
+      }

@@ -1,5 +1,5 @@
 -- Chapter: the first place at which .debug_info stops being a list of units, and the rule that fails there.
-use Rattle.std.specs.Prelude.{◌≡◌, ◌≢◌, ℕ, zero, suc, true, false, ◌+◌, List, [], ◌∷◌, ◌++◌, length, Some, Result, Ok}
+use Rattle.std.specs.Prelude.{◌≡◌, ◌≢◌, ℕ, zero, suc, true, ◌+◌, List, [], ◌∷◌, ◌++◌, length, Some, Result, Ok}
 use Rattle.std.specs.Prelude.{Err}
 use Rattle.dw_forms.specs.declared.fault.AbbrevFault.{AbbrevFault}
 use Rattle.dw_forms.specs.Abbrev.{Declaration}
@@ -11,10 +11,10 @@ use Rattle.dw_entries.specs.declared.fault.Failing.{Failing}
 use Rattle.dw_entries.specs.declared.fault.PlainFault.{PlainFault}
 use Rattle.dw_entries.specs.declared.header.HeaderKind.{HeaderKind}
 use Rattle.dw_entries.specs.declared.header.UnitHeader.{UnitHeader}
-use Rattle.dw_entries.specs.Grammar.{Context}
+use Rattle.dw_entries.specs.Grammar.{Context, IsNull}
 use Rattle.dw_entries.specs.Header.{fits_tag, unit_header_size, header_at}
+use Rattle.dw_entries.specs.ItemFormats.{failing_by, next_item}
 use Rattle.dw_entries.specs.Items.{Item, entry, null, AreItems, items_bytes, tree_depth}
-use Rattle.dw_entries.specs.Reading.{code_at, next_item_at, null_first}
 use Rattle.dw_entries.specs.Units.{DebugUnit, context_by, AreUnits, units_bytes}
 
 -- the fault of a table
@@ -50,11 +50,14 @@ pub record Front (x : Context) (kind : HeaderKind) (body : List ℕ) (is : List 
   pub at_depth : tree_depth is ≡ Some depth
   pub parts : body ≡ items_bytes is ++ rest
 
+-- no null is at the front of these bytes
+abbrev pub BeginsNoNull : List ℕ → Type 0
+BeginsNoNull bytes = (z rest : List ℕ) → IsNull z → bytes ≢ z ++ rest
+
 -- an item is missing inside the tree, or something else than nulls comes after it
 abbrev pub Stops : Context → HeaderKind → List Item → List ℕ → ℕ → Failing → Type 0
-Stops x kind is rest zero f = (rest ≢ []) × (null_first (code_at rest) ≡ false)
-    × (f ≡ record { rule = LeftOver; attribute = 0 })
-Stops x kind is rest (suc depth) f = next_item_at x kind is rest ≡ Err f
+Stops x kind is rest zero f = (rest ≢ []) × BeginsNoNull rest × (f ≡ failing_by LeftOver 0)
+Stops x kind is rest (suc depth) f = (next_item x kind is).Fails rest f
 
 -- some items begin the body of the unit, and it does not go on
 pub record BodyFails (x : Context) (kind : HeaderKind) (header : ℕ) (body : List ℕ) (broken : PlainFault) : Type 0 where

@@ -5,7 +5,8 @@ use Rattle.dw_forms.specs.declared.abbrev.AttributeSpec.{AttributeSpec}
 use Rattle.dw_forms.specs.Abbrev.{Declaration}
 use Rattle.dw_forms.specs.FormCodes.{is_allowed}
 use Rattle.dw_forms.specs.Leb.{Uleb}
-use Rattle.dw_forms.specs.Value.{Datum, Val}
+use Rattle.dw_forms.specs.Value.{Datum}
+use Rattle.dw_forms.specs.ValueFormats.{Val}
 
 -- what the bytes of a unit are read by: its abbreviation table, the size of an address, and the version
 pub record Context : Type 0 where

@@ -6,9 +6,9 @@ use Rattle.std.specs.Prelude.{◌||◌}
 use Rattle.std.proofs.Props.{props}
 use mathlib.Core.Logic.{∥∥₁_elim}
 use Rattle.byteorder.specs.Endian.{little_number}
-use Rattle.dw_forms.specs.Formats.{choose, nothing, failing, and_then, mapped, tested_is, apart}
+use Rattle.dw_forms.specs.Formats.{Format, tested_is, apart}
 use Rattle.dw_forms.specs.Front.{Takes}
-use Rattle.dw_forms.specs.Readers.{read_is, not_both, takes}
+use Rattle.dw_forms.specs.Readers.{read_is}
 use Rattle.dw_forms.specs.Steps.{◌>>=◌}
 use Rattle.dw_forms.specs.declared.rule.Rule.{Rule}
 use Rattle.dw_forms.specs.declared.rule.Rule.TheVariants.{Not32Bit, BadVersion, BadUnitType, BadAddressSize}
@@ -19,127 +19,68 @@ use Rattle.dw_entries.specs.declared.header.UnitHeader.{UnitHeader}
 use Rattle.dw_entries.specs.Choices.{size_unique}
 use Rattle.dw_entries.specs.Header.{unit_header_size, IsSize, field, address_size, abbrev_offset, version4, kind_fields}
 use Rattle.dw_entries.specs.Header.{version5, header_fields, unit_content, header_and_body, unit_at, header_at}
+use Rattle.dw_forms.specs.Spans.{Spans, spans_then, spans_mapped, spans_end, spans_nothing, spans_choose, spans_tested}
+use Rattle.dw_forms.specs.Spans.{spans_failing}
+use Rattle.dw_forms.specs.WithBytes.{bind_ok, squashed, read_takes}
 
-field_size : (size : ℕ) (text : List ℕ) (n : ℕ) → (field size).Spells text n → length text ≡ size
-field_size size text n s = ap length s.1.same ∙ s.1.wide
+-- nothing is known of the value
+abbrev Any : ℕ → Type 0
+Any n = Unit {0}
 
--- an address size that is spelled
-size_is : (text : List ℕ) (n : ℕ) → address_size.Spells text n → (length text ≡ 1) × IsSize n
+field_spans : (size : ℕ) → Spans (field size) 0 (λ n. size) Any
+field_spans size = record { of = λ text n s. (omega (arith, ap length s.1.same, s.1.wide), tt) }
+
+size_spans : Spans address_size 0 (λ n. 1) IsSize
 unfolding address_size
-size_is text n s =
-    let (spelled, good) = tested_is (λ size. eqb size 4 || eqb size 8) BadAddressSize (field 1) text n s in
-    (field_size 1 text n spelled, from (eqb n 4) refl good)
+size_spans = spans_tested BadAddressSize (field_spans 1) (λ n good. from n (eqb n 4) refl good)
   where
-    from : (b : Bool) → eqb n 4 ≡ b → (b || eqb n 8) ≡ true → IsSize n
-    from true four good = inl (eqb-true _ _ four)
-    from false four good = inr (eqb-true _ _ good)
+    from : (n : ℕ) (b : Bool) → eqb n 4 ≡ b → (b || eqb n 8) ≡ true → IsSize n
+    from n true four good = inl (eqb-true _ _ four)
+    from n false four good = inr (eqb-true _ _ good)
 
--- an offset that is spelled
-offset_is : (abbrev_size : ℕ) (text : List ℕ) (n : ℕ) → (abbrev_offset abbrev_size).Spells text n
-    → (length text ≡ 4) × (n < abbrev_size)
+offset_spans : (abbrev_size : ℕ) → Spans (abbrev_offset abbrev_size) 0 (λ n. 4) (λ n. n < abbrev_size)
 unfolding abbrev_offset
-offset_is abbrev_size text n s =
-    let (spelled, low) = tested_is (λ offset. ltb offset abbrev_size) BadAbbrevOffset (field 4) text n s in
-    (field_size 4 text n spelled, ltb-true _ _ low)
+offset_spans abbrev_size = spans_tested BadAbbrevOffset (field_spans 4) (λ n low. ltb-true _ _ low)
 
--- the fields that come after so many bytes of the header
-record AreFields (abbrev_size unit_length : ℕ) (text : List ℕ) (before : ℕ) (h : UnitHeader) : Type 0 where
+-- what is known of the fields of a header with this unit_length
+record AreFields (abbrev_size unit_length : ℕ) (h : UnitHeader) : Type 0 where
   pub length_is : h.unit_length ≡ unit_length
-  pub long : before + length text ≡ unit_header_size h.kind
   pub size : IsSize h.address_size
   pub table : h.abbrev_offset < abbrev_size
 
-version4_is : (abbrev_size unit_length : ℕ) (text : List ℕ) (h : UnitHeader)
-    → (version4 abbrev_size unit_length).Spells text h → AreFields abbrev_size unit_length text 6 h
-unfolding version4
-version4_is abbrev_size unit_length text h s =
-    let (offset_size, low) = offset_is abbrev_size s.first s.value s.is_first in
-    let (size_size, good) = size_is s.second s.is_second.0 s.is_second.1 in
-    subst (AreFields abbrev_size unit_length text 6) (sym s.is_second.2) (record {
-      length_is = refl;
-      long = omega (arith, ap length s.parts, length-append s.first s.second, offset_size, size_size);
-      size = good;
-      table = low;
-    })
-
 -- the fields of a type unit alone
-kind_is : (code : ℕ) (text : List ℕ) (kind : HeaderKind) → (kind_fields code).Spells text kind
-    → 12 + length text ≡ unit_header_size kind
+kind_spans : (code : ℕ) {Q : HeaderKind → Type 0} → ((kind : HeaderKind) → Q kind)
+    → Spans (kind_fields code) 12 unit_header_size Q
 unfolding kind_fields
-kind_is code text kind s = go (eqb code 1) (eqb code 3) s
-  where
-    go : (b c : Bool) → (choose b (nothing {E = Rule} CompileUnit) (choose c (nothing PartialUnit)
-        (and_then (field 8) (λ signature. mapped (TypeUnit signature) (field 4))))).Spells text kind
-        → 12 + length text ≡ unit_header_size kind
-    go true c s = ap (λ (t : List ℕ). 12 + length t) s.0 ∙ ap unit_header_size (sym s.1)
-    go false true s = ap (λ (t : List ℕ). 12 + length t) s.0 ∙ ap unit_header_size (sym s.1)
-    go false false s =
-        let type_unit : unit_header_size kind ≡ 24 = ap unit_header_size s.is_second.2 in
-        omega (
-          arith,
-          type_unit,
-          ap length s.parts,
-          length-append s.first s.second,
-          field_size 8 s.first s.value s.is_first,
-          field_size 4 s.second s.is_second.0 s.is_second.1,
-        )
+kind_spans code q =
+    spans_choose (eqb code 1) (spans_nothing refl (q CompileUnit)) (
+    spans_choose (eqb code 3) (spans_nothing refl (q PartialUnit)) (
+    spans_then (field_spans 8) (λ signature any. spans_mapped (spans_end (field_spans 4) (λ offset any.
+    (refl, q (TypeUnit signature offset)))))))
 
-version5_is : (abbrev_size unit_length : ℕ) (text : List ℕ) (h : UnitHeader)
-    → (version5 abbrev_size unit_length).Spells text h → AreFields abbrev_size unit_length text 6 h
-unfolding version5
-version5_is abbrev_size unit_length text h s =
-    let (typed, known) = tested_is (λ code. eqb code 1 || eqb code 2 || eqb code 3) BadUnitType (field 1)
-    s.first s.value s.is_first in
-    let sized = s.is_second in
-    let (size_size, good) = size_is sized.first sized.value sized.is_first in
-    let placed = sized.is_second in
-    let (offset_size, low) = offset_is abbrev_size placed.first placed.value placed.is_first in
-    let kind = placed.is_second in
-    subst (AreFields abbrev_size unit_length text 6) (sym kind.2) (record {
-      length_is = refl;
-      long =
-          omega (
-            arith,
-            ap length s.parts,
-            length-append s.first s.second,
-            field_size 1 s.first s.value typed,
-            ap length sized.parts,
-            length-append sized.first sized.second,
-            size_size,
-            ap length placed.parts,
-            length-append placed.first placed.second,
-            offset_size,
-            kind_is s.value placed.second kind.0 kind.1,
-          );
-      size = good;
-      table = low;
-    })
+module _ (abbrev_size unit_length : ℕ) where
+  -- so many bytes of a header come before these fields, and this is known of it after them
+  abbrev SpansFields : Format UnitHeader Rule → ℕ → Type 0
+  SpansFields f before = Spans f before (λ h. unit_header_size h.kind) (AreFields abbrev_size unit_length)
 
-fields_are : (abbrev_size unit_length : ℕ) (text : List ℕ) (h : UnitHeader)
-    → (header_fields abbrev_size unit_length).Spells text h → AreFields abbrev_size unit_length text 4 h
-unfolding header_fields
-fields_are abbrev_size unit_length text h s = go (eqb s.value 4) (eqb s.value 5) s.is_second
-  where
-    more : AreFields abbrev_size unit_length s.second 6 h → AreFields abbrev_size unit_length text 4 h
-    more f = record {
-      length_is = f.length_is;
-      long =
-          omega (
-            arith,
-            f.long,
-            ap length s.parts,
-            length-append s.first s.second,
-            field_size 2 s.first s.value s.is_first,
-          );
-      size = f.size;
-      table = f.table;
-    }
+  version4_spans : SpansFields (version4 abbrev_size unit_length) 6
+  unfolding version4
+  version4_spans =
+      spans_then (offset_spans abbrev_size) (λ offset low. spans_mapped (spans_end size_spans
+      (λ size good. (refl, record { length_is = refl; size = good; table = low }))))
 
-    go : (b c : Bool) → (choose b (version4 abbrev_size unit_length) (choose c (version5 abbrev_size unit_length)
-        (failing BadVersion))).Spells s.second h → AreFields abbrev_size unit_length text 4 h
-    go true c t = more (version4_is abbrev_size unit_length s.second h t)
-    go false true t = more (version5_is abbrev_size unit_length s.second h t)
-    go false false t = absurd t
+  version5_spans : SpansFields (version5 abbrev_size unit_length) 6
+  unfolding version5
+  version5_spans =
+      spans_then (spans_tested BadUnitType {Q = Any} (field_spans 1) (λ code known. tt)) (λ code any.
+      spans_then size_spans (λ size good. spans_then (offset_spans abbrev_size) (λ offset low.
+      spans_mapped (kind_spans code (λ kind. record { length_is = refl; size = good; table = low })))))
+
+  fields_span : SpansFields (header_fields abbrev_size unit_length) 4
+  unfolding header_fields
+  fields_span =
+      spans_then (field_spans 2) (λ version any. spans_choose (eqb version 4) version4_spans
+      (spans_choose (eqb version 5) version5_spans (spans_failing {wrong = BadVersion})))
 
 -- a unit whose header and body are spelled: its sizes, and its header's fields
 pub record IsSized (abbrev_size : ℕ) (text : List ℕ) (h : UnitHeader) (body : List ℕ) : Type 0 where
@@ -160,11 +101,11 @@ is_sized abbrev_size text h body s =
     let (nothing_more, inside) = s.is_second in
     let (number, low) = tested_is (λ len. ltb len 0xfffffff0) Not32Bit (field 4) counted.first counted.value
     counted.is_first in
-    let f = fields_are abbrev_size s.value.0 inside.text h inside.spelled in
+    let (long, f) = (fields_span abbrev_size s.value.0).of inside.text h inside.spelled in
     let len_is : counted.value ≡ s.value.0 = ap (λ (v : ℕ × List ℕ). v.0) (sym content.2) in
     let content_is : counted.second ≡ s.value.1 =
     content.1.same ∙ ap (λ (v : ℕ × List ℕ). v.1) (sym content.2) in
-    let four : length counted.first ≡ 4 = field_size 4 counted.first counted.value number in
+    let four : length counted.first ≡ 4 = ap length number.1.same ∙ number.1.wide in
     let parts : text ≡ counted.first ++ counted.second =
     s.parts ∙ ap (λ (t : List ℕ). s.first ++ t) nothing_more ∙ append-nil s.first ∙ counted.parts in
     let split : text ≡ (counted.first ++ inside.text) ++ body =
@@ -173,7 +114,7 @@ is_sized abbrev_size text h body s =
     let front : take 4 text ≡ counted.first =
     ap (take 4) parts ∙ take_at counted.first counted.second 4 four in
     let size : length (counted.first ++ inside.text) ≡ unit_header_size h.kind =
-    omega (arith, length-append counted.first inside.text, four, f.long) in
+    omega (arith, length-append counted.first inside.text, four, long) in
     let header : take (unit_header_size h.kind) text ≡ counted.first ++ inside.text =
     ap (take (unit_header_size h.kind)) split
     ∙ take_at (counted.first ++ inside.text) body (unit_header_size h.kind) size in
@@ -201,82 +142,57 @@ is_sized abbrev_size text h body s =
 
 -- ---- reading
 
--- a unit's header and body, and the bytes after them, or a fault
-abbrev Read : Type 0
-Read = Result ((UnitHeader × List ℕ) × List ℕ) Rule
-
--- unit_length and the bytes that it counts, without those after them
-abbrev content_read : (ℕ × List ℕ) × List ℕ → Result (ℕ × List ℕ) Rule
-content_read u = Ok u.0
-
--- what is read inside of these bytes, and the bytes after them
-abbrev read_inside : List ℕ → UnitHeader × List ℕ → Read
-read_inside rest x = Ok (x, rest)
-
--- a header and a body without the bytes after them
-abbrev unit_read : (UnitHeader × List ℕ) × List ℕ → Result (UnitHeader × List ℕ) Rule
-unit_read y = Ok y.0
-
--- what is read is the header and the body of the unit
-header_is : (abbrev_size : ℕ) (bytes : List ℕ)
-    → header_at abbrev_size bytes ≡ ((header_and_body abbrev_size).read bytes >>= unit_read)
-unfolding header_at unit_at header_and_body
-header_is abbrev_size bytes = by_unit (unit_content.read bytes)
-  where
-    by_header : (r : Result (UnitHeader × List ℕ) Rule) (rest : List ℕ) → r ≡ ((r >>= read_inside rest) >>= unit_read)
-    by_header (Ok x) rest = refl
-    by_header (Err e) rest = refl
-
-    by_unit : (r : Result ((ℕ × List ℕ) × List ℕ) Rule)
-        → ((r >>= content_read) >>= λ u. (header_fields abbrev_size u.0).read u.1)
-        ≡ ((r >>= λ u. (header_fields abbrev_size u.0.0).read u.0.1 >>= read_inside u.1) >>= unit_read)
-    by_unit (Ok u) = by_header ((header_fields abbrev_size u.0.0).read u.0.1) u.1
-    by_unit (Err e) = refl
-
--- a header that is read is spelled, and so is the body
-pub header_takes : (abbrev_size : ℕ) (bytes : List ℕ) (x : UnitHeader × List ℕ) → header_at abbrev_size bytes ≡ Ok x
-    → (after : List ℕ) × Takes (header_and_body abbrev_size).Spells bytes x after
-header_takes abbrev_size bytes x e = by_read ((header_and_body abbrev_size).read bytes) refl
-    (sym (header_is abbrev_size bytes) ∙ e)
-  where
-    by_read : (r : Read) → (header_and_body abbrev_size).read bytes ≡ r → (r >>= unit_read) ≡ Ok x
-        → (after : List ℕ) × Takes (header_and_body abbrev_size).Spells bytes x after
-    by_read (Ok y) was is =
-        let same : y.0 ≡ x = read_is is in (
-          y.1,
-          subst (λ (z : UnitHeader × List ℕ). Takes (header_and_body abbrev_size).Spells bytes z y.1) same
-              (takes (header_and_body abbrev_size).read (header_and_body abbrev_size).Spells
-              (header_and_body abbrev_size).Fails (header_and_body abbrev_size).is_reader bytes y.0 y.1 was),
-        )
-    by_read (Err e) was is = absurd (not_both is)
-
--- ---- what is known of it, since there is one at most
-
 module _ (abbrev_size : ℕ) where
-  -- the bytes spell this header and this body
-  abbrev AreSpelled : List ℕ → UnitHeader × List ℕ → Type 0
-  AreSpelled text x = ∥ (header_and_body abbrev_size).Spells text x ∥₁
+  -- what is read of a unit
+  abbrev Read : Type 0
+  Read = UnitHeader × List ℕ
 
-  pub sized : (text : List ℕ) (h : UnitHeader) (body : List ℕ) → AreSpelled text (h, body)
+  -- a unit without the bytes after it
+  abbrev unit_read : Read × List ℕ → Result Read Rule
+  unit_read y = Ok y.0
+
+  -- what is read is the header and the body of the unit
+  header_is : (bytes : List ℕ) → header_at abbrev_size bytes ≡ ((header_and_body abbrev_size).read bytes >>= unit_read)
+  unfolding header_at unit_at header_and_body
+  header_is bytes = by_unit (unit_content.read bytes)
+    where
+      by_header : (r : Result Read Rule) (rest : List ℕ) → r ≡ ((r >>= λ x. Ok (x, rest)) >>= unit_read)
+      by_header (Ok x) rest = refl
+      by_header (Err e) rest = refl
+
+      by_unit : (r : Result ((ℕ × List ℕ) × List ℕ) Rule)
+          → ((r >>= λ u. Ok u.0) >>= λ u. (header_fields abbrev_size u.0).read u.1)
+          ≡ ((r >>= λ u. (header_fields abbrev_size u.0.0).read u.0.1 >>= λ x. Ok (x, u.1)) >>= unit_read)
+      by_unit (Ok u) = by_header ((header_fields abbrev_size u.0.0).read u.0.1) u.1
+      by_unit (Err e) = refl
+
+  -- a header that is read is spelled, and so is the body
+  pub header_takes : (bytes : List ℕ) (x : Read) → header_at abbrev_size bytes ≡ Ok x
+      → (after : List ℕ) × Takes (header_and_body abbrev_size).Spells bytes x after
+  header_takes bytes x e =
+      let (y, was, is) = bind_ok ((header_and_body abbrev_size).read bytes) unit_read x (sym (header_is bytes) ∙ e) in
+      let same : y.0 ≡ x = read_is is in
+      (y.1, read_takes (header_and_body abbrev_size) bytes x y.1 (was ∙ ap (λ (z : Read). Ok (z, y.1)) same))
+
+  pub read_set : IsSet (Result (Read × List ℕ) Rule)
+  read_set = hlevel props
+
+  -- a unit's header and body, where nothing tells how they are spelled
+  abbrev unit_format : Format Read Rule
+  unit_format = squashed (header_and_body abbrev_size) read_set
+
+  pub sized : (text : List ℕ) (h : UnitHeader) (body : List ℕ) → unit_format.Spells text (h, body)
       → IsSized abbrev_size text h body
   sized text h body s = ∥∥₁_elim s (hlevel (props, size_unique)) (is_sized abbrev_size text h body)
 
-  read_set : IsSet (Result (UnitHeader × List ℕ) Rule)
-  read_set = hlevel props
-
   -- a header that is spelled is read, whatever follows its unit
-  pub header_again : (text rest : List ℕ) (x : UnitHeader × List ℕ) → AreSpelled text x
+  pub header_again : (text rest : List ℕ) (x : Read) → unit_format.Spells text x
       → header_at abbrev_size (text ++ rest) ≡ Ok x
   header_again text rest x s =
-      ∥∥₁_elim s (read_set _ _) (λ t. header_is abbrev_size (text ++ rest)
-      ∙ ap (λ (r : Read). r >>= unit_read) ((header_and_body abbrev_size).is_reader.again text rest x t))
-
-  same_prop : (a b : List ℕ) (x y : UnitHeader × List ℕ) → IsProp ((a ≡ b) × (x ≡ y))
-  same_prop a b x y = hlevel props
+      header_is (text ++ rest)
+      ∙ ap (λ (r : Result (Read × List ℕ) Rule). r >>= unit_read) (unit_format.is_reader.again text rest x s)
 
   -- no unit's bytes begin another's
-  pub headers_apart : (a b x y : List ℕ) (v w : UnitHeader × List ℕ) → AreSpelled a v → AreSpelled b w
+  pub headers_apart : (a b x y : List ℕ) (v w : Read) → unit_format.Spells a v → unit_format.Spells b w
       → a ++ x ≡ b ++ y → (a ≡ b) × (v ≡ w)
-  headers_apart a b x y v w s t e =
-      ∥∥₁_elim s (same_prop a b v w) (λ p. ∥∥₁_elim t (same_prop a b v w)
-      (λ q. apart (header_and_body abbrev_size) a b x y v w p q e))
+  headers_apart = apart unit_format

@@ -10,9 +10,13 @@ pub data Item : Type 0 where
   entry : Head → Item
   null : List ℕ → Item
 
--- the number of an entry's declaration, by its code, and the declaration; none at a null
+-- the number of an entry's declaration, by its code, and the declaration
+abbrev pub entry_decl : (ℕ → ℕ) → Head → ℕ × Declaration
+entry_decl numbers h = (numbers h.decl.code, h.decl)
+
+-- the same of an item, and none at a null
 abbrev pub numbered_decl : (ℕ → ℕ) → Item → Option (ℕ × Declaration)
-numbered_decl numbers (entry h) = Some (numbers h.decl.code, h.decl)
+numbered_decl numbers (entry h) = Some (entry_decl numbers h)
 numbered_decl numbers (null z) = None
 
 -- the bytes of an item

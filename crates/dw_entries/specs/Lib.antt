@@ -7,7 +7,7 @@ pub mod Entries
 pub mod ByNumber
 pub mod EntriesAt
 pub mod Items
-pub mod Reading
+pub mod ItemFormats
 pub mod Faults
 pub mod SectionTexts
 pub mod Places
@@ -15,10 +15,11 @@ pub mod Failures
 pub mod EntryRules
 pub mod Lookups
 pub mod ValuePlaces
+pub mod Led
 -- Laws.
 pub mod Choices
 pub mod Joined
-pub mod ReadingLaws
+pub mod ItemLaws
 pub mod HeaderLaws
 pub mod TreeLaws
 pub mod UnitLaws
@@ -38,5 +39,4 @@ pub mod PassedAttributes
 pub mod Values
 pub mod ValuesLeft
 pub mod OwnBytes
-pub mod Placed
 pub mod Leading

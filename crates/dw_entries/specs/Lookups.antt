@@ -1,6 +1,6 @@
 -- Chapter: what the look-ups of entries and of units return.
 use Rattle.std.specs.Prelude.{◌≡◌, ℕ, List, length, ◌==◌, nat_lt, if◌then◌else◌, Bool, Option, Some, None, find}
-use Rattle.std.specs.Prelude.{option_map, ◌<◌, ◌∷◌, ◌++◌, drop, map, All, Contains}
+use Rattle.std.specs.Prelude.{option_map, map, All, Contains}
 use Rattle.std.specs.List.{list_any}
 use Rattle.dw_forms.specs.declared.abbrev.AttributeSpec.{AttributeSpec}
 use Rattle.dw_forms.specs.declared.decl.Decls.{Decls}
@@ -70,9 +70,3 @@ value_in values attribute = option_map (λ (a : ℕ × Datum). a.1) (find (λ (a
 -- the value of an entry's attribute, if it has that attribute
 abbrev pub value_at_entry : Entry → ℕ → Option Datum
 value_at_entry e attribute = value_in (values_of e.head) attribute
-
--- a text is in some bytes at an offset: none of its bytes is 0, and a 0 follows them
-pub record IsTextAt (bytes : List ℕ) (offset : ℕ) (text : List ℕ) : Type 0 where
-  pub rest : List ℕ
-  pub parts : drop offset bytes ≡ text ++ 0 ∷ rest
-  pub none_before : All (λ byte. 0 < byte) text

@@ -1,8 +1,8 @@
 -- State: what holds of a result, unless memory ran out.
 use Rattle.dw_forms.specs.declared.fault.AbbrevFault.{AbbrevFault}
 use Rattle.dw_forms.specs.Abbrev.{Declaration}
-use Rattle.dw_entries.specs.Faults.{in_table}
-use Rattle.std.specs.Prelude.{◌≡◌, ◌≢◌, ℕ, true, false, List, ◌+◌, ◌++◌, ◌∷◌, length, None, [], Result, Ok, Err}
+use Rattle.dw_entries.specs.Faults.{BeginsNoNull, in_table}
+use Rattle.std.specs.Prelude.{◌≡◌, ◌≢◌, ℕ, true, List, ◌+◌, ◌++◌, ◌∷◌, length, None, [], Result, Ok, Err}
 use Rattle.dw_entries.specs.declared.records.Record.{Record}
 use Rattle.dw_entries.specs.declared.records.UnitRecord.{UnitRecord}
 use Rattle.dw_entries.specs.declared.records.Kept.{Kept}
@@ -17,7 +17,6 @@ use Rattle.dw_entries.specs.declared.fault.PlainFault.{PlainFault}
 use Rattle.dw_entries.specs.declared.header.HeaderKind.{HeaderKind}
 use Rattle.dw_entries.specs.Grammar.{Context}
 use Rattle.dw_entries.specs.Header.{fits_tag, unit_header_size}
-use Rattle.dw_entries.specs.Reading.{code_at, null_first}
 use Rattle.dw_entries.specs.Tree.{Node, IsNode, node_bytes}
 use Rattle.dw_entries.specs.Units.{DebugUnit, IsUnit, unit_bytes, AreNulls, nulls_bytes, head_of}
 use Rattle.dw_entries.specs.Records.{node_records}
@@ -47,7 +46,7 @@ pub record NullsThen (bytes left : List ℕ) : Type 0 where
   pub are : AreNulls nulls
   pub parts : bytes ≡ nulls_bytes nulls ++ left
   pub more : left ≢ []
-  pub other : null_first (code_at left) ≡ false
+  pub other : BeginsNoNull left
 
 -- this holds of the fault, which has no cycle, unless memory ran out
 abbrev pub IfPlainFault : (PlainFault → Type 0) → Stop Fault → Type 0

@@ -1,9 +1,8 @@
 -- Laws: one list of units at most spells .debug_info, and the base of units changes nothing else of them.
-use Rattle.std.proofs.Common.{◌≡◌, ◌<◌, ℕ, List, [], ◌∷◌, ◌++◌, length, drop, ◌⊎◌, inl, inr, Result, Ok, refl, sym, ap}
-use Rattle.std.proofs.Common.{subst, ◌∙◌, append-nil, arith, length-append, drop_at, map}
-use Rattle.std.specs.List.{flat_map, AllByRecursion}
+use Rattle.std.proofs.Common.{◌≡◌, ◌<◌, ℕ, List, [], ◌∷◌, ◌++◌, length, drop, ◌⊎◌, Result, Ok, refl, sym, ap}
+use Rattle.std.proofs.Common.{subst, ◌∙◌, arith, length-append, drop_at, map}
+use Rattle.std.specs.List.{AllByRecursion}
 use Rattle.std.proofs.lemmas.List.{append_cancel_right}
-use Rattle.std.proofs.lemmas.List.Concat.{flat_map-append}
 use Rattle.dw_forms.specs.declared.fault.AbbrevFault.{AbbrevFault}
 use Rattle.dw_forms.specs.Abbrev.{Declaration}
 use Rattle.dw_forms.specs.AbbrevReading.{table_at}
@@ -11,12 +10,14 @@ use Rattle.dw_entries.specs.declared.header.UnitHeader.{UnitHeader}
 use Rattle.dw_entries.specs.Grammar.{Context, IsNull}
 use Rattle.dw_entries.specs.Header.{unit_header_size, header_at}
 use Rattle.dw_entries.specs.Tree.{Node, IsNode}
-use Rattle.dw_entries.specs.Items.{null}
 use Rattle.dw_entries.specs.Units.{DebugUnit, context_by, context_of, nulls_bytes, AreNulls, body_bytes, unit_bytes}
 use Rattle.dw_entries.specs.Units.{IsUnit, AreUnits, units_bytes, Spells, HaveBase}
-use Rattle.dw_entries.specs.Joined.{GoesOn, IsUnique, begins}
+use Rattle.dw_entries.specs.Joined.{GoesOn, IsUnique, begins, one_row}
 use Rattle.dw_entries.specs.HeaderLaws.{IsSized, sized, header_again, headers_apart}
-use Rattle.dw_entries.specs.ReadingLaws.{code_has_byte, item_unique}
+use Rattle.dw_entries.specs.ItemLaws.{code_has_byte}
+use Rattle.dw_forms.specs.WithBytes.{one_value}
+use Rattle.dw_forms.specs.BaseFormats.{uleb}
+use Rattle.dw_forms.specs.Formats.{apart}
 use Rattle.dw_entries.specs.TreeLaws.{node_unique}
 
 -- the unit with these parts
@@ -38,38 +39,13 @@ with_base base u = made base u.header u.header_bytes u.table u.root u.nulls
 abbrev pub IsBased : ℕ → List ℕ → DebugUnit → Type 0
 IsBased base a u = IsUnit a u × (u.base ≡ base)
 
-null_unique : (t : Context) → IsUnique (λ z. z) IsNull
-null_unique t z w x y p q e =
-    let u = item_unique t (null z) (null w) x y p q e in
-    let same : null z ≡ null w = u.0 in
-    (cc, u.1)
-
-no_nulls : (zs : List (List ℕ)) → AreNulls zs → length (nulls_bytes zs) ≡ 0 → zs ≡ []
-no_nulls [] p e = refl
-no_nulls (z ∷ zs) p e = absurd (omega (arith, e, code_has_byte z 0 p.0, length-append z (nulls_bytes zs)))
-
-more_nulls : (zs ws : List (List ℕ)) (x y : List ℕ) → length (nulls_bytes zs) ≡ length (nulls_bytes ws)
-    → GoesOn (λ z. z) IsNull zs ws x y → zs ≡ ws
-more_nulls zs ws x y len g =
-    let none : g.more ≡ [] =
-    no_nulls g.more g.are (omega (
-      arith,
-      len,
-      ap (λ (vs : List (List ℕ)). length (nulls_bytes vs)) g.items,
-      ap length (flat_map-append (λ (z : List ℕ). z) zs g.more),
-      length-append (nulls_bytes zs) (nulls_bytes g.more),
-    ))
-    in
-    sym (g.items ∙ ap (λ (vs : List (List ℕ)). zs ++ vs) none ∙ append-nil zs)
+null_unique : IsUnique (λ z. z) IsNull
+null_unique z w x y p q e = ((apart uleb z w x y 0 0 p q e).0, (one_value uleb z w x y 0 0 p q e).1)
 
 -- the same bytes of nulls are the same nulls
-nulls_unique : (t : Context) (zs ws : List (List ℕ)) → AreNulls zs → AreNulls ws → nulls_bytes zs ≡ nulls_bytes ws
+nulls_unique : (zs ws : List (List ℕ)) → AreNulls zs → AreNulls ws → nulls_bytes zs ≡ nulls_bytes ws
     → zs ≡ ws
-nulls_unique t zs ws p q e =
-    elim (begins (λ z. z) IsNull (null_unique t) zs ws [] [] p q (ap (λ (b : List ℕ). b ++ []) e)) [
-      | inl on ↦ more_nulls zs ws [] [] (ap length e) on
-      | inr on ↦ sym (more_nulls ws zs [] [] (sym (ap length e)) on)
-    ]
+nulls_unique = one_row (λ z. z) IsNull null_unique (λ z null. code_has_byte z 0 null)
 
 table_is : (r : Result (List Declaration) AbbrevFault) (x y : List Declaration) → r ≡ Ok x → r ≡ Ok y → x ≡ y
 table_is r x y p q = let same : ◌≡◌ {A = Result (List Declaration) AbbrevFault} (Ok x) (Ok y) = sym p ∙ q in cc
@@ -110,7 +86,7 @@ unit_unique base a u v x y (p, from) (q, same_from) e =
     let roots = node_unique (context_of u) u.root v.root (nulls_bytes u.nulls) (nulls_bytes v.nulls) p.root
     (subst (λ (t : Context). IsNode t v.root) context q.root) bodies in
     let root : u.root ≡ v.root = roots.0 in
-    let nulls : u.nulls ≡ v.nulls = nulls_unique (context_of u) u.nulls v.nulls p.nulls q.nulls roots.1 in
+    let nulls : u.nulls ≡ v.nulls = nulls_unique u.nulls v.nulls p.nulls q.nulls roots.1 in
     let whole : made u.base u.header u.header_bytes u.table u.root u.nulls
     ≡ made v.base v.header v.header_bytes v.table v.root v.nulls = cc in
     let same : unit_bytes v ≡ unit_bytes u = ap unit_bytes (sym whole) in (
@@ -158,32 +134,9 @@ units_begin base a us vs x y p q e =
     (both base a (map (with_base base) vs) (are_based base a vs q) (have_base base vs))
     (ap (λ (b : List ℕ). b ++ x) (bytes_based base us) ∙ e ∙ ap (λ (b : List ℕ). b ++ y) (sym (bytes_based base vs)))
 
-no_more : (base : ℕ) (a : List ℕ) (us vs : List DebugUnit) → GoesOn unit_bytes (IsBased base a) us vs [] [] → us ≡ vs
-no_more base a us vs g = go g.more g.are g.items g.rest
-  where
-    go : (more : List DebugUnit) → AllByRecursion (IsBased base a) more → vs ≡ us ++ more
-        → [] ≡ flat_map unit_bytes more ++ [] → us ≡ vs
-    go [] are e r = sym (e ∙ append-nil us)
-    go (u ∷ more) are e r = absurd (omega (
-      arith,
-      unit_some a u are.0.0,
-      ap length r,
-      length-append (flat_map unit_bytes (u ∷ more)) [],
-      length-append (unit_bytes u) (flat_map unit_bytes more),
-    ))
-
-same_based : (base : ℕ) (us : List DebugUnit) → HaveBase base us → map (with_base base) us ≡ us
-same_based base [] based = refl
-same_based base (u ∷ us) (is, based) =
-    λ i. made (sym is i) u.header u.header_bytes u.table u.root u.nulls ∷ same_based base us based i
-
 -- two lists of units that spell the same bytes and have one base are one
 pub one_list : (base : ℕ) (a : List ℕ) (bytes : List ℕ) (us vs : List DebugUnit) → Spells a us bytes
     → Spells a vs bytes → HaveBase base us → HaveBase base vs → us ≡ vs
 one_list base a bytes us vs p q from same =
-    let e : units_bytes us ++ [] ≡ units_bytes vs ++ [] = ap (λ (b : List ℕ). b ++ []) (sym p.parts ∙ q.parts) in
-    let one : map (with_base base) us ≡ map (with_base base) vs = elim (units_begin base a us vs [] [] p.are q.are e) [
-      | inl g ↦ no_more base a _ _ g
-      | inr g ↦ sym (no_more base a _ _ g)
-    ] in
-    sym (same_based base us from) ∙ one ∙ same_based base vs same
+    one_row unit_bytes (IsBased base a) (unit_unique base a) (λ u is. unit_some a u is.0) us vs
+    (both base a us p.are from) (both base a vs q.are same) (sym p.parts ∙ q.parts)

@@ -1,8 +1,9 @@
 -- Chapter: where the values of an entry are in `sections.info`: their bytes follow its code, in the order of its
 -- attributes (DWARF 5, 2.2 and 7.5.2).
-use Rattle.std.specs.Prelude.{◌≡◌, ℕ, suc, ◌+◌, ◌==◌, List, [], ◌∷◌, length, Option, Some, find, option_map}
+use Rattle.std.specs.Prelude.{◌≡◌, ℕ, ◌+◌, ◌==◌, List, [], ◌∷◌, ◌++◌, length, Option, find, option_map}
+use Rattle.std.specs.List.{flat_map}
 use Rattle.dw_forms.specs.Value.{Datum}
-use Rattle.dw_entries.specs.Grammar.{Attribute}
+use Rattle.dw_entries.specs.Grammar.{Attribute, attribute_bytes}
 use Rattle.dw_entries.specs.Entries.{Entry}
 
 -- an attribute of an entry, its value, and the offset of the byte after those that spell the value
@@ -11,12 +12,15 @@ pub record PlacedValue : Type 0 where
   pub value : Datum
   pub end : ℕ
 
+-- an attribute with its value, which ends at this offset
+abbrev pub placed_value : ℕ → Datum → ℕ → PlacedValue
+placed_value attribute value end = record { attribute = attribute; value = value; end = end }
+
 -- these attributes, whose bytes start at an offset
 abbrev pub placed_values_from : ℕ → List Attribute → List PlacedValue
 placed_values_from at [] = []
 placed_values_from at (a ∷ more) =
-    record { attribute = a.code; value = a.value; end = at + length a.bytes }
-    ∷ placed_values_from (at + length a.bytes) more
+    placed_value a.code a.value (at + length a.bytes) ∷ placed_values_from (at + length a.bytes) more
 
 -- the attributes of an entry
 abbrev pub placed_values : Entry → List PlacedValue
@@ -34,6 +38,10 @@ placed_value_at e attribute = placed_value_in (placed_values e) attribute
 abbrev pub end_of : Entry → ℕ → Option ℕ
 end_of e attribute = option_map (λ (p : PlacedValue). p.end) (placed_value_at e attribute)
 
--- they end with a text that starts at an offset, and its zero byte
-abbrev pub EndsWithText : Entry → (attribute : ℕ) → (text : List ℕ) → (start : ℕ) → Type 0
-EndsWithText e attribute text start = end_of e attribute ≡ Some (start + suc (length text))
+-- a section ends with these bytes, which follow the code of an entry and begin with those of its values
+pub record FollowCode (section : List ℕ) (e : Entry) (bytes : List ℕ) : Type 0 where
+  pub before : List ℕ
+  pub rest : List ℕ
+  pub parts : section ≡ before ++ bytes
+  pub start : length before ≡ e.at + length e.head.code
+  pub spelled : bytes ≡ flat_map attribute_bytes e.head.attributes ++ rest

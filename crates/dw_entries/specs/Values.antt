@@ -1,11 +1,8 @@
 -- State: the attributes of an entry that are still to be read.
-use Rattle.std.specs.Prelude.{◌≡◌, ℕ, List, [], ◌++◌, Option, Some, Err, option_map, slice_get}
+use Rattle.std.specs.Prelude.{◌≡◌, ℕ, List, [], ◌++◌, Err}
 use Rattle.std.specs.List.{flat_map}
-use Rattle.dw_forms.specs.declared.attributes.Attributes.{Attributes}
 use Rattle.dw_forms.specs.declared.abbrev.AttributeSpec.{AttributeSpec}
 use Rattle.dw_forms.specs.declared.form.Form.{Form}
-use Rattle.dw_forms.specs.AttributeLists.{list_in}
-use Rattle.dw_forms.specs.Suffixes.{nodes_of}
 use Rattle.dw_forms.specs.declared.value.ValueFault.TheVariants.{Cut}
 use Rattle.dw_forms.specs.ValueReading.{value_at}
 use Rattle.dw_entries.specs.Grammar.{Context, Attribute, attribute_bytes, AreAttributes}
@@ -24,14 +21,6 @@ pub record Begin (x : Context) (specs : List AttributeSpec) (bytes : List ℕ) (
 abbrev pub Left : Context → List AttributeSpec → List ℕ → Type 0
 Left x specs bytes = (found : List Attribute × List ℕ) × Begin x specs bytes found
 
--- the form of the attribute of this number, among those that are kept
-abbrev pub form_there : Attributes → ℕ → Option Form
-form_there a number = option_map (λ (spec : AttributeSpec). spec.form) (slice_get (list_in (nodes_of a) number) 0)
-
 -- the bytes end inside a value of the form, in each version and for each size of addresses
 abbrev pub IsCutValue : Form → List ℕ → Type 0
 IsCutValue form bytes = (version size : ℕ) → value_at version form size bytes ≡ Err Cut
-
--- there is an attribute of this number
-abbrev pub IsThere : Attributes → ℕ → Type 0
-IsThere a number = (form : Form) × (form_there a number ≡ Some form)

@@ -1,5 +1,5 @@
 -- State: what an iterator over the attributes of an entry has left.
-use Rattle.std.specs.Prelude.{◌≡◌, ℕ, List, ◌∷◌, ◌++◌, map}
+use Rattle.std.specs.Prelude.{◌≡◌, ℕ, ◌-◌, List, ◌∷◌, ◌++◌, length, map}
 use Rattle.dw_forms.specs.declared.value.Value.{Value}
 use Rattle.dw_forms.specs.declared.abbrev.AttributeSpec.{AttributeSpec}
 use Rattle.dw_forms.specs.Suffixes.{specs_in}
@@ -7,6 +7,7 @@ use Rattle.dw_forms.specs.Value.{Datum, view}
 use Rattle.dw_entries.specs.declared.values.Values.{Values}
 use Rattle.dw_entries.specs.EntryRules.{value_of}
 use Rattle.dw_entries.specs.Grammar.{Attribute}
+use Rattle.dw_entries.specs.ValuePlaces.{PlacedValue, placed_values_from}
 
 -- an attribute and its value, without where the value's bytes lie in memory
 abbrev pub viewed : ℕ × Value → ℕ × Datum
@@ -15,6 +16,14 @@ viewed item = (item.0, view item.1)
 -- the attributes that are left, each with its value
 abbrev pub values_left : Values → List (ℕ × Datum)
 values_left it = map value_of it.left.0.0
+
+-- the section that the values are in
+abbrev pub info_of : Values → List ℕ
+info_of it = it.info.now
+
+-- the attributes that are left, each with its value and its place
+abbrev pub placed_left : Values → List PlacedValue
+placed_left it = placed_values_from (length it.info.now - length it.bytes.now) it.left.0.0
 
 -- how the attributes that are left are declared
 abbrev pub specs_left : Values → List AttributeSpec

@@ -1,25 +1,21 @@
 //! One entry, whose declaration and unit are looked up once.
 
-ghost use Rattle.std.specs.List.{flat_map};
-ghost use Rattle.std.specs.Prelude.{List, Some, length, option_map, slice_get, ℕ, ◌+◌, ◌++◌, ◌<◌, ◌≡◌};
+ghost use Rattle.std.specs.Prelude.{Some, length, option_map, slice_get, ◌<◌, ◌≡◌};
 ghost use Rattle.dw_forms.specs.Codes.{is_type_tag};
 ghost use Rattle.dw_forms.specs.KeptDecls.{decl_view};
 ghost use Rattle.dw_forms.specs.Suffixes.{numbered, specs_in};
-ghost use Rattle.dw_forms.specs.Value.{text, view};
+ghost use Rattle.dw_forms.specs.Value.{view};
 ghost use Rattle.dw_entries.specs.EntryRules.{values_of};
 ghost use Rattle.dw_entries.specs.ByNumber.{entry_of, unit_of};
 ghost use Rattle.dw_entries.specs.Entries.{Entry};
-ghost use Rattle.dw_entries.specs.Grammar.{attribute_bytes, head_bytes};
 ghost use Rattle.dw_entries.specs.Leading.{leading_left};
-ghost use Rattle.dw_entries.specs.Lookups.{IsTextAt, entry_head, full_head, value_at_entry};
-ghost use Rattle.dw_entries.specs.ValuePlaces.{EndsWithText};
+ghost use Rattle.dw_entries.specs.Lookups.{entry_head, full_head, value_at_entry};
 ghost use Rattle.dw_entries.specs.ValuesLeft.{values_left};
-ghost use Rattle.dw_entries.specs.Views.{all_entries, sections_of, units_of};
+ghost use Rattle.dw_entries.specs.Views.{all_entries, units_of};
 
 use crate::entries::Entries;
 use crate::header::UnitHeader;
 use crate::id::{EntryId, id_of};
-use crate::item::read_code;
 use crate::leads::Leading;
 use crate::records::Record;
 use crate::units::unit_number;
@@ -141,18 +137,6 @@ impl<'a> Entries<'a> {
         }
         self.at(id).find_value(attribute)
     }
-
-    /// Where the text of an entry's attribute starts in `sections.info`. The text is in the value itself, and its zero
-    /// byte is the last one of the value.
-    pub fn text_start(&self, id: EntryId, attribute: Attribute, bytes: &[u8]) -> usize
-        requires id { id < length (all_entries self.now) }
-        requires value { value_at_entry (entry_of (all_entries self.now) id) attribute ≡ Some (text bytes.now) }
-        ensures text { IsTextAt (sections_of self.now).info.now result bytes.now }
-        ensures place { EndsWithText (entry_of (all_entries self.now) id) attribute bytes.now result }
-    {
-        let entry = self.at(id);
-        entry.offset() as usize + entry.text_start(attribute, bytes)
-    }
 }
 
 impl<'e, 'a> EntryAt<'e, 'a> {
@@ -215,18 +199,6 @@ impl<'e, 'a> EntryAt<'e, 'a> {
         }
     }
 
-    /// The bytes of its values, and those after them.
-    #[inline(always)]
-    fn value_bytes(&self) -> &'a [u8]
-        ensures { (rest : List ℕ) × (result.now ≡ flat_map attribute_bytes self.now.head.attributes ++ rest) }
-    {
-        let entries = self.entries;
-        match read_code(&entries.sections.info[self.kept.at as usize..]) {
-            Ok((_, values)) => values,
-            Err(_) => unreachable!(),
-        }
-    }
-
     /// These attributes, which are all that its declaration has.
     #[inline(always)]
     fn values_in(&self, attributes: Attributes<'e>) -> Values<'e, 'a>
@@ -234,12 +206,8 @@ impl<'e, 'a> EntryAt<'e, 'a> {
         ensures left { values_left result ≡ values_of self.now.head }
         ensures attributes { numbered result.attributes ≡ numbered attributes.entry }
     {
-        Values {
-            attributes,
-            bytes: self.value_bytes(),
-            version: self.header.kind.version(),
-            address_size: self.header.address_size,
-        }
+        let entries = self.entries;
+        entries.values_with(self.id, self.kept, self.header, attributes)
     }
 
     /// Its attributes in their order, each value decoded on demand.
@@ -278,34 +246,10 @@ impl<'e, 'a> EntryAt<'e, 'a> {
     {
         let version = self.header.kind.version();
         let size = self.header.address_size;
-        match self
-            .decl
-            .value(version, size, attribute, self.value_bytes())
-        {
-            Ok(value) => value,
-            Err(_) => unreachable!(),
-        }
-    }
-
-    /// Where the text that is the value of its attribute starts, from the first byte of the entry. The text is in the
-    /// value itself.
-    pub(crate) fn text_start(&self, attribute: Attribute, bytes: &[u8]) -> usize
-        requires { value_at_entry self.now attribute ≡ Some (text bytes.now) }
-        ensures text { IsTextAt (head_bytes self.now.head) result bytes.now }
-        ensures place { EndsWithText self.now attribute bytes.now (self.now.at + result) }
-    {
         let entries = self.entries;
-        let entry = &entries.sections.info[self.kept.at as usize..];
-        let Ok((_, values)) = read_code(entry) else {
-            unreachable!();
-        };
-        let attributes = self.decl.attributes();
-        let Some((_, rest)) = attributes.find(attribute).split_first() else {
-            unreachable!();
-        };
-        let version = self.header.kind.version();
-        match attributes.pass(version, self.header.address_size, rest, values) {
-            Ok(after) => entry.len() - (after.len() + 1 + bytes.len()),
+        let bytes = entries.value_bytes(self.id, self.kept);
+        match self.decl.value(version, size, attribute, bytes) {
+            Ok(value) => value,
             Err(_) => unreachable!(),
         }
     }

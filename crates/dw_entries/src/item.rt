@@ -4,11 +4,14 @@ ghost use Rattle.std.specs.Prelude.{IfErr, IfOk, None, Some, option_map, ◌≡�
 ghost use Rattle.dw_forms.specs.KeptDecls.{decl_view};
 ghost use Rattle.dw_forms.specs.Suffixes.{specs_in};
 ghost use Rattle.dw_forms.specs.ValueReading.{Gives};
+ghost use Rattle.dw_forms.specs.Formats.{mapped};
 ghost use Rattle.dw_entries.specs.Grammar.{declared_in};
-ghost use Rattle.dw_entries.specs.Items.{numbered_decl};
+ghost use Rattle.dw_entries.specs.ItemFormats.{attribute as attribute_format, attributes as attributes_format};
+ghost use Rattle.dw_entries.specs.ItemFormats.{bytes_after, code as code_format, first_head, fitting_head};
+ghost use Rattle.dw_entries.specs.ItemFormats.{item as item_format};
+ghost use Rattle.dw_entries.specs.ItemFormats.{value_rule as rule_of_value};
+ghost use Rattle.dw_entries.specs.Items.{entry_decl, numbered_decl};
 ghost use Rattle.dw_entries.specs.NamedDecls.{declared_view};
-ghost use Rattle.dw_entries.specs.Reading.{bytes_after, attribute_at, attributes_at, code_at, first_at, item_at, seen};
-ghost use Rattle.dw_entries.specs.Reading.{value_rule as rule_of_value};
 ghost use Rattle.dw_entries.specs.Units.{context_in, numbers_in};
 ghost use Rattle.dw_forms.specs.declared.rule.Rule.TheVariants.{UndeclaredCode};
 
@@ -21,7 +24,7 @@ use dw_forms::{
 };
 
 impl From<NumberFault> for Failing {
-    ghost use Rattle.dw_entries.specs.Reading.{number_rule};
+    ghost use Rattle.dw_entries.specs.ItemFormats.{number_rule};
 
     ghost from_gives = { λ f e. e ≡ record { rule = number_rule f; attribute = 0 } };
 
@@ -47,9 +50,9 @@ fn value_rule(fault: ValueFault) -> Rule
 
 /// The code at the front, and the bytes after it.
 #[inline(always)]
-#[tactic(auto, unfolding(crate::specs::Reading::code_at))]
+#[tactic(auto, unfolding(crate::specs::ItemFormats::code))]
 pub fn read_code(bytes: &[u8]) -> Result<(u64, &[u8]), Failing>
-    ensures { Gives (λ x. (x.0, x.1.now)) result (seen (λ c. c.number) (code_at bytes.now)) }
+    ensures { Gives (λ x. (x.0, x.1.now)) result (code_format.read bytes.now) }
 {
     let (number, len) = read_uleb(bytes)?;
     Ok((number, &bytes[len..]))
@@ -63,13 +66,14 @@ fn code_of(attribute: Attribute) -> u16
 }
 
 /// The bytes after the value of an attribute.
-#[tactic(auto, unfolding(crate::specs::Reading::attribute_at))]
+#[tactic(auto, unfolding(crate::specs::ItemFormats::attribute))]
 fn skip_attribute<'b>(
     context: UnitContext<'_>,
     spec: AttributeSpec,
     bytes: &'b [u8],
 ) -> Result<&'b [u8], Failing>
-    ensures { Gives (λ rest. rest.now) result (bytes_after (attribute_at (context_in context.entry) spec bytes.now)) }
+    ensures { Gives (λ rest. rest.now) result
+        (bytes_after ((attribute_format (context_in context.entry) spec).read bytes.now)) }
 {
     if !spec.form.allowed(context.version) {
         return Err(Failing {
@@ -93,7 +97,7 @@ fn skip_each<'b>(
     bytes: &'b [u8],
 ) -> Result<&'b [u8], Failing>
     ensures { Gives (λ rest. rest.now) result
-        (bytes_after (attributes_at (context_in context.entry) (specs_in attributes.entry) bytes.now)) }
+        (bytes_after ((attributes_format (context_in context.entry) (specs_in attributes.entry)).read bytes.now)) }
 {
     let mut rest = bytes;
     let mut left = attributes;
@@ -113,7 +117,8 @@ fn skip_attributes<'b>(
     bytes: &'b [u8],
 ) -> Result<&'b [u8], Failing>
     ensures { Gives (λ rest. rest.now) result
-        (bytes_after (attributes_at (context_in context.entry) (decl_view decl.entry).attributes bytes.now)) }
+        (bytes_after
+        ((attributes_format (context_in context.entry) (decl_view decl.entry).attributes).read bytes.now)) }
 {
     let version = context.version;
     if decl.allows(version) {
@@ -144,13 +149,13 @@ fn find_decl(context: UnitContext<'_>, code: u64) -> Result<(u32, DeclAt<'_>), F
 
 /// The number and the declaration of the entry at the front, or none at a null, and the bytes after it.
 #[inline(always)]
-#[tactic(auto, unfolding(crate::specs::Reading::item_at, crate::specs::Reading::entry_by))]
+#[tactic(auto, unfolding(crate::specs::ItemFormats::item, crate::specs::ItemFormats::head_by))]
 pub fn read_item<'a, 'b>(
     context: UnitContext<'a>,
     bytes: &'b [u8],
 ) -> Result<(Option<(u32, DeclAt<'a>)>, &'b [u8]), Failing>
     ensures { Gives (λ x. (option_map declared_view x.0, x.1.now)) result
-        (seen (numbered_decl (numbers_in context.entry)) (item_at (context_in context.entry) bytes.now)) }
+        ((mapped (numbered_decl (numbers_in context.entry)) (item_format (context_in context.entry))).read bytes.now) }
 {
     let (code, rest) = read_code(bytes)?;
     if code == 0 {
@@ -161,26 +166,23 @@ pub fn read_item<'a, 'b>(
     Ok((Some((number, decl)), rest))
 }
 
-/// The number and the declaration of a unit's first entry, and the bytes after it.
-#[tactic(auto, unfolding(crate::specs::Reading::first_at, crate::specs::Reading::entry_by))]
-pub fn read_first<'a, 'b>(
+/// The number and the declaration of an entry that a unit of this kind may begin with, and the bytes after it.
+#[tactic(auto, unfolding(crate::specs::ItemFormats::fitting_head, crate::specs::ItemFormats::head_by))]
+fn read_fitting<'a, 'b>(
     context: UnitContext<'a>,
     kind: HeaderKind,
     bytes: &'b [u8],
 ) -> Result<((u32, DeclAt<'a>), &'b [u8]), Failing>
-    ensures { Gives (λ x. (Some (declared_view x.0), x.1.now)) result
-        (seen (numbered_decl (numbers_in context.entry)) (first_at (context_in context.entry) kind bytes.now)) }
+    ensures { Gives (λ x. (declared_view x.0, x.1.now)) result
+        ((mapped (entry_decl (numbers_in context.entry))
+        (fitting_head (context_in context.entry) kind)).read bytes.now) }
 {
-    let missing = Failing {
-        rule: Rule::NoUnitEntry,
-        attribute: 0,
-    };
-    if bytes.is_empty() {
-        return Err(missing);
-    }
     let (code, rest) = read_code(bytes)?;
     if code == 0 {
-        return Err(missing);
+        return Err(Failing {
+            rule: Rule::NoUnitEntry,
+            attribute: 0,
+        });
     }
     let (number, decl) = find_decl(context, code)?;
     if !kind.fits(decl.tag()) {
@@ -191,4 +193,28 @@ pub fn read_first<'a, 'b>(
     }
     let rest = skip_attributes(context, decl, rest)?;
     Ok(((number, decl), rest))
+}
+
+/// The number and the declaration of a unit's first entry, and the bytes after it.
+#[tactic(auto, unfolding(crate::specs::ItemFormats::first_head))]
+pub fn read_first<'a, 'b>(
+    context: UnitContext<'a>,
+    kind: HeaderKind,
+    bytes: &'b [u8],
+) -> Result<((u32, DeclAt<'a>), &'b [u8]), Failing>
+    ensures { Gives (λ x. (declared_view x.0, x.1.now)) result
+        ((mapped (entry_decl (numbers_in context.entry)) (first_head (context_in context.entry) kind)).read bytes.now) }
+{
+    match read_fitting(context, kind, bytes) {
+        Ok(found) => Ok(found),
+        Err(failing) => {
+            if bytes.is_empty() {
+                return Err(Failing {
+                    rule: Rule::NoUnitEntry,
+                    attribute: 0,
+                });
+            }
+            Err(failing)
+        }
+    }
 }

@@ -1,13 +1,14 @@
 //! The tree of one unit and the nulls after it, in one pass over its items.
 
-ghost use Rattle.std.specs.Prelude.{IfErr, IfNone, IfOk, IfSome, None, Ok, OnOk, Some, [], false, length, reverse, ◌+◌};
+ghost use Rattle.std.specs.Prelude.{IfErr, IfNone, IfOk, IfSome, None, Ok, OnOk, Some, [], length, reverse, ◌+◌};
 ghost use Rattle.std.specs.Prelude.{◌<◌, ◌^◌, ◌∷◌, ◌≡◌, ◌≤◌};
 ghost use Rattle.dw_elf.specs.declared.TheConstants.{SECTION_LIMIT};
+ghost use Rattle.dw_forms.specs.Formats.{mapped};
 ghost use Rattle.dw_forms.specs.Stops.{GivesOrMemory, IfFault};
-ghost use Rattle.dw_entries.specs.Faults.{BodyFails, in_unit};
+ghost use Rattle.dw_entries.specs.Faults.{BeginsNoNull, BodyFails, in_unit};
 ghost use Rattle.dw_entries.specs.Header.{unit_header_size};
 ghost use Rattle.dw_entries.specs.NamedDecls.{declared_view};
-ghost use Rattle.dw_entries.specs.Reading.{code_at, item_at, null_first, seen};
+ghost use Rattle.dw_entries.specs.ItemFormats.{code as code_format, item as item_format};
 ghost use Rattle.dw_entries.specs.Stopped.{AreAllNulls, NullsThen, TreeOf};
 ghost use Rattle.dw_entries.specs.Units.{context_in, numbers_in};
 ghost use Rattle.dw_entries.specs.Walk.{enter as entered, link, step, walk_of};
@@ -138,8 +139,8 @@ fn turn<'b>(
     requires few_entries { length records.old.items < 0xffffffff }
     requires few_levels { length outer.old.items < 2 ^ 32 }
     ensures { GivesOrMemory (λ x. (walk_of records.new.items outer.new.items x.0, x.1.now)) result
-        (seen (λ i. step (numbers_in context.entry) at i (walk_of records.old.items outer.old.items (Some inner)))
-        (item_at (context_in context.entry) rest.now)) }
+        ((mapped (λ i. step (numbers_in context.entry) at i (walk_of records.old.items outer.old.items (Some inner)))
+        (item_format (context_in context.entry))).read rest.now) }
 {
     match read_item(context, rest) {
         Err(failing) => Err(Stop::Fault(failing)),
@@ -191,8 +192,8 @@ fn walk_tree<'b>(
 
 /// The bytes after a null, if one is here.
 fn skip_null(rest: &[u8]) -> Option<&[u8]>
-    ensures null { IfSome result (λ after. seen (λ c. c.number) (code_at rest.now) ≡ Ok (0, after.now)) }
-    ensures other { IfNone result (null_first (code_at rest.now) ≡ false) }
+    ensures null { IfSome result (λ after. code_format.read rest.now ≡ Ok (0, after.now)) }
+    ensures other { IfNone result (BeginsNoNull rest.now) }
 {
     match read_code(rest) {
         Ok((code, after)) => { if code == 0 { Some(after) } else { None } }

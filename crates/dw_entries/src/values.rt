@@ -1,16 +1,24 @@
 //! The attributes of an entry, each value decoded on demand.
 
 ghost use Rattle.std.specs.Bool.{OnTrue};
-ghost use Rattle.std.specs.Prelude.{IfNone, IfSome, List, MatchOption, OnSome, Some, [], drop, length, ◌∷◌, ◌≡◌};
+ghost use Rattle.std.specs.Prelude.{IfNone, IfSome, List, MatchOption, OnSome, [], drop, length, true, ◌<◌, ◌∷◌, ◌≡◌};
 ghost use Rattle.dw_forms.specs.Chains.{Numbered};
 ghost use Rattle.dw_forms.specs.Suffixes.{Ends, numbered, specs_in};
 ghost use Rattle.dw_forms.specs.LeadingWalks.{IsFirstStep};
 ghost use Rattle.dw_forms.specs.declared.abbrev.AttributeSpec.{AttributeSpec as SpecData};
+ghost use Rattle.dw_forms.specs.declared.attribute_lists.Lead.TheVariants.{Nothing as NoLead, Passed};
 ghost use Rattle.dw_entries.specs.Choices.{size_unique};
 ghost use Rattle.dw_entries.specs.Header.{IsSize};
+ghost use Rattle.dw_entries.specs.OwnBytes.{IsRest};
 ghost use Rattle.dw_entries.specs.ValueLaws.{left_unique};
-ghost use Rattle.dw_entries.specs.Values.{IsCutValue, Left, form_there, value_context};
+ghost use Rattle.dw_entries.specs.Values.{IsCutValue, Left, value_context};
 
+use crate::entries::Entries;
+use crate::header::UnitHeader;
+use crate::id::EntryId;
+use crate::item::read_code;
+use crate::records::Record;
+use crate::units::unit_number;
 use dw_forms::{Attribute, Attributes, Form, Step, Value, read_value, skip_value};
 
 /// Whether the bytes end inside a value of this form, which takes four bytes.
@@ -24,25 +32,31 @@ fn is_cut(form: Form, bytes: &[u8]) -> bool
     }
 }
 
-/// The attributes of an entry that are left, in their order. Its values lie in .debug_info.
+/// The attributes of an entry that are left, in their order, and the section that their values are in.
 #[derive(Drop)]
 pub struct Values<'e, 'a> {
     pub(crate) attributes: Attributes<'e>,
+    /// .debug_info.
+    pub(crate) info: &'a [u8],
+    /// The end of it, from the first value that is left.
     pub(crate) bytes: &'a [u8],
     pub(crate) version: u16,
     pub(crate) address_size: u8,
     pub ghost sized: { IsSize address_size } by { size_unique address_size },
     pub ghost left: { Left (value_context version address_size) (specs_in attributes)
         bytes.now } by { left_unique (value_context version address_size) (specs_in attributes) bytes.now },
+    ghost rest: { IsRest info.now bytes.now },
 }
 
 impl<'e, 'a> Values<'e, 'a> {
     ghost use Rattle.dw_forms.specs.Value.{view};
     ghost use Rattle.dw_forms.specs.Classes.{is_open};
-    ghost use Rattle.dw_entries.specs.ValuesLeft.{Takes, viewed, values_left, specs_left};
-    ghost use Rattle.dw_entries.specs.Leading.{DoesNotLead, LeadsIn, IsMade, IsPassedBy, lead_with};
-    ghost use Rattle.dw_entries.specs.Values.{IsThere};
-    ghost use Rattle.dw_entries.specs.OwnBytes.{Leaves};
+    ghost use Rattle.dw_entries.specs.ValuePlaces.{placed_value, placed_value_in};
+    ghost use Rattle.dw_entries.specs.ValuesLeft.{Takes, info_of, placed_left, specs_left, values_left, viewed};
+    ghost use Rattle.dw_entries.specs.Leading.{BeginsWithForm, BeginsWithLead, DoesNotLead, PassesOver, ReadsFirst};
+    ghost use Rattle.dw_entries.specs.Leading.{StepsTo, form_of_lead};
+    ghost use Rattle.dw_entries.specs.Led.{leads_on};
+    ghost use Rattle.dw_entries.specs.OwnBytes.{EndsAt, Leaves};
     ghost use Rattle.dw_entries.specs.PassedAttributes.{IsNotOpen, ArePassed, IsNextOf, TakesFirst};
 
     /// Passes the attributes up to these.
@@ -50,6 +64,9 @@ impl<'e, 'a> Values<'e, 'a> {
         requires { (before : List (Numbered SpecData)) × Ends self.old.attributes to before }
         ensures left { (before : List (Numbered SpecData)) → Ends self.old.attributes to.entry before
             → values_left self.new ≡ drop (length before) (values_left self.old) }
+        ensures placed { (before : List (Numbered SpecData)) → Ends self.old.attributes to.entry before
+            → placed_left self.new ≡ drop (length before) (placed_left self.old) }
+        ensures info { info_of self.new ≡ info_of self.old }
         ensures attributes { self.new.attributes ≡ to.entry }
     {
         match self
@@ -64,89 +81,129 @@ impl<'e, 'a> Values<'e, 'a> {
         }
     }
 
-    /// The attribute that a step goes to, whose form is this one, and the step from those after it. Values before it
-    /// are skipped.
-    #[inline(always)]
-    pub(crate) fn step_to(&mut self, step: &Step, form: Form) -> ((Attribute, Value<'a>), &'e Step)
-        requires step { IsFirstStep (numbered self.old.attributes) step.now }
-        requires form { form_there self.old.attributes step.now.to ≡ Some form }
-        ensures found { IsNextOf DoesNotLead (values_left self.old) (viewed result.0) (values_left self.new) }
-        ensures leads { LeadsIn result.0.0 form (specs_in self.old.attributes) (specs_in self.new.attributes) }
-        ensures step { IsFirstStep (numbered self.new.attributes) result.1.now }
-        ensures lead { lead_with result.0.0 form ≡ step.now.lead }
-        ensures made { IsMade self.old.version form self.old.address_size (view result.0.1) }
+    /// Passes the attributes before the one with this code, or all.
+    fn pass_to(&mut self, attribute: Attribute)
+        ensures same { placed_value_in (placed_left self.new) attribute
+            ≡ placed_value_in (placed_left self.old) attribute }
+        ensures info { info_of self.new ≡ info_of self.old }
     {
-        let there = self.attributes.stepped(step);
-        let Some((spec, rest, next)) = there.split_step() else {
-            unreachable!();
-        };
+        let to = self.attributes.find(attribute);
+        self.pass(to);
+    }
+
+    /// Passes the attributes before the one that a step goes to.
+    #[inline(always)]
+    fn go(&mut self, step: &Step)
+        requires step { IsFirstStep (numbered self.old.attributes) step.now }
+        requires some { step.now.lead ≡ NoLead → ⊥ }
+        ensures passed { PassesOver (values_left self.old) (values_left self.new) (specs_left self.old)
+            (specs_left self.new) }
+        ensures first { BeginsWithLead step.now.lead (specs_left self.new) }
+    {
         let skip = if self.address_size == 8 {
             step.skip_with_8
         } else {
             step.skip_with_4
         };
-        let bytes = &self.bytes[skip as usize..];
-        // Told here, so that the compiler leaves the test out where the value is read.
-        if is_cut(form, bytes) {
-            unreachable!();
-        }
-        match read_value(self.version, form, self.address_size, bytes) {
-            Ok((value, len)) => {
-                self.attributes = rest;
-                self.bytes = &bytes[len..];
-                ((spec.attribute, value), next)
-            }
-            Err(_) => unreachable!(),
-        }
+        self.attributes = self.attributes.stepped(step);
+        self.bytes = &self.bytes[skip as usize..];
     }
 
-    /// Takes the first attribute that is left.
-    pub(crate) fn take_first(&mut self) -> Option<(Attribute, Value<'a>)>
+    /// Takes the first attribute that is left, and the step from those after it. If a form is given, the attribute has
+    /// this form.
+    #[inline(always)]
+    fn take_by(&mut self, form: Option<Form>) -> Option<((Attribute, Value<'a>), &'e Step)>
+        requires { IfSome form (BeginsWithForm (specs_left self.old)) }
         ensures steps { MatchOption result ((values_left self.old ≡ []) × (values_left self.new ≡ []))
-            (λ item. values_left self.old ≡ viewed item ∷ values_left self.new) }
+            (λ found. values_left self.old ≡ viewed found.0 ∷ values_left self.new) }
+        ensures declared { MatchOption result (specs_left self.old ≡ [])
+            (λ found. ReadsFirst (specs_left self.old) (specs_left self.new) (viewed found.0)) }
         ensures first { OnSome result ((spec : SpecData) × Ends self.old.attributes self.new.attributes
             (record { number = self.old.attributes.first; item = spec } ∷ [])) }
         ensures bytes { MatchOption result (self.new.bytes ≡ self.old.bytes)
-            (λ item. Leaves (view item.1) self.old.bytes.now self.new.bytes.now) }
-        ensures taken { IfSome result (λ item. Takes self.old self.new (viewed item)) }
+            (λ found. Leaves (view found.0.1) self.old.bytes.now self.new.bytes.now) }
+        ensures taken { IfSome result (λ found. Takes self.old self.new (viewed found.0)) }
+        ensures info { info_of self.new ≡ info_of self.old }
+        ensures step { IfSome result (λ found. IsFirstStep (numbered self.new.attributes) found.1.now) }
     {
-        let Some((spec, after)) = self.attributes.split_first() else {
+        let Some((spec, rest, next)) = self.attributes.split_step() else {
             return None;
         };
-        match read_value(self.version, spec.form, self.address_size, self.bytes) {
+        let form = form.unwrap_or(spec.form);
+        // Told here, so that the compiler leaves the test out where the value is read.
+        if is_cut(form, self.bytes) {
+            unreachable!();
+        }
+        match read_value(self.version, form, self.address_size, self.bytes) {
             Ok((value, len)) => {
-                self.attributes = after;
+                self.attributes = rest;
                 self.bytes = &self.bytes[len..];
-                Some((spec.attribute, value))
+                Some(((spec.attribute, value), next))
             }
             Err(_) => unreachable!(),
         }
     }
 
-    /// The step from the attributes after the one that a step goes to, up to which values are skipped.
+    /// The attribute that a step goes to, which has this form if one is given, and the step from those after it. Values
+    /// before it are skipped.
+    #[inline(always)]
+    pub(crate) fn step_to(
+        &mut self,
+        step: &Step,
+        form: Option<Form>,
+    ) -> ((Attribute, Value<'a>), &'e Step)
+        requires step { IsFirstStep (numbered self.old.attributes) step.now }
+        requires form { form ≡ form_of_lead step.now.lead }
+        requires on { leads_on step.now.lead ≡ true }
+        ensures next { IsNextOf DoesNotLead (values_left self.old) (viewed result.0) (values_left self.new) }
+        ensures declared { StepsTo step.now.lead (specs_left self.old) (specs_left self.new) (viewed result.0) }
+        ensures step { IsFirstStep (numbered self.new.attributes) result.1.now }
+    {
+        self.go(step);
+        match self.take_by(form) {
+            Some(found) => found,
+            None => unreachable!(),
+        }
+    }
+
+    /// Passes the attribute that a step goes to and those before it. None of their values leads elsewhere. Returns the
+    /// step from those after it.
     pub(crate) fn step_past(&mut self, step: &Step) -> &'e Step
         requires step { IsFirstStep (numbered self.old.attributes) step.now }
-        requires some { IsThere self.old.attributes step.now.to }
-        ensures passed { IsPassedBy step.now.lead (values_left self.old) (values_left self.new) }
+        requires lead { step.now.lead ≡ Passed }
+        ensures passed { PassesOver (values_left self.old) (values_left self.new) (specs_left self.old)
+            (specs_left self.new) }
+        ensures fewer { length (values_left self.new) < length (values_left self.old) }
         ensures step { IsFirstStep (numbered self.new.attributes) result.now }
     {
-        let stop = self.attributes.stepped(step);
-        let Some((spec, others, next)) = stop.split_step() else {
+        self.go(step);
+        let Some((spec, rest, next)) = self.attributes.split_step() else {
             unreachable!();
         };
-        let skip = if self.address_size == 8 {
-            step.skip_with_8
-        } else {
-            step.skip_with_4
-        };
-        let bytes = &self.bytes[skip as usize..];
-        match skip_value(self.version, spec.form, self.address_size, bytes) {
+        match skip_value(self.version, spec.form, self.address_size, self.bytes) {
             Ok(len) => {
-                self.attributes = others;
-                self.bytes = &bytes[len..];
+                self.attributes = rest;
+                self.bytes = &self.bytes[len..];
                 next
             }
             Err(_) => unreachable!(),
+        }
+    }
+
+    /// The next attribute, its value, and the offset in `sections.info` of the byte after those that spell the value.
+    #[tactic(auto, using(crate::proofs::PlacedLaws::ends_at, crate::proofs::PlacedLaws::place_taken))]
+    pub fn next_placed(&mut self) -> Option<(Attribute, Value<'a>, usize)>
+        ensures steps { MatchOption result ((placed_left self.old ≡ []) × (placed_left self.new ≡ []))
+            (λ item. placed_left self.old ≡ placed_value item.0 (view item.1) item.2 ∷ placed_left self.new) }
+        ensures place { IfSome result (λ item. EndsAt (info_of self.old) (view item.1) item.2) }
+        ensures info { info_of self.new ≡ info_of self.old }
+    {
+        match self.take_by(None) {
+            Some(((attribute, value), _)) => {
+                let end = self.info.len() - self.bytes.len();
+                Some((attribute, value, end))
+            }
+            None => None,
         }
     }
 
@@ -159,7 +216,10 @@ impl<'e, 'a> Values<'e, 'a> {
     {
         let from = self.attributes.next_open();
         self.pass(from);
-        self.take_first()
+        match self.take_by(None) {
+            Some((item, _)) => Some(item),
+            None => None,
+        }
     }
 }
 
@@ -174,6 +234,92 @@ impl<'e, 'a> Iterator for Values<'e, 'a> {
     ghost remaining = { item_count values_left };
 
     fn next(&mut self) -> Option<(Attribute, Value<'a>)> {
-        self.take_first()
+        match self.take_by(None) {
+            Some((item, _)) => Some(item),
+            None => None,
+        }
+    }
+}
+
+impl<'a> Entries<'a> {
+    ghost use Rattle.std.specs.Prelude.{Some, slice_get};
+    ghost use Rattle.dw_forms.specs.Value.{Datum};
+    ghost use Rattle.dw_entries.specs.ByNumber.{entry_of, unit_of};
+    ghost use Rattle.dw_entries.specs.EntryRules.{values_of};
+    ghost use Rattle.dw_entries.specs.Lookups.{value_at_entry};
+    ghost use Rattle.dw_entries.specs.OwnBytes.{EndsAt};
+    ghost use Rattle.dw_entries.specs.ValuePlaces.{FollowCode, end_of, placed_values};
+    ghost use Rattle.dw_entries.specs.ValuesLeft.{info_of, placed_left, values_left};
+    ghost use Rattle.dw_entries.specs.Views.{all_entries, sections_of, units_of};
+
+    /// The bytes of an entry's values, and those after them.
+    #[inline(always)]
+    pub(crate) fn value_bytes(&self, id: EntryId, kept: Record) -> &'a [u8]
+        requires id { id < length (all_entries self.now) }
+        requires kept { slice_get self.now.records.items id ≡ Some kept }
+        ensures { FollowCode (sections_of self.now).info.now (entry_of (all_entries self.now) id) result.now }
+    {
+        match read_code(&self.sections.info[kept.at as usize..]) {
+            Ok((_, values)) => values,
+            Err(_) => unreachable!(),
+        }
+    }
+
+    /// These attributes of an entry, which are all that its declaration has.
+    #[inline(always)]
+    pub(crate) fn values_with<'e>(
+        &'e self,
+        id: EntryId,
+        kept: Record,
+        header: UnitHeader,
+        attributes: Attributes<'e>,
+    ) -> Values<'e, 'a>
+        requires id { id < length (all_entries self.now) }
+        requires kept { slice_get self.now.records.items id ≡ Some kept }
+        requires header { header ≡ (unit_of (units_of self.now) (entry_of (all_entries self.now) id).unit).header }
+        requires specs { specs_in attributes ≡ (entry_of (all_entries self.now) id).head.decl.attributes }
+        ensures values { values_left result ≡ values_of (entry_of (all_entries self.now) id).head }
+        ensures left { placed_left result ≡ placed_values (entry_of (all_entries self.now) id) }
+        ensures info { info_of result ≡ (sections_of self.now).info.now }
+        ensures attributes { numbered result.attributes ≡ numbered attributes.entry }
+    {
+        Values {
+            attributes,
+            info: self.sections.info,
+            bytes: self.value_bytes(id, kept),
+            version: header.kind.version(),
+            address_size: header.address_size,
+        }
+    }
+
+    /// The attributes of an entry of this unit. The unit is not looked up.
+    pub fn placed(&self, id: EntryId, unit: usize) -> Values<'_, 'a>
+        requires id { id < length (all_entries self.now) }
+        requires unit { unit ≡ (entry_of (all_entries self.now) id).unit }
+        ensures left { placed_left result ≡ placed_values (entry_of (all_entries self.now) id) }
+        ensures info { info_of result ≡ (sections_of self.now).info.now }
+    {
+        let kept = self.record(id);
+        let attributes = self.decls.decl(kept.decl).attributes();
+        self.values_with(id, kept, self.units[unit].header, attributes)
+    }
+
+    /// The offset in `sections.info` of the byte after those that spell the value of an entry's attribute, if the entry
+    /// has it.
+    pub fn end_of(&self, id: EntryId, attribute: Attribute) -> Option<usize>
+        requires { id < length (all_entries self.now) }
+        ensures end { result ≡ end_of (entry_of (all_entries self.now) id) attribute }
+        ensures place { IfSome result (λ end. (value : Datum)
+            → value_at_entry (entry_of (all_entries self.now) id) attribute ≡ Some value
+            → EndsAt (sections_of self.now).info.now value end) }
+    {
+        let mut left = self.placed(id, unit_number(self, id));
+        left.pass_to(attribute);
+        while let Some((code, _, end)) = left.next_placed() {
+            if code == attribute {
+                return Some(end);
+            }
+        }
+        None
     }
 }

@@ -1,7 +1,7 @@
 use Rattle.std.proofs.Common.{◌∙◌, sym, ap}
 use Rattle.dw_forms.specs.KeptDecls.{decl_view}
 use Rattle.dw_entries.specs.Grammar.{declared_in}
-use Rattle.dw_entries.specs.ReadingLaws.{declared_code}
+use Rattle.dw_entries.specs.ItemLaws.{declared_code}
 use Rattle.dw_entries.specs.Units.{context_in, numbers_in}
 use Rattle.dw_entries.proofs.item.find_decl.Goals as goal
 

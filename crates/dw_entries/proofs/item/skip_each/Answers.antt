@@ -3,22 +3,21 @@ use Rattle.std.proofs.lemmas.Result.{err_from_is_err_and}
 use Rattle.dw_forms.specs.Suffixes.{specs_in}
 use Rattle.dw_forms.proofs.SuffixLaws.{first_specs}
 use Rattle.dw_entries.specs.Units.{context_in}
-use Rattle.dw_entries.proofs.ReadingSteps.{attributes_step, attributes_err, attributes_end}
+use Rattle.dw_entries.proofs.ReadingSteps.{attributes_turn, attributes_end}
 use Rattle.dw_entries.proofs.item.skip_each.Goals as goal
 
 pub returns-in_err-rest : goal.returns-in_err-rest
 returns-in_err-rest c =
     let p = err_from_is_err_and c.from_residual.result c.from_residual.ensures.1 in
     let parts = first_specs c.loop-spec.left c.in-Some.after c.in-Some.spec c.in-Some.ensures in
-    rw (p.1, p.2) (attributes_err (context_in c.args.context) c.in-Some.spec (specs_in c.loop-spec.left)
-    (specs_in c.in-Some.after) c.loop-spec.rest.now c.in_err-rest.field-0.0 _ parts c.in_err-rest.ensures
-    c.loop-spec.invariant)
+    rw (p.1, p.2) (sym (attributes_turn (context_in c.args.context) c.in-Some.spec (specs_in c.loop-spec.left)
+    (specs_in c.in-Some.after) c.loop-spec.rest.now _ _ parts c.in_err-rest.ensures c.loop-spec.invariant))
 
 pub loop-spec-preserved : goal.loop-spec-preserved
 loop-spec-preserved c =
     let parts = first_specs c.loop-spec.left c.in-Some.after c.in-Some.spec c.in-Some.ensures in
-    attributes_step (context_in c.args.context) c.in-Some.spec (specs_in c.loop-spec.left) (specs_in c.in-Some.after)
-    c.loop-spec.rest.now c.in_ok-rest.rest.now _ parts c.in_ok-rest.ensures c.loop-spec.invariant
+    attributes_turn (context_in c.args.context) c.in-Some.spec (specs_in c.loop-spec.left) (specs_in c.in-Some.after)
+    c.loop-spec.rest.now _ _ parts c.in_ok-rest.ensures c.loop-spec.invariant
 
 pub loop-spec-smaller : goal.loop-spec-smaller
 loop-spec-smaller c =

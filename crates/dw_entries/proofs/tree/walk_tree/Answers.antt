@@ -1,24 +1,31 @@
 use Rattle.std.proofs.Common.{rules, ap, [], arith}
 use Rattle.dw_entries.specs.Units.{context_in, numbers_in}
 use Rattle.dw_entries.specs.Walk.{walk_of, levels_of}
-use Rattle.dw_entries.specs.ReadingLaws.{seen_err}
-use Rattle.dw_entries.proofs.AlongLaws.{along_few, along_end, first_fault, first_turn, next_turn, turn_shorter}
+use Rattle.dw_entries.specs.ItemLaws.{item_fails}
+use Rattle.dw_entries.proofs.AlongLaws.{along_few, along_end, along_next, first_fault, first_turn, turn_fault, turn_shorter}
 use Rattle.dw_entries.proofs.tree.walk_tree.Goals as goal
 
 pub returns-in-Err-clause-fault : goal.returns-in-Err-clause-fault
-returns-in-Err-clause-fault c = search (rules, first_fault, seen_err)
+returns-in-Err-clause-fault c = search (rules, first_fault)
+
+pub returns-in-Err-Fault-clause-fault : goal.returns-in-Err-Fault-clause-fault
+returns-in-Err-Fault-clause-fault c =
+    turn_fault (context_in c.args.context) (numbers_in c.args.context) c.args.unit.header.kind c.args.unit.at
+    c.args.start c.args.body.now c.args.records.now.items c.loop-inner.rest.now c.loop-inner.records.items
+    c.loop-inner.outer.items c.in-Some.level c.in-Err-Fault.failing _ c.requires.start
+    (rw c.in-Some.is at c.loop-inner.invariant) (search (rules, item_fails)) c.plain_fault_at-in-Err-Fault.ensures
 
 pub loop-inner-init : goal.loop-inner-init
 loop-inner-init c =
     rw c.new-outer.ensures.items (first_turn (context_in c.args.context) (numbers_in c.args.context)
-    c.args.unit.header.kind c.args.start c.args.body.now c.args.records.now.items c.enter_first.new.records.items []
-    c.in_ok-inner.inner _ c.in-Ok.found.1.now c.in-Ok.ensures c.in_ok-inner.ensures)
+    c.args.unit.header.kind c.args.start c.args.body.now c.args.records.now.items _ c.in-Ok.found.1.now
+    (walk_of c.enter_first.new.records.items [] c.in_ok-inner.inner) c.in-Ok.ensures c.in_ok-inner.ensures)
 
 pub loop-inner-smaller : goal.loop-inner-smaller
 loop-inner-smaller c = search (rules, turn_shorter)
 
 pub loop-inner-preserved : goal.loop-inner-preserved
-loop-inner-preserved c = search (rules, next_turn)
+loop-inner-preserved c = search (rules, along_next)
 
 pub returns-clause-tree : goal.returns-clause-tree
 returns-clause-tree c =

@@ -13,19 +13,20 @@ value-requires c =
     let it = c.self.inside in
     let kept = kept_entry _ _ _ _ _ it.entries.now.scanned it.id c.self.invariant.0 in
     let specs = (decl_view it.decl).attributes in
-    sized_here kept it.header specs c.value_bytes.result.now c.version-version.result c.self.invariant.3
+    sized_here kept it.header specs c.value_bytes-bytes.result.now c.version-version.result c.self.invariant.3
     (ap (λ (d : Declaration). d.attributes) c.self.invariant.2)
-    (rw (← c.self.view_is) at c.value_bytes.ensures) c.version-version.ensures
+    (c.value_bytes-bytes.ensures.rest, c.value_bytes-bytes.ensures.spelled) c.version-version.ensures
 
 pub unreachable-requires : goal.unreachable-requires
 unreachable-requires c =
     let it = c.self.inside in
     let kept = kept_entry _ _ _ _ _ it.entries.now.scanned it.id c.self.invariant.0 in
     let specs = (decl_view it.decl).attributes in
-    let left = left_here kept it.header specs c.value_bytes.result.now c.version-version.result c.self.invariant.3
+    let left = left_here kept it.header specs c.value_bytes-bytes.result.now c.version-version.result c.self.invariant.3
     (ap (λ (d : Declaration). d.attributes) c.self.invariant.2)
-    (rw (← c.self.view_is) at c.value_bytes.ensures) c.version-version.ensures in
-    never_answers (value_context c.version-version.result it.header.address_size) specs c.value_bytes.result.now left
+    (c.value_bytes-bytes.ensures.rest, c.value_bytes-bytes.ensures.spelled) c.version-version.ensures in
+    never_answers (value_context c.version-version.result it.header.address_size) specs c.value_bytes-bytes.result.now
+    left
     c.args.attribute c.in-Err.field-0 c.in-Err.ensures
 
 pub returns : goal.returns
@@ -34,11 +35,13 @@ returns c =
     let kept = kept_entry _ _ _ _ _ it.entries.now.scanned it.id c.self.invariant.0 in
     let specs = (decl_view it.decl).attributes in
     let of_specs = ap (λ (d : Declaration). d.attributes) c.self.invariant.2 in
-    let behind = rw (← c.self.view_is) at c.value_bytes.ensures in
-    let left = left_here kept it.header specs c.value_bytes.result.now c.version-version.result c.self.invariant.3
-    of_specs behind c.version-version.ensures in
-    let is = answers_left (value_context c.version-version.result it.header.address_size) specs c.value_bytes.result.now
+    let f = c.value_bytes-bytes.ensures in
+    let left = left_here kept it.header specs c.value_bytes-bytes.result.now c.version-version.result c.self.invariant.3
+    of_specs (f.rest, f.spelled) c.version-version.ensures in
+    let is = answers_left (value_context c.version-version.result it.header.address_size) specs
+    c.value_bytes-bytes.result.now
     left c.args.attribute c.in-Ok.value c.in-Ok.ensures in
-    let same = values_here kept it.header specs c.value_bytes.result.now c.version-version.result c.self.invariant.3
-    of_specs behind c.version-version.ensures left in
+    let same = values_here kept it.header specs c.value_bytes-bytes.result.now c.version-version.result
+    c.self.invariant.3
+    of_specs (f.rest, f.spelled) c.version-version.ensures left in
     rw (← c.self.view_is) (is ∙ ap (λ vs. value_in vs c.args.attribute) same)

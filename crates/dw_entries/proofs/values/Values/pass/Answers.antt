@@ -5,7 +5,8 @@ use Rattle.dw_forms.specs.Chains.{Numbered, items_of}
 use Rattle.dw_forms.specs.Suffixes.{specs_in}
 use Rattle.dw_forms.proofs.SuffixLaws.{specs_ends}
 use Rattle.dw_entries.specs.Values.{value_context}
-use Rattle.dw_entries.proofs.PassLaws.{never_cut, left_on, left_rest}
+use Rattle.dw_entries.proofs.PassLaws.{left_on, left_rest, never_cut, passed_parts, placed_rest}
+use Rattle.dw_entries.proofs.PlacedLaws.{rest_on}
 use Rattle.dw_entries.proofs.values.Values.pass.Goals as goal
 
 pub invariant_of-self : goal.invariant_of-self
@@ -18,6 +19,11 @@ invariant_of-self c =
           (left_on (value_context v.version v.address_size) (specs_in v.attributes) (items_of before)
           (specs_in c.args.to) (specs_ends v.attributes c.args.to before ends) v.bytes.now v.left c.in-Ok.bytes.now
           (c.in-Ok.ensures before ends)).0;
+      rest =
+          rest_on v.info.now v.bytes.now _ c.in-Ok.bytes.now v.rest
+          (passed_parts (value_context v.version v.address_size) (specs_in v.attributes) (items_of before)
+          (specs_in c.args.to) (specs_ends v.attributes c.args.to before ends) v.bytes.now v.left c.in-Ok.bytes.now
+          (c.in-Ok.ensures before ends));
     }
 
 pub unreachable-requires : goal.unreachable-requires
@@ -36,3 +42,12 @@ returns-clause-left c before ends =
     search (left_rest (value_context v.version v.address_size) (specs_in v.attributes) (items_of before)
     (specs_in c.args.to) (specs_ends v.attributes c.args.to before ends) v.bytes.now v.left (length before) long
     c.in-Ok.bytes.now (c.in-Ok.ensures before ends))
+
+pub returns-clause-placed : goal.returns-clause-placed
+returns-clause-placed c before ends =
+    let v = c.args.self.now in
+    let long : length before ≡ length (items_of before) = sym
+    (length-map before (λ (n : Numbered AttributeSpec). n.item)) in
+    search (placed_rest (value_context v.version v.address_size) (specs_in v.attributes) (items_of before)
+    (specs_in c.args.to) (specs_ends v.attributes c.args.to before ends) v.bytes.now v.left (length before) long
+    c.in-Ok.bytes.now (c.in-Ok.ensures before ends) v.info.now v.rest)

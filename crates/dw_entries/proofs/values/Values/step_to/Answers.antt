@@ -1,113 +1,25 @@
-use Rattle.std.proofs.Common.{inl, inr, arith}
-use Rattle.dw_forms.specs.declared.value.ValueFault.TheVariants.{Cut}
-use Rattle.dw_forms.specs.Value.{view}
-use Rattle.dw_entries.proofs.LeadingSteps.{some_form, skip_within, allowed, never, left_behind, found, leads_in, lead_with_is}
+use Rattle.dw_entries.specs.ValuesLeft.{values_left, specs_left}
+use Rattle.dw_entries.proofs.OverLaws.{on_some, form_fits, some_first, next_over, steps_over}
 use Rattle.dw_entries.proofs.values.Values.step_to.Goals as goal
-use Rattle.dw_entries.proofs.values.Values.step_to.Goals.{then-self-eq8, else-self-eq8}
+
+pub go-requires-clause-some : goal.go-requires-clause-some
+go-requires-clause-some c = on_some c.args.step.now.lead c.requires.on
+
+pub take_by-requires : goal.take_by-requires
+take_by-requires c =
+    form_fits c.args.form c.args.step.now.lead (specs_left c.go.new.self) c.requires.form c.go.ensures.first
 
 pub unreachable-requires : goal.unreachable-requires
 unreachable-requires c =
-    let there = c.stepped-there in
-    some_form c.args.self.now.attributes c.args.step.now c.requires.step there.result there.ensures.nodes
-    there.ensures.first c.args.form c.requires.form c.in_default.ensures
+    some_first c.args.step.now.lead (specs_left c.go.new.self) c.go.ensures.first c.in-None.ensures.declared
 
-pub slice_bounds-bytes-count : goal.slice_bounds-bytes-count
-slice_bounds-bytes-count c = omega (
-  arith,
-  skip_within c.args.self.now c.args.step.now c.if-self-eq8.skip c.requires.step c.stepped-there.result
-      c.stepped-there.ensures.nodes c.stepped-there.ensures.first
-      (elim c.if-self-eq8.branch [
-        | then-self-eq8 w ↦ inl (w.if-self-eq8.true, w.skip-is)
-        | else-self-eq8 w ↦ inr (w.if-self-eq8.false, w.skip-is)
-      ])
-      c.in-Some.spec c.in-Some.rest c.in-Some.ensures.0 c.args.form c.requires.form,
-)
+pub returns-clause-next : goal.returns-clause-next
+returns-clause-next c =
+    next_over (values_left c.args.self.now) (values_left c.go.new.self) (specs_left c.args.self.now)
+    (specs_left c.go.new.self) c.go.ensures.passed _ (values_left c.take_by.new.self) c.in-Some.ensures.steps
 
-pub slice_bounds-bytes-start : goal.slice_bounds-bytes-start
-slice_bounds-bytes-start c = omega (
-  arith,
-  skip_within c.args.self.now c.args.step.now c.if-self-eq8.skip c.requires.step c.stepped-there.result
-      c.stepped-there.ensures.nodes c.stepped-there.ensures.first
-      (elim c.if-self-eq8.branch [
-        | then-self-eq8 w ↦ inl (w.if-self-eq8.true, w.skip-is)
-        | else-self-eq8 w ↦ inr (w.if-self-eq8.false, w.skip-is)
-      ])
-      c.in-Some.spec c.in-Some.rest c.in-Some.ensures.0 c.args.form c.requires.form,
-)
-
-pub read_value-requires-clause-allowed : goal.read_value-requires-clause-allowed
-read_value-requires-clause-allowed c =
-    search (allowed c.args.self.now c.args.step.now c.if-self-eq8.skip c.requires.step c.stepped-there.result
-    c.stepped-there.ensures.nodes c.stepped-there.ensures.first
-    (elim c.if-self-eq8.branch [
-      | then-self-eq8 w ↦ inl (w.if-self-eq8.true, w.skip-is)
-      | else-self-eq8 w ↦ inr (w.if-self-eq8.false, w.skip-is)
-    ])
-    c.in-Some.spec c.in-Some.rest c.in-Some.ensures.0 c.args.form c.requires.form)
-
-pub invariant_of-self : goal.invariant_of-self
-invariant_of-self c = record {
-  sized = c.args.self.now.sized;
-  left =
-      left_behind c.args.self.now c.args.step.now c.if-self-eq8.skip c.requires.step c.stepped-there.result
-      c.stepped-there.ensures.nodes c.stepped-there.ensures.first
-      (elim c.if-self-eq8.branch [
-        | then-self-eq8 w ↦ inl (w.if-self-eq8.true, w.skip-is)
-        | else-self-eq8 w ↦ inr (w.if-self-eq8.false, w.skip-is)
-      ])
-      c.in-Some.spec c.in-Some.rest c.in-Some.ensures.0 c.args.form c.requires.form (view c.in-Ok.value) c.in-Ok.len
-      c.in-Ok.ensures.found.within c.in-Ok.ensures.exact;
-}
-
-pub unreachable-requires-in-Err : goal.unreachable-requires-in-Err
-unreachable-requires-in-Err c =
-    never c.args.self.now c.args.step.now c.if-self-eq8.skip c.requires.step c.stepped-there.result
-    c.stepped-there.ensures.nodes c.stepped-there.ensures.first
-    (elim c.if-self-eq8.branch [
-      | then-self-eq8 w ↦ inl (w.if-self-eq8.true, w.skip-is)
-      | else-self-eq8 w ↦ inr (w.if-self-eq8.false, w.skip-is)
-    ])
-    c.in-Some.spec c.in-Some.rest c.in-Some.ensures.0 c.args.form c.requires.form c.in-Err.field-0
-    c.in-Err.ensures.exact
-
-pub unreachable-requires-then-is_cut : goal.unreachable-requires-then-is_cut
-unreachable-requires-then-is_cut c =
-    never c.args.self.now c.args.step.now c.if-self-eq8.skip c.requires.step c.stepped-there.result
-    c.stepped-there.ensures.nodes c.stepped-there.ensures.first
-    (elim c.if-self-eq8.branch [
-      | then-self-eq8 w ↦ inl (w.if-self-eq8.true, w.skip-is)
-      | else-self-eq8 w ↦ inr (w.if-self-eq8.false, w.skip-is)
-    ])
-    c.in-Some.spec c.in-Some.rest c.in-Some.ensures.0 c.args.form c.requires.form Cut
-    (c.if-is_cut.ensures c.args.self.now.version c.args.self.now.address_size)
-
-pub returns-clause-found : goal.returns-clause-found
-returns-clause-found c =
-    search (found c.args.self.now c.args.step.now c.if-self-eq8.skip c.requires.step c.stepped-there.result
-    c.stepped-there.ensures.nodes c.stepped-there.ensures.first
-    (elim c.if-self-eq8.branch [
-      | then-self-eq8 w ↦ inl (w.if-self-eq8.true, w.skip-is)
-      | else-self-eq8 w ↦ inr (w.if-self-eq8.false, w.skip-is)
-    ])
-    c.in-Some.spec c.in-Some.rest c.in-Some.ensures.0 c.args.form c.requires.form
-    (view c.in-Ok.value) c.in-Ok.len c.in-Ok.ensures.found.within c.in-Ok.ensures.exact)
-
-pub returns-clause-leads : goal.returns-clause-leads
-returns-clause-leads c =
-    leads_in c.args.self.now c.args.step.now c.if-self-eq8.skip c.requires.step c.stepped-there.result
-    c.stepped-there.ensures.nodes c.stepped-there.ensures.first
-    (elim c.if-self-eq8.branch [
-      | then-self-eq8 w ↦ inl (w.if-self-eq8.true, w.skip-is)
-      | else-self-eq8 w ↦ inr (w.if-self-eq8.false, w.skip-is)
-    ])
-    c.in-Some.spec c.in-Some.rest c.in-Some.ensures.0 c.args.form c.requires.form
-
-pub returns-clause-lead : goal.returns-clause-lead
-returns-clause-lead c =
-    lead_with_is c.args.self.now c.args.step.now c.if-self-eq8.skip c.requires.step c.stepped-there.result
-    c.stepped-there.ensures.nodes c.stepped-there.ensures.first
-    (elim c.if-self-eq8.branch [
-      | then-self-eq8 w ↦ inl (w.if-self-eq8.true, w.skip-is)
-      | else-self-eq8 w ↦ inr (w.if-self-eq8.false, w.skip-is)
-    ])
-    c.in-Some.spec c.in-Some.rest c.in-Some.ensures.0 c.args.form c.requires.form
+pub returns-clause-declared : goal.returns-clause-declared
+returns-clause-declared c =
+    steps_over (values_left c.args.self.now) (values_left c.go.new.self) (specs_left c.args.self.now)
+    (specs_left c.go.new.self) c.go.ensures.passed c.args.step.now.lead _ (specs_left c.take_by.new.self)
+    c.go.ensures.first c.in-Some.ensures.declared

@@ -1,0 +1,15 @@
+use Rattle.std.proofs.Common.{inl, inr}
+use Rattle.dw_entries.specs.Values.{value_context}
+use Rattle.dw_entries.proofs.OverLaws.{nothing_left}
+use Rattle.dw_entries.proofs.leads.Leading.take_next.Goals as goal
+
+pub returns-in-Nothing-clause-none : goal.returns-in-Nothing-clause-none
+returns-in-Nothing-clause-none c =
+    let it = c.args.self.now in
+    let v = it.values in
+    elim c.in-Nothing.is [
+      | inl none ↦
+          nothing_left v.attributes it.step.now it.steps (value_context v.version v.address_size) v.bytes.now v.left
+          none
+      | inr passed ↦ absurd (c.requires passed)
+    ]
