@@ -9,8 +9,10 @@ use Rattle.dw_forms.specs.declared.abbrev.AttributeSpec.{AttributeSpec}
 use Rattle.dw_forms.specs.declared.form.Form.{Form}
 use Rattle.dw_forms.specs.declared.form.Form.TheVariants as form
 use Rattle.dw_forms.specs.FormCodes.{may_lead_out, may_refer}
-use Rattle.dw_forms.specs.Value.{Datum, Val, laid_out}
-use Rattle.dw_forms.specs.Classes.{class_of, form_class, allows, allows_in, is_open_in}
+use Rattle.dw_forms.specs.Value.{Datum}
+use Rattle.dw_forms.specs.ValueFormats.{Val, laid_out}
+use Rattle.dw_forms.specs.Classes.{class_of, allows, allows_in, is_open_in}
+use Rattle.dw_forms.specs.FormTable.{form_class}
 use Rattle.dw_forms.specs.declared.class.Class.{Class}
 use Rattle.dw_entries.specs.declared.entry.EntryHead.{EntryHead}
 use Rattle.dw_forms.specs.declared.rule.Rule.{Rule}

@@ -1,15 +1,16 @@
 -- Where a string begins: that can be decided, and a string is within its section.
-use Rattle.std.proofs.Common.{get_or, ◌≡◌, List, ℕ, zero, suc, ◌+◌, ◌-◌, ◌<◌, ◌≤◌, length, sym, ap, ◌∙◌, arith, inl, inr, ◌⊎◌, Option, None, Some, IfSome}
+use Rattle.std.proofs.Common.{get_or, ◌≡◌, List, ◌∷◌, ℕ, zero, suc, ◌+◌, ◌-◌, ◌<◌, ◌≤◌, length, length-append, length-drop, sym, ap, ◌∙◌, arith, inl, inr, ◌⊎◌, Option, None, Some, IfSome}
 use Rattle.std.specs.Prelude.{slice_index}
 use Rattle.std.proofs.Math.Seq.{get_or-append_seam}
 use Rattle.std.proofs.lemmas.List.{get_or-drop}
 use Rattle.dw_elf.specs.declared.sections.Sections.{Sections}
-use Rattle.dw_entries.specs.Lookups.{IsTextAt}
-use Rattle.dw_entries.proofs.TextLaws.{text_within}
+use Rattle.dw_forms.specs.Value.{text}
+use Rattle.dw_entries.specs.OwnBytes.{EndsAt}
 use Rattle.dw_links.specs.declared.texts.TextPlace.{TextPlace}
 use Rattle.dw_links.specs.declared.texts.TextPlace.TheVariants.{Info, Str, LineStr}
 use Rattle.dw_links.specs.Contributions.{HasZeroFrom}
 use Rattle.dw_links.specs.Slots.{IsTextPlace, BeginsString}
+use Rattle.dw_links.proofs.TextLemmas.{text_parts}
 
 -- a fact holds, or it does not
 abbrev pub Decided : Type 0 → Type 0
@@ -76,13 +77,17 @@ begins_within s (Some (Info offset)) begins = below_end s.info.now offset begins
 begins_within s (Some (Str offset)) begins = below_end s.str.now offset begins
 begins_within s (Some (LineStr offset)) begins = below_end s.line_str.now offset begins
 
--- the text of a value begins where the value does
-pub text_begins : (bytes : List ℕ) (n : ℕ) (t : List ℕ) → IsTextAt bytes n t → HasZeroFrom bytes n
-text_begins bytes n t is = record {
-  last = n + length t;
-  behind = omega arith;
-  within = text_within bytes n t is;
-  is_zero =
-      sym (get_or-drop n bytes (length t) 0) ∙ ap (λ (xs : List ℕ). get_or xs (length t) 0) is.parts
-      ∙ get_or-append_seam t 0 is.rest 0;
-}
+-- a text of a value is a string
+pub text_begins : (section : List ℕ) (end : ℕ) (t : List ℕ) → EndsAt section (text t) end
+    → HasZeroFrom section (end - (length t + 1))
+text_begins section end t is =
+    let n : ℕ = end - (length t + 1) in
+    let parts = text_parts section end t is in
+    record {
+      last = n + length t;
+      behind = omega arith;
+      within = omega (arith, ap length parts, length-append t (0 ∷ is.rest), length-drop n section);
+      is_zero =
+          sym (get_or-drop n section (length t) 0) ∙ ap (λ (xs : List ℕ). get_or xs (length t) 0) parts
+          ∙ get_or-append_seam t 0 is.rest 0;
+    }

@@ -1,5 +1,5 @@
--- What is kept of an entry after its next value: that no rule fails there, by what the value leads to.
-use Rattle.std.proofs.Common.{◌≡◌, ◌≢◌, ℕ, Bool, true, false, List, [], ◌∷◌, Option, Some, None, Result, Ok, Err, refl, sym, ap, ◌∙◌, subst, map, inl, inr, arith}
+-- What is kept of an entry after a value: that no rule fails there, by what the value leads to.
+use Rattle.std.proofs.Common.{◌≡◌, ◌≢◌, ℕ, Bool, true, false, List, [], ◌∷◌, Option, Some, None, Result, refl, sym, ap, ◌∙◌, subst, map, inl, inr, arith}
 use Rattle.std.specs.Prelude.{◌==◌, ◌&&◌, ◌<◌, length, not, IfOk, IfErr}
 use Rattle.std.proofs.lemmas.Bool.{ne_eqb}
 use Rattle.std.proofs.lemmas.Option.{slice_get-get_or}
@@ -11,19 +11,21 @@ use Rattle.dw_forms.specs.declared.abbrev.AttributeSpec.{AttributeSpec}
 use Rattle.dw_forms.specs.declared.form.Form.{Form}
 use Rattle.dw_forms.specs.declared.form.Form.TheVariants as form
 use Rattle.dw_forms.specs.KnownValues.{known_flag, flag_in}
-use Rattle.dw_forms.specs.Value.{Datum, Val, laid_out, ref_unit}
+use Rattle.dw_forms.specs.Value.{Datum, ref_unit, str, str_index, addr_index}
+use Rattle.dw_forms.specs.ValueFormats.{Val, laid_out}
 use Rattle.dw_forms.specs.LeadingWalks.{lead_of}
 use Rattle.dw_forms.proofs.LeadLaws.{lead_says}
 use Rattle.dw_entries.specs.declared.entries.Entries.{Entries}
 use Rattle.dw_entries.specs.declared.fault.PlainFault.{PlainFault}
 use Rattle.dw_entries.specs.declared.entry.EntryHead.{EntryHead}
 use Rattle.dw_entries.specs.EntryRules.{value_of, OffsetsRise}
-use Rattle.dw_entries.specs.PassedAttributes.{IsNextOf}
 use Rattle.dw_entries.specs.Entries.{Entry}
 use Rattle.dw_entries.specs.ByNumber.{no_entry, entry_of, unit_of}
 use Rattle.dw_entries.specs.Failures.{IsLeast}
 use Rattle.dw_entries.specs.Grammar.{Context, Attribute, AreAttributes}
-use Rattle.dw_entries.specs.Leading.{DoesNotLead, IsTaken, IsPassedBy}
+use Rattle.dw_entries.specs.Led.{IsLedBy, is_index_lead, item_of}
+use Rattle.dw_entries.specs.declared.led.Led.{Led}
+use Rattle.dw_entries.specs.declared.led.Led.TheVariants as led
 use Rattle.dw_entries.specs.Lookups.{entry_head, value_in}
 use Rattle.dw_entries.specs.Units.{context_of}
 use Rattle.dw_entries.specs.Views.{all_entries, all_units, units_of}
@@ -31,35 +33,15 @@ use Rattle.dw_entries.proofs.EntryFacts.{entries_rise}
 use Rattle.dw_entries.proofs.HeadLaws.{head_stands}
 use Rattle.dw_entries.proofs.NumberOrder.{three_ways}
 use Rattle.dw_links.specs.declared.references.UnitLinks.{UnitLinks}
-use Rattle.dw_links.specs.UnitAtHand.{FailsByText, FailsByTarget, target_by, entries_followed, entry_with, entry_after, MayLink, IsTypeAfter, IsSiblingAfter, IsDeclaredAfter, LeadsWell, is_index_lead}
-use Rattle.dw_links.specs.EntryLinks.{kept_after, KeepsAt, LinksAt, HasFailedAt, FailsNextAt}
+use Rattle.dw_links.specs.UnitAtHand.{target_by, entries_followed, entry_with, entry_after, MayLink, IsTypeAfter, IsSiblingAfter, IsDeclaredAfter, LeadsWell}
+use Rattle.dw_links.specs.EntryLinks.{kept_after, KeepsAt, HasFailedAt}
 use Rattle.dw_links.specs.UnitContributions.{FailsByTexts}
 use Rattle.dw_links.specs.References.{is_declared, is_true, is_reference_value, permits, permits_form}
 use Rattle.dw_links.specs.Targets.{reach_in_unit}
 use Rattle.dw_links.proofs.LeastRules.{least_none, right_sibling}
-use Rattle.dw_links.proofs.ClassLemmas.{leads, passes_texts, passes_targets, other_code}
 use Rattle.dw_links.proofs.LinkedEntries.{true_unless}
 use Rattle.dw_links.proofs.TargetLemmas.{reached_within}
 use Rattle.dw_links.proofs.UnitToAll.{least_by_texts}
-
--- ---- a result, as it is told of the next value
-
-module _ (it : UnitLinks) (id attribute : ℕ) (value : Datum) (left behind : List (ℕ × Datum))
-    (next : IsNextOf DoesNotLead left (attribute, value) behind) where
-  pub links : (before after : Option (Option ℕ)) → KeepsAt it id attribute value before after
-      → LinksAt it id left behind before after
-  links before after keeps = record { attribute = attribute; value = value; next = next; keeps = keeps }
-
-  pub linked : (before : Option (Option ℕ)) (result : Result (Option (Option ℕ)) PlainFault)
-      → IfOk result (KeepsAt it id attribute value before) → IfOk result (LinksAt it id left behind before)
-  linked before (Ok after) keeps = links before after keeps
-  linked before (Err broken) keeps = tt
-
-  pub failed : (result : Result (Option (Option ℕ)) PlainFault) → IfErr result (HasFailedAt it id attribute value)
-      → IfErr result (FailsNextAt it id left)
-  failed (Ok after) fails = tt
-  failed (Err broken) fails =
-      record { attribute = attribute; value = value; behind = behind; next = next; fails = fails }
 
 -- nothing is kept of an attribute that is no type
 kept_same : (before : Option (Option ℕ)) (attribute : ℕ) (reached : Option ℕ) → attribute ≢ DW_AT_type
@@ -69,12 +51,7 @@ kept_same None attribute reached other = rw (ne_eqb attribute DW_AT_type other) 
 
 -- ---- the index of a string, of one byte or of two
 
-pub second_index : (l : Lead) → is_index_lead l ≡ true → (l ≡ lead.Index1 → ⊥) → l ≡ lead.Index2
-second_index lead.Index1 is other = absurd (other refl)
-second_index lead.Index2 is other = refl
-second_index _ is other = absurd cc
-
-pub index_says : (spec : AttributeSpec) (l : Lead) → lead_of spec ≡ l → is_index_lead l ≡ true
+index_says : (spec : AttributeSpec) (l : Lead) → lead_of spec ≡ l → is_index_lead l ≡ true
     → spec.attribute ≢ DW_AT_type
 index_says spec lead.Index1 says is = (lead_says spec lead.Index1 says).1
 index_says spec lead.Index2 says is = (lead_says spec lead.Index2 says).1
@@ -225,57 +202,50 @@ module _ (it : UnitLinks) (id : ℕ) (may : MayLink it id) (before : Option (Opt
       ) refl)
       (λ sibling. absurd (no_sibling sibling))
 
-  -- a reference with a usual lead
-  pub reference_passes : (left behind : List (ℕ × Datum)) (attribute offset : ℕ) (l : Lead)
-      → IsTaken l left (attribute, ref_unit offset) behind → LeadsWell it id offset l
-      → KeepsAt it id attribute (ref_unit offset) before before
-  reference_passes left behind attribute offset lead.Sibling taken well =
-      sibling_keeps attribute offset
-      (lead_says (record { attribute = attribute; form = taken.form }) lead.Sibling taken.has_lead).1 well
-  reference_passes left behind attribute offset lead.Specification taken well =
-      specification_keeps attribute offset
-      (lead_says (record { attribute = attribute; form = taken.form }) lead.Specification taken.has_lead).1 well
-  reference_passes left behind attribute offset lead.Entry taken well =
-      let (is_form, no_type, no_sibling, no_specification, no_import, no_signature) = lead_says
-      (record { attribute = attribute; form = taken.form }) lead.Entry taken.has_lead in
-      entry_keeps attribute offset well.0 no_type no_sibling no_specification no_import no_signature well.1
-  reference_passes left behind attribute offset _ taken well = absurd well
+  -- a value at which no rule fails
+  pub well_keeps : (it_leads : Led) (spec : AttributeSpec) → IsLedBy it_leads spec → LeadsWell it id it_leads
+      → KeepsAt it id (item_of it_leads).0 (item_of it_leads).1 before before
+  well_keeps (led.Sibling offset) spec is well = sibling_keeps DW_AT_sibling offset refl well
+  well_keeps (led.Specification offset) spec is well = specification_keeps DW_AT_specification offset refl well
+  well_keeps (led.Entry attribute offset) spec is well =
+      let P : ℕ → Type 0 = λ a. KeepsAt it id a (ref_unit offset) before before in
+      let (is_form, no_type, no_sibling, no_specification, no_import, no_signature) =
+      lead_says spec lead.Entry is.has_lead in
+      subst P is.has_code (entry_keeps spec.attribute offset well.0 no_type no_sibling no_specification no_import
+      no_signature well.1)
+  well_keeps (led.Text attribute offset) spec is well =
+      let P : ℕ → Type 0 = λ a. KeepsAt it id a (str offset) before before in
+      subst P is.has_code (text_keeps spec.attribute (str offset) (λ head. well) refl
+      (lead_says spec lead.Text is.has_lead).1)
+  well_keeps (led.Index attribute index) spec is well =
+      let P : ℕ → Type 0 = λ a. KeepsAt it id a (str_index index) before before in
+      subst P is.has_code (text_keeps spec.attribute (str_index index) (λ head. well) refl
+      (index_says spec (lead_of spec) refl is.has_lead))
+  well_keeps (led.Address attribute index) spec is well =
+      let P : ℕ → Type 0 = λ a. KeepsAt it id a (addr_index index) before before in
+      subst P is.has_code (text_keeps spec.attribute (addr_index index) (λ head. well) refl
+      (lead_says spec lead.Address is.has_lead).1)
+  well_keeps _ spec is well = absurd well
 
   -- a reference to a type
-  pub type_passes : (left behind : List (ℕ × Datum)) (attribute offset t : ℕ) (l : Lead) (after : Option (Option ℕ))
-      → IsTaken l left (attribute, ref_unit offset) behind → l ≡ lead.TypeEntry → IsTypeAfter it offset t
-      → after ≡ kept_after before DW_AT_type (Some t)
-      → KeepsAt it id attribute (ref_unit offset) before after
-  type_passes left behind attribute offset t l after taken is_l has kept =
-      type_keeps attribute offset t after
-      (lead_says (record { attribute = attribute; form = taken.form }) lead.TypeEntry (taken.has_lead ∙ is_l)).1 has
-      kept
+  pub type_led : (it_leads : Led) (offset t : ℕ) (after : Option (Option ℕ)) → it_leads ≡ led.Type offset
+      → IsTypeAfter it offset t → after ≡ kept_after before DW_AT_type (Some t)
+      → KeepsAt it id (item_of it_leads).0 (item_of it_leads).1 before after
+  type_led it_leads offset t after is has kept =
+      let P : Led → Type 0 = λ l. KeepsAt it id (item_of l).0 (item_of l).1 before after in
+      subst P (sym is) (type_keeps DW_AT_type offset t after refl has kept)
 
-  -- a value that leads nowhere
-  pub passed_links : (left behind : List (ℕ × Datum)) (l : Lead) → l ≡ lead.Passed → IsPassedBy l left behind
-      → LinksAt it id left behind before before
-  passed_links left behind l is_l passed =
-      let entries = entries_followed it in
-      let head = entry_head (entry_with it id) in
-      let p = passed.declared in
-      let quiet : DoesNotLead p.spec = lead_says p.spec lead.Passed (p.passes ∙ is_l) in
-      let code : p.spec.attribute ≡ passed.found.0 = sym p.is_attribute.code ∙ ap (λ (y : ℕ × Datum). y.0) p.is_item in
-      record {
-        attribute = passed.found.0;
-        value = passed.found.1;
-        next = passed.next;
-        keeps = record {
-          passes = record {
-            strings =
-                λ rule fails. passes_texts entries p.spec quiet p.context p.declared p.is_attribute head rule
-                (subst (λ (y : ℕ × Datum). FailsByText entries head y.0 y.1 rule) (sym p.is_item) fails);
-            references =
-                λ rule fails. passes_targets entries p.spec quiet p.context p.declared p.is_attribute head
-                rule (subst (λ (y : ℕ × Datum). FailsByTarget entries head y.0 y.1 rule) (sym p.is_item)
-                fails);
-          };
-          is_kept =
-              kept_same before passed.found.0 (target_by entries head passed.found.1)
-              (λ same. other_code p.spec.attribute DW_AT_type (leads p.spec quiet).no_type (code ∙ same));
-        };
-      }
+  -- a value that is judged by all rules
+  pub judged_keeps : (it_leads : Led) (item : ℕ × Datum) (result : Result (Option (Option ℕ)) PlainFault)
+      → item ≡ item_of it_leads → IfOk result (KeepsAt it id item.0 item.1 before)
+      → IfOk result (KeepsAt it id (item_of it_leads).0 (item_of it_leads).1 before)
+  judged_keeps it_leads item result same =
+      subst (λ (x : ℕ × Datum). IfOk result (KeepsAt it id item.0 item.1 before)
+      → IfOk result (KeepsAt it id x.0 x.1 before)) same (λ k. k)
+
+  pub judged_fails : (it_leads : Led) (item : ℕ × Datum) (result : Result (Option (Option ℕ)) PlainFault)
+      → item ≡ item_of it_leads → IfErr result (HasFailedAt it id item.0 item.1)
+      → IfErr result (HasFailedAt it id (item_of it_leads).0 (item_of it_leads).1)
+  judged_fails it_leads item result same =
+      subst (λ (x : ℕ × Datum). IfErr result (HasFailedAt it id item.0 item.1)
+      → IfErr result (HasFailedAt it id x.0 x.1)) same (λ k. k)

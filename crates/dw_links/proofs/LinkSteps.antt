@@ -12,7 +12,7 @@ use Rattle.dw_entries.specs.declared.entries.Entries.{Entries}
 use Rattle.dw_entries.specs.declared.fault.PlainFault.{PlainFault}
 use Rattle.dw_entries.specs.Leading.{DoesNotLead}
 use Rattle.dw_entries.specs.Lookups.{entry_head, value_in}
-use Rattle.dw_links.specs.EntryLinks.{kept_after, LinksNext, HasFailedNext, IsEntryLinked, IsFirstAtEntry}
+use Rattle.dw_links.specs.EntryLinks.{kept_after, Keeps, HasFailedAs, IsEntryLinked, IsFirstAtEntry}
 use Rattle.dw_links.specs.UnitAtHand.{FailsByText, FailsByTarget, target_by}
 use Rattle.dw_links.specs.Targets.{target_of}
 use Rattle.dw_links.proofs.ClassLemmas.{leads, passes_texts, passes_targets}
@@ -109,29 +109,30 @@ module _ (entries : Entries) (e : Entry) (left : List (ℕ × Datum)) where
     is_target = is ∙ keeps_all (target_by entries (entry_head e)) (values_of e.head) left kept s.keeps passed;
   }
 
-  module _ (kept : Option (Option ℕ)) (s : SoFar entries e left kept) where
-    -- one attribute more
-    pub more_so_far : (behind : List (ℕ × Datum)) (after : Option (Option ℕ))
-        → LinksNext entries left behind kept after (entry_head e) → SoFar entries e behind after
-    more_so_far behind after n = record {
+  -- one attribute more
+  module _ (kept : Option (Option ℕ)) (s : SoFar entries e left kept) (item : ℕ × Datum) (behind : List (ℕ × Datum))
+      (next : IsNextOf DoesNotLead left item behind) where
+    pub more_so_far : (after : Option (Option ℕ)) → Keeps entries item.0 item.1 kept after (entry_head e)
+        → SoFar entries e behind after
+    more_so_far after k = record {
       strings =
-          checked_more (FailsByText entries) DoesNotLead (passes_texts entries) e left behind n.attribute n.value
-          s.strings n.next (entry_head e) refl n.keeps.passes.strings;
+          checked_more (FailsByText entries) DoesNotLead (passes_texts entries) e left behind item.0 item.1
+          s.strings next (entry_head e) refl k.passes.strings;
       references =
-          checked_more (FailsByTarget entries) DoesNotLead (passes_targets entries) e left behind n.attribute n.value
-          s.references n.next (entry_head e) refl n.keeps.passes.references;
+          checked_more (FailsByTarget entries) DoesNotLead (passes_targets entries) e left behind item.0 item.1
+          s.references next (entry_head e) refl k.passes.references;
       keeps =
-          rw n.keeps.is_kept (keeps_more (target_by entries (entry_head e)) (values_of e.head) left behind kept
-          n.attribute n.value s.keeps n.next);
+          rw k.is_kept (keeps_more (target_by entries (entry_head e)) (values_of e.head) left behind kept
+          item.0 item.1 s.keeps next);
     }
 
     -- where a rule fails, that is the first failure of its group
-    pub fails_so_far : (broken : PlainFault) → HasFailedNext entries left broken (entry_head e)
+    pub fails_so_far : (broken : PlainFault) → HasFailedAs entries (entry_head e) item.0 item.1 broken
         → IsFirstAtEntry entries e broken
-    fails_so_far broken n =
-        elim n.fails [
-          | inl f ↦ inl (checked_fails (FailsByText entries) DoesNotLead (passes_texts entries) e left n.behind
-              n.attribute n.value s.strings n.next (entry_head e) refl f.rule broken f.least f.named)
-          | inr f ↦ inr (checked_fails (FailsByTarget entries) DoesNotLead (passes_targets entries) e left n.behind
-              n.attribute n.value s.references n.next (entry_head e) refl f.rule broken f.least f.named)
+    fails_so_far broken fails =
+        elim fails [
+          | inl f ↦ inl (checked_fails (FailsByText entries) DoesNotLead (passes_texts entries) e left behind
+              item.0 item.1 s.strings next (entry_head e) refl f.rule broken f.least f.named)
+          | inr f ↦ inr (checked_fails (FailsByTarget entries) DoesNotLead (passes_targets entries) e left behind
+              item.0 item.1 s.references next (entry_head e) refl f.rule broken f.least f.named)
         ]

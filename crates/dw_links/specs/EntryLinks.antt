@@ -8,10 +8,8 @@ use Rattle.dw_entries.specs.declared.fault.Section.TheVariants.{Info}
 use Rattle.dw_entries.specs.declared.entry.EntryHead.{EntryHead}
 use Rattle.dw_forms.specs.declared.rule.Rule.{Rule}
 use Rattle.dw_entries.specs.declared.entries.Entries.{Entries}
-use Rattle.dw_entries.specs.PassedAttributes.{IsNextOf}
 use Rattle.dw_entries.specs.Entries.{Entry}
 use Rattle.dw_entries.specs.Failures.{HasNone, IsFirst, IsLeast}
-use Rattle.dw_entries.specs.Leading.{DoesNotLead}
 use Rattle.dw_entries.specs.Lookups.{entry_head}
 use Rattle.dw_entries.specs.Units.{DebugUnit}
 use Rattle.dw_entries.specs.Views.{sections_of, all_entries, all_units, units_of}
@@ -58,23 +56,6 @@ pub record Keeps (entries : Entries) (attribute : ℕ) (value : Datum) (before a
   pub passes : PassesAs entries head attribute value
   pub is_kept : after ≡ kept_after before attribute (target_by entries head value)
 
--- no rule fails at the next attribute, and those after it are left
-pub record LinksNext (entries : Entries) (left behind : List (ℕ × Datum)) (before after : Option (Option ℕ))
-    (head : EntryHead) : Type 0 where
-  pub attribute : ℕ
-  pub value : Datum
-  pub next : IsNextOf DoesNotLead left (attribute, value) behind
-  pub keeps : Keeps entries attribute value before after head
-
--- a rule fails at the next attribute
-pub record HasFailedNext (entries : Entries) (left : List (ℕ × Datum)) (broken : PlainFault) (head : EntryHead)
-    : Type 0 where
-  pub attribute : ℕ
-  pub value : Datum
-  pub behind : List (ℕ × Datum)
-  pub next : IsNextOf DoesNotLead left (attribute, value) behind
-  pub fails : HasFailedAs entries head attribute value broken
-
 -- ---- the same, of an entry by its number
 
 -- this is so of what is told of the entry
@@ -93,15 +74,6 @@ HasFailedAt it id attribute value broken =
 -- no rule fails at its attribute, and this is kept
 abbrev pub KeepsAt : UnitLinks → (id attribute : ℕ) → Datum → (before after : Option (Option ℕ)) → Type 0
 KeepsAt it id attribute value before after = OfEntry it id (Keeps (entries_followed it) attribute value before after)
-
--- no rule fails at its next attribute, and this is kept
-abbrev pub LinksAt : UnitLinks → (id : ℕ) → (left behind : List (ℕ × Datum)) → (before after : Option (Option ℕ))
-    → Type 0
-LinksAt it id left behind before after = OfEntry it id (LinksNext (entries_followed it) left behind before after)
-
--- a rule fails at its next attribute
-abbrev pub FailsNextAt : UnitLinks → (id : ℕ) → (left : List (ℕ × Datum)) → PlainFault → Type 0
-FailsNextAt it id left broken = OfEntry it id (HasFailedNext (entries_followed it) left broken)
 
 -- no rule fails at an entry, and its type has this target
 pub record IsEntryLinked (entries : Entries) (e : Entry) (target : Option ℕ) : Type 0 where

@@ -1,21 +1,22 @@
 -- State: the rules among all entries, and what must be known of the unit at hand while values are followed.
-use Rattle.std.specs.Prelude.{◌≡◌, ◌≢◌, ◌<◌, ◌≤◌, ℕ, Bool, true, false, Option, Some, length}
+use Rattle.std.specs.Prelude.{◌≡◌, ◌≢◌, ◌<◌, ◌≤◌, ℕ, true, Option, None, Some, length}
 use Rattle.dw_forms.specs.Codes.{is_type_tag}
-use Rattle.dw_forms.specs.declared.attribute_lists.Lead.{Lead}
-use Rattle.dw_forms.specs.declared.attribute_lists.Lead.TheVariants as lead
 use Rattle.dw_forms.specs.Value.{Datum}
 use Rattle.dw_entries.specs.declared.entries.Entries.{Entries}
 use Rattle.dw_entries.specs.declared.entry.EntryHead.{EntryHead}
+use Rattle.dw_entries.specs.declared.led.Led.{Led}
+use Rattle.dw_entries.specs.declared.led.Led.TheVariants as led
 use Rattle.dw_entries.specs.Cursors.{HasEntries}
 use Rattle.dw_entries.specs.Entries.{Entry}
 use Rattle.dw_entries.specs.ByNumber.{entry_of}
+use Rattle.dw_entries.specs.Failures.{IsLeast}
 use Rattle.dw_entries.specs.Views.{sections_of, all_entries, all_units}
 use Rattle.dw_links.specs.declared.references.UnitLinks.{UnitLinks}
 use Rattle.dw_links.specs.RulesOfAttributes.{Rules}
 use Rattle.dw_links.specs.UnitContributions.{AreContributions}
 use Rattle.dw_links.specs.References.{ReferenceFails, is_declared}
 use Rattle.dw_links.specs.SignedTypes.{HasSignedTypes, AreTyped}
-use Rattle.dw_links.specs.Strings.{StringFails}
+use Rattle.dw_links.specs.Strings.{AddressIndexFails, OffsetFails, StringFails, StringIndexFails}
 use Rattle.dw_links.specs.Targets.{reach_in_unit, reach_of}
 
 -- the rules on strings and addresses
@@ -63,12 +64,6 @@ pub record MayLink (it : UnitLinks) (id : ℕ) : Type 0 where
   pub linkable : IsLinkable it
   pub in_unit : (entry_with it id).unit ≡ it.texts.unit
 
--- the lead is that of a string by its index, of one byte or of two
-abbrev pub is_index_lead : Lead → Bool
-is_index_lead lead.Index1 = true
-is_index_lead lead.Index2 = true
-is_index_lead _ = false
-
 -- ---- the entry of the unit at hand that starts so many bytes after the unit's header
 
 -- it is this type
@@ -89,9 +84,15 @@ pub record IsDeclaredAfter (it : UnitLinks) (id offset : ℕ) : Type 0 where
   pub other : target ≢ id
   pub declared : is_declared (entry_with it target) ≡ true
 
--- no rule fails at the reference to it, if that has this lead
-abbrev pub LeadsWell : UnitLinks → (id offset : ℕ) → Lead → Type 0
-LeadsWell it id offset lead.Sibling = IsSiblingAfter it id offset
-LeadsWell it id offset lead.Specification = IsDeclaredAfter it id offset
-LeadsWell it id offset lead.Entry = (target : ℕ) × (entry_after it offset ≡ Some target)
-LeadsWell it id offset _ = ⊥
+-- ---- what a value leads to
+
+-- no rule fails at a value that leads there
+abbrev pub LeadsWell : UnitLinks → (id : ℕ) → Led → Type 0
+LeadsWell it id (led.Sibling offset) = IsSiblingAfter it id offset
+LeadsWell it id (led.Specification offset) = IsDeclaredAfter it id offset
+LeadsWell it id (led.Entry attribute offset) = (target : ℕ) × (entry_after it offset ≡ Some target)
+LeadsWell it id (led.Text attribute offset) = IsLeast (OffsetFails it.texts.sections.str.now offset) None
+LeadsWell it id (led.Index attribute index) = IsLeast (StringIndexFails it.texts.sections it.texts.str_base index) None
+LeadsWell it id (led.Address attribute index) =
+    IsLeast (AddressIndexFails it.texts.sections it.texts.head.header it.texts.addr_base index) None
+LeadsWell it id _ = ⊥

@@ -20,7 +20,7 @@ use crate::strings::check_strings;
 use crate::tables::LinkTables;
 use dw_entries::constants::*;
 use dw_entries::{Entries, EntryId, Fault, Hints, OptionalId, PlainFault, Stop, UnitHeader};
-use dw_forms::{Attribute, Lead};
+use dw_forms::Attribute;
 use std::alloc::Global;
 use std::collections::BTreeMap;
 
@@ -70,15 +70,11 @@ impl UnitLinks<'_, '_, '_> {
         let entry = self.entry(id, header);
         let mut leading = entry.leading();
         let mut kept = None;
-        'values: loop {
-            match leading.lead() {
-                Lead::Nothing => return Ok(kept.unwrap_or(OptionalId::none())),
-                _ => {
-                    let after = self.link_next(known, id, &mut leading, kept)?;
-                    kept = after;
-                }
-            }
+        while let Some(led) = leading.take() {
+            let after = self.link_led(known, id, &led, kept)?;
+            kept = after;
         }
+        Ok(kept.unwrap_or(OptionalId::none()))
     }
 }
 

@@ -196,8 +196,8 @@ fn check_entry(texts: &UnitContributions<'_>, entry: &EntryAt<'_, '_>) -> Result
 {
     let head = entry.head();
     let mut leading = entry.leading();
-    while let Some(form) = leading.form() {
-        let item = leading.next_in(form);
+    while let Some(led) = leading.take() {
+        let item = led.item();
         if let Some(rule) = texts.ask(&head, item.0, &item.1) {
             return Err(plain_fault_at(&head, item.0, rule));
         }

@@ -89,8 +89,8 @@ fn place_of_value(
 {
     match value {
         Value::Text(bytes) => {
-            let offset = entries.text_start(id, attribute, bytes);
-            Some(TextPlace::Info(offset))
+            let end = entries.end_of(id, attribute)?;
+            Some(TextPlace::Info(end - (bytes.len() + 1)))
         }
         Value::Str(offset) => Some(TextPlace::Str(offset as usize)),
         Value::LineStr(offset) => Some(TextPlace::LineStr(offset as usize)),

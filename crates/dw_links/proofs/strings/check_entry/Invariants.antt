@@ -8,10 +8,10 @@ use Rattle.dw_links.specs.UnitContributions.{AreContributionsAt}
 use Rattle.dw_links.proofs.RuleSteps.{Checked}
 use Rattle.dw_links.proofs.strings.check_entry.Given as goal
 
-abbrev pub invariant-loop-form : goal.invariant-loop-form
-invariant-loop-form l =
+abbrev pub invariant-loop-led : goal.invariant-loop-led
+invariant-loop-led l =
     (entries : Entries) → AreContributionsAt entries l.texts l.entry
     → Checked (FailsByText entries) (entry_head l.entry) (values_of l.entry.head) (leading_left l.leading)
 
-abbrev pub decreases-loop-form : goal.decreases-loop-form
-decreases-loop-form l = length (leading_left l.leading)
+abbrev pub decreases-loop-led : goal.decreases-loop-led
+decreases-loop-led l = length (leading_left l.leading)

@@ -5,11 +5,11 @@ use Rattle.dw_links.specs.UnitAtHand.{entries_followed, entry_with}
 use Rattle.dw_links.proofs.LinkSteps.{SoFar}
 use Rattle.dw_links.proofs.references.UnitLinks.link_entry.Given as goal
 
-abbrev pub invariant-values : goal.invariant-values
-invariant-values l = record {
+abbrev pub invariant-loop-led : goal.invariant-loop-led
+invariant-loop-led l = record {
   so_far : SoFar (entries_followed l.self) (entry_with l.self l.id) (leading_left l.leading) l.kept;
   kept : KeepsDeclared (entries_followed l.self) l.known;
 }
 
-abbrev pub decreases-values : goal.decreases-values
-decreases-values l = length (leading_left l.leading)
+abbrev pub decreases-loop-led : goal.decreases-loop-led
+decreases-loop-led l = length (leading_left l.leading)

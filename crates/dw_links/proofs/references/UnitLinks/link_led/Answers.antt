@@ -1,0 +1,31 @@
+use Rattle.std.proofs.Common.{ap, ◌∙◌}
+use Rattle.dw_forms.specs.Codes.{DW_AT_type}
+use Rattle.dw_links.specs.EntryLinks.{kept_after}
+use Rattle.dw_links.proofs.GuessLemmas.{after_within}
+use Rattle.dw_links.proofs.LeadSteps.{well_keeps, type_led, judged_keeps, judged_fails}
+use Rattle.dw_links.proofs.references.UnitLinks.link_led.Goals as goal
+
+pub number_of-target-requires : goal.number_of-target-requires
+number_of-target-requires c =
+    after_within c.args.self.now c.in-Type.offset c.in-Some.target c.in-Some.ensures.reaches
+
+pub returns-in-Some-clause-ok : goal.returns-in-Some-clause-ok
+returns-in-Some-clause-ok c =
+    type_led c.args.self.now c.args.id c.requires.may c.args.kept c.args.led.now c.in-Type.offset c.in-Some.target
+    c.keep.result c.in-Type.is c.in-Some.ensures
+    (c.keep.ensures ∙ ap (kept_after c.args.kept DW_AT_type) c.number_of-target.ensures)
+
+pub returns-then-leads_well-clause-ok : goal.returns-then-leads_well-clause-ok
+returns-then-leads_well-clause-ok c =
+    well_keeps c.args.self.now c.args.id c.requires.may c.args.kept c.args.led.now c.requires.led.0 c.requires.led.1
+    c.if-leads_well.ensures
+
+pub returns-clause-ok : goal.returns-clause-ok
+returns-clause-ok c =
+    judged_keeps c.args.self.now c.args.id c.requires.may c.args.kept c.args.led.now _ c.judge_next.result
+    c.item-attribute.ensures c.judge_next.ensures.ok
+
+pub returns-clause-err : goal.returns-clause-err
+returns-clause-err c =
+    judged_fails c.args.self.now c.args.id c.requires.may c.args.kept c.args.led.now _ c.judge_next.result
+    c.item-attribute.ensures c.judge_next.ensures.err
