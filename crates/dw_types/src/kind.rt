@@ -3,7 +3,8 @@
 ghost use Rattle.std.specs.Prelude.{◌≡◌};
 ghost use Rattle.dw_links.specs.Classes.{is_one_of};
 ghost use Rattle.dw_links.specs.References.{is_declared};
-ghost use Rattle.dw_types.specs.Kinds.{container_tags, has_members, is_array, is_declared_type, is_enumeration, is_subrange};
+ghost use Rattle.dw_types.specs.Kinds.{container_tags, has_members, is_array, is_declared_type};
+ghost use Rattle.dw_types.specs.Kinds.{is_enumeration, is_subrange};
 ghost use Rattle.dw_types.specs.Kinds.{kind_of, passes_type_on};
 
 use dw_entries::constants::*;

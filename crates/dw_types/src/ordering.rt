@@ -57,8 +57,8 @@ pub fn order<G: StepGraph>(alloc: Global, graph: &G) -> Result<Order, OrderFault
 
 /// The nodes of a graph that reach no cycle, by rising rank: each after those that its steps lead to. This is the walk
 /// of `order`, which goes on past each cycle.
-pub fn clear_nodes<G: StepGraph>(alloc: Global, graph: &G) -> Result<Order, AllocError>
-    ensures { IfOk result (λ clear. AreClear (G.graph graph.now) clear.by_rank) }
+pub fn clear_nodes<G: StepGraph>(alloc: Global, graph: &G) -> Result<Numbers, AllocError>
+    ensures { IfOk result (AreClear (G.graph graph.now)) }
 {
     let nodes = graph.nodes();
     let mut walk = Walk::new(alloc, nodes)?;
@@ -69,21 +69,21 @@ pub fn clear_nodes<G: StepGraph>(alloc: Global, graph: &G) -> Result<Order, Allo
             }
         }
     }
-    Ok(walk.into_order())
+    Ok(walk.into_ranked())
 }
 
 /// How many steps the longest row from each clear node has. Each clear node comes after those that its steps lead to.
 pub fn longest_rows<G: StepGraph>(
     alloc: Global,
     graph: &G,
-    clear: &Order,
+    clear: &Numbers,
 ) -> Result<Numbers, AllocError>
-    requires { AreClear (G.graph graph.now) clear.now.by_rank }
-    ensures { IfOk result (λ counts. AreLongest (G.graph graph.now) clear.now.by_rank (slice_index counts)) }
+    requires { AreClear (G.graph graph.now) clear.now }
+    ensures { IfOk result (λ counts. AreLongest (G.graph graph.now) clear.now (slice_index counts)) }
 {
     let mut counts = Numbers::zeros(alloc, graph.nodes())?;
-    for rank in 0..clear.count() {
-        let node = clear.node(rank);
+    for rank in 0..clear.len() {
+        let node = clear.get(rank);
         let most = one_above(graph, &counts, node);
         counts.set(alloc, node, most)?;
     }

@@ -158,6 +158,13 @@ impl Walk {
         self.gave_up = true;
     }
 
+    /// The nodes that have a rank, in the order of their ranks.
+    pub(crate) fn into_ranked(self) -> Numbers
+        ensures { result ≡ self.by_rank }
+    {
+        self.by_rank
+    }
+
     /// The ranks and the turns of a walk.
     pub(crate) fn into_order(self) -> Order
         ensures { result ≡ record { ranks = self.ranks; by_rank = self.by_rank; turns = self.turns } }

@@ -44,5 +44,5 @@ returns g c =
     let over = rw c.nodes-nodes.ensures at c.loop-start-test.false in
     let it = c.loop-start.walk in
     let h = c.loop-start.invariant.0 in
-    rw c.into_order.ensures (clear-at_end (g.G.StepGraph.graph c.args.graph.now) (counted it h.next) h.walk
+    rw c.into_ranked.ensures (clear-at_end (g.G.StepGraph.graph c.args.graph.now) (counted it h.next) h.walk
     c.loop-start.invariant.1 (λ node below. c.loop-start.invariant.2 node (omega arith)))

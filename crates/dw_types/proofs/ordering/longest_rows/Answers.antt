@@ -23,9 +23,9 @@ one_above-most-requires-clause-fits g c =
     λ k within.
     omega (
       arith,
-      c.loop-rank.invariant.2 (step_at (g.G.StepGraph.graph c.args.graph.now) c.node-node.result k),
+      c.loop-rank.invariant.2 (step_at (g.G.StepGraph.graph c.args.graph.now) c.get-node.result k),
       c.loop-rank-test.true,
-      c.count-rank-end.type_inv,
+      c.len-rank-end.type_inv,
     )
 
 pub set-requires : goal.set-requires
@@ -34,14 +34,14 @@ set-requires g c = search (rules)
 pub loop-rank-preserved : goal.loop-rank-preserved
 loop-rank-preserved g c =
     let graph = g.G.StepGraph.graph c.args.graph.now in
-    let clear = c.args.clear.now.by_rank in
+    let clear = c.args.clear.now in
     let counts = c.loop-rank.counts in
     let rank = c.loop-rank.rank in
     let count = c.one_above-most.result in
-    let below : rank < length clear = rw (← c.count-rank-end.ensures) c.loop-rank-test.true in
-    let above : IsOneMore graph counts (get_or clear rank 0) count = rw c.node-node.ensures at c.one_above-most.ensures
+    let below : rank < length clear = rw (← c.len-rank-end.ensures) c.loop-rank-test.true in
+    let above : IsOneMore graph counts (get_or clear rank 0) count = rw c.get-node.ensures at c.one_above-most.ensures
     in
-    rw (c.in_ok-set.ensures, c.node-node.ensures) (
+    rw (c.in_ok-set.ensures, c.get-node.ensures) (
       length-set counts (get_or clear rank 0) count ∙ c.loop-rank.invariant.0,
       known-more graph clear c.requires counts rank count c.loop-rank.invariant.0 below c.loop-rank.invariant.1 above,
       few-more graph clear c.requires counts rank count c.loop-rank.invariant.0 below c.loop-rank.invariant.2 above,
@@ -50,6 +50,6 @@ loop-rank-preserved g c =
 pub returns : goal.returns
 returns g c =
     let graph = g.G.StepGraph.graph c.args.graph.now in
-    let over : length c.args.clear.now.by_rank
-    ≤ c.loop-rank.rank = rw (← c.count-rank-end.ensures) c.loop-rank-test.false in
-    known-all graph c.args.clear.now.by_rank c.requires c.loop-rank.counts c.loop-rank.rank over c.loop-rank.invariant.1
+    let over : length c.args.clear.now
+    ≤ c.loop-rank.rank = rw (← c.len-rank-end.ensures) c.loop-rank-test.false in
+    known-all graph c.args.clear.now c.requires c.loop-rank.counts c.loop-rank.rank over c.loop-rank.invariant.1
