@@ -1,5 +1,6 @@
 pub mod MeasureLemmas
 pub mod HeadlineLemmas
+pub mod RulesByNumber
 pub mod RuleLemmas
 pub mod GroupLemmas
 pub mod OneFirst
@@ -7,3 +8,5 @@ pub mod JoinLemmas
 pub mod LookupLemmas
 pub mod LinkedLemmas
 pub mod FrontLemmas
+pub mod SpanLemmas
+pub mod UnitLemmas

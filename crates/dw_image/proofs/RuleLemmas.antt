@@ -1,32 +1,9 @@
 -- A rule is told by its group and its number, in all groups but the first.
 use Rattle.std.proofs.Common.{rules, ◌≡◌, ℕ, ◌==◌, refl, sym, ap, ◌∙◌, if◌then◌else◌}
 use Rattle.dw_forms.specs.declared.rule.Rule.{Rule}
-use Rattle.dw_forms.specs.declared.rule.Rule.TheVariants.{WrongClass, BadStrBase, StrIndex, StringEnd, BadAddrBase, AddrIndex, NoEntry, WrongKind, NotNextSibling, NoSignature, SignatureTwice, BadTypeOffset, MissingType, BadCount, ContainsItself, NoSize, SizeTooGreat, MemberOutside, EnumSize}
+use Rattle.dw_forms.specs.declared.rule.Rule.TheVariants.{WrongClass, ContainsItself}
 use Rattle.dw_forms.specs.Rules.{group_of, number_of}
-
-abbrev string_rule : ℕ → Rule
-string_rule number =
-    if number == 1 then BadStrBase else
-    (if number == 2 then StrIndex else
-    (if number == 3 then StringEnd else
-    (if number == 4 then BadAddrBase else AddrIndex)))
-
-abbrev reference_rule : ℕ → Rule
-reference_rule number =
-    if number == 1 then NoEntry else
-    (if number == 2 then WrongKind else
-    (if number == 3 then NotNextSibling else
-    (if number == 4 then NoSignature else
-    (if number == 5 then SignatureTwice else BadTypeOffset))))
-
-abbrev type_rule : ℕ → Rule
-type_rule number = if number == 1 then MissingType else BadCount
-
-abbrev size_rule : ℕ → Rule
-size_rule number =
-    if number == 1 then NoSize else
-    (if number == 2 then SizeTooGreat else
-    (if number == 3 then MemberOutside else EnumSize))
+use Rattle.dw_image.proofs.RulesByNumber.{string_rule, reference_rule, type_rule, size_rule}
 
 abbrev rule_at : (group number : ℕ) → Rule
 rule_at group number =

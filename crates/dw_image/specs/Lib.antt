@@ -11,3 +11,5 @@ pub use Rattle.dw_links.specs.Slots
 pub use Rattle.dw_links.specs.ValueTexts
 -- State.
 pub mod StepsAndSizes
+pub mod StringSpans
+pub mod UnitsAtHand

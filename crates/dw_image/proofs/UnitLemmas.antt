@@ -1,0 +1,213 @@
+-- What the values of the unit at hand refer to.
+use Rattle.std.proofs.Common.{◌≡◌, ℕ, ◌+◌, ◌*◌, ◌<◌, ◌≤◌, Bool, true, false, length, Option, Some, None, IfNone, inl, inr, refl, sym, ap, subst, ◌∙◌, arith}
+use Rattle.std.specs.Prelude.{slice_get}
+use Rattle.std.proofs.lemmas.Option.{slice_get-get_or}
+use Rattle.dw_elf.specs.declared.sections.Sections.{Sections}
+use Rattle.dw_forms.specs.Codes.{DW_AT_str_offsets_base, DW_AT_addr_base}
+use Rattle.dw_forms.specs.Value.{Datum, str, line_str, str_index, ref_info, ref_unit, ref_sig, addr_index}
+use Rattle.dw_forms.specs.declared.rule.Rule.{Rule}
+use Rattle.dw_forms.specs.declared.rule.Rule.TheVariants.{NoEntry, NoSignature}
+use Rattle.dw_entries.specs.declared.entries.Entries.{Entries}
+use Rattle.dw_entries.specs.declared.header.UnitHeader.{UnitHeader}
+use Rattle.dw_entries.specs.declared.units.UnitHead.{UnitHead}
+use Rattle.dw_entries.specs.EntryRules.{OffsetsRise}
+use Rattle.dw_entries.specs.Entries.{Entry, placed}
+use Rattle.dw_entries.specs.ByNumber.{no_entry, end_in, entry_of, placed_of}
+use Rattle.dw_entries.specs.Failures.{HasNone}
+use Rattle.dw_entries.specs.Header.{IsSize}
+use Rattle.dw_entries.specs.Lookups.{entry_head, unit_head}
+use Rattle.dw_entries.specs.Places.{at_attribute}
+use Rattle.dw_entries.specs.Views.{all_entries, all_units}
+use Rattle.dw_entries.proofs.EntryFacts.{entries_rise, length-placed_from}
+use Rattle.dw_entries.proofs.UnitRanges.{unit_in_range}
+use Rattle.dw_links.specs.Bases.{base_in}
+use Rattle.dw_links.specs.Contributions.{slot_at}
+use Rattle.dw_links.specs.LinkLaws.{HasAddressAt, HasStringAt, HasItsText}
+use Rattle.dw_links.specs.References.{ReferenceFails, ReferenceFailures, is_reference_value}
+use Rattle.dw_links.specs.Targets.{reach_in_unit, reach_of}
+use Rattle.dw_links.specs.ValueTexts.{address_of, text_of_value, text_place_of}
+use Rattle.dw_links.specs.declared.texts.TextPlace.TheVariants.{Str, LineStr}
+use Rattle.dw_links.proofs.ClassLemmas.{unit_there}
+use Rattle.dw_links.proofs.SlotLemmas.{slot_within}
+use Rattle.dw_links.proofs.TableLemmas.{sized}
+use Rattle.dw_links.proofs.TargetLemmas.{reach_in_unit_is, type_is}
+use Rattle.dw_image.specs.declared.image.Image.{Image}
+use Rattle.dw_image.specs.Images.{entries_in, sections_in, unit_count, units_in}
+use Rattle.dw_image.proofs.JoinLemmas.{sound_image}
+use Rattle.dw_image.specs.declared.unit_at_hand.UnitAtHand.{UnitAtHand}
+use Rattle.dw_image.specs.UnitsAtHand.{HasValue, IsAtHand, IsStringOf, is_address, is_string, place_at}
+
+-- what is told of a unit is what is known of it at hand
+pub unit_told : (i : Image) (es : Entries) (number : ℕ) (head : UnitHead) (strings addresses : Option ℕ)
+    → es ≡ i.entries → number < unit_count i
+    → head ≡ unit_head (placed_of (all_units es) number)
+    → strings ≡ base_in (all_entries es) (placed_of (all_units es) number) DW_AT_str_offsets_base
+    → addresses ≡ base_in (all_entries es) (placed_of (all_units es) number) DW_AT_addr_base
+    → IsAtHand i (record {
+      number = number;
+      offset = head.offset;
+      header = head.header;
+      str_base = strings;
+      addr_base = addresses;
+    })
+unfolding units_in
+unit_told i es number head strings addresses same below told of_strings of_addresses =
+    let is_head = rw same at told in
+    record {
+      within = below;
+      offset = ap (λ (x : UnitHead). x.offset) is_head;
+      header = ap (λ (x : UnitHead). x.header) is_head;
+      str_base = rw same at of_strings;
+      addr_base = rw same at of_addresses;
+    }
+
+-- ---- targets
+
+none_is_no_some : {X : Type 0} {x : X} → ◌≡◌ {A = Option X} None (Some x) → ⊥
+none_is_no_some e = cc
+
+image_rise : (i : Image) → OffsetsRise (entries_in i)
+unfolding units_in
+image_rise i = entries_rise _ (units_in i) i.entries.scanned.1.spells.are
+
+none_fails : (i : Image) → HasNone (ReferenceFailures (units_in i))
+unfolding units_in
+none_fails i = i.references
+
+module _ (i : Image) (u : UnitAtHand) where
+  -- no rule fails at a reference
+  passes : (v : Datum) (x : HasValue i u v) (rule : Rule)
+      → ReferenceFails (entries_in i) (placed (units_in i)) (entry_head (entry_of (entries_in i) x.id)) x.attribute v
+      rule
+      → ⊥
+  passes v x rule fails =
+      let e = entry_of (entries_in i) x.id in
+      none_fails i (record { rule = rule; place = at_attribute e.at x.position; attribute = x.attribute })
+      (inr (record {
+        number = x.id;
+        item = e;
+        is_item = slice_get-get_or (entries_in i) x.id no_entry x.within;
+        fails = record { position = x.position; value = v; has = x.has; place = refl; fails = fails };
+      }))
+
+  -- so each has a target
+  no_target : (v : Datum) (x : HasValue i u v) → is_reference_value v ≡ true
+      → reach_of (entries_in i) (placed (units_in i)) (entry_of (entries_in i) x.id).unit v ≡ None → ⊥
+  no_target (ref_info offset) x is none = passes (ref_info offset) x NoEntry (refl, (refl, none))
+  no_target (ref_unit offset) x is none = passes (ref_unit offset) x NoEntry (refl, (refl, none))
+  no_target (ref_sig signature) x is none =
+      passes (ref_sig signature) x NoSignature (
+        refl,
+        λ number has.
+            let types = (sound_image i).sound.references.types in
+            let typed = types.types number signature has.type_offset has.unit has.is_unit has.signed in
+            let reached = type_is (entries_in i) (placed (units_in i)) signature typed.id (image_rise i)
+            types.distinct
+            (record { number = number; has = has; target = typed.is_type }) in
+            none_is_no_some (sym none ∙ reached),
+      )
+  no_target _ x is none = absurd cc
+
+  -- a value without a target is no reference
+  pub no_reference : (v : Datum) → HasValue i u v → (found : Option ℕ)
+      → found ≡ reach_of (entries_in i) (placed (units_in i)) u.number v → IfNone found (is_reference_value v ≡ false)
+  no_reference v x (Some id) is = tt
+  no_reference v x None is = by_test (is_reference_value v) refl
+    where
+      by_test : (b : Bool) → is_reference_value v ≡ b → is_reference_value v ≡ false
+      by_test false is_not = is_not
+      by_test true is_one =
+          absurd (no_target v x is_one
+          (ap (λ (unit : ℕ). reach_of (entries_in i) (placed (units_in i)) unit v) x.in_unit ∙ sym is))
+
+module _ (i : Image) (u : UnitAtHand) (hand : IsAtHand i u) where
+  -- the entry of the unit at an offset of .debug_info, by the numbers of the unit's entries
+  pub ranged : (offset at id told first end : ℕ)
+      → id < length (entries_in i) → at ≡ offset + u.offset → told ≡ at → told ≡ (entry_of (entries_in i) id).at
+      → first ≡ (place_at i u).first → end ≡ end_in (placed (units_in i)) u.number → first ≤ id → id < end
+      → reach_in_unit (entries_in i) (placed (units_in i)) u.number offset ≡ Some id
+  ranged offset at id told first end within at_is same begins of_first of_end low high =
+      let number = unit_in_range (units_in i) u.number (place_at i u) id (entry_of (entries_in i) id)
+      (unit_there (units_in i) u.number hand.within)
+      (slice_get-get_or (entries_in i) id no_entry within) (omega (arith, of_first, low)) (omega (arith, of_end, high))
+      in
+      reach_in_unit_is (entries_in i) (placed (units_in i)) u.number offset id (image_rise i)
+      (record {
+        unit_within = omega (arith, hand.within, length-placed_from 0 0 (units_in i));
+        target =
+            record {
+              within = within;
+              begins = omega (arith, begins, same, at_is, hand.offset);
+              in_unit = number;
+            };
+      })
+
+  -- ---- strings and addresses
+
+  its_text : (v : Datum) → HasValue i u v → HasItsText (sections_in i) (entries_in i) (place_at i u) v
+  its_text v x =
+      (sound_image i).sound.texts x.id (entry_of (entries_in i) x.id)
+      (slice_get-get_or (entries_in i) x.id no_entry x.within) x.position x.attribute v x.has (place_at i u)
+      (ap (slice_get (placed (units_in i))) x.in_unit ∙ unit_there (units_in i) u.number hand.within)
+
+  pub str_is : (offset : ℕ) → HasValue i u (str offset)
+      → IsStringOf (sections_in i) u.str_base (str offset) (Str offset)
+  str_is offset x = record { place = λ end. refl; text = refl; begins = its_text (str offset) x }
+
+  pub line_str_is : (offset : ℕ) → HasValue i u (line_str offset)
+      → IsStringOf (sections_in i) u.str_base (line_str offset) (LineStr offset)
+  line_str_is offset x = record { place = λ end. refl; text = refl; begins = its_text (line_str offset) x }
+
+  string_here : (index : ℕ) → HasValue i u (str_index index) → HasStringAt (sections_in i) u.str_base index
+  string_here index x =
+      subst (λ (b : Option ℕ). HasStringAt (sections_in i) b index) (sym hand.str_base) (its_text (str_index index) x)
+
+  pub string_based : (index : ℕ) → HasValue i u (str_index index) → u.str_base ≡ None → ⊥
+  string_based index x none =
+      subst (λ (b : Option ℕ). HasStringAt (sections_in i) b index) none (string_here index x)
+
+  pub string_slot : (index b : ℕ) → HasValue i u (str_index index) → u.str_base ≡ Some b
+      → b + 4 * index + 4 ≤ length (sections_in i).str_offsets.now
+  string_slot index b x is =
+      let has = subst (λ (o : Option ℕ). HasStringAt (sections_in i) o index) is (string_here index x) in
+      slot_within (sections_in i).str_offsets.now 4 0 b index (inl refl) has.0 has.1
+
+  pub index_is : (index b n : ℕ) → HasValue i u (str_index index) → u.str_base ≡ Some b
+      → n ≡ slot_at (sections_in i).str_offsets.now 4 b index
+      → IsStringOf (sections_in i) u.str_base (str_index index) (Str n)
+  index_is index b n x is told =
+      let has = subst (λ (o : Option ℕ). HasStringAt (sections_in i) o index) is (string_here index x) in
+      subst (λ (o : Option ℕ). IsStringOf (sections_in i) o (str_index index) (Str n)) (sym is)
+      (subst (λ (m : ℕ). IsStringOf (sections_in i) (Some b) (str_index index) (Str m)) (sym told)
+      (record { place = λ end. refl; text = refl; begins = has.2 }))
+
+  address_here : (index : ℕ) → HasValue i u (addr_index index)
+      → HasAddressAt (sections_in i) u.header u.addr_base index
+  address_here index x =
+      subst (λ (b : Option ℕ). HasAddressAt (sections_in i) u.header b index) (sym hand.addr_base)
+      (subst (λ (h : UnitHeader). HasAddressAt (sections_in i) h (base_in (entries_in i) (place_at i u) DW_AT_addr_base)
+      index) (sym hand.header)
+      (its_text (addr_index index) x))
+
+  -- the unit's addresses have 4 or 8 bytes
+  unit_sized : IsSize u.header.address_size
+  unit_sized =
+      subst (λ (h : UnitHeader). IsSize h.address_size) (sym hand.header)
+      (sized _ _ (units_in i) u.number (place_at i u) (sound_image i).sound.trees.spelled.spells hand.within
+      (unit_there (units_in i) u.number hand.within))
+
+  pub size_some : 1 ≤ u.header.address_size
+  size_some = elim unit_sized [ inl four ↦ omega (arith, four) | inr eight ↦ omega (arith, eight) ]
+
+  pub size_few : u.header.address_size ≤ 8
+  size_few = elim unit_sized [ inl four ↦ omega (arith, four) | inr eight ↦ omega (arith, eight) ]
+
+  pub address_based : (index : ℕ) → HasValue i u (addr_index index) → u.addr_base ≡ None → ⊥
+  address_based index x none =
+      subst (λ (b : Option ℕ). HasAddressAt (sections_in i) u.header b index) none (address_here index x)
+
+  pub address_slot : (index b : ℕ) → HasValue i u (addr_index index) → u.addr_base ≡ Some b
+      → b + u.header.address_size * index + u.header.address_size ≤ length (sections_in i).addr.now
+  address_slot index b x is =
+      let has = subst (λ (o : Option ℕ). HasAddressAt (sections_in i) u.header o index) is (address_here index x) in
+      slot_within (sections_in i).addr.now u.header.address_size u.header.address_size b index unit_sized has.0 has.1

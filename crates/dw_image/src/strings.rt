@@ -1,0 +1,143 @@
+//! What is known of the strings that the entries of an image share. A string is not read again for each of its suffixes.
+
+ghost use Rattle.std.specs.Prelude.{◌≡◌, ◌≤◌, length, drop, IfOk};
+ghost use Rattle.std.specs.List.{list_all};
+ghost use Rattle.dw_links.specs.Contributions.{string_at};
+ghost use Rattle.dw_links.specs.Slots.{IsTextPlace};
+ghost use Rattle.dw_links.specs.ValueTexts.{text_there};
+ghost use Rattle.dw_image.specs.Images.{sections_in};
+ghost use Rattle.dw_image.specs.StringSpans.{AreSpans, IsSpan, is_word_byte};
+
+use crate::image::Image;
+use dw_links::{TextPlace, string_from};
+use std::alloc::{AllocError, Global};
+
+/// How many bytes lie between two offsets whose strings are known. A string is read up to the next of them.
+const BLOCK: usize = 64;
+
+/// What is known of a string.
+#[derive(Clone, Copy, Debug)]
+pub struct StringSpan {
+    /// How many bytes it has, without its zero byte.
+    pub len: usize,
+    /// Whether all of them are letters, digits or underscores.
+    pub words: bool,
+}
+
+/// Whether all bytes are letters, digits or underscores.
+fn are_words(bytes: &[u8]) -> bool
+    ensures { result ≡ list_all is_word_byte bytes.now }
+{
+    let mut words = true;
+    // No byte ends the loop, so that several are looked at by one instruction.
+    for (k, b) in bytes.iter().enumerate() {
+        words = words & (b.is_ascii_alphanumeric() | (*b == b'_'));
+    }
+    words
+}
+
+/// What a string is that is read to its end.
+fn span_of(text: &[u8]) -> StringSpan
+    ensures { IsSpan text.now result }
+{
+    StringSpan {
+        len: text.len(),
+        words: are_words(text),
+    }
+}
+
+/// What the string at the front of some bytes is, by that at an offset: no byte after the offset is read.
+fn span_by(bytes: &[u8], offset: usize, next: StringSpan) -> StringSpan
+    requires within { offset ≤ length bytes.now }
+    requires next { IsSpan (string_at (drop offset bytes.now) 0) next }
+    ensures { IsSpan (string_at bytes.now 0) result }
+{
+    let (before, _) = bytes.split_at(offset);
+    let front = span_of(string_from(before, 0));
+    if front.len < offset {
+        return front;
+    }
+    StringSpan {
+        len: offset + next.len,
+        words: front.words && next.words,
+    }
+}
+
+/// A section of strings, and what is known of those at some offsets.
+#[derive(Drop)]
+pub struct StringTable<'a> {
+    pub section: &'a [u8],
+    /// What the string is that has 0, 64, 128, .. bytes of the section from its start to the section's end.
+    spans: Vec<StringSpan>,
+    ghost known: { AreSpans section.now spans.items },
+}
+
+impl<'a> StringTable<'a> {
+    /// The strings of a section, which is read once.
+    fn read(alloc: Global, section: &'a [u8]) -> Result<StringTable<'a>, AllocError>
+        ensures { IfOk result (λ it. it.section ≡ section.entry) }
+    {
+        let mut spans = Vec::with_capacity(alloc, section.len() / BLOCK + 1)?;
+        let mut span = StringSpan {
+            len: 0,
+            words: true,
+        };
+        spans.push(span)?;
+        for k in 0..section.len() / BLOCK {
+            let (_, bytes) = section.split_at(section.len() - (k + 1) * BLOCK);
+            span = span_by(bytes, BLOCK, span);
+            spans.push(span)?;
+        }
+        Ok(StringTable { section, spans })
+    }
+
+    /// What the string at an offset is. Fewer than 64 bytes of it are read.
+    fn span(&self, offset: usize) -> StringSpan
+        requires { offset ≤ length self.now.section.now }
+        ensures { IsSpan (string_at self.now.section.now offset) result }
+    {
+        let (_, bytes) = self.section.split_at(offset);
+        let next = self.spans[bytes.len() / BLOCK];
+        span_by(bytes, bytes.len() % BLOCK, next)
+    }
+}
+
+/// An image, and what is known of the strings that its entries share.
+#[derive(Drop)]
+pub struct Strings<'i, 'a> {
+    pub image: &'i Image<'a>,
+    /// The strings of .debug_str.
+    str: StringTable<'a>,
+    /// Those of .debug_line_str.
+    line_str: StringTable<'a>,
+    ghost same_str: { str.section ≡ (sections_in image.now).str },
+    ghost same_line_str: { line_str.section ≡ (sections_in image.now).line_str },
+}
+
+impl<'i, 'a> Strings<'i, 'a> {
+    /// An image, whose two sections of strings are read once.
+    pub fn read(alloc: Global, image: &'i Image<'a>) -> Result<Strings<'i, 'a>, AllocError>
+        ensures { IfOk result (λ it. it.image ≡ image.entry) }
+    {
+        let sections = image.sections();
+        let str = StringTable::read(alloc, sections.str)?;
+        let line_str = StringTable::read(alloc, sections.line_str)?;
+        Ok(Strings {
+            image,
+            str,
+            line_str,
+        })
+    }
+
+    /// What the text at a place is. One in .debug_info is read to its end.
+    pub fn span(&self, place: TextPlace) -> StringSpan
+        requires { IsTextPlace (sections_in self.now.image.now) place }
+        ensures { IsSpan (text_there (sections_in self.now.image.now) place) result }
+    {
+        match place {
+            TextPlace::Info(offset) => span_of(string_from(self.image.sections().info, offset)),
+            TextPlace::Str(offset) => self.str.span(offset),
+            TextPlace::LineStr(offset) => self.line_str.span(offset),
+        }
+    }
+}
