@@ -1,5 +1,5 @@
 -- Where batches are: the first unit, the first entry and the offset of each.
-use Rattle.std.proofs.Common.{rules, ◌≡◌, ℕ, zero, suc, ◌+◌, ◌<◌, ◌≤◌, ◌⊎◌, List, [], ◌∷◌, ◌++◌, length, Option, Some, sym, ap, subst, ◌∙◌, inl, inr, arith, length-append}
+use Rattle.std.proofs.Common.{rules, ◌≡◌, ℕ, zero, suc, ◌+◌, ◌<◌, ◌≤◌, ◌⊎◌, List, [], ◌∷◌, ◌++◌, length, Some, refl, sym, ap, subst, ◌∙◌, inl, inr, arith, length-append}
 use Rattle.std.specs.Prelude.{slice_get}
 use Rattle.std.specs.List.{AllByRecursion}
 use Rattle.std.proofs.lemmas.Grind.{flat_map-append}
@@ -26,6 +26,10 @@ batches_from number first at (units ∷ bs) =
 abbrev pub placed_batches : List (List DebugUnit) → List PlacedBatch
 placed_batches bs = batches_from 0 0 0 bs
 
+-- what holds of a value holds of an equal one
+pub at_front : {X : Type 0} (P : X → Type 0) (x y : X) → Some x ≡ Some y → P x → P y
+at_front P x y is here = let same : x ≡ y = cc in subst P same here
+
 pub all_placed : (P : List DebugUnit → Type 0) (number first at : ℕ) (bs : List (List DebugUnit)) (k : ℕ)
     (p : PlacedBatch) → AllByRecursion P bs
     → slice_get (batches_from number first at bs) k ≡ Some p → P p.units
@@ -45,10 +49,7 @@ pub none_before : (number first at : ℕ) (bs : List (List DebugUnit)) (k : ℕ)
     → slice_get (batches_from number first at bs) k ≡ Some p → IsPast number first at p
 none_before number first at [] k p is = absurd cc
 none_before number first at (units ∷ bs) zero p is =
-    let some : ◌≡◌ {A = Option PlacedBatch} (Some (record { number = number; first = first; at = at; units = units }))
-    (Some p) = is in
-    let same : ◌≡◌ {A = PlacedBatch} (record { number = number; first = first; at = at; units = units }) p = cc in
-    subst (IsPast number first at) same
+    at_front (IsPast number first at) _ p is
     (record { number_past = omega arith; first_past = omega arith; at_past = omega arith })
 none_before number first at (units ∷ bs) (suc k) p is =
     let more = none_before (number + length units) (first + length (entries_of units))
@@ -69,10 +70,7 @@ after : (number first at : ℕ) (bs : List (List DebugUnit)) (k j : ℕ) (p q : 
 after number first at [] k j p q is_p is_q less = absurd cc
 after number first at (units ∷ bs) k zero p q is_p is_q less = absurd (omega (arith, less))
 after number first at (units ∷ bs) zero (suc j) p q is_p is_q less =
-    let some : ◌≡◌ {A = Option PlacedBatch} (Some (record { number = number; first = first; at = at; units = units }))
-    (Some p) = is_p in
-    let same : ◌≡◌ {A = PlacedBatch} (record { number = number; first = first; at = at; units = units }) p = cc in
-    subst (λ (b : PlacedBatch). IsAfter b q) same
+    at_front (λ (b : PlacedBatch). IsAfter b q) _ p is_p
     (none_before (number + length units) (first + length (entries_of units)) (at + length (units_bytes units)) bs j q
     is_q)
 after number first at (units ∷ bs) (suc k) (suc j) p q is_p is_q less =
@@ -110,20 +108,14 @@ pub stands_from : (P : List DebugUnit → Type 0) (number first at : ℕ) (befor
     → Stands P (at + length (units_bytes (joined_batches before)))
     (at + length (units_bytes (joined_batches before)) + length (units_bytes units)) units p
 stands_from P number first at [] units behind zero p all is =
-    let some : ◌≡◌ {A = Option PlacedBatch} (Some (record { number = number; first = first; at = at; units = units }))
-    (Some p) = is in
-    let same : ◌≡◌ {A = PlacedBatch} (record { number = number; first = first; at = at; units = units }) p = cc in
-    let there : p.at ≡ at = ap (λ (q : PlacedBatch). q.at) (sym same) in
-    inr (inl (ap (λ (q : PlacedBatch). q.units) (sym same), omega (arith, there)))
+    at_front (Stands P (at + 0) (at + 0 + length (units_bytes units)) units) _ p is (inr (inl (refl, omega arith)))
 stands_from P number first at [] units behind (suc k) p all is =
     let more = (none_before (number + length units) (first + length (entries_of units))
     (at + length (units_bytes units)) behind k p is).at_past in
     inr (inr (omega (arith, more)))
 stands_from P number first at (v ∷ before) units behind zero p (one, more) is =
-    let some : ◌≡◌ {A = Option PlacedBatch} (Some (record { number = number; first = first; at = at; units = v }))
-    (Some p) = is in
-    let same : ◌≡◌ {A = PlacedBatch} (record { number = number; first = first; at = at; units = v }) p = cc in
-    inl (subst (λ (q : PlacedBatch). P q.units) same one)
+    at_front (λ (q : PlacedBatch). Stands P (at + length (units_bytes (joined_batches (v ∷ before))))
+    (at + length (units_bytes (joined_batches (v ∷ before))) + length (units_bytes units)) units q) _ p is (inl one)
 stands_from P number first at (v ∷ before) units behind (suc k) p (one, more) is =
     subst (λ (n : ℕ). Stands P n (n + length (units_bytes units)) units p) (bytes_before at v before)
     (stands_from P (number + length v) (first + length (entries_of v)) (at + length (units_bytes v)) before units behind
@@ -167,10 +159,7 @@ based_from : (start number first at : ℕ) (bs : List (List DebugUnit)) → Foll
     → slice_get (batches_from number first at bs) k ≡ Some p → HaveBase (start + p.at) p.units
 based_from start number first at [] follow k p is = absurd cc
 based_from start number first at (units ∷ bs) (based, follow) zero p is =
-    let some : ◌≡◌ {A = Option PlacedBatch} (Some (record { number = number; first = first; at = at; units = units }))
-    (Some p) = is in
-    let same : ◌≡◌ {A = PlacedBatch} (record { number = number; first = first; at = at; units = units }) p = cc in
-    subst (λ (q : PlacedBatch). HaveBase (start + q.at) q.units) same based
+    at_front (λ (q : PlacedBatch). HaveBase (start + q.at) q.units) _ p is based
 based_from start number first at (units ∷ bs) (based, follow) (suc k) p is =
     let there : start + at + length (units_bytes units) ≡ start + (at + length (units_bytes units)) = omega arith in
     based_from start (number + length units) (first + length (entries_of units)) (at + length (units_bytes units)) bs

@@ -4,7 +4,8 @@ use Rattle.std.specs.Prelude.{slice_get, All, Contains}
 use mathlib.Core.Logic.{∥∥₁_elim}
 use Rattle.dw_forms.specs.declared.form.Form.{Form}
 use Rattle.dw_forms.specs.declared.abbrev.AttributeSpec.{AttributeSpec}
-use Rattle.dw_forms.specs.Value.{Datum, Val, laid_out}
+use Rattle.dw_forms.specs.Value.{Datum}
+use Rattle.dw_forms.specs.ValueFormats.{Val, laid_out}
 use Rattle.dw_forms.specs.declared.rule.Rule.TheVariants.{WrongClass}
 use Rattle.dw_entries.specs.Units.{DebugUnit, Spells}
 use Rattle.dw_entries.specs.Entries.{Entry, entries_of}
@@ -12,7 +13,9 @@ use Rattle.dw_entries.specs.Places.{at_attribute}
 use Rattle.dw_entries.specs.EntryRules.{EachEntry, HasAttribute}
 use Rattle.dw_links.specs.RulesOfAttributes.{NeverFailsAt}
 use Rattle.dw_links.proofs.ListLookups.{none_concerned}
-use Rattle.dw_units.specs.declared.batches.Elsewhere.TheVariants.{Never, BySignature}
+use Rattle.dw_units.specs.declared.batches.Elsewhere.{Elsewhere}
+use Rattle.dw_units.specs.declared.batches.Elsewhere.TheVariants.{Never, ByOffset, BySignature}
+use Rattle.dw_units.specs.BatchSections.{IsAllowed, Refer}
 use Rattle.dw_links.specs.References.{is_signature}
 use Rattle.dw_units.specs.IndependentBatches.{leaves_by, Where}
 use Rattle.dw_units.specs.ByUnit.{is_offset}
@@ -67,3 +70,20 @@ none_where holds a info us kept spells declared pass id e is position attribute 
       is_item = is;
       fails = record { position = position; value = v; has = has; place = refl; fails = so };
     }))
+
+-- the values of entries refer as the forms of their declarations allow
+pub refer_of : (a info : List ℕ) (us : List DebugUnit) (kept : List AttributeSpec) → Spells a us info
+    → ((id : ℕ) (e : Entry) → slice_get (entries_of us) id ≡ Some e
+    → All (λ (spec : AttributeSpec). Contains kept spec) e.head.decl.attributes)
+    → (most : Elsewhere)
+    → ((k : ℕ) (spec : AttributeSpec) → slice_get kept k ≡ Some spec → IsAllowed most (leaves_by spec.form))
+    → Refer (entries_of us) most
+refer_of a info us kept spells declared Never allowed = (
+  none_where is_signature a info us kept spells declared
+      (λ k spec is. form_passes spec
+      (λ other. let no : ◌≡◌ {A = Elsewhere} Never BySignature = sym (allowed k spec is) ∙ other in absurd cc)),
+  none_where is_offset a info us kept spells declared (λ k spec is. offset_passes spec (allowed k spec is)),
+)
+refer_of a info us kept spells declared ByOffset allowed =
+    none_where is_signature a info us kept spells declared (λ k spec is. form_passes spec (allowed k spec is))
+refer_of a info us kept spells declared BySignature allowed = tt

@@ -1,54 +1,79 @@
--- The first fault of batches that refer to nothing outside themselves.
-use Rattle.std.proofs.Common.{◌≡◌, ℕ, ◌+◌, ◌<◌, List, ◌∷◌, ◌++◌, length, map, sym, ap, subst, ◌∙◌, arith}
+-- The groups of rules, and the first fault, of batches that refer to nothing outside themselves.
+use Rattle.std.proofs.Common.{◌≡◌, ℕ, ◌+◌, ◌<◌, List, [], ◌∷◌, ◌++◌, length, map, refl, sym, ap, subst, ◌∙◌, arith}
 use Rattle.std.specs.List.{AllByRecursion}
 use Rattle.dw_elf.specs.declared.sections.Sections.{Sections}
 use Rattle.dw_entries.specs.declared.fault.Fault.{Fault}
 use Rattle.dw_entries.specs.Units.{DebugUnit, units_bytes}
 use Rattle.dw_entries.specs.Failures.{Failure, HasNone, IsFirst, plain_fault_of, IsPlainFault}
-use Rattle.dw_entries.specs.UnitLaws.{bytes_based, have_base}
 use Rattle.dw_entries.proofs.HeadLaws.{all-append}
-use Rattle.dw_links.specs.Classes.{ClassFailures}
-use Rattle.dw_links.specs.Strings.{StringFailures}
-use Rattle.dw_links.specs.References.{ReferenceFailures}
-use Rattle.dw_types.specs.Shapes.{ShapeFailures}
-use Rattle.dw_image.specs.FirstFault.{Group, classes, strings, references, shapes, cycles, sizes, turn_of, failures_of, FailsBySize, IsFirstIn, NamesCycle, in_group}
-use Rattle.dw_units.specs.IndependentBatches.{joined_batches, whole}
+use Rattle.dw_image.specs.FirstFault.{Group, classes, strings, references, shapes, cycles, sizes, turn_of, failures_of}
+use Rattle.dw_image.specs.FirstFault.{IsFirstIn, NamesCycle, in_group}
+use Rattle.dw_image.proofs.MeasureLemmas.{no_cycle_holds, none_by_size}
+use Rattle.dw_units.specs.IndependentBatches.{joined_batches, whole, JoinsUnits, StandsAlone}
 use Rattle.dw_units.specs.ByUnit.{AreBatches, IsFirm, IsMoved, PassesBelow, PassesThrough, IsMeasured, FirstOfUnits}
 use Rattle.dw_units.proofs.BatchLemmas.{placed_there}
 use Rattle.dw_units.proofs.FirstLemmas.{AreOfBatches, none_of_batches, first_of_group}
-use Rattle.dw_units.proofs.TextLemmas.{all_units, each_of, classes_batches, strings_batches}
+use Rattle.dw_units.proofs.TextLemmas.{apart_of, each_of, classes_batches, strings_batches}
 use Rattle.dw_units.proofs.ReferenceLemmas.{Refer, references_batches}
-use Rattle.dw_units.proofs.TypeLemmas.{shapes_batches, cycle_batches, no_cycle_batches}
-use Rattle.dw_units.proofs.JoinLemmas.{sizes_batches}
+use Rattle.dw_units.proofs.TypeLemmas.{contained_join, shapes_batches, cycle_batches, no_cycle_batches}
+use Rattle.dw_units.proofs.JoinLemmas.{sizes_batches, sizes_join, trees_join}
 
 -- no rule of a group fails at a batch alone
 abbrev Passes : Sections → Group → List DebugUnit → Type 0
 Passes s group units = HasNone (failures_of s units group)
 
+-- as at a batch that stands alone
+pub passes_all : (s : Sections) (group : Group) (units : List DebugUnit) → StandsAlone s units → Passes s group units
+passes_all s classes units one = one.classes
+passes_all s strings units one = one.strings
+passes_all s references units one = one.references
+passes_all s shapes units one = one.shapes
+passes_all s cycles units one = no_cycle_holds units one.contained
+passes_all s sizes units one = none_by_size units one.sizes.0 one.sizes.1.one one.sizes.1.none
+
+pub measured_all : (s : Sections) (group : Group) (units : List DebugUnit) → StandsAlone s units
+    → IsMeasured group units
+measured_all s sizes units one = (one.sizes.0, one.sizes.1.one)
+measured_all s _ units one = tt
+
+-- an earlier group is none on sizes
+before_sizes : (group earlier : Group) → turn_of earlier < turn_of group → turn_of earlier < 7
+before_sizes sizes earlier less = less
+before_sizes _ earlier less = omega (arith, less)
+
+measured_less : (group : Group) → turn_of group < 7 → (bs : List (List DebugUnit))
+    → AllByRecursion (IsMeasured group) bs
+measured_less sizes less bs = absurd (omega (arith, less))
+measured_less _ less [] = tt
+measured_less group less (units ∷ bs) = (tt, measured_less group less bs)
+
+pub measured_before : (group earlier : Group) → turn_of earlier < turn_of group → (bs : List (List DebugUnit))
+    → AllByRecursion (IsMeasured earlier) bs
+measured_before group earlier less bs = measured_less earlier (before_sizes group earlier less) bs
+
+-- the failures of a group, but for cycles, are those of the batches
+group_batches : (s : Sections) (bs : List (List DebugUnit)) → AreBatches s bs → (group : Group)
+    → (turn_of group ≡ 6 → ⊥) → AllByRecursion (IsMeasured group) bs
+    → (4 < turn_of group → AllByRecursion (Passes s references) bs)
+    → AreOfBatches bs (failures_of s (whole s bs) group) (λ units. failures_of s units group)
+group_batches s bs all classes other measured refer = classes_batches s bs all
+group_batches s bs all strings other measured refer = strings_batches s bs all
+group_batches s bs all references other measured refer = references_batches s bs all
+group_batches s bs all shapes other measured refer =
+    shapes_batches s bs (record { apart = all; none = refer (omega arith) })
+group_batches s bs all cycles other measured refer = absurd (other refl)
+group_batches s bs all sizes other measured refer =
+    sizes_batches s bs (record { apart = all; none = refer (omega arith) }) measured
+
 -- so none fails among all, if none of the rules on references does at a batch
 passes_batches : (s : Sections) (bs : List (List DebugUnit)) → AreBatches s bs → (group : Group)
-    → turn_of group < 7 → (4 < turn_of group → AllByRecursion (Passes s references) bs)
+    → AllByRecursion (IsMeasured group) bs → (4 < turn_of group → AllByRecursion (Passes s references) bs)
     → AllByRecursion (Passes s group) bs → HasNone (failures_of s (whole s bs) group)
-passes_batches s bs all classes early refer none =
-    none_of_batches bs (ClassFailures (whole s bs)) ClassFailures (classes_batches s bs all) none
-passes_batches s bs all strings early refer none =
-    none_of_batches bs (StringFailures s (whole s bs)) (StringFailures s) (strings_batches s bs all) none
-passes_batches s bs all references early refer none =
-    none_of_batches bs (ReferenceFailures (whole s bs)) ReferenceFailures (references_batches s bs all) none
-passes_batches s bs all shapes early refer none =
-    none_of_batches bs (ShapeFailures (whole s bs)) ShapeFailures
-    (shapes_batches s bs (record { apart = all; none = refer (omega arith) })) none
-passes_batches s bs all cycles early refer none =
+passes_batches s bs all cycles measured refer none =
     no_cycle_batches s bs (record { apart = all; none = refer (omega arith) }) none
-passes_batches s bs all sizes early refer none = absurd (omega (arith, early))
-
-no_later : (group earlier : Group) → turn_of earlier < turn_of group → turn_of earlier < 7
-no_later classes earlier less = omega (arith, less)
-no_later strings earlier less = omega (arith, less)
-no_later references earlier less = omega (arith, less)
-no_later shapes earlier less = omega (arith, less)
-no_later cycles earlier less = omega (arith, less)
-no_later sizes earlier less = less
+passes_batches s bs all group measured refer none =
+    none_of_batches bs (failures_of s (whole s bs) group) (λ units. failures_of s units group)
+    (group_batches s bs all group (λ is. omega (arith, is)) measured refer) none
 
 module _ (s : Sections) (before : List (List DebugUnit)) (units : List DebugUnit) (behind : List (List DebugUnit))
     (alone fault : Fault)
@@ -88,35 +113,21 @@ module _ (s : Sections) (before : List (List DebugUnit)) (units : List DebugUnit
       → (4 < turn_of group → AllByRecursion (Passes s references) bs)
       → AllByRecursion (Passes s group) before → IsFirm units alone.rule
       → IsFirstIn s units group alone → IsFirstIn s (whole s bs) group fault
-  first_batches classes measured refer none firm first =
-      plain (ClassFailures (whole s bs)) ClassFailures (classes_batches s bs all) none firm first
-  first_batches strings measured refer none firm first =
-      plain (StringFailures s (whole s bs)) (StringFailures s) (strings_batches s bs all) none firm first
-  first_batches references measured refer none firm first =
-      plain (ReferenceFailures (whole s bs)) ReferenceFailures (references_batches s bs all) none firm first
-  first_batches shapes measured refer none firm first =
-      plain (ShapeFailures (whole s bs)) ShapeFailures
-      (shapes_batches s bs (record { apart = all; none = refer (omega arith) })) none firm first
   first_batches cycles measured refer none firm first =
       cycle_there (record { apart = all; none = refer (omega arith) }) first
-  first_batches sizes measured refer none firm first =
-      plain (FailsBySize (whole s bs)) FailsBySize
-      (sizes_batches s bs (record { apart = all; none = refer (omega arith) }) measured) none firm first
+  first_batches group measured refer none firm first =
+      plain (failures_of s (whole s bs) group) (λ batch. failures_of s batch group)
+      (group_batches s bs all group (λ is. omega (arith, is)) measured refer) none firm first
 
 -- THE law
 pub first_by_unit : FirstOfUnits
 first_by_unit s before units behind group alone fault all measured passed fails below parts is =
     in_group group (record {
       units = whole s (before ++ units ∷ behind);
-      spelled = record {
-        spells = record {
-          are = all_units s (before ++ units ∷ behind) all;
-          parts = parts ∙ sym (bytes_based s.base (joined_batches (before ++ units ∷ behind)));
-        };
-        based = have_base s.base (joined_batches (before ++ units ∷ behind));
-      };
+      spelled = trees_join s (before ++ units ∷ behind) all parts;
       before = λ earlier less.
-          passes_batches s (before ++ units ∷ behind) all earlier (no_later group earlier less)
+          passes_batches s (before ++ units ∷ behind) all earlier
+          (measured_before group earlier less (before ++ units ∷ behind))
           (λ after. each references (omega (arith, after, less))) (each earlier less);
       first = first_batches s before units behind alone fault all is group measured (each references)
           (each_of (PassesThrough s group) (Passes s group) before (λ batch passes. passes.1) passed) fails.firm
@@ -132,3 +143,23 @@ first_by_unit s before units behind group alone fault all measured passed fails 
           each_of (PassesBelow s group) (Passes s earlier) behind
               (λ batch passes. passes earlier less) below,
         )
+
+-- THE other law
+pub join : JoinsUnits
+join s bs all follow parts =
+    let apart : AreBatches s bs = apart_of s bs all follow in
+    let passes : (group : Group) → AllByRecursion (Passes s group) bs =
+    λ group. each_of (StandsAlone s) (Passes s group) bs (passes_all s group) all in
+    let measured : (group : Group) → AllByRecursion (IsMeasured group) bs =
+    λ group. each_of (StandsAlone s) (IsMeasured group) bs (measured_all s group) all in
+    let none : (group : Group) → HasNone (failures_of s (whole s bs) group) =
+    λ group. passes_batches s bs apart group (measured group) (λ late. passes references) (passes group) in
+    record {
+      trees = trees_join s bs apart parts;
+      classes = none classes;
+      strings = none strings;
+      references = none references;
+      shapes = none shapes;
+      contained = contained_join s bs all follow;
+      sizes = sizes_join s bs (record { apart = apart; none = passes references }) (measured sizes) (none sizes);
+    }

@@ -1,6 +1,6 @@
--- Sizes: one table for all, made of those of the batches, and no rule on sizes fails; and batches that each stand alone
--- spell their bytes, joined.
-use Rattle.std.proofs.Common.{rules, ◌≡◌, List, [], ◌∷◌, ℕ, ◌+◌, ◌-◌, ◌<◌, ◌≤◌, zero, suc, Bool, false, length, Option, Some, None, refl, sym, ap, subst, ◌∙◌, arith, nat_lt, lt-ltb}
+-- Sizes: one table for all, made of those of the batches, and no rule on sizes fails; and batches spell their bytes,
+-- joined.
+use Rattle.std.proofs.Common.{rules, ◌≡◌, List, [], ◌∷◌, ℕ, ◌+◌, ◌-◌, ◌<◌, ◌≤◌, zero, suc, Bool, false, length, Some, None, refl, sym, ap, ◌∙◌, arith, nat_lt, lt-ltb}
 use Rattle.std.specs.List.{AllByRecursion}
 use Rattle.std.specs.Prelude.{slice_get, if◌then◌else◌}
 use Rattle.dw_elf.specs.declared.sections.Sections.{Sections}
@@ -12,27 +12,22 @@ use Rattle.dw_types.specs.SizeTables.{Size}
 use Rattle.dw_types.specs.Sizes.{IsSizeTable, ObeysSizeLines, size_line}
 use Rattle.dw_types.specs.SizeFaults.{fails_size}
 use Rattle.dw_image.specs.Valid.{SpellsInfo, HasSizes}
-use Rattle.dw_units.specs.IndependentBatches.{joined_batches, whole, FollowFrom, StandsAlone, JoinsUnits}
+use Rattle.dw_units.specs.IndependentBatches.{joined_batches, whole}
 use Rattle.dw_image.specs.FirstFault.{FailsBySize}
-use Rattle.dw_image.proofs.MeasureLemmas.{same_failures, none_by_size}
-use Rattle.dw_units.specs.ByUnit.{HasTable}
-use Rattle.dw_units.proofs.BatchLemmas.{PlacedBatch, batches_from, placed_batches, none_before}
-use Rattle.dw_units.proofs.FirstLemmas.{AreOfBatches, none_of_batches}
-use Rattle.dw_units.proofs.TypeLemmas.{AreByTest, entries_batches, shapes_join, contained_join}
+use Rattle.dw_image.proofs.MeasureLemmas.{same_failures}
+use Rattle.dw_units.specs.ByUnit.{AreBatches, HasTable}
+use Rattle.dw_units.proofs.BatchLemmas.{PlacedBatch, at_front, batches_from, placed_batches, none_before}
+use Rattle.dw_units.proofs.FirstLemmas.{AreOfBatches}
+use Rattle.dw_units.proofs.TypeLemmas.{AreByTest, entries_batches}
 use Rattle.dw_units.proofs.Windows.{window, in_window}
 use Rattle.dw_units.proofs.WindowSizes.{line_moved, fails_moved}
-use Rattle.dw_units.proofs.TextLemmas.{all_units, apart_of, each_of, classes_join, strings_join}
-use Rattle.dw_units.proofs.ReferenceLemmas.{Refer, refer_of, references_join}
+use Rattle.dw_units.proofs.TextLemmas.{all_units}
+use Rattle.dw_units.proofs.ReferenceLemmas.{Refer}
 
-pub trees_join : (s : Sections) (bs : List (List DebugUnit)) → AllByRecursion (StandsAlone s) bs
-    → FollowFrom s.base bs
-    → s.info.now ≡ units_bytes (joined_batches bs)
-    → SpellsInfo s (whole s bs)
-trees_join s bs all follow parts = record {
-  spells = record {
-    are = all_units s bs (apart_of s bs all follow);
-    parts = parts ∙ sym (bytes_based s.base (joined_batches bs));
-  };
+pub trees_join : (s : Sections) (bs : List (List DebugUnit)) → AreBatches s bs
+    → s.info.now ≡ units_bytes (joined_batches bs) → SpellsInfo s (whole s bs)
+trees_join s bs all parts = record {
+  spells = record { are = all_units s bs all; parts = parts ∙ sym (bytes_based s.base (joined_batches bs)) };
   based = have_base s.base (joined_batches bs);
 }
 
@@ -62,10 +57,7 @@ table_join number first at (units ∷ bs) (one, more) =
         → Agrees rest p) → (k : ℕ) (p : PlacedBatch) → slice_get (batches_from number first at (units ∷ bs)) k ≡ Some p
         → Agrees (λ n. if nat_lt n (first + length (entries_of units)) then one.0 (n - first) else rest n) p
     go rest agrees zero p is =
-        let some : ◌≡◌ {A = Option PlacedBatch}
-        (Some (record { number = number; first = first; at = at; units = units })) (Some p) = is in
-        let same : ◌≡◌ {A = PlacedBatch} (record { number = number; first = first; at = at; units = units }) p = cc in
-        subst (Agrees (λ n. if nat_lt n (first + length (entries_of units)) then one.0 (n - first) else rest n)) same (
+        at_front (Agrees (joined_by rest)) _ p is (
           one.0,
           one.1,
           λ k below.
@@ -134,21 +126,9 @@ pub sizes_batches : (s : Sections) (bs : List (List DebugUnit)) → Refer s bs �
 sizes_batches s bs all tables =
     let (table, agrees) = table_join 0 0 0 bs tables in sizes_of_batches s bs all table agrees
 
-pub sizes_join : (s : Sections) (bs : List (List DebugUnit)) → AllByRecursion (StandsAlone s) bs
-    → FollowFrom s.base bs
-    → (table : ℕ → Size) × HasSizes (whole s bs) table
-sizes_join s bs all follow =
-    let stays = refer_of s bs all follow in
-    let tables = each_of (StandsAlone s) HasTable bs (λ units one. (one.sizes.0, one.sizes.1.one)) all in
+pub sizes_join : (s : Sections) (bs : List (List DebugUnit)) → Refer s bs → AllByRecursion HasTable bs
+    → HasNone (FailsBySize (whole s bs)) → (table : ℕ → Size) × HasSizes (whole s bs) table
+sizes_join s bs all tables none =
     let (table, agrees) = table_join 0 0 0 bs tables in
-    let one = is_table s bs stays table agrees in
-    let none = none_of_batches bs (FailsBySize (whole s bs)) FailsBySize
-    (sizes_of_batches s bs stays table agrees)
-    (each_of (StandsAlone s) (λ units. HasNone (FailsBySize units)) bs
-    (λ units lone. none_by_size units lone.sizes.0 lone.sizes.1.one lone.sizes.1.none) all) in
+    let one = is_table s bs all table agrees in
     (table, record { one = one; none = λ f fails. none f (record { table = table; one = one; fails = fails }) })
-
--- THE law
-pub join : JoinsUnits
-join s bs all follow parts =
-    search (rules, trees_join, classes_join, strings_join, references_join, shapes_join, contained_join, sizes_join)

@@ -1,5 +1,5 @@
 -- The entries of batches, each batch's those of the batch alone in their place.
-use Rattle.std.proofs.Common.{rules, ◌≡◌, ℕ, zero, suc, ◌+◌, ◌-◌, ◌<◌, ◌≤◌, ◌⊎◌, List, [], ◌∷◌, ◌++◌, length, map, Option, Some, None, refl, sym, ap, subst, ◌∙◌, inl, inr, arith, append_assoc, length-append}
+use Rattle.std.proofs.Common.{rules, ◌≡◌, ℕ, zero, suc, ◌+◌, ◌-◌, ◌<◌, ◌≤◌, ◌⊎◌, List, [], ◌∷◌, ◌++◌, length, map, Option, Some, None, refl, sym, ap, ◌∙◌, inl, inr, arith, append_assoc, length-append}
 use Rattle.std.specs.Prelude.{slice_get, option_map}
 use Rattle.std.proofs.lemmas.List.{map-append, length-map}
 use Rattle.std.proofs.lemmas.Option.{get_or_from_slice_get, slice_get-get_or, slice_get-map, slice_get_within}
@@ -14,7 +14,7 @@ use Rattle.dw_entries.specs.UnitLaws.{with_base}
 use Rattle.dw_entries.proofs.EntryFacts.{entries_based, length-node_entries, length-placed_from}
 use Rattle.dw_entries.proofs.UnitRanges.{get_front, get_behind}
 use Rattle.dw_units.specs.IndependentBatches.{joined_batches, whole}
-use Rattle.dw_units.proofs.BatchLemmas.{PlacedBatch, batches_from, placed_batches}
+use Rattle.dw_units.proofs.BatchLemmas.{PlacedBatch, at_front, batches_from, placed_batches}
 
 -- a number of an entry of the batch, among all entries
 abbrev pub moved_number : ℕ → Option ℕ → Option ℕ
@@ -271,75 +271,38 @@ found_from number first at (units ∷ bs) i e is =
           same = f.same;
         }
 
--- an entry of a batch alone is found in the batch's place
-get_from : (number first at : ℕ) (bs : List (List DebugUnit)) (k : ℕ) (p : PlacedBatch) (inner : ℕ) (d : Entry)
-    → slice_get (batches_from number first at bs) k ≡ Some p → slice_get (entries_of p.units) inner ≡ Some d
-    → (i : ℕ) × (first + i ≡ p.first + inner)
-    × (slice_get (entries_from number first at (joined_batches bs)) i ≡ Some (moved p.number p.first p.at d))
-get_from number first at [] k p inner d is is_d = absurd cc
-get_from number first at (units ∷ bs) zero p inner d is is_d =
-    let some : ◌≡◌ {A = Option PlacedBatch} (Some (record { number = number; first = first; at = at; units = units }))
-    (Some p) = is in
-    let same : ◌≡◌ {A = PlacedBatch} (record { number = number; first = first; at = at; units = units }) p = cc in
-    let P : PlacedBatch → Type 0 = λ q. slice_get (entries_of q.units) inner ≡ Some d
-    → (i : ℕ) × (first + i ≡ q.first + inner)
-    × (slice_get (entries_from number first at (joined_batches (units ∷ bs))) i ≡ Some (moved q.number q.first q.at d))
-    in
-    subst P same (λ here. (
-      inner,
-      refl,
-      ap (λ (es : List Entry). slice_get es inner) (batch_front number first at units (joined_batches bs))
-          ∙ moved_get (moved number first at) (entries_of units)
-          (entries_from (number + length units) (first + length (entries_of units))
-          (at + length (units_bytes units)) (joined_batches bs)) inner d here,
-    )) is_d
-get_from number first at (units ∷ bs) (suc k) p inner d is is_d =
-    let (i, begins, got) = get_from (number + length units) (first + length (entries_of units))
-    (at + length (units_bytes units)) bs k p inner d is is_d in (
-      length (entries_of units) + i,
-      omega (arith, begins),
-      ap (λ (es : List Entry). slice_get es (length (entries_of units) + i))
-          (batch_front number first at units (joined_batches bs))
-          ∙ moved_behind (moved number first at) (entries_of units)
-          (entries_from (number + length units) (first + length (entries_of units))
-          (at + length (units_bytes units)) (joined_batches bs)) (length (entries_of units) + i) i refl ∙ got,
-    )
-
-unit_from : (base number first at : ℕ) (bs : List (List DebugUnit)) (k : ℕ) (p : PlacedBatch) (j : ℕ) (q : PlacedUnit)
-    → slice_get (batches_from number first at bs) k ≡ Some p → slice_get (placed p.units) j ≡ Some q
-    → (i : ℕ) × (number + i ≡ p.number + j)
-    × (slice_get (placed_from at first (map (with_base base) (joined_batches bs))) i
-    ≡ Some (moved_unit base p.first p.at q))
-unit_from base number first at [] k p j q is is_q = absurd cc
-unit_from base number first at (units ∷ bs) zero p j q is is_q =
-    let some : ◌≡◌ {A = Option PlacedBatch} (Some (record { number = number; first = first; at = at; units = units }))
-    (Some p) = is in
-    let same : ◌≡◌ {A = PlacedBatch} (record { number = number; first = first; at = at; units = units }) p = cc in
-    let P : PlacedBatch → Type 0 = λ b. slice_get (placed b.units) j ≡ Some q
-    → (i : ℕ) × (number + i ≡ b.number + j)
-    × (slice_get (placed_from at first (map (with_base base) (joined_batches (units ∷ bs)))) i
-    ≡ Some (moved_unit base b.first b.at q)) in
-    subst P same (λ here. (
-      j,
-      refl,
-      ap (λ (ps : List PlacedUnit). slice_get ps j) (placed_front base first at units (joined_batches bs))
-          ∙ moved_get (moved_unit base first at) (placed units)
-          (placed_from (at + length (units_bytes units)) (first + length (entries_of units))
-          (map (with_base base) (joined_batches bs))) j q here,
-    )) is_q
-unit_from base number first at (units ∷ bs) (suc k) p j q is is_q =
-    let (i, begins, got) = unit_from base (number + length units) (first + length (entries_of units))
-    (at + length (units_bytes units)) bs k p j q is is_q in
-    let long = length-placed_from 0 0 units in (
-      length units + i,
-      omega (arith, begins),
-      ap (λ (ps : List PlacedUnit). slice_get ps (length units + i))
-          (placed_front base first at units (joined_batches bs))
-          ∙ moved_behind (moved_unit base first at) (placed units)
-          (placed_from (at + length (units_bytes units)) (first + length (entries_of units))
-          (map (with_base base) (joined_batches bs)))
-          (length units + i) i (omega (arith, long)) ∙ got,
-    )
+-- what a batch alone has is found in the batch's place: its entries by the number of the first, its units likewise
+module _ {X Y : Type 0} (begin : (number first at : ℕ) → ℕ) (alone : List DebugUnit → List X)
+    (all : (number first at : ℕ) → List DebugUnit → List Y) (move : (number first at : ℕ) → X → Y)
+    (front : (number first at : ℕ) (units more : List DebugUnit)
+    → all number first at (units ++ more) ≡ map (move number first at) (alone units)
+    ++ all (number + length units) (first + length (entries_of units)) (at + length (units_bytes units)) more)
+    (count : (number first at : ℕ) (units : List DebugUnit)
+    → begin (number + length units) (first + length (entries_of units)) (at + length (units_bytes units))
+    ≡ begin number first at + length (alone units)) where
+  get_from : (number first at : ℕ) (bs : List (List DebugUnit)) (k : ℕ) (p : PlacedBatch) (inner : ℕ) (x : X)
+      → slice_get (batches_from number first at bs) k ≡ Some p → slice_get (alone p.units) inner ≡ Some x
+      → (i : ℕ) × (begin number first at + i ≡ begin p.number p.first p.at + inner)
+      × (slice_get (all number first at (joined_batches bs)) i ≡ Some (move p.number p.first p.at x))
+  get_from number first at [] k p inner x is is_x = absurd cc
+  get_from number first at (units ∷ bs) zero p inner x is is_x =
+      at_front (λ (q : PlacedBatch). slice_get (alone q.units) inner ≡ Some x
+      → (i : ℕ) × (begin number first at + i ≡ begin q.number q.first q.at + inner)
+      × (slice_get (all number first at (joined_batches (units ∷ bs))) i ≡ Some (move q.number q.first q.at x))) _ p is
+      (λ here. (
+        inner,
+        refl,
+        ap (λ (ys : List Y). slice_get ys inner) (front number first at units (joined_batches bs))
+            ∙ moved_get (move number first at) (alone units) _ inner x here,
+      )) is_x
+  get_from number first at (units ∷ bs) (suc k) p inner x is is_x =
+      let (i, begins, got) = get_from (number + length units) (first + length (entries_of units))
+      (at + length (units_bytes units)) bs k p inner x is is_x in (
+        length (alone units) + i,
+        omega (arith, begins, count number first at units),
+        ap (λ (ys : List Y). slice_get ys (length (alone units) + i)) (front number first at units (joined_batches bs))
+            ∙ moved_behind (move number first at) (alone units) _ (length (alone units) + i) i refl ∙ got,
+      )
 
 -- ---- the same of all entries
 
@@ -375,7 +338,8 @@ pub get : (s : Sections) (bs : List (List DebugUnit)) (k : ℕ) (p : PlacedBatch
     → slice_get (placed_batches bs) k ≡ Some p → slice_get (entries_of p.units) inner ≡ Some d
     → slice_get (entries_of (whole s bs)) (p.first + inner) ≡ Some (moved p.number p.first p.at d)
 get s bs k p inner d is is_d =
-    let (i, begins, got) = get_from 0 0 0 bs k p inner d is is_d in
+    let (i, begins, got) = get_from (λ number first at. first) entries_of entries_from moved batch_front
+    (λ number first at units. refl) 0 0 0 bs k p inner d is is_d in
     let there : p.first + inner ≡ i = omega (arith, begins) in
     ap (λ (es : List Entry). slice_get es (p.first + inner)) (entries_based s.base 0 0 0 (joined_batches bs))
     ∙ ap (slice_get (entries_of (joined_batches bs))) there ∙ got
@@ -384,7 +348,11 @@ pub unit_get : (s : Sections) (bs : List (List DebugUnit)) (k : ℕ) (p : Placed
     → slice_get (placed_batches bs) k ≡ Some p → slice_get (placed p.units) j ≡ Some q
     → slice_get (placed (whole s bs)) (p.number + j) ≡ Some (moved_unit s.base p.first p.at q)
 unit_get s bs k p j q is is_q =
-    let (i, begins, got) = unit_from s.base 0 0 0 bs k p j q is is_q in
+    let (i, begins, got) = get_from (λ number first at. number) placed
+    (λ number first at us. placed_from at first (map (with_base s.base) us))
+    (λ number first at. moved_unit s.base first at) (λ number first at. placed_front s.base first at)
+    (λ number first at units. ap (λ (n : ℕ). number + n) (sym (length-placed_from 0 0 units)))
+    0 0 0 bs k p j q is is_q in
     let there : p.number + j ≡ i = omega (arith, begins) in
     ap (slice_get (placed (whole s bs))) there ∙ got
 

@@ -27,7 +27,7 @@ use Rattle.dw_units.specs.IndependentBatches.{joined_batches, whole, FollowFrom,
 use Rattle.dw_units.proofs.BatchLemmas.{PlacedBatch, placed_batches, all_placed}
 use Rattle.dw_units.proofs.MovedEntries.{moved_number, none_moved, moved, get}
 use Rattle.dw_units.specs.ByUnit.{StaysAlone, AreBatches, IsFirm, is_offset}
-use Rattle.dw_units.proofs.FirstLemmas.{AreOfBatches, none_of_batches}
+use Rattle.dw_units.proofs.FirstLemmas.{AreOfBatches}
 use Rattle.dw_units.proofs.TextLemmas.{stays_at, apart_of, each_of, unit_below, FailsBy, heads_batches}
 use Rattle.dw_units.proofs.ReachLemmas.{reach_either}
 
@@ -255,14 +255,6 @@ references_batches s bs all =
             | inr attribute ↦ are.inside k p is g attribute
           ];
     }
-
-pub references_join : (s : Sections) (bs : List (List DebugUnit)) → AllByRecursion (StandsAlone s) bs
-    → FollowFrom s.base bs
-    → HasNone (ReferenceFailures (whole s bs))
-references_join s bs all follow =
-    none_of_batches bs (ReferenceFailures (whole s bs)) ReferenceFailures
-    (references_batches s bs (apart_of s bs all follow))
-    (each_of (StandsAlone s) (λ units. HasNone (ReferenceFailures units)) bs (λ units one. one.references) all)
 
 -- ---- where the rules on references hold of each batch
 

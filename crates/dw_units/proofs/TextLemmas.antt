@@ -11,7 +11,7 @@ use Rattle.dw_entries.specs.Units.{DebugUnit, IsUnit, AreUnits, units_bytes}
 use Rattle.dw_entries.specs.UnitLaws.{are_based}
 use Rattle.dw_entries.specs.Entries.{Entry, entries_of, PlacedUnit, placed}
 use Rattle.dw_entries.specs.Places.{Place, at_attribute, IsBefore}
-use Rattle.dw_entries.specs.Failures.{Failure, Precedes, HasNone}
+use Rattle.dw_entries.specs.Failures.{Failure, Precedes}
 use Rattle.dw_forms.specs.Rules.{number_of}
 use Rattle.dw_entries.specs.EntryRules.{HasAttribute, AtEntries, values_of}
 use Rattle.dw_entries.specs.Lookups.{entry_head, value_in}
@@ -33,7 +33,7 @@ use Rattle.dw_links.specs.Bases.{base_in, section_offset_in, section_offset_of}
 use Rattle.dw_units.specs.IndependentBatches.{joined_batches, whole, FollowFrom, StandsAlone}
 use Rattle.dw_units.specs.ByUnit.{StaysAlone, AreBatches, IsFirm}
 use Rattle.dw_units.proofs.BatchLemmas.{PlacedBatch, placed_batches, all_placed}
-use Rattle.dw_units.proofs.FirstLemmas.{moved_place, IsInside, AreOfBatches, none_of_batches}
+use Rattle.dw_units.proofs.FirstLemmas.{moved_place, IsInside, AreOfBatches}
 use Rattle.dw_units.proofs.MovedEntries.{moved_number, none_moved, moved, moved_unit, found, get, unit_get}
 
 pub alone_at : (s : Sections) (bs : List (List DebugUnit)) (k : ℕ) (p : PlacedBatch)
@@ -241,13 +241,6 @@ classes_batches s bs all =
     (ClassFails (placed p.units) (entry_head e) attribute v) p.units rule
     (class_alone s bs k p is e q is_q attribute v rule) (class_in_place s bs k p is e attribute v rule))
 
-pub classes_join : (s : Sections) (bs : List (List DebugUnit)) → AllByRecursion (StandsAlone s) bs
-    → FollowFrom s.base bs
-    → HasNone (ClassFailures (whole s bs))
-classes_join s bs all follow =
-    none_of_batches bs (ClassFailures (whole s bs)) ClassFailures (classes_batches s bs (apart_of s bs all follow))
-    (each_of (StandsAlone s) (λ units. HasNone (ClassFailures units)) bs (λ units one. one.classes) all)
-
 -- ---- strings and addresses
 
 -- the unit's bases are those of the unit in the batch alone
@@ -287,19 +280,13 @@ string_alone s bs k p is e q is_q attribute v rule fails =
     let here = subst (λ (r : PlacedUnit). StringFailsIn s r.unit.header
     (base_in (entries_of (whole s bs)) r DW_AT_str_offsets_base)
     (base_in (entries_of (whole s bs)) r DW_AT_addr_base) head attribute v rule) same fails.fails in
-    let strings = subst (λ (b : Option ℕ). StringFailsIn s q.unit.header b
-    (base_in (entries_of (whole s bs)) (moved_unit s.base p.first p.at q) DW_AT_addr_base)
-    head attribute v rule)
-    (base_same s bs k p e.unit q DW_AT_str_offsets_base is is_q) here in
-    let both = subst (λ (b : Option ℕ). StringFailsIn s q.unit.header
-    (base_in (entries_of p.units) q DW_AT_str_offsets_base) b head attribute v rule)
-    (base_same s bs k p e.unit q DW_AT_addr_base is is_q) strings in
     record {
       unit = q;
       in_unit = is_q;
       fails = strings_in s q.unit.header (base_in (entries_of p.units) q DW_AT_str_offsets_base)
           (base_in (entries_of p.units) q DW_AT_addr_base) p.number p.first p.at e attribute v rule
-          both;
+          (rw (base_same s bs k p e.unit q DW_AT_addr_base is is_q) at
+          (rw (base_same s bs k p e.unit q DW_AT_str_offsets_base is is_q) at here));
     }
 
 strings_in_place : (s : Sections) (header : UnitHeader) (strings addresses : Option ℕ) (number first at : ℕ) (e : Entry)
@@ -316,21 +303,14 @@ string_in_place : (s : Sections) (bs : List (List DebugUnit)) (k : ℕ) (p : Pla
     v rule
 string_in_place s bs k p is e attribute v rule fails =
     let q = fails.unit in
-    let head = entry_head e in
-    let strings = subst (λ (b : Option ℕ). StringFailsIn s q.unit.header b
-    (base_in (entries_of p.units) q DW_AT_addr_base) head attribute v rule)
-    (sym (base_same s bs k p e.unit q DW_AT_str_offsets_base is fails.in_unit)) fails.fails in
-    let both = subst (λ (b : Option ℕ). StringFailsIn s q.unit.header
-    (base_in (entries_of (whole s bs)) (moved_unit s.base p.first p.at q) DW_AT_str_offsets_base)
-    b head attribute v rule)
-    (sym (base_same s bs k p e.unit q DW_AT_addr_base is fails.in_unit)) strings in
     record {
       unit = moved_unit s.base p.first p.at q;
       in_unit = unit_get s bs k p e.unit q is fails.in_unit;
-      fails = strings_in_place s q.unit.header
-          (base_in (entries_of (whole s bs)) (moved_unit s.base p.first p.at q) DW_AT_str_offsets_base)
-          (base_in (entries_of (whole s bs)) (moved_unit s.base p.first p.at q) DW_AT_addr_base) p.number p.first p.at e
-          attribute v rule both;
+      fails = rw (
+        base_same s bs k p e.unit q DW_AT_str_offsets_base is fails.in_unit,
+        base_same s bs k p e.unit q DW_AT_addr_base is fails.in_unit,
+      ) (strings_in_place s q.unit.header (base_in (entries_of p.units) q DW_AT_str_offsets_base)
+          (base_in (entries_of p.units) q DW_AT_addr_base) p.number p.first p.at e attribute v rule fails.fails);
     }
 
 pub strings_batches : (s : Sections) (bs : List (List DebugUnit)) → AreBatches s bs
@@ -345,11 +325,3 @@ strings_batches s bs all =
     attribute
     v) (StringFails s (entries_of p.units) (placed p.units) (entry_head e) attribute v) p.units rule
     (string_alone s bs k p is e q is_q attribute v rule) (string_in_place s bs k p is e attribute v rule))
-
-pub strings_join : (s : Sections) (bs : List (List DebugUnit)) → AllByRecursion (StandsAlone s) bs
-    → FollowFrom s.base bs
-    → HasNone (StringFailures s (whole s bs))
-strings_join s bs all follow =
-    none_of_batches bs (StringFailures s (whole s bs)) (StringFailures s)
-    (strings_batches s bs (apart_of s bs all follow))
-    (each_of (StandsAlone s) (λ units. HasNone (StringFailures s units)) bs (λ units one. one.strings) all)

@@ -1,6 +1,7 @@
 -- Whole units, and then bytes at which a rule of trees fails: it fails there in the sections.
-use Rattle.std.proofs.Common.{rules, ◌≡◌, ℕ, ◌+◌, ◌<◌, ◌≤◌, List, [], ◌∷◌, ◌++◌, length, take, drop, length-drop, Result, Ok, Err, refl, sym, ap, subst, ◌∙◌, arith, append_assoc, append-nil, Bool, true, false, length-append}
-use Rattle.std.specs.List.{AllByRecursion, flat_map}
+use Rattle.std.proofs.Common.{rules, ◌≡◌, ℕ, ◌+◌, ◌≤◌, List, [], ◌∷◌, ◌++◌, length, take, drop, Result, Ok, Err}
+use Rattle.std.proofs.Common.{refl, sym, ap, subst, ◌∙◌, arith, append_assoc, append-nil, Bool, true, false, length-append}
+use Rattle.std.proofs.Common.{ltb}
 use Rattle.std.proofs.lemmas.Grind.{flat_map-append}
 use Rattle.dw_forms.specs.declared.fault.AbbrevFault.{AbbrevFault}
 use Rattle.dw_forms.specs.Abbrev.{Declaration}
@@ -10,7 +11,6 @@ use Rattle.dw_entries.specs.declared.fault.PlainFault.{PlainFault}
 use Rattle.dw_entries.specs.declared.fault.Failing.{Failing}
 use Rattle.dw_entries.specs.declared.header.UnitHeader.{UnitHeader}
 use Rattle.dw_entries.specs.Header.{unit_header_size, header_fields, header_at, unit_at}
-use Rattle.dw_entries.specs.UnitLaws.{unit_sized, unit_some}
 use Rattle.dw_forms.specs.BaseFormats.{so_many, taken_at}
 use Rattle.dw_forms.specs.Formats.{choose, failing, mapped, nothing}
 use Rattle.dw_forms.specs.Steps.{◌>>=◌}
@@ -18,14 +18,12 @@ use Rattle.dw_forms.specs.declared.rule.Rule.TheVariants.{UnitCut, Not32Bit}
 use Rattle.std.specs.Prelude.{nat_lt}
 use Rattle.byteorder.specs.Endian.{little_number}
 use Rattle.std.proofs.lemmas.List.{take-append-le, drop-append-le}
-use Rattle.std.proofs.lemmas.Bool.{le-ltb, lt-ltb, ltb-true}
-use Rattle.std.proofs.Math.Seq.{take-length, take-add, drop-append_seam}
+use Rattle.std.proofs.lemmas.Bool.{le-ltb, ltb-false}
 use Rattle.dw_entries.specs.Items.{items_bytes}
-use Rattle.dw_entries.specs.Units.{DebugUnit, IsUnit, AreUnits, unit_bytes, units_bytes}
+use Rattle.dw_entries.specs.Units.{IsUnit, unit_bytes, units_bytes}
 use Rattle.dw_entries.specs.Faults.{place_of, in_unit, FailsBehind, FailsAs, FailsHere, Fails}
 use Rattle.dw_entries.proofs.HeadLaws.{all-append}
 use Rattle.dw_units.specs.ByUnit.{moved_fault, TreesOfUnits}
-use Rattle.dw_units.specs.BatchSections.{IsWholeUnit, AreWholeUnits}
 
 module _ (at : ℕ) where
   place_moved : (rule : Rule) (header offset there : ℕ) → there ≡ at + offset
@@ -84,17 +82,21 @@ trees_first s before rest broken are parts fails =
           (here_moved at s.«abbrev».now (length (units_bytes fails.units)) fails.rest broken fails.fails);
     }
 
--- ---- the bytes of whole units, and what comes after them
+-- ---- what fails in some bytes, with more behind them
 
-taken_before : (n : ℕ) (part more : List ℕ) → n ≤ length part
-    → taken_at UnitCut n (part ++ more) ≡ Ok (take n part, drop n part ++ more)
+taken_before : (n : ℕ) (bytes more : List ℕ) → n ≤ length bytes
+    → taken_at UnitCut n (bytes ++ more) ≡ Ok (take n bytes, drop n bytes ++ more)
 unfolding taken_at
-taken_before n part more long =
+taken_before n bytes more long =
     rw (
-      le-ltb (length (part ++ more)) n (omega (arith, long, length-append part more)),
-      take-append-le n part more long,
-      drop-append-le n part more long,
+      le-ltb (length (bytes ++ more)) n (omega (arith, long, length-append bytes more)),
+      take-append-le n bytes more long,
+      drop-append-le n bytes more long,
     ) refl
+
+taken_short : (n : ℕ) (bytes : List ℕ) → ltb (length bytes) n ≡ true → taken_at UnitCut n bytes ≡ Err UnitCut
+unfolding taken_at
+taken_short n bytes short = rw short refl
 
 -- a unit after its unit_length n, by whether n is below the numbers that mark other formats
 abbrev after_length : ℕ → Bool → List ℕ → Result (ℕ × List ℕ) Rule
@@ -103,142 +105,74 @@ after_length n b rest =
     >>= λ len. (mapped (λ (content : List ℕ). (len.0, content)) (so_many UnitCut len.0)).read len.1)
     >>= λ unit. Ok unit.0
 
-unit_front : (part more : List ℕ) → IsWholeUnit part
-    → unit_at (part ++ more) ≡ after_length (little_number 4 (take 4 part))
-    (nat_lt (little_number 4 (take 4 part)) 0xfffffff0) (drop 4 part ++ more)
+unit_front : (bytes more : List ℕ) → 4 ≤ length bytes
+    → unit_at (bytes ++ more) ≡ after_length (little_number 4 (take 4 bytes))
+    (nat_lt (little_number 4 (take 4 bytes)) 0xfffffff0) (drop 4 bytes ++ more)
 unfolding unit_at
-unit_front part more whole = rw (taken_before 4 part more whole.four) refl
+unit_front bytes more four = rw (taken_before 4 bytes more four) refl
 
-after_low : (n : ℕ) (content more : List ℕ) → length content ≡ n
-    → after_length n true (content ++ more) ≡ Ok (n, content)
-after_low n content more long =
-    let all : take n content ≡ content =
-    ap (λ (k : ℕ). take k content) (sym long) ∙ take-length content in
-    rw (taken_before n content more (omega (arith, long)), all) refl
+unit_short : (bytes : List ℕ) → ltb (length bytes) 4 ≡ true → unit_at bytes ≡ Err UnitCut
+unfolding unit_at
+unit_short bytes short = rw (taken_short 4 bytes short) refl
 
-unit_before : (part more : List ℕ) → IsWholeUnit part → little_number 4 (take 4 part) < 0xfffffff0
-    → unit_at (part ++ more) ≡ Ok (little_number 4 (take 4 part), drop 4 part)
-unit_before part more whole low =
-    let four = whole.four in
-    let long = whole.long in
-    let n : ℕ = little_number 4 (take 4 part) in
-    let body : length (drop 4 part) ≡ n = omega (arith, length-drop 4 part, long) in
-    unit_front part more whole
-    ∙ ap (λ (b : Bool). after_length n b (drop 4 part ++ more)) (lt-ltb n 0xfffffff0 low)
-    ∙ after_low n (drop 4 part) more body
+after_more : (n : ℕ) (b : Bool) (content more : List ℕ) → (after_length n b content ≡ Err UnitCut → ⊥)
+    → after_length n b (content ++ more) ≡ after_length n b (content ++ [])
+after_more n false content more long = refl
+after_more n true content more long = go (ltb (length content) n) refl
+  where
+    go : (short : Bool) → ltb (length content) n ≡ short
+        → after_length n true (content ++ more) ≡ after_length n true (content ++ [])
+    go true short = absurd (long (rw (taken_short n content short) refl))
+    go false fits =
+        let within = ltb-false (length content) n fits in
+        rw (taken_before n content more within, taken_before n content [] within) refl
 
-unit_past : (part more : List ℕ) → IsWholeUnit part → nat_lt (little_number 4 (take 4 part)) 0xfffffff0 ≡ false
-    → unit_at (part ++ more) ≡ Err Not32Bit
-unit_past part more whole high =
-    unit_front part more whole
-    ∙ ap (λ (b : Bool). after_length (little_number 4 (take 4 part)) b (drop 4 part ++ more)) high
+-- a unit that is not cut is read from its own bytes alone
+unit_more : (bytes more : List ℕ) → (unit_at bytes ≡ Err UnitCut → ⊥) → unit_at (bytes ++ more) ≡ unit_at bytes
+unit_more bytes more whole = go (ltb (length bytes) 4) refl
+  where
+    n : ℕ
+    n = little_number 4 (take 4 bytes)
 
--- a unit is read from its own bytes alone
-unit_alike : (part more : List ℕ) → IsWholeUnit part → (b : Bool)
-    → nat_lt (little_number 4 (take 4 part)) 0xfffffff0 ≡ b
-    → unit_at (part ++ more) ≡ unit_at (part ++ [])
-unit_alike part more whole true low =
-    let less = ltb-true (little_number 4 (take 4 part)) 0xfffffff0 low in
-    unit_before part more whole less ∙ sym (unit_before part [] whole less)
-unit_alike part more whole false high = unit_past part more whole high ∙ sym (unit_past part [] whole high)
+    go : (short : Bool) → ltb (length bytes) 4 ≡ short → unit_at (bytes ++ more) ≡ unit_at bytes
+    go true short = absurd (whole (unit_short bytes short))
+    go false fits =
+        let four = ltb-false (length bytes) 4 fits in
+        let alone : unit_at bytes ≡ after_length n (nat_lt n 0xfffffff0) (drop 4 bytes ++ []) =
+        ap unit_at (sym (append-nil bytes)) ∙ unit_front bytes [] four in
+        let content : drop 4 bytes ++ [] ≡ drop 4 bytes = append-nil (drop 4 bytes) in
+        unit_front bytes more four
+        ∙ after_more n (nat_lt n 0xfffffff0) (drop 4 bytes) more (λ cut.
+        whole (alone ∙ ap (after_length n (nat_lt n 0xfffffff0)) content ∙ cut))
+        ∙ sym alone
 
-header_alike : (size : ℕ) (part more : List ℕ) → IsWholeUnit part → header_at size (part ++ more) ≡ header_at size part
+header_more : (size : ℕ) (bytes more : List ℕ) → (header_at size bytes ≡ Err UnitCut → ⊥)
+    → header_at size (bytes ++ more) ≡ header_at size bytes
 unfolding header_at
-header_alike size part more whole =
+header_more size bytes more whole =
     ap (λ (r : Result (ℕ × List ℕ) Rule). r >>= λ unit. (header_fields size unit.0).read unit.1)
-    (unit_alike part more whole (nat_lt (little_number 4 (take 4 part)) 0xfffffff0) refl ∙ ap unit_at (append-nil part))
-
--- so what fails at the front of these bytes fails there with more behind them
-here_with_more : («abbrev» : List ℕ) (at : ℕ) (part behind more : List ℕ) (broken : PlainFault) → IsWholeUnit part
-    → FailsHere «abbrev» at (part ++ behind) broken
-    → FailsHere «abbrev» at ((part ++ behind) ++ more) broken
-here_with_more «abbrev» at part behind more broken whole fails =
-    subst (λ (r : Result (UnitHeader × List ℕ) Rule). FailsAs «abbrev» at r broken)
-    (header_alike (length «abbrev») part behind whole ∙ sym (header_alike (length «abbrev») part (behind ++ more) whole)
-    ∙ ap (header_at (length «abbrev»)) (sym (append_assoc part behind more))) fails
-
--- ---- such bytes are a unit's, or begin with none
-
--- what follows such bytes, at whose front are those of a unit, follows the unit
-behind_unit : («abbrev» part behind : List ℕ) (u : DebugUnit) (x : List ℕ) → IsWholeUnit part → IsUnit «abbrev» u
-    → part ++ behind ≡ unit_bytes u ++ x → behind ≡ x
-behind_unit «abbrev» part behind u x whole unit parts =
-    let long = whole.long in
-    let sized = unit_sized «abbrev» u unit in
-    let counted = sized.whole in
-    let four : little_number 4 (take 4 part) ≡ u.header.unit_length =
-    ap (little_number 4) (sym (take-append-le 4 part behind whole.four) ∙ ap (take 4) parts
-    ∙ take-append-le 4 (unit_bytes u) x (omega (arith, counted)))
-    ∙ sized.unit_length in
-    let size : length part ≡ length (unit_bytes u) = omega (arith, long, four, counted) in
-    sym (drop-append_seam part behind) ∙ ap (drop (length part)) parts
-    ∙ ap (λ (n : ℕ). drop n (unit_bytes u ++ x)) size ∙ drop-append_seam (unit_bytes u) x
+    (unit_more bytes more (λ cut.
+    whole (ap (λ (r : Result (ℕ × List ℕ) Rule). r >>= λ unit. (header_fields size unit.0).read unit.1) cut)))
 
 no_elements : (xs : List ℕ) → length xs ≡ 0 → xs ≡ []
 no_elements [] is = refl
 no_elements (x ∷ xs) is = absurd (omega (arith, is))
 
--- what follows units in such parts are such parts
-parts_after : («abbrev» : List ℕ) (units : List DebugUnit) (rest : List ℕ) (parts : List (List ℕ))
-    → AreUnits «abbrev» units → AllByRecursion IsWholeUnit parts
-    → flat_map (λ part. part) parts ≡ units_bytes units ++ rest
-    → (behind : List (List ℕ)) × AllByRecursion IsWholeUnit behind × (rest ≡ flat_map (λ part. part) behind)
-parts_after «abbrev» [] rest parts are whole same = (parts, whole, sym same)
-parts_after «abbrev» (u ∷ units) rest [] are whole same =
-    let long = ap length same in
-    absurd (omega (
-      arith,
-      long,
-      length-append (unit_bytes u ++ units_bytes units) rest,
-      length-append (unit_bytes u) (units_bytes units),
-      unit_some «abbrev» u are.0,
-    ))
-parts_after «abbrev» (u ∷ units) rest (part ∷ parts) are whole same =
-    let behind = behind_unit «abbrev» part (flat_map (λ part. part) parts) u (units_bytes units ++ rest) whole.0 are.0
-    (same ∙ append_assoc (unit_bytes u) (units_bytes units) rest) in
-    parts_after «abbrev» units rest parts are.1 whole.1 behind
-
--- a rule of trees that fails in such bytes fails with more behind them
-pub fails_with_more : («abbrev» bytes more : List ℕ) (broken : PlainFault) → AreWholeUnits bytes
-    → Fails «abbrev» bytes broken
-    → Fails «abbrev» (bytes ++ more) broken
-fails_with_more «abbrev» bytes more broken whole fails =
-    let (behind, each, rest) = parts_after «abbrev» fails.units fails.rest whole.parts fails.are whole.whole
-    (sym whole.are ∙ fails.parts) in
-    record {
-      units = fails.units;
-      rest = fails.rest ++ more;
-      are = fails.are;
-      parts =
-          ap (λ (xs : List ℕ). xs ++ more) fails.parts
-          ∙ append_assoc (units_bytes fails.units) fails.rest more;
-      more = λ none. fails.more (no_elements fails.rest
-          (let e = ap length none in omega (arith, e, length-append fails.rest more)));
-      fails = go behind each rest;
-    }
-  where
-    go : (behind : List (List ℕ)) → AllByRecursion IsWholeUnit behind → fails.rest ≡ flat_map (λ part. part) behind
-        → FailsHere «abbrev» (length (units_bytes fails.units)) (fails.rest ++ more) broken
-    go [] each rest = absurd (fails.more rest)
-    go (part ∷ behind) each rest =
-        subst (λ (xs : List ℕ). FailsHere «abbrev» (length (units_bytes fails.units)) (xs ++ more) broken) (sym rest)
-        (here_with_more «abbrev» (length (units_bytes fails.units)) part (flat_map (λ part. part) behind) more broken
-        each.0
-        (subst (λ (xs : List ℕ). FailsHere «abbrev» (length (units_bytes fails.units)) xs broken) rest fails.fails))
-
--- ---- whole units, one after another
-
-pub one_whole : (part : List ℕ) → IsWholeUnit part → AreWholeUnits part
-one_whole part whole = record { parts = part ∷ []; whole = (whole, tt); are = sym (append-nil part) }
-
-pub more_whole : (bytes : List ℕ) (size next : ℕ) → AreWholeUnits (take size bytes)
-    → IsWholeUnit (take next (drop size bytes))
-    → AreWholeUnits (take (size + next) bytes)
-more_whole bytes size next before whole = record {
-  parts = before.parts ++ take next (drop size bytes) ∷ [];
-  whole = all-append IsWholeUnit before.parts (take next (drop size bytes) ∷ []) before.whole (whole, tt);
-  are = take-add size next bytes ∙ ap (λ (xs : List ℕ). xs ++ take next (drop size bytes)) before.are
-      ∙ ap (λ (xs : List ℕ). flat_map (λ part. part) before.parts ++ xs)
-      (sym (append-nil (take next (drop size bytes))))
-      ∙ sym (flat_map-append (λ (part : List ℕ). part) before.parts (take next (drop size bytes) ∷ []));
+-- a rule of trees that fails in some bytes fails with more behind them, unless the bytes end inside a unit
+pub fails_with_more : («abbrev» bytes more : List ℕ) (broken : PlainFault) → (broken.rule ≡ UnitCut → ⊥)
+    → Fails «abbrev» bytes broken → Fails «abbrev» (bytes ++ more) broken
+fails_with_more «abbrev» bytes more broken whole fails = record {
+  units = fails.units;
+  rest = fails.rest ++ more;
+  are = fails.are;
+  parts = ap (λ (xs : List ℕ). xs ++ more) fails.parts ∙ append_assoc (units_bytes fails.units) fails.rest more;
+  more = λ none. fails.more (no_elements fails.rest
+      (let e = ap length none in omega (arith, e, length-append fails.rest more)));
+  fails = subst (λ (r : Result (UnitHeader × List ℕ) Rule). FailsAs «abbrev» at r broken)
+      (sym (header_more (length «abbrev») fails.rest more (λ cut. whole
+      (ap (λ (b : PlainFault). b.rule) (subst (λ (r : Result (UnitHeader × List ℕ) Rule). FailsAs «abbrev» at r broken)
+      cut fails.fails))))) fails.fails;
 }
+  where
+    at : ℕ
+    at = length (units_bytes fails.units)

@@ -23,9 +23,9 @@ use Rattle.dw_image.proofs.MeasureLemmas.{cycle_failure, cycle_fails, entry_belo
 use Rattle.dw_units.specs.IndependentBatches.{whole, FollowFrom, StandsAlone}
 use Rattle.dw_units.specs.ByUnit.{AreBatches, moved_fault, IsMoved}
 use Rattle.dw_units.proofs.BatchLemmas.{PlacedBatch, placed_batches, all_placed}
-use Rattle.dw_units.proofs.FirstLemmas.{moved_place, moved_failure, IsInside, AreOfBatches, none_of_batches}
+use Rattle.dw_units.proofs.FirstLemmas.{moved_place, moved_failure, IsInside, AreOfBatches}
 use Rattle.dw_units.proofs.MovedEntries.{moved, found, get}
-use Rattle.dw_units.proofs.TextLemmas.{alone_at, stays_at, each_of, entry_inside}
+use Rattle.dw_units.proofs.TextLemmas.{alone_at, stays_at, entry_inside}
 use Rattle.dw_units.proofs.ReferenceLemmas.{Refer, refer_of}
 use Rattle.dw_units.proofs.Windows.{window, in_window}
 use Rattle.dw_units.proofs.WindowLemmas.{shape_same, closed_alone, raised, cycle_in_place, cycle_alone, offsets_moved}
@@ -109,13 +109,6 @@ pub shapes_batches : (s : Sections) (bs : List (List DebugUnit)) → Refer s bs
 shapes_batches s bs all =
     entries_batches s bs (ShapeFailures (whole s bs)) ShapeFailures all.apart (by_shape (whole s bs))
     (λ k p is. record { alone = by_shape p.units; same = shape_same (whole s bs) p (window s bs all k p is) })
-
-pub shapes_join : (s : Sections) (bs : List (List DebugUnit)) → AllByRecursion (StandsAlone s) bs
-    → FollowFrom s.base bs
-    → HasNone (ShapeFailures (whole s bs))
-shapes_join s bs all follow =
-    none_of_batches bs (ShapeFailures (whole s bs)) ShapeFailures (shapes_batches s bs (refer_of s bs all follow))
-    (each_of (StandsAlone s) (λ units. HasNone (ShapeFailures units)) bs (λ units one. one.shapes) all)
 
 -- ---- containment
 

@@ -1,5 +1,5 @@
 -- Shapes and steps by value in a window are those of the batch alone.
-use Rattle.std.proofs.Common.{rules, ◌≡◌, ℕ, ◌+◌, ◌-◌, zero, suc, ◌<◌, Bool, false, List, [], ◌∷◌, length, map, Option, Some, None, refl, sym, ap, subst, ◌∙◌, arith}
+use Rattle.std.proofs.Common.{rules, ◌≡◌, ℕ, ◌+◌, ◌-◌, zero, suc, ◌<◌, ◌≤◌, Bool, false, List, [], ◌∷◌, length, map, Option, Some, None, refl, sym, ap, subst, ◌∙◌, arith}
 use Rattle.std.specs.Prelude.{slice_index, is_some}
 use Rattle.std.specs.Option.{option_map_or}
 use Rattle.std.proofs.lemmas.List.{get_or-map, length-map}
@@ -10,7 +10,7 @@ use Rattle.dw_entries.specs.Entries.{Entry, entries_of}
 use Rattle.dw_entries.specs.Units.{DebugUnit}
 use Rattle.dw_types.specs.Counts.{count_of, is_dimension}
 use Rattle.dw_types.specs.Entries.{entry_in, signature_target, type_target}
-use Rattle.dw_types.specs.Graphs.{IsStep, IsClosed, IsCycle}
+use Rattle.dw_types.specs.Graphs.{Graph, IsStep, IsClosed, IsCycle}
 use Rattle.dw_types.specs.Kinds.{has_members, is_array, is_declared_type, parent_is, passes_type_on}
 use Rattle.dw_types.specs.Shapes.{fails_shape, is_plain}
 use Rattle.dw_types.specs.Steps.{by_value, IsStepByValue, by_type, by_member, by_signature}
@@ -24,6 +24,40 @@ use Rattle.dw_units.proofs.Windows.{IsWindow}
 
 pub some_of_moved : (first : ℕ) (o : Option ℕ) → is_some (moved_number first o) ≡ is_some o
 some_of_moved first o = search rules
+
+-- two lists of nodes in the same order, of two graphs with the same steps between them
+module _ (g f : Graph) (a b : List ℕ) (long : length b ≡ length a)
+    (there : (i j : ℕ) → i < length a → j < length a → slice_index a i ≤ slice_index a j
+    → slice_index b i ≤ slice_index b j)
+    (step : (k : ℕ) → k + 1 < length a → IsStep g (slice_index a k) (slice_index a (k + 1))
+    → IsStep f (slice_index b k) (slice_index b (k + 1))) where
+  closed_there : IsClosed g a → IsClosed f b
+  closed_there it =
+      let two = it.two in
+      let ends = it.closed in
+      let last : length a - 1 < length a = omega (arith, two) in
+      let le = there 0 (length a - 1) (omega (arith, two)) last (omega (arith, ends)) in
+      let ge = there (length a - 1) 0 last (omega (arith, two)) (omega (arith, ends)) in
+      let same : slice_index b 0 ≡ slice_index b (length a - 1) = omega (arith, le, ge) in
+      record {
+        two = omega (arith, two, long);
+        steps = λ k next. step k (omega (arith, next, long)) (it.steps k (omega (arith, next, long)));
+        closed = same ∙ ap (λ (n : ℕ). slice_index b (n - 1)) (sym long);
+      }
+
+  cycle_there : ((i j : ℕ) → i < length a → j < length a → slice_index b i ≡ slice_index b j
+      → slice_index a i ≡ slice_index a j) → IsCycle g a → IsCycle f b
+  cycle_there back it =
+      let two = it.closed.two in
+      record {
+        closed = closed_there it.closed;
+        least = λ k below.
+            let within : k < length a = omega (arith, below, long) in
+            there 0 k (omega (arith, two)) within (it.least k within);
+        once = λ i j less below same.
+            let within : j + 1 < length a = omega (arith, below, long) in
+            it.once i j less within (back i j (omega (arith, less, within)) (omega (arith, within)) same);
+      }
 
 module _ (all : List DebugUnit) (p : PlacedBatch) (w : IsWindow all p) where
   -- the parent of an entry, by a test of what does not depend on the place
@@ -128,42 +162,16 @@ module _ (all : List DebugUnit) (p : PlacedBatch) (w : IsWindow all p) where
       → ((k : ℕ) → k < length nodes → slice_index nodes k < length (entries_of p.units))
       → IsCycle (by_value all) (map (λ (n : ℕ). p.first + n) nodes)
   cycle_in_place nodes cycle inside =
-      let two = cycle.closed.two in
-      let long : length (map (λ (n : ℕ). p.first + n) nodes)
-      ≡ length nodes = length-map nodes (λ (n : ℕ). p.first + n) in
-      let begins = raised nodes 0 (omega (arith, two)) in
-      record {
-        closed = record {
-          two = omega (arith, two, long);
-          steps = λ k next. step_at k (omega (arith, next, long));
-          closed =
-              begins ∙ ap (λ (n : ℕ). p.first + n) cycle.closed.closed
-              ∙ sym (raised nodes (length nodes - 1) (omega (arith, two)))
-              ∙ ap (λ (n : ℕ). slice_index (map (λ (m : ℕ). p.first + m) nodes) (n - 1)) (sym long);
-        };
-        least = λ k below.
-            let within : k < length nodes = omega (arith, below, long) in
-            let least = cycle.least k within in
-            omega (arith, least, begins, raised nodes k within);
-        once = λ i j less below same.
-            let within : j + 1 < length nodes = omega (arith, below, long) in
-            let one = raised nodes i (omega (arith, less, within)) in
-            let other = raised nodes j (omega (arith, within)) in
-            cycle.once i j less within (omega (arith, one, other, same));
-      }
-    where
-      step_at : (k : ℕ) → k + 1 < length nodes
-          → IsStep (by_value all) (slice_index (map (λ (n : ℕ). p.first + n) nodes) k)
-          (slice_index (map (λ (n : ℕ). p.first + n) nodes) (k + 1))
-      step_at k next =
-          let here : k < length nodes = omega (arith, next) in
-          let step = by_value-from_step p.units (slice_index nodes k) (slice_index nodes (k + 1))
-          (cycle.closed.steps k next) in
-          let there = step-from_by_value all (p.first + slice_index nodes k) (p.first + slice_index nodes (k + 1))
-          (step_in_place (slice_index nodes k) (slice_index nodes (k + 1)) (inside k here) step) in
-          subst (λ (n : ℕ). IsStep (by_value all) n (slice_index (map (λ (x : ℕ). p.first + x) nodes) (k + 1)))
-          (sym (raised nodes k here))
-          (subst (IsStep (by_value all) (p.first + slice_index nodes k)) (sym (raised nodes (k + 1) next)) there)
+      cycle_there (by_value p.units) (by_value all) nodes (map (λ (n : ℕ). p.first + n) nodes)
+      (length-map nodes (λ (n : ℕ). p.first + n))
+      (λ i j i_in j_in le. omega (arith, le, raised nodes i i_in, raised nodes j j_in))
+      (λ k next step.
+      let here : k < length nodes = omega (arith, next) in
+      let to = by_value-from_step p.units (slice_index nodes k) (slice_index nodes (k + 1)) step in
+      rw (raised nodes k here, raised nodes (k + 1) next)
+      (step-from_by_value all (p.first + slice_index nodes k) (p.first + slice_index nodes (k + 1))
+      (step_in_place (slice_index nodes k) (slice_index nodes (k + 1)) (inside k here) to)))
+      (λ i j i_in j_in same. omega (arith, same, raised nodes i i_in, raised nodes j j_in)) cycle
 
   -- the offsets of entries, in their places
   pub offsets_moved : (nodes : List ℕ)
@@ -177,83 +185,60 @@ module _ (all : List DebugUnit) (p : PlacedBatch) (w : IsWindow all p) where
       λ i. here i ∷ more i
 
   -- a closed list that begins in the window stays there
-  stays_in : (nodes : List ℕ) → IsClosed (by_value all) nodes → (inner : ℕ) → inner < length (entries_of p.units)
-      → slice_index nodes 0 ≡ p.first + inner
-      → (k : ℕ) → k < length nodes → (m : ℕ) × (m < length (entries_of p.units)) × (slice_index nodes k ≡ p.first + m)
-  stays_in nodes closed inner inside begins zero below = (inner, inside, begins)
-  stays_in nodes closed inner inside begins (suc k) below =
-      let (m, within, here) = stays_in nodes closed inner inside begins k (omega (arith, below)) in
-      let next : k + 1 < length nodes = omega (arith, below) in
-      let number : k + 1 ≡ suc k = omega arith in
-      let step = by_value-from_step all (slice_index nodes k) (slice_index nodes (k + 1)) (closed.steps k next) in
-      let from_here = subst (λ (n : ℕ). IsStepByValue all n (slice_index nodes (k + 1))) here step in
-      let (j, inner_j, to, alone_step) = step_alone m (slice_index nodes (k + 1)) within from_here in
-      (j, inner_j, ap (slice_index nodes) (sym number) ∙ to)
+  module _ (nodes : List ℕ) (closed : IsClosed (by_value all) nodes) (inner : ℕ)
+      (inside : inner < length (entries_of p.units)) (begins : slice_index nodes 0 ≡ p.first + inner) where
+    abbrev low : List ℕ
+    low = map (λ (n : ℕ). n - p.first) nodes
 
-  lowered : (nodes : List ℕ) (k : ℕ) → k < length nodes
-      → slice_index (map (λ (n : ℕ). n - p.first) nodes) k ≡ slice_index nodes k - p.first
-  lowered nodes k below = get_or-map (λ (n : ℕ). n - p.first) nodes k 0 0 below
+    next_in : (k m : ℕ) → m < length (entries_of p.units) → slice_index nodes k ≡ p.first + m
+        → IsStep (by_value all) (slice_index nodes k) (slice_index nodes (k + 1))
+        → (j : ℕ) × (j < length (entries_of p.units)) × (slice_index nodes (k + 1) ≡ p.first + j)
+        × IsStep (by_value p.units) m j
+    next_in k m within here step =
+        let (j, j_in, to, alone) = step_alone m (slice_index nodes (k + 1)) within
+        (subst (λ (n : ℕ). IsStepByValue all n (slice_index nodes (k + 1))) here
+        (by_value-from_step all (slice_index nodes k) (slice_index nodes (k + 1)) step)) in
+        (j, j_in, to, step-from_by_value p.units m j alone)
 
-  pub closed_alone : (nodes : List ℕ) → IsClosed (by_value all) nodes → (inner : ℕ)
-      → inner < length (entries_of p.units)
-      → slice_index nodes 0 ≡ p.first + inner
-      → IsClosed (by_value p.units) (map (λ (n : ℕ). n - p.first) nodes)
-  closed_alone nodes closed inner inside begins =
-      let two = closed.two in
-      let long : length (map (λ (n : ℕ). n - p.first) nodes)
-      ≡ length nodes = length-map nodes (λ (n : ℕ). n - p.first) in
-      record {
-        two = omega (arith, two, long);
-        steps = λ k next. step_at k (omega (arith, next, long));
-        closed = lowered nodes 0 (omega (arith, two)) ∙ ap (λ (n : ℕ). n - p.first) closed.closed
-            ∙ sym (lowered nodes (length nodes - 1) (omega (arith, two)))
-            ∙ ap (λ (n : ℕ). slice_index (map (λ (m : ℕ). m - p.first) nodes) (n - 1)) (sym long);
-      }
-    where
-      step_at : (k : ℕ) → k + 1 < length nodes
-          → IsStep (by_value p.units) (slice_index (map (λ (n : ℕ). n - p.first) nodes) k)
-          (slice_index (map (λ (n : ℕ). n - p.first) nodes) (k + 1))
-      step_at k next =
-          let (m, within, here) = stays_in nodes closed inner inside begins k (omega (arith, next)) in
-          let step = by_value-from_step all (slice_index nodes k) (slice_index nodes (k + 1)) (closed.steps k next) in
-          let from_here = subst (λ (n : ℕ). IsStepByValue all n (slice_index nodes (k + 1))) here step in
-          let (j, inner_j, to, alone_step) = step_alone m (slice_index nodes (k + 1)) within from_here in
-          let low_from : m ≡ slice_index (map (λ (n : ℕ). n - p.first) nodes) k =
-          (let e : m ≡ slice_index nodes k - p.first = omega (arith, here) in e)
-          ∙ sym (lowered nodes k (omega (arith, next))) in
-          let low_to : j ≡ slice_index (map (λ (n : ℕ). n - p.first) nodes) (k + 1) =
-          (let e : j ≡ slice_index nodes (k + 1) - p.first = omega (arith, to) in e)
-          ∙ sym (lowered nodes (k + 1) next) in
-          subst (λ (n : ℕ). IsStep (by_value p.units) n (slice_index (map (λ (x : ℕ). x - p.first) nodes) (k + 1)))
-          low_from
-          (subst (IsStep (by_value p.units) m) low_to (step-from_by_value p.units m j alone_step))
+    stays_in : (k : ℕ) → k < length nodes
+        → (m : ℕ) × (m < length (entries_of p.units)) × (slice_index nodes k ≡ p.first + m)
+    stays_in zero below = (inner, inside, begins)
+    stays_in (suc k) below =
+        let (m, within, here) = stays_in k (omega (arith, below)) in
+        let number : k + 1 ≡ suc k = omega arith in
+        let (j, j_in, to, step) = next_in k m within here (closed.steps k (omega (arith, below))) in
+        (j, j_in, ap (slice_index nodes) (sym number) ∙ to)
+
+    lowered : (k : ℕ) → k < length nodes → slice_index nodes k ≡ p.first + slice_index low k
+    lowered k below =
+        let (m, within, here) = stays_in k below in
+        omega (arith, here, get_or-map (λ (n : ℕ). n - p.first) nodes k 0 0 below)
+
+    order : (i j : ℕ) → i < length nodes → j < length nodes → slice_index nodes i ≤ slice_index nodes j
+        → slice_index low i ≤ slice_index low j
+    order i j i_in j_in le = omega (arith, le, lowered i i_in, lowered j j_in)
+
+    step_at : (k : ℕ) → k + 1 < length nodes → IsStep (by_value all) (slice_index nodes k) (slice_index nodes (k + 1))
+        → IsStep (by_value p.units) (slice_index low k) (slice_index low (k + 1))
+    step_at k next step =
+        let (m, within, here) = stays_in k (omega (arith, next)) in
+        let (j, j_in, to, alone) = next_in k m within here step in
+        let low_from : slice_index low k ≡ m = omega (arith, here, lowered k (omega (arith, next))) in
+        let low_to : slice_index low (k + 1) ≡ j = omega (arith, to, lowered (k + 1) next) in
+        rw (low_from, low_to) alone
+
+    pub closed_alone : IsClosed (by_value p.units) (map (λ (n : ℕ). n - p.first) nodes)
+    closed_alone =
+        closed_there (by_value all) (by_value p.units) nodes low (length-map nodes (λ (n : ℕ). n - p.first)) order
+        step_at closed
+
+    cycle_low : IsCycle (by_value all) nodes → IsCycle (by_value p.units) low
+    cycle_low cycle =
+        cycle_there (by_value all) (by_value p.units) nodes low (length-map nodes (λ (n : ℕ). n - p.first)) order
+        step_at (λ i j i_in j_in same. omega (arith, same, lowered i i_in, lowered j j_in)) cycle
 
   -- a cycle that begins in the window is one of the entries alone
   pub cycle_alone : (nodes : List ℕ) → IsCycle (by_value all) nodes → (inner : ℕ) → inner < length (entries_of p.units)
       → slice_index nodes 0 ≡ p.first + inner
       → IsCycle (by_value p.units) (map (λ (n : ℕ). n - p.first) nodes)
-  cycle_alone nodes cycle inner inside begins =
-      let two = cycle.closed.two in
-      let long : length (map (λ (n : ℕ). n - p.first) nodes)
-      ≡ length nodes = length-map nodes (λ (n : ℕ). n - p.first) in
-      record {
-        closed = closed_alone nodes cycle.closed inner inside begins;
-        least = λ k below.
-            let within : k < length nodes = omega (arith, below, long) in
-            let least = cycle.least k within in
-            omega (arith, least, lowered nodes 0 (omega (arith, two)), lowered nodes k within);
-        once = λ i j less below same.
-            let within : j + 1 < length nodes = omega (arith, below, long) in
-            let (m, m_in, one) = stays_in nodes cycle.closed inner inside begins i (omega (arith, less, within)) in
-            let (n, n_in, other) = stays_in nodes cycle.closed inner inside begins j (omega (arith, within)) in
-            cycle.once i j less within
-            (omega (
-              arith,
-              one,
-              other,
-              same,
-              lowered nodes i (omega (arith, less, within)),
-              lowered nodes j
-                  (omega (arith, within)),
-            ));
-      }
+  cycle_alone nodes cycle inner inside begins = cycle_low nodes cycle.closed inner inside begins cycle

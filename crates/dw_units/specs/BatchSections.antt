@@ -1,41 +1,38 @@
--- State: one batch of units of .debug_info, as sections of its own.
-use Rattle.std.specs.Prelude.{◌≡◌, ℕ, ◌+◌, ◌<◌, ◌≤◌, List, ◌∷◌, ◌++◌, length, take, Option, Some, None}
-use Rattle.byteorder.specs.Endian.{little_number}
-use Rattle.std.specs.List.{AllByRecursion, count_by, flat_map}
+-- State: the batches of .debug_info, each as sections of its own, and what is found of them one after another.
+use Rattle.std.specs.Prelude.{◌≡◌, ◌≢◌, ℕ, ◌<◌, ◌≤◌, List, [], ◌∷◌, ◌++◌, length, take, drop}
+use Rattle.std.specs.List.{AllByRecursion, count_by}
 use Rattle.dw_elf.specs.declared.sections.Sections.{Sections}
-use Rattle.dw_entries.specs.Units.{DebugUnit, HaveBase, units_bytes}
+use Rattle.dw_entries.specs.Units.{DebugUnit, units_bytes}
 use Rattle.dw_entries.specs.Entries.{Entry, entries_of}
 use Rattle.dw_entries.specs.EntryRules.{EachEntry}
 use Rattle.dw_image.specs.Lookups.{is_type_entry}
 use Rattle.dw_entries.specs.declared.fault.Fault.{Fault}
 use Rattle.dw_forms.specs.declared.rule.Rule.{Rule}
+use Rattle.dw_forms.specs.declared.rule.Rule.TheVariants.{UnitCut}
 use Rattle.dw_forms.specs.Rules.{group_of}
 use Rattle.dw_image.specs.GroupsBefore.{PassBefore}
 use Rattle.dw_image.specs.FirstFault.{Group, turn_of}
 use Rattle.dw_image.specs.Headline.{IsFaultOf}
 use Rattle.dw_units.specs.declared.counts.Counts.{Counts}
-use Rattle.dw_units.specs.declared.counting.Found.{Found}
-use Rattle.dw_units.specs.declared.counting.Found.TheVariants as found
-use Rattle.dw_units.specs.declared.counting.SoFar.{SoFar}
+use Rattle.dw_units.specs.declared.checking.Found.{Found}
+use Rattle.dw_units.specs.declared.checking.Found.TheVariants as found
 use Rattle.dw_units.specs.declared.batches.Elsewhere.{Elsewhere}
 use Rattle.dw_units.specs.declared.batches.Elsewhere.TheVariants.{Never, ByOffset, BySignature}
-use Rattle.dw_units.specs.declared.batches.Verified.{Verified}
-use Rattle.dw_units.specs.declared.batches.Verified.TheVariants as verified
-use Rattle.dw_units.specs.ByUnit.{StaysAlone, AreBatches, HasNoOffset, IsFirm, IsMoved, PassesBelow, PassesThrough}
+use Rattle.dw_units.specs.ByUnit.{AreBatches, HasNoOffset, IsFirm, IsMoved, PassesBelow, PassesThrough}
 use Rattle.dw_units.specs.ByUnit.{IsMeasured, FailsAlone}
 use Rattle.dw_units.specs.IndependentBatches.{joined_batches, StaysInside, StandsAlone}
-use Rattle.dw_units.specs.Counts.{AreCounts}
+use Rattle.dw_units.specs.Counts.{AreCounts, sums}
 
--- as many bytes as the unit_length at their front counts (DWARF 5, 7.5.1)
-pub record IsWholeUnit (part : List ℕ) : Type 0 where
-  pub four : 4 ≤ length part
-  pub long : length part ≡ 4 + little_number 4 (take 4 part)
+-- batches of these sizes are at the front of the bytes, and these bytes follow
+abbrev pub AreSizes : (sizes bytes rest : List ℕ) → Type 0
+AreSizes [] bytes rest = bytes ≡ rest
+AreSizes (size ∷ sizes) bytes rest = (size ≤ length bytes) × AreSizes sizes (drop size bytes) rest
 
--- parts like that, one after another
-pub record AreWholeUnits (bytes : List ℕ) : Type 0 where
-  pub parts : List (List ℕ)
-  pub whole : AllByRecursion IsWholeUnit parts
-  pub are : bytes ≡ flat_map (λ part. part) parts
+-- values that refer so are allowed, if no others than such may
+abbrev pub IsAllowed : (most found : Elsewhere) → Type 0
+IsAllowed Never found = found ≡ Never
+IsAllowed ByOffset found = found ≢ BySignature
+IsAllowed BySignature found = Unit {0}
 
 -- how the values of these entries refer to those of other units
 abbrev pub Refer : List Entry → Elsewhere → Type 0
@@ -43,71 +40,40 @@ Refer entries Never = EachEntry StaysInside entries × EachEntry HasNoOffset ent
 Refer entries ByOffset = EachEntry StaysInside entries
 Refer entries BySignature = Unit {0}
 
--- the bytes from an offset on are a batch that is valid alone, with these counts
-pub record IsAlone (s : Sections) (at : ℕ) (part : List ℕ) (c : Counts) : Type 0 where
-  pub units : List DebugUnit
-  pub based : HaveBase (s.base + at) units
-  pub alone : StandsAlone s units
-  pub bytes : part ≡ units_bytes units
-  pub unit_count : c.units ≡ length units
-  pub entry_count : c.entries ≡ length (entries_of units)
-  pub type_count : c.types ≡ count_by is_type_entry (entries_of units)
-
--- the bytes from an offset on are a batch that stays alone, and this is its first fault, in a group after the trees
-pub record IsFaultAlone (s : Sections) (at : ℕ) (part : List ℕ) (fault : Fault) : Type 0 where
-  pub units : List DebugUnit
-  pub based : HaveBase (s.base + at) units
-  pub stays : StaysAlone s units
-  pub bytes : part ≡ units_bytes units
-  pub group : Group
-  pub fails : FailsAlone s units group fault
-  pub measured : IsMeasured group units
-  pub rank : group_of fault.rule ≡ turn_of group
-
--- no rule fails of the groups before the one of the least fault so far, which there is
-abbrev pub PassLess : Sections → List DebugUnit → (least : Option Rule) → Type 0
-PassLess s units None = ⊥
-PassLess s units (Some rule) = PassBefore s units (group_of rule)
-
--- a rule is less than the one of the least fault so far: of an earlier group
-abbrev pub IsLess : (least : Option Rule) → Rule → Type 0
-IsLess None rule = Unit {0}
-IsLess (Some least) rule = group_of rule < group_of least
-
--- the bytes from an offset on are a batch that stays alone, and it has no less fault
-pub record IsSkipped (s : Sections) (at : ℕ) (least : Option Rule) (part : List ℕ) : Type 0 where
-  pub units : List DebugUnit
-  pub based : HaveBase (s.base + at) units
-  pub stays : StaysAlone s units
-  pub bytes : part ≡ units_bytes units
-  pub passes : PassLess s units least
-
--- what is found of sections that these units spell: the counts are asked only if there is no fault so far
-abbrev pub IsVerdictOn : Sections → List DebugUnit → (least : Option Rule) → Verified → Type 0
-IsVerdictOn s units least (verified.Sound c) = (least ≡ None) × AreCounts s c
-IsVerdictOn s units least verified.Passed = PassLess s units least
-IsVerdictOn s units least (verified.Fault fault) = IsFaultOf s fault × IsLess least fault.rule
-
--- a fault that is found does not depend on the other units
-abbrev pub IsFirmly : List DebugUnit → Verified → Type 0
-IsFirmly units (verified.Fault fault) = IsFirm units fault.rule
-IsFirmly units _ = Unit {0}
-
--- what is found is that, by values that refer so
-abbrev pub IsFirmlyKept : Elsewhere → (found kept : Verified) → Type 0
-IsFirmlyKept elsewhere found kept = (kept ≡ found)
-    × ((units : List DebugUnit) → Refer (entries_of units) elsewhere → IsFirmly units kept)
-
--- what a batch alone is found to be
-abbrev pub IsFoundAlone : Sections → (at : ℕ) → (least : Option Rule) → List ℕ → Verified → Type 0
-IsFoundAlone s at least part (verified.Sound c) = (least ≡ None) × IsAlone s at part c
-IsFoundAlone s at least part verified.Passed = IsSkipped s at least part
-IsFoundAlone s at least part (verified.Fault fault) = IsFaultAlone s at part fault × IsLess least fault.rule
-
 -- what is found is this fault of a batch alone, in the batch's place
 abbrev pub IsFoundAt : ℕ → Fault → Found → Type 0
 IsFoundAt at alone (found.Sound c) = ⊥
 IsFoundAt at alone (found.Fault fault) = IsMoved at alone fault
+
+-- likewise, and no unit of the batch is cut, so the bytes after it change nothing
+abbrev pub IsWhollyFoundAt : ℕ → Fault → Found → Type 0
+IsWhollyFoundAt at alone it = IsFoundAt at alone it × (alone.rule ≢ UnitCut)
+
+-- likewise, and it does not depend on the other units, by values that refer so
+abbrev pub IsFirmlyFoundAt : Elsewhere → ℕ → Fault → Found → Type 0
+IsFirmlyFoundAt elsewhere at alone it = IsFoundAt at alone it
+    × ((units : List DebugUnit) → Refer (entries_of units) elsewhere → IsFirm units alone.rule)
+
+-- a rule fails on the entries of a batch, whatever the other units are: its first fault, in the batch's place
+pub record FailsInBatch (own : Sections) (units : List DebugUnit) (at : ℕ) (fault : Fault) : Type 0 where
+  pub alone : Fault
+  pub is_fault : IsFaultOf own alone
+  pub firm : IsFirm units alone.rule
+  pub place : IsMoved at alone fault
+
+-- a rule is less than what is found so far: there is no fault, or one of a later group
+abbrev pub IsLess : Found → Rule → Type 0
+IsLess (found.Sound c) rule = Unit {0}
+IsLess (found.Fault least) rule = group_of rule < group_of least.rule
+
+-- what is found after one batch more, which is sections of its own: it is sound like those before it; it has no fault
+-- that is less than theirs; or it has one
+pub data IsFoundAfter (own : Sections) (units : List DebugUnit) (at : ℕ) : (so_far more : Found) → Type 0 where
+  sound : (a b : Counts) → AreCounts own b → IsFoundAfter own units at (found.Sound a) (found.Sound (sums a b))
+  passes : (least : Fault) → PassBefore own units (group_of least.rule)
+      → IsFoundAfter own units at (found.Fault least) (found.Fault least)
+  fails : (so_far : Found) (fault : Fault) → IsLess so_far fault.rule → FailsInBatch own units at fault
+      → IsFoundAfter own units at so_far (found.Fault fault)
 
 -- the fault is the least of these batches: of the first batch in the least group, in its place
 pub record HasLeast (s : Sections) (batches : List (List DebugUnit)) (fault : Fault) : Type 0 where
@@ -131,20 +97,15 @@ pub record AreCounted (s : Sections) (batches : List (List DebugUnit)) (c : Coun
   pub entry_count : c.entries ≡ length (entries_of (joined_batches batches))
   pub type_count : c.types ≡ count_by is_type_entry (entries_of (joined_batches batches))
 
--- without a fault they are counted
-abbrev pub AreVerified : Sections → List (List DebugUnit) → Counts → Option Fault → Type 0
-AreVerified s batches c None = AreCounted s batches c
-AreVerified s batches c (Some fault) = HasLeast s batches fault
+-- this is found of the batches
+abbrev pub IsFoundOf : Sections → List (List DebugUnit) → Found → Type 0
+IsFoundOf s batches (found.Sound c) = AreCounted s batches c
+IsFoundOf s batches (found.Fault fault) = HasLeast s batches fault
 
--- the batches so far, and the bytes after them
-pub record AreSoFar (s : Sections) (rest : List ℕ) (so_far : SoFar) : Type 0 where
+-- batches have the bytes up to an offset, and this is found of them
+pub record IsFoundUpTo (s : Sections) (at : ℕ) (it : Found) : Type 0 where
   pub batches : List (List DebugUnit)
   pub apart : AreBatches s batches
-  pub bytes : s.info.now ≡ units_bytes (joined_batches batches) ++ rest
-  pub at : so_far.at ≡ length (units_bytes (joined_batches batches))
-  pub verified : AreVerified s batches so_far.counts so_far.least
-
--- the rule of the least fault
-abbrev pub least_rule : Option Fault → Option Rule
-least_rule None = None
-least_rule (Some fault) = Some fault.rule
+  pub within : at ≤ length s.info.now
+  pub bytes : take at s.info.now ≡ units_bytes (joined_batches batches)
+  pub of_batches : IsFoundOf s batches it

@@ -1,8 +1,8 @@
 //! How many units, entries and types there are.
 
-ghost use Rattle.std.specs.Prelude.{◌≡◌, ◌+◌, IfSome};
+ghost use Rattle.std.specs.Prelude.{◌≡◌, IfSome};
 ghost use Rattle.dw_image.specs.Images.{sections_in};
-ghost use Rattle.dw_units.specs.Counts.{AreCounts, counts_in};
+ghost use Rattle.dw_units.specs.Counts.{AreCounts, counts_in, sums};
 
 use dw_image::Image;
 
@@ -30,9 +30,7 @@ impl Counts {
 
     /// The sums with the counts of other units. None if they exceed usize.
     pub(crate) fn plus(self, other: Counts) -> Option<Counts>
-        ensures units { IfSome result (λ c. c.units ≡ self.units + other.units) }
-        ensures entries { IfSome result (λ c. c.entries ≡ self.entries + other.entries) }
-        ensures types { IfSome result (λ c. c.types ≡ self.types + other.types) }
+        ensures { IfSome result (λ c. c ≡ sums self other) }
     {
         let units = self.units.checked_add(other.units)?;
         let entries = self.entries.checked_add(other.entries)?;

@@ -1,9 +1,9 @@
-//! Whether sections are sound, batch after batch of units, with the memory of one batch.
+//! The counts of sound sections or their first fault, with the memory of one batch of units if that suffices.
 #![tactic(auto)]
 
 mod batches;
-mod counting;
+mod checking;
 mod counts;
 
-pub use counting::{Found, first_of_units, trees_of_units, units_join, verify_by_unit};
+pub use checking::{Found, check, first_of_units, trees_of_units, units_join};
 pub use counts::Counts;

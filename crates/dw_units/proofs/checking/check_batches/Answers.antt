@@ -1,0 +1,19 @@
+use Rattle.std.proofs.Common.{arith}
+use Rattle.dw_units.proofs.CountLemmas.{found_in, found_by_trees, none_left, none_so_far}
+use Rattle.dw_units.proofs.checking.check_batches.Goals as goal
+
+pub loop-k-init : goal.loop-k-init
+loop-k-init c = (none_so_far c.args.sections.now, rw c.in-Some.is at c.in_ok-sizes.ensures)
+
+pub returns-in-Err-Fault : goal.returns-in-Err-Fault
+returns-in-Err-Fault c =
+    found_by_trees c.args.sections.now c.loop-k.at c.loop-k.so_far c.loop-k.invariant.0 c.index-size.result.now
+    c.in-Err-Fault.alone (rw c.in-Err-Fault.field-0-is at c.in-Err-Fault.ensures.fault) c.wholly_found_at.result
+    (rw c.in-Err-Fault.field-0-is at c.wholly_found_at.ensures)
+
+pub returns : goal.returns
+returns c =
+    found_in c.args.sections.now c.loop-k.at c.loop-k.so_far c.loop-k.invariant.0
+    (none_left c.args.sections.now c.loop-k.at c.in-Some.sizes.items c.loop-k.k
+    (let end = c.len-k-end.ensures in let past = c.loop-k-test.false in omega (arith, end, past))
+    c.loop-k.invariant.1)
