@@ -1,13 +1,12 @@
 -- The members, enumerators and parameters that are left to be written, item by item.
 use Rattle.std.proofs.lemmas.Grind.{common_steps}
-use Rattle.std.proofs.Common.{arith, rules, ◌≡◌, ℕ, ℤ, ◌+◌, ◌<◌, false, List, [], ◌∷◌, ◌++◌, Option, Some, None, refl, sym, ◌∙◌, ap, append_assoc, drop, length, get_or, map}
+use Rattle.std.proofs.Common.{arith, rules, ◌≡◌, ℕ, ℤ, ◌+◌, ◌<◌, false, List, [], ◌∷◌, ◌++◌, Option, Some, None, refl, sym, ◌∙◌, ap, append_assoc, append-nil, drop, length, get_or, map}
 use Rattle.std.specs.Prelude.{Bool, true, option_map, if◌then◌else◌}
 use Rattle.std.specs.List.{cons_option}
 use Rattle.std.proofs.lemmas.Option.{same_Some}
 use Rattle.std.proofs.lemmas.List.{drop_more}
 use Rattle.dw_cprint.specs.Declarations.{is_cut_short, has_more, constants_of, parameters_by, members_by}
 use Rattle.dw_cprint.specs.Declarators.{body_tokens, comma}
-use Rattle.dw_cprint.specs.Drafts.{appended}
 use Rattle.dw_cprint.specs.Kept.{Writes, EnumeratorsLeft, constants_left, WritesEnumerator, WritesEnumerators, WritesParameter, WritesParameters, kept_term}
 use Rattle.dw_cprint.specs.Shapes.{Parameter, Typed, More, Name, TypeAt, MemberOf, EnumeratorOf}
 use Rattle.dw_cprint.specs.Terms.{Constant, Valued, Term, Parameters, Parameter as ParameterTerm, Members, Member as MemberTerm}
@@ -15,7 +14,6 @@ use Rattle.dw_cprint.specs.Tokens.{Token, Blank, LeftBrace, RightBrace, Semicolo
 use Rattle.dw_cprint.specs.Writing.{spell, name_tokens, bits_tokens, ellipsis, constant_tokens, constants, more_constants, more_parameters, members_tokens, written}
 use Rattle.dw_cprint.specs.declared.survey.Survey.{Survey}
 use Rattle.dw_cprint.proofs.OptionLemmas.{both_hold, map_holds, map_inverted, then_inverted, unless_holds}
-use Rattle.dw_cprint.proofs.DraftLemmas.{appended-nil, appended-twice, over-before}
 use Rattle.dw_cprint.proofs.WriterLemmas.{both, text-append}
 
 -- what is left of a list, one item on
@@ -24,40 +22,35 @@ pub next-of : {X Y : Type 0} (f : X → Y) (xs : List X) (i : ℕ) (one : X) →
 next-of f xs i one is within = ap (map f) (drop_more xs i one within) ∙ ap (λ z. f z ∷ map f (drop (i + 1) xs)) (sym is)
 
 -- what is written is followed by the same rest
-pub moved : (a rest whole : List Token) (old out out' : Option (List ℕ)) (all : List ℕ) → Writes a out out'
+pub moved : (a rest whole : List Token) (old out out' : List ℕ) (all : List ℕ) → Writes a out out'
     → a ++ rest ≡ whole
-    → appended out (text_of whole) ≡ appended old all → appended out' (text_of rest) ≡ appended old all
-moved a rest whole old out out' all h parts so_far = search (rules, appended-twice, text-append)
+    → out ++ text_of whole ≡ old ++ all → out' ++ text_of rest ≡ old ++ all
+moved a rest whole old out out' all h parts so_far = search (rules, append_assoc, text-append)
 
 -- ---- items of any kind, by the tokens of some of them, if all of these have terms
 
 -- the items that are left are still to be written
-pub record IsLeft {X : Type 0} (tokens : List X → Option (List Token)) (all : List X) (old : Option (List ℕ))
+pub record IsLeft {X : Type 0} (tokens : List X → Option (List Token)) (all : List X) (old : List ℕ)
     (left : List X)
-    (out : Option (List ℕ)) : Type 0 where
+    (out : List ℕ) : Type 0 where
   pub rest : (us : List Token) → tokens all ≡ Some us
-      → (vs : List Token) × (tokens left ≡ Some vs) × (appended out (text_of vs) ≡ appended old (text_of us))
+      → (vs : List Token) × (tokens left ≡ Some vs) × (out ++ text_of vs ≡ old ++ text_of us)
 
 -- the tokens of an item, which is written, and those of the others
-abbrev IsSplit : {X : Type 0} → (List X → Option (List Token)) → List X → List Token → Option (List ℕ) → Option (List ℕ)
+abbrev IsSplit : {X : Type 0} → (List X → Option (List Token)) → List X → List Token → List ℕ → List ℕ
     → Type 0
 IsSplit tokens left us out out' =
     (one others : List Token) × (tokens left ≡ Some others) × (one ++ others ≡ us) × Writes one out out'
 
-module _ {X : Type 0} (tokens : List X → Option (List Token)) (all : List X) (old : Option (List ℕ)) where
-  left-next : (x : X) (left : List X) (out out' : Option (List ℕ)) → IsLeft tokens all old (x ∷ left) out
+module _ {X : Type 0} (tokens : List X → Option (List Token)) (all : List X) (old : List ℕ) where
+  left-next : (x : X) (left : List X) (out out' : List ℕ) → IsLeft tokens all old (x ∷ left) out
       → ((us : List Token) → tokens (x ∷ left) ≡ Some us → IsSplit tokens left us out out')
       → IsLeft tokens all old left out'
   left-next x left out out' so_far split = grind (arith, common_steps, moved)
 
-  -- none is left to be written where the text is too long
-  pub left-over : (left : List X) (out : Option (List ℕ)) → tokens [] ≡ Some [] → out ≡ None
-      → IsLeft tokens all old left out → IsLeft tokens all old [] out
-  left-over left out none is so_far = search (rules, appended-nil, over-before)
-
-  left-done : (out : Option (List ℕ)) (us : List Token) → tokens [] ≡ Some [] → IsLeft tokens all old [] out
+  left-done : (out : List ℕ) (us : List Token) → tokens [] ≡ Some [] → IsLeft tokens all old [] out
       → tokens all ≡ Some us → Writes us old out
-  left-done out us none so_far e = search (rules, same_Some, appended-nil)
+  left-done out us none so_far e = search (rules, same_Some, append-nil)
 
 -- ---- members
 
@@ -70,7 +63,7 @@ member-tokens : (name : Name) (t : Term) (bits : Option ℕ) (us : Members)
 member-tokens name t bits us = search (rules, append_assoc)
 
 pub members_next : (term : TypeAt → Option Term) (all : List MemberOf) (m : MemberOf) (left : List MemberOf)
-    (old out out' : Option (List ℕ)) → IsLeft (members_left term) all old (m ∷ left) out
+    (old out out' : List ℕ) → IsLeft (members_left term) all old (m ∷ left) out
     → ((t : Term) → term m.type_at ≡ Some t
     → Writes (spell [] t (name_tokens m.name) ++ (bits_tokens m.bits ++ Semicolon ∷ Blank ∷ [])) out out')
     → IsLeft (members_left term) all old left out'
@@ -89,7 +82,7 @@ members_next term all m left old out out' so_far written = left-next (members_le
     ))))
 
 -- the members, in braces
-pub members_done : (term : TypeAt → Option Term) (all : List MemberOf) (begin old out new : Option (List ℕ))
+pub members_done : (term : TypeAt → Option Term) (all : List MemberOf) (begin old out new : List ℕ)
     → Writes (LeftBrace ∷ Blank ∷ []) begin old
     → IsLeft (members_left term) all old [] out → Writes (RightBrace ∷ []) out new → (us : Members)
     → members_by term all ≡ Some us → Writes (body_tokens us) begin new
@@ -116,11 +109,11 @@ pub more-constants : (x : EnumeratorOf) (es : List EnumeratorOf) (cs : List Cons
 more-constants x es cs e = search (rules, then_inverted, map_inverted)
 
 -- all are left
-pub enumerators_begin : (all : List EnumeratorOf) (begin : Option (List ℕ)) → EnumeratorsLeft all begin false all begin
+pub enumerators_begin : (all : List EnumeratorOf) (begin : List ℕ) → EnumeratorsLeft all begin false all begin
 enumerators_begin all begin = record { rest = λ us is. (us, is, refl) }
 
 -- one is written that was left
-pub enumerators_next : (all left : List EnumeratorOf) (x : EnumeratorOf) (begin out mid out' : Option (List ℕ))
+pub enumerators_next : (all left : List EnumeratorOf) (x : EnumeratorOf) (begin out mid out' : List ℕ)
     (others : Bool) → EnumeratorsLeft all begin others (cons_option (Some x) left) out → Writes (comma others) out mid
     → WritesEnumerator x mid out' → EnumeratorsLeft all begin true left out'
 enumerators_next all left x begin out mid out' others so_far first written = record {
@@ -144,15 +137,15 @@ enumerators_next all left x begin out mid out' others so_far first written = rec
     parts true cs one = refl
 
 -- all are written, in braces
-pub enumerators_done : (all : List EnumeratorOf) (begin old out new : Option (List ℕ)) (others : Bool)
+pub enumerators_done : (all : List EnumeratorOf) (begin old out new : List ℕ) (others : Bool)
     → Writes (LeftBrace ∷ Blank ∷ []) begin old → EnumeratorsLeft all old others [] out
     → Writes (Blank ∷ RightBrace ∷ []) out new → WritesEnumerators all begin new
 enumerators_done all begin old out new others opens left closes us is =
     let (vs, are, so_far) = left.rest us is in
     let none : [] ≡ vs = cc in
     let inner : Writes (constants us) old out =
-    sym (appended-nil out) ∙ ap (λ (u : List Token). appended out (text_of u)) (nothing others)
-    ∙ ap (λ (cs : List Constant). appended out (text_of (constants_left others cs))) none ∙ so_far in
+    sym (append-nil out) ∙ ap (λ (u : List Token). out ++ text_of u) (nothing others)
+    ∙ ap (λ (cs : List Constant). out ++ text_of (constants_left others cs)) none ∙ so_far in
     both (LeftBrace ∷ Blank ∷ []) (constants us ++ Blank ∷ RightBrace ∷ []) begin old new opens
     (both (constants us) (Blank ∷ RightBrace ∷ []) old out new inner closes)
   where
@@ -175,7 +168,7 @@ parameters-are : (term : TypeAt → Option Term) (ps : List Parameter) (us : Par
 parameters-are term ps us placed e = rw (placed, e) refl
 
 pub parameters_next : (s : Survey) (k : ℕ) (all : List Parameter) (p : Parameter) (left : List Parameter)
-    (old out mid out' : Option (List ℕ)) → IsLeft (parameters_left (kept_term s k)) all old (p ∷ left) out
+    (old out mid out' : List ℕ) → IsLeft (parameters_left (kept_term s k)) all old (p ∷ left) out
     → Writes (Comma ∷ Blank ∷ []) out mid
     → WritesParameter s k p mid out' → IsLeft (parameters_left (kept_term s k)) all old left out'
 parameters_next s k all p left old out mid out' so_far comma written =
@@ -209,7 +202,7 @@ parameters_next s k all p left old out mid out' so_far comma written =
     )
     split More (another ∷ left) writes us e = absurd (cc)
 
-pub parameters_done : (s : Survey) (k : ℕ) (p : Parameter) (others : List Parameter) (begin old new : Option (List ℕ))
+pub parameters_done : (s : Survey) (k : ℕ) (p : Parameter) (others : List Parameter) (begin old new : List ℕ)
     → WritesParameter s k p begin old → IsLeft (parameters_left (kept_term s k)) others old [] new
     → WritesParameters s k (p ∷ others) begin new
 parameters_done s k More others begin old new first left placed us e = absurd (cc)

@@ -1,26 +1,29 @@
--- The named types judged one after another: the listing of those that are printed, and of those that are refused.
-use Rattle.std.proofs.Common.{◌≡◌, ◌≢◌, ℕ, zero, suc, ◌+◌, ◌<◌, ◌≤◌, Bool, true, false, List, [], ◌∷◌, ◌++◌, refl, sym, ◌∙◌, ap, subst, inl, inr, length, get_or, arith, append_assoc, append-nil, take, Option, Some, None, nat_eq, slice_get}
-use Rattle.std.specs.Prelude.{is_some, IfSome, ◌⊎◌, All, Contains, AllPairs, flat_map, if◌then◌else◌, slice_set}
-use Rattle.std.specs.List.{cons_option, range_with_len, filter_map, list_any}
-use Rattle.std.specs.Map.{keys_of}
+-- The named types by their numbers: why each is refused, and the listing of those that are printed and of the others.
+use Rattle.std.proofs.Common.{◌≡◌, ◌≢◌, ℕ, zero, suc, ◌+◌, ◌<◌, Bool, true, false, List, [], ◌∷◌, ◌++◌, refl, sym, ◌∙◌, ap, subst, inl, inr, length, map, get_or, arith, append-nil, take, Option, Some, None, nat_eq, slice_get}
+use Rattle.std.specs.Prelude.{◌⊎◌, All, Contains, AllPairs, filter, flat_map, if◌then◌else◌}
+use Rattle.std.specs.List.{range_with_len, filter_map, list_any}
+use Rattle.std.proofs.lemmas.Bool.{cases_lt, eqb-true}
 use Rattle.std.proofs.lemmas.Map.Views.{Contains-from_any}
 use Rattle.indexmap.specs.IndexSet.{insert_key}
-use Rattle.std.proofs.lemmas.Bool.{eqb-true}
-use Rattle.std.proofs.lemmas.List.{get_or_default, get_or-set_other, get_or-set_same, get_or-take, flat_map_more, length-set, length-take-le, take_all, take_more}
-use Rattle.std.proofs.lemmas.List.Elements.{All-contains, All-push, Contains-append_left, Contains-append_right, Contains-get_or, filter_map-append}
+use Rattle.std.proofs.lemmas.Option.{slice_get-get_or}
+use Rattle.std.proofs.lemmas.List.{get_or_append_left, get_or_default, get_or-map, get_or_push, get_or-take, length-map, length_push, length-take-le, take_more}
+use Rattle.std.proofs.lemmas.List.Elements.{All-contains, All-contains_itself, All-filter, Contains-append_left, Contains-append_right, All-rest, Contains-get_or, filter-append, filter_passes}
+use Rattle.std.proofs.lemmas.List.Kept.{AllPairs-filter}
 use Rattle.std.proofs.lemmas.List.Sorted.{Contains-permutation}
 use Rattle.dw_image.specs.declared.image.Image.{Image}
 use Rattle.dw_image.specs.Images.{entries_in}
 use Rattle.dw_cprint.specs.EntryShapes.{shape_in, subject_in}
-use Rattle.dw_cprint.specs.Judgements.{HasLine, IsAdded, IsJudgement, printed_with, refused_number, refused_pair}
-use Rattle.dw_cprint.specs.declared.listing.Judgements.{Judgements}
-use Rattle.dw_cprint.specs.Listings.{text_if, IsNamedType, AreNamedTypes, AreRanked, StandsBefore, IsListing, declared_line}
-use Rattle.dw_cprint.specs.Refusals.{PrintFault, Refuses, IsPrinted}
-use Rattle.dw_cprint.specs.Declarations.{declaration_of}
-use Rattle.dw_cprint.specs.Shapes.{ShapeOf, SubjectOf}
-use Rattle.dw_cprint.specs.Surveys.{AreAmong}
-use Rattle.dw_cprint.proofs.RefusalLemmas.{one-rule, printed-or-refused}
-use Rattle.dw_cprint.proofs.NumberLemmas.{key-at, keys-long, numbers-within, picked-of, picked-pairs, picked-there, range-below, range-rising, range-there, slice-at}
+use Rattle.dw_cprint.specs.Judgements.{AreFirstRefusals, AreRefusals, IsPrintedNumber, IsRefusal, is_printed, refused_number, refused_pair}
+use Rattle.dw_cprint.specs.Listings.{IsNamedType, AreNamedTypes, AreRanked, StandsBefore, IsListing}
+use Rattle.dw_cprint.specs.Kept.{WritesDeclaration}
+use Rattle.dw_cprint.specs.Refusals.{PrintFault, AppendsDeclaration, Refuses, IsPrinted}
+use Rattle.dw_cprint.specs.Shapes.{ShapeOf, SubjectOf, TypeAt}
+use Rattle.dw_cprint.specs.Steps.{entries_among, first_steps, types_declared}
+use Rattle.dw_cprint.specs.Surveys.{AreAmong, BySurvey, IsSurveyOf}
+use Rattle.dw_cprint.specs.declared.survey.Survey.{Survey}
+use Rattle.dw_cprint.proofs.RefusalLemmas.{one-rule, printed-or-refused, writes-printed}
+use Rattle.dw_cprint.proofs.NumberLemmas.{kept-there, picked-of, picked-pairs, picked-there, range-rising, range-there}
+use Rattle.dw_cprint.proofs.ReachLemmas.{from-map, into-map}
 
 -- the steps of one entry are among those of all
 pub steps-among : (f : ℕ → List ℕ) (ids : List ℕ) (i : ℕ) → i < length ids
@@ -30,74 +33,54 @@ steps-among f (y ∷ ids) zero w entry has = Contains-append_left (f y) (flat_ma
 steps-among f (y ∷ ids) (suc i) w entry has =
     Contains-append_right (f y) (flat_map f ids) entry (steps-among f ids i (omega arith) entry has)
 
--- each number is that of a named type
-pub number-inside : (image : Image) (named numbers : List ℕ) (place number : ℕ) → AreRanked image named numbers
-    → place < length numbers → number ≡ get_or numbers place number → number < length named
-number-inside image named numbers place number ranks within is =
-    rw is (numbers-within (length named) numbers ranks.all place number within)
-
 stands-apart : (level : ℕ → ℕ) (a b : ℕ) → StandsBefore level a b → a ≢ b
 stands-apart level a b (inl less) same = (let e = ap level same in omega arith)
 stands-apart level a b (inr (level_same, less)) same = omega arith
 
--- a line is written if there is no refusal
-pub line-written : (shapes : ℕ → ShapeOf) (subject : SubjectOf) (draft : Option (List ℕ)) (refusal : Option PrintFault)
-    (old bytes more new : List ℕ) → IsJudgement shapes subject draft refusal
-    → is_some refusal ≡ false → IfSome draft (λ (text : List ℕ). bytes ≡ text) → more ≡ old ++ bytes
-    → new ≡ more ++ 10 ∷ [] → HasLine shapes subject refusal old new
-line-written shapes subject draft (Some rule) old bytes more new judged none drafted put ended = absurd (cc)
-line-written shapes subject draft None old bytes more new (is, (d, has, drafts)) none drafted put ended =
-    let B : Option (List ℕ) → Type 0 = λ o. IfSome o (λ (text : List ℕ). bytes ≡ text) in
-    let text : bytes ≡ text_if (declaration_of shapes subject) = subst B drafts drafted ∙ sym (ap text_if has) in (
-      is,
-      ended ∙ ap (λ (u : List ℕ). u ++ 10 ∷ []) (put ∙ ap (λ (u : List ℕ). old ++ u) text)
-          ∙ append_assoc old (text_if (declaration_of shapes subject)) (10 ∷ []),
-    )
+-- the numbers in the order of their levels are apart
+pub numbers-apart : (image : Image) (named numbers : List ℕ) → AreRanked image named numbers
+    → AllPairs (λ j k. j ≢ k) numbers
+numbers-apart image named numbers ranks i j d less w same =
+    let f : ℕ → ℕ = λ k. get_or named k 0 in
+    stands-apart ranks.level (f (get_or numbers i d)) (f (get_or numbers j d)) (ranks.by_level i j d less w) (ap f same)
 
--- and nothing otherwise
-pub line-kept : (shapes : ℕ → ShapeOf) (subject : SubjectOf) (draft : Option (List ℕ)) (refusal : Option PrintFault)
-    (old new : List ℕ) → IsJudgement shapes subject draft refusal
-    → is_some refusal ≡ true → new ≡ old → HasLine shapes subject refusal old new
-line-kept shapes subject draft (Some rule) old new judged some same = (judged, same)
-line-kept shapes subject draft None old new judged some same = absurd (cc)
+-- ---- refusals
 
--- why a named type is refused, or none, and it is printed
-abbrev IsVerdict : Image → ℕ → Option PrintFault → Type 0
-IsVerdict image entry None = IsPrinted (shape_in image) (subject_in image entry)
-IsVerdict image entry (Some rule) = Refuses (shape_in image) (subject_in image entry) rule
+-- none is known
+pub no-refusals : (image : Image) (named : List ℕ) → AreFirstRefusals image named 0 []
+no-refusals image named = record { long = refl; each = λ k w. absurd (omega arith) }
 
--- the number of a judgement, if the type is printed
-abbrev printed_number : ℕ × Option PrintFault → Option ℕ
-printed_number (number, None) = Some number
-printed_number (number, Some rule) = None
+-- and one more
+pub refusals-more : (image : Image) (named : List ℕ) (k entry : ℕ) (refusals more : List (Option PrintFault))
+    (r : Option PrintFault) → AreFirstRefusals image named k refusals → more ≡ refusals ++ r ∷ []
+    → entry ≡ get_or named k 0 → IsRefusal (shape_in image) (subject_in image entry) r
+    → AreFirstRefusals image named (k + 1) more
+refusals-more image named k entry refusals more r h is at one = rw is (record {
+  long = omega (arith, length_push refusals r, h.long);
+  each = λ j w. elim (cases_lt j k) [
+    | inl below ↦ rw (get_or_append_left refusals (r ∷ []) None j (omega (arith, h.long, below))) (h.each j below)
+    | inr above ↦
+        let same : k ≡ j = omega arith in
+        let R : ℕ → Type 0 = λ x. IsRefusal (shape_in image) (subject_in image x) r in
+        rw (get_or_push refusals r None j (h.long ∙ same)) (subst R (at ∙ ap (λ n. get_or named n 0) same) one)
+  ];
+})
 
--- the named type with that number
-abbrev printed_entry : (named : List ℕ) → ℕ × Option PrintFault → Option ℕ
-printed_entry named (number, None) = slice_get named number
-printed_entry named (number, Some rule) = None
+-- ---- those that are printed
 
--- the first so many are judged
-pub record AreJudged (image : Image) (named numbers : List ℕ) (count : ℕ) (printed : List ℕ)
-    (refusals : List (Option PrintFault)) (text : List ℕ) : Type 0 where
-  pub judged : List (ℕ × Option PrintFault)
-  pub keys : keys_of judged ≡ take count numbers
-  pub all : All (λ (e : ℕ × Option PrintFault). IsVerdict image (get_or named e.0 0) e.1) judged
-  pub order : printed ≡ filter_map printed_number judged
-  pub long : length refusals ≡ length named
-  pub kept : All (λ (e : ℕ × Option PrintFault). get_or refusals e.0 None ≡ e.1) judged
-  pub lines : text ≡ flat_map (declared_line image) (filter_map (printed_entry named) judged)
+printed-none : (refusals : List (Option PrintFault)) (k : ℕ) → is_printed refusals k ≡ true
+    → (k < length refusals) × (get_or refusals k None ≡ None)
+printed-none [] k is = absurd (cc)
+printed-none (None ∷ rs) zero is = (omega arith, refl)
+printed-none (Some rule ∷ rs) zero is = absurd (cc)
+printed-none (r ∷ rs) (suc k) is = (let (w, none) = printed-none rs k is in (omega arith, none))
 
-pub judged-none : (image : Image) (named numbers printed : List ℕ) (refusals : List (Option PrintFault))
-    → printed ≡ [] → length refusals ≡ length named → AreJudged image named numbers 0 printed refusals []
-judged-none image named numbers printed refusals none long = record {
-  judged = [];
-  keys = refl;
-  all = λ k d w. absurd (omega arith);
-  order = none;
-  long = long;
-  kept = λ k d w. absurd (omega arith);
-  lines = refl;
-}
+none-printed : (refusals : List (Option PrintFault)) (k : ℕ) → k < length refusals → get_or refusals k None ≡ None
+    → is_printed refusals k ≡ true
+none-printed [] k w none = absurd (omega arith)
+none-printed (None ∷ rs) zero w none = refl
+none-printed (Some rule ∷ rs) zero w none = absurd (cc)
+none-printed (r ∷ rs) (suc k) w none = none-printed rs k (omega arith) none
 
 -- a number that is not there goes last
 insert-last : (printed : List ℕ) (number : ℕ) → (Contains printed number → ⊥)
@@ -108,160 +91,40 @@ insert-last printed number absent = by (list_any (nat_eq number) printed) refl
     by true t = absurd (absent (Contains-from_any {eq = nat_eq} (λ x y. eqb-true x y) number printed t))
     by false t = ap (λ (b : Bool). if b then printed else printed ++ number ∷ []) t
 
-keys-more : (es : List (ℕ × Option PrintFault)) (k : ℕ) (v : Option PrintFault)
-    → keys_of (es ++ (k, v) ∷ []) ≡ keys_of es ++ k ∷ []
-keys-more [] k v = refl
-keys-more (e ∷ es) k v = ap (λ (l : List ℕ). e.0 ∷ l) (keys-more es k v)
+module _ (p : ℕ → Bool) (numbers : List ℕ) (i : ℕ) (within : i < length numbers) where
+  abbrev x : ℕ
+  x = get_or numbers i 0
 
--- the key of each is there
-key-of : (es : List (ℕ × Option PrintFault)) (i : ℕ) (d : ℕ × Option PrintFault) (k : ℕ) → i < length es
-    → (get_or es i d).0 ≡ k → Contains (keys_of es) k
-key-of es i d k w is = (
-  i,
-  omega (arith, keys-long es),
-  get_or_default (keys_of es) i k d.0 (omega (arith, keys-long es)) ∙ key-at es i d ∙ is,
-)
+  -- those of the first so many that pass a test, and one more
+  next-kept : filter p (take (i + 1) numbers) ≡ filter p (take i numbers) ++ filter p (x ∷ [])
+  next-kept =
+      ap (filter p) (take_more numbers i 0 within)
+      ∙ filter-append p (take i numbers) (x ∷ [])
 
--- a refusal under another number changes none of them
-kept-others : (es : List (ℕ × Option PrintFault)) (refusals : List (Option PrintFault)) (number : ℕ)
-    (r : Option PrintFault) → (Contains (keys_of es) number → ⊥)
-    → All (λ (e : ℕ × Option PrintFault). get_or refusals e.0 None ≡ e.1) es
-    → All (λ (e : ℕ × Option PrintFault). get_or (slice_set refusals number r) e.0 None ≡ e.1) es
-kept-others es refusals number r absent h i d w =
-    get_or-set_other refusals number (get_or es i d).0 r None (λ same. absent (key-of es i d number w same)) ∙ h i d w
+  pub kept-out : (keys : List ℕ) → keys ≡ filter p (take i numbers) → p x ≡ false
+      → keys ≡ filter p (take (i + 1) numbers)
+  kept-out keys so_far fails =
+      let none : filter p (x ∷ []) ≡ [] = rw fails refl in
+      so_far ∙ sym (next-kept ∙ ap (λ (l : List ℕ). filter p (take i numbers) ++ l) none
+      ∙ append-nil (filter p (take i numbers)))
 
-printed-key : (e : ℕ × Option PrintFault) (k : ℕ) → printed_number e ≡ Some k → e.0 ≡ k
-printed-key (number, None) k is = cc
-printed-key (number, Some rule) k is = absurd (cc)
+  absent : AllPairs (λ j k. j ≢ k) numbers → Contains (filter p (take i numbers)) x → ⊥
+  absent apart has =
+      let ys = take i numbers in
+      let (j, w, same) = All-contains (Contains ys) (filter p ys) x
+      (All-filter p (Contains ys) ys (All-contains_itself ys)) has in
+      let less : j < i = omega (arith, length-take-le i numbers (omega arith), w) in
+      apart j i x less within (sym (get_or-take i numbers j x less) ∙ same ∙ get_or_default numbers i 0 x within)
 
--- and the next one
-pub judged-more : (image : Image) (named numbers : List ℕ) (count number entry : ℕ)
-    (judged judged' : Judgements) (text text' : List ℕ)
-    → AreRanked image named numbers → count < length numbers → get_or numbers count 0 ≡ number → number < length named
-    → get_or named number 0 ≡ entry
-    → IsAdded (shape_in image) number (subject_in image entry) judged judged' text text'
-    → AreJudged image named numbers count judged.printed.keys judged.refusals.items text
-    → AreJudged image named numbers (count + 1) judged'.printed.keys judged'.refusals.items text'
-judged-more image named numbers count number entry judged judged' text text' ranks within at inside is
-    (refusal, line, more) h = rw (more.printed, more.refusals) (entered refusal line)
-  where
-    es : List (ℕ × Option PrintFault)
-    es = h.judged
-
-    absent : Contains (keys_of es) number → ⊥
-    absent has =
-        let (i, w, same) : Contains (take count numbers) number = subst (λ (l : List ℕ). Contains l number) h.keys has
-        in
-        let less : i < count = omega (arith, length-take-le count numbers (omega arith)) in
-        let here = get_or-take count numbers i number less in
-        let before = ranks.by_level i count 0 less within in
-        let first : get_or numbers i 0 ≡ number = get_or_default numbers i 0 number (omega arith) ∙ sym here ∙ same in
-        stands-apart ranks.level (get_or named (get_or numbers i 0) 0) (get_or named (get_or numbers count 0) 0) before
-        (ap (λ (k : ℕ). get_or named k 0) (first ∙ sym at))
-
-    unprinted : Contains judged.printed.keys number → ⊥
-    unprinted has =
-        let there : Contains (filter_map printed_number es) number = subst (λ (l : List ℕ). Contains l number) h.order
-        has in
-        let (e, (i, w, same), key) = picked-of printed_number es number there in
-        absent (key-of es i e number w (ap (λ (x : ℕ × Option PrintFault). x.0) same ∙ printed-key e number key))
-
-    keys' : (r : Option PrintFault) → keys_of (es ++ (number, r) ∷ []) ≡ take (count + 1) numbers
-    keys' r =
-        keys-more es number r ∙ ap (λ (l : List ℕ). l ++ number ∷ []) h.keys
-        ∙ ap (λ (k : ℕ). take count numbers ++ k ∷ []) (sym at) ∙ sym (take_more numbers count 0 within)
-
-    verdicts : (r : Option PrintFault) → IsVerdict image entry r
-        → All (λ (e : ℕ × Option PrintFault). IsVerdict image (get_or named e.0 0) e.1) (es ++ (number, r) ∷ [])
-    verdicts r v =
-        All-push (λ (e : ℕ × Option PrintFault). IsVerdict image (get_or named e.0 0) e.1) es (number, r) h.all
-        (subst (λ (x : ℕ). IsVerdict image x r) (sym inside-at) v)
-      where
-        inside-at : get_or named number 0 ≡ entry
-        inside-at = is
-
-    long' : (r : Option PrintFault) → length (slice_set judged.refusals.items number r) ≡ length named
-    long' r = length-set judged.refusals.items number r ∙ h.long
-
-    kept' : (r : Option PrintFault)
-        → All (λ (e : ℕ × Option PrintFault). get_or (slice_set judged.refusals.items number r) e.0 None ≡ e.1)
-        (es ++ (number, r) ∷ [])
-    kept' r =
-        let long = h.long in
-        All-push (λ (e : ℕ × Option PrintFault). get_or (slice_set judged.refusals.items number r) e.0 None ≡ e.1) es
-        (number, r) (kept-others es judged.refusals.items number r absent h.kept)
-        (get_or-set_same judged.refusals.items number r None (omega arith))
-
-    named-at : slice_get named number ≡ Some entry
-    named-at = slice-at named number 0 inside ∙ ap Some is
-
-    entered : (r : Option PrintFault) → HasLine (shape_in image) (subject_in image entry) r text text'
-        → AreJudged image named numbers (count + 1) (printed_with judged.printed.keys number r)
-        (slice_set judged.refusals.items number r) text'
-    entered None (is_printed, written) = record {
-      judged = es ++ (number, None) ∷ [];
-      keys = keys' None;
-      all = verdicts None is_printed;
-      order =
-          insert-last judged.printed.keys number unprinted ∙ ap (λ (l : List ℕ). l ++ number ∷ []) h.order
-          ∙ sym (filter_map-append printed_number es ((number, None) ∷ []));
-      long = long' None;
-      kept = kept' None;
-      lines =
-          written ∙ ap (λ (u : List ℕ). u ++ declared_line image entry) h.lines
-          ∙ flat_map_more (declared_line image) [] (filter_map (printed_entry named) es) entry
-          ∙ ap (flat_map (declared_line image))
-          (ap (λ (o : Option ℕ). filter_map (printed_entry named) es ++ cons_option o []) (sym named-at)
-          ∙ sym (filter_map-append (printed_entry named) es ((number, None) ∷ [])));
-    }
-    entered (Some rule) (is_refused, same) = record {
-      judged = es ++ (number, Some rule) ∷ [];
-      keys = keys' (Some rule);
-      all = verdicts (Some rule) is_refused;
-      order =
-          h.order ∙ sym (filter_map-append printed_number es ((number, Some rule) ∷ [])
-          ∙ append-nil (filter_map printed_number es));
-      long = long' (Some rule);
-      kept = kept' (Some rule);
-      lines =
-          same ∙ h.lines ∙ ap (flat_map (declared_line image))
-          (sym (filter_map-append (printed_entry named) es ((number, Some rule) ∷ [])
-          ∙ append-nil (filter_map (printed_entry named) es)));
-    }
+  pub kept-in : (keys keys' : List ℕ) → AllPairs (λ j k. j ≢ k) numbers → keys ≡ filter p (take i numbers) → p x ≡ true
+      → keys' ≡ insert_key nat_eq keys x → keys' ≡ filter p (take (i + 1) numbers)
+  kept-in keys keys' apart so_far passes added =
+      let one : filter p (x ∷ []) ≡ x ∷ [] = rw passes refl in
+      let new : Contains keys x → ⊥ = λ has. absent apart (subst (λ (l : List ℕ). Contains l x) so_far has) in
+      added ∙ insert-last keys x new ∙ ap (λ (l : List ℕ). l ++ x ∷ []) so_far
+      ∙ sym (next-kept ∙ ap (λ (l : List ℕ). filter p (take i numbers) ++ l) one)
 
 -- ---- the listing
-
--- each key has a judgement
-key-there : (es : List (ℕ × Option PrintFault)) (k : ℕ) → Contains (keys_of es) k
-    → (v : Option PrintFault) × Contains es (k, v)
-key-there [] k (i, w, e) = absurd (omega arith)
-key-there (e ∷ es) k (zero, w, same) = (e.1, (0, omega arith, ap (λ (x : ℕ). (x, e.1)) same))
-key-there (e ∷ es) k (suc i, w, same) =
-    (let (v, there) = key-there es k (i, omega arith, same) in (v, Contains-append_right (e ∷ []) es (k, v) there))
-
--- those that are printed are the named types with the numbers that are printed
-printed-order : (named : List ℕ) (es : List (ℕ × Option PrintFault))
-    → filter_map (slice_get named) (filter_map printed_number es) ≡ filter_map (printed_entry named) es
-printed-order named [] = refl
-printed-order named ((number, None) ∷ es) =
-    ap (cons_option (slice_get named number)) (printed-order named es)
-printed-order named ((number, Some rule) ∷ es) = printed-order named es
-
-get-at : (xs : List ℕ) (k x : ℕ) → slice_get xs k ≡ Some x → (k < length xs) × (get_or xs k 0 ≡ x)
-get-at [] k x e = absurd (cc)
-get-at (y ∷ xs) zero x e = (omega arith, cc)
-get-at (y ∷ xs) (suc k) x e = (let (w, same) = get-at xs k x e in (omega arith, same))
-
-printed-parts : (named : List ℕ) (e : ℕ × Option PrintFault) (entry : ℕ) → printed_entry named e ≡ Some entry
-    → (e.1 ≡ None) × (slice_get named e.0 ≡ Some entry)
-printed-parts named (k, None) entry is = (refl, is)
-printed-parts named (k, Some rule) entry is = absurd (cc)
-
-refusal-at : (refusals : List (Option PrintFault)) (k : ℕ) → k < length refusals
-    → slice_get refusals k ≡ Some (get_or refusals k None)
-refusal-at [] k w = absurd (omega arith)
-refusal-at (r ∷ rs) zero w = refl
-refusal-at (r ∷ rs) (suc k) w = refusal-at rs k (omega arith)
 
 refused-parts : (o : Option ℕ) (r : Option (Option PrintFault)) (entry : ℕ) (rule : PrintFault)
     → refused_pair o r ≡ Some (entry, rule) → (o ≡ Some entry) × (r ≡ Some (Some rule))
@@ -272,157 +135,173 @@ refused-parts (Some x) (Some (Some f)) entry rule is =
     let pair : (x, f) ≡ (entry, rule) = cc in
     (ap (λ (p : ℕ × PrintFault). Some p.0) pair, ap (λ (p : ℕ × PrintFault). Some (Some p.1)) pair)
 
-module _ (image : Image) (named numbers : List ℕ) (count : ℕ) (printed : List ℕ) (refusals : List (Option PrintFault))
-    (text : List ℕ) (names : AreNamedTypes image named)
-    (ranks : AreRanked image named numbers)
-    (h : AreJudged image named numbers count printed refusals text) (over : length numbers ≤ count) where
-  abbrev order : List ℕ
-  order = filter_map (slice_get named) printed
+get-at : {X : Type 0} (xs : List X) (k : ℕ) (x d : X) → slice_get xs k ≡ Some x → (k < length xs) × (get_or xs k d ≡ x)
+get-at [] k x d e = absurd (cc)
+get-at (y ∷ xs) zero x d e = (omega arith, cc)
+get-at (y ∷ xs) (suc k) x d e = (let (w, same) = get-at xs k x d e in (omega arith, same))
 
-  abbrev rs : List (ℕ × PrintFault)
-  rs = filter_map (refused_number named refusals) (range_with_len 0 (length named))
+module _ (image : Image) (named : List ℕ) (refusals : List (Option PrintFault)) (h : AreRefusals image named refusals)
+  where
+    -- no type is printed that has a refusal
+    pub printed-numbers : (numbers : List ℕ)
+        → All (IsPrintedNumber image named) (filter (is_printed refusals) numbers)
+    printed-numbers numbers =
+        λ i d w. by (get_or (filter p numbers) i d) (filter_passes p numbers i d w)
+      where
+        p : ℕ → Bool
+        p = is_printed refusals
 
-  abbrev es : List (ℕ × Option PrintFault)
-  es = h.judged
+        by : (k : ℕ) → p k ≡ true → IsPrintedNumber image named k
+        by k is =
+            let (w, none) = printed-none refusals k is in
+            let inside : k < length named = omega (arith, w, h.long) in
+            let R : Option PrintFault → Type 0 = λ r. IsRefusal (shape_in image) (subject_in image (get_or named k 0)) r
+            in
+            (inside, subst R none (h.each k inside))
 
-  -- they are printed in the order in which they are judged
-  in-order : order ≡ filter_map (printed_entry named) es
-  in-order = ap (filter_map (slice_get named)) h.order ∙ printed-order named es
+    module _ (numbers : List ℕ) (names : AreNamedTypes image named) (ranks : AreRanked image named numbers) where
+      abbrev keys : List ℕ
+      keys = filter (is_printed refusals) numbers
 
-  -- the lines of the text are theirs
-  pub lines-in_order : text ≡ flat_map (declared_line image) order
-  lines-in_order = h.lines ∙ ap (flat_map (declared_line image)) (sym in-order)
+      abbrev entry_at : ℕ → ℕ
+      entry_at k = get_or named k 0
 
-  whole : keys_of es ≡ numbers
-  whole = h.keys ∙ take_all count numbers over
+      abbrev order : List ℕ
+      order = map entry_at keys
 
-  -- an entry with a number is a named type
-  is-named : (k entry : ℕ) → slice_get named k ≡ Some entry → IsNamedType image entry
-  is-named k entry is =
-      let (w, at) = get-at named k entry is in
-      (names.all entry).0 (subst (Contains named) at (Contains-get_or named k 0 w))
+      abbrev rs : List (ℕ × PrintFault)
+      rs = filter_map (refused_number named refusals) (range_with_len 0 (length named))
 
-  verdict : (k entry : ℕ) (r : Option PrintFault) → slice_get named k ≡ Some entry → Contains es (k, r)
-      → IsVerdict image entry r
-  verdict k entry r is has =
-      let (w, at) = get-at named k entry is in
-      subst (λ (x : ℕ). IsVerdict image x r) at
-      (All-contains (λ (e : ℕ × Option PrintFault). IsVerdict image (get_or named e.0 0) e.1) es (k, r)
-      h.all has)
+      is-named : (k : ℕ) → k < length named → IsNamedType image (entry_at k)
+      is-named k w = (names.all (entry_at k)).0 (Contains-get_or named k 0 w)
 
-  -- the named type with a number has a judgement, and its refusal is the one that is kept
-  judgement : (k : ℕ) → k < length named
-      → (r : Option PrintFault) × Contains es (k, r) × (slice_get refusals k ≡ Some r)
-  judgement k w =
-      let here = range-there (length named) k w in
-      let key : Contains (keys_of es) k = subst (λ (l : List ℕ). Contains l k) (sym whole)
-      (Contains-permutation (range_with_len 0 (length named)) numbers k ranks.all here) in
-      let (r, there) = key-there es k key in
-      let kept : get_or refusals k None ≡ r = All-contains
-      (λ (e : ℕ × Option PrintFault). get_or refusals e.0 None ≡ e.1) es (k, r) h.kept there in
-      let long = h.long in
-      (r, there, refusal-at refusals k (omega arith) ∙ ap Some kept)
+      printed-there : (entry : ℕ) → Contains order entry
+          → IsNamedType image entry × IsPrinted (shape_in image) (subject_in image entry)
+      printed-there entry has =
+          let (i, w, e) = from-map named keys order entry refl has in
+          let (inside, printed) = printed-numbers numbers i 0 w in
+          let P : ℕ → Type 0 = λ x. IsNamedType image x × IsPrinted (shape_in image) (subject_in image x) in
+          subst P e (is-named (get_or keys i 0) inside, printed)
 
-  printed-there : (entry : ℕ) → Contains order entry
-      → IsNamedType image entry × IsPrinted (shape_in image) (subject_in image entry)
-  printed-there entry has =
-      let (e, there, is) = picked-of (printed_entry named) es entry
-      (subst (λ (l : List ℕ). Contains l entry) in-order has) in
-      let (none, at) = printed-parts named e entry is in
-      let pair : Contains es (e.0, None) = subst (λ (r : Option PrintFault). Contains es (e.0, r)) none there in
-      (is-named e.0 entry at, verdict e.0 entry None at pair)
+      refused-there : (entry : ℕ) (rule : PrintFault) → Contains rs (entry, rule)
+          → IsNamedType image entry × Refuses (shape_in image) (subject_in image entry) rule
+      refused-there entry rule has =
+          let (k, there, is) = picked-of (refused_number named refusals) (range_with_len 0 (length named)) (entry, rule)
+          has in
+          let (at, found) = refused-parts (slice_get named k) (slice_get refusals k) entry rule is in
+          let (inside, e) = get-at named k entry 0 at in
+          let (w, r) = get-at refusals k (Some rule) None found in
+          let R : Option PrintFault → Type 0 = λ r. IsRefusal (shape_in image) (subject_in image (entry_at k)) r in
+          let P : ℕ → Type 0 = λ x. IsNamedType image x × Refuses (shape_in image) (subject_in image x) rule in
+          subst P e (is-named k inside, subst R r (h.each k inside))
 
-  refused-there : (entry : ℕ) (rule : PrintFault) → Contains rs (entry, rule)
-      → IsNamedType image entry × Refuses (shape_in image) (subject_in image entry) rule
-  refused-there entry rule has =
-      let (k, there, is) = picked-of (refused_number named refusals) (range_with_len 0 (length named)) (entry, rule) has
-      in
-      let (at, found) = refused-parts (slice_get named k) (slice_get refusals k) entry rule is in
-      let (r, judged, kept) = judgement k (range-below (length named) k there) in
-      let same : r ≡ Some rule = cc in (
-        is-named k entry at,
-        verdict k entry (Some rule) at (subst (λ (o : Option PrintFault). Contains es (k, o)) same
-            judged),
-      )
-
-  -- each that is refused is an entry
-  pub refused-within : All (λ (r : ℕ × PrintFault). r.0 < length (entries_in image)) rs
-  refused-within k d w = (let r = get_or rs k d in (refused-there r.0 r.1 (Contains-get_or rs k d w)).0.0)
-
-  pub listing-done : IsListing image order rs
-  listing-done = record {
-    level = ranks.level;
-    levels = ranks.levels;
-    printed = λ entry. (
-      printed-there entry,
-      λ (is, p). elim (each-named entry is) [
-        | inl has ↦ has
-        | inr (rule, has) ↦ absurd (printed-or-refused (shape_in image) (subject_in image entry) rule p
-            (refused-there entry rule has).1)
-      ],
-    );
-    by_level = rw in-order
-        (picked-pairs (λ (a b : ℕ × Option PrintFault). StandsBefore level (get_or named a.0 0) (get_or named b.0 0))
-        (λ a b. StandsBefore level a b) (printed_entry named) es
-        (λ a b y z stands first second. subst (λ (v : ℕ). StandsBefore level y v)
-        (get-at named b.0 z (printed-parts named b z second).1).1
-        (subst (λ (u : ℕ). StandsBefore level u (get_or named b.0 0))
-        (get-at named a.0 y (printed-parts named a y first).1).1 stands))
-        (keyed-pairs es (subst (AllPairs (λ j k. StandsBefore level (get_or named j 0) (get_or named k 0)))
-        (sym whole) ranks.by_level)));
-    others = λ entry rule. (
-      refused-there entry rule,
-      λ (is, f). elim (each-named entry is) [
-        | inl has ↦ absurd (printed-or-refused (shape_in image) (subject_in image entry) rule
-            (printed-there entry has).1 f)
-        | inr (other, has) ↦
-            let C : PrintFault → Type 0 = λ r. Contains rs (entry, r) in
-            subst C (one-rule (shape_in image) (subject_in image entry) other rule (refused-there entry other has).1 f)
-            has
-      ],
-    );
-    by_offset =
-        picked-pairs (λ (a b : ℕ). a < b) (λ (a b : ℕ × PrintFault). a.0 < b.0) (refused_number named refusals)
-        (range_with_len 0 (length named))
-        (λ j k a b less first second.
-        let (wj, aj) = get-at named j a.0
-        (refused-parts (slice_get named j) (slice_get refusals j) a.0 a.1 first).0 in
-        let (wk, ak) = get-at named k b.0
-        (refused-parts (slice_get named k) (slice_get refusals k) b.0 b.1 second).0 in
-        let step = names.rising j k 0 less wk in
-        omega (arith, aj, ak, step))
-        (range-rising (length named));
-    each = each-named;
-  }
-    where
-      level : ℕ → ℕ
-      level = ranks.level
-
-      keyed-pairs : (es : List (ℕ × Option PrintFault))
-          → AllPairs (λ j k. StandsBefore level (get_or named j 0) (get_or named k 0)) (keys_of es)
-          → AllPairs (λ (a b : ℕ × Option PrintFault). StandsBefore level (get_or named a.0 0) (get_or named b.0 0)) es
-      keyed-pairs es pairs i j d less w =
-          let long = keys-long es in
-          let pair = pairs i j d.0 less (omega arith) in
-          rw (key-at es i d, key-at es j d) at pair
+      -- each that is refused is an entry
+      pub refused-within : All (λ (r : ℕ × PrintFault). r.0 < length (entries_in image)) rs
+      refused-within k d w = (let r = get_or rs k d in (refused-there r.0 r.1 (Contains-get_or rs k d w)).0.0)
 
       each-named : (entry : ℕ) → IsNamedType image entry
           → Contains order entry ⊎ ((rule : PrintFault) × Contains rs (entry, rule))
       each-named entry is =
           let (k, w, e) = (names.all entry).1 is in
-          let at : slice_get named k ≡ Some entry = slice-at named k entry w ∙ ap Some e in
-          let (r, there, kept) = judgement k w in
-          by k at (range-there (length named) k w) r there kept
+          by k w (get_or_default named k 0 entry w ∙ e) (get_or refusals k None) refl
         where
-          by : (k : ℕ) → slice_get named k ≡ Some entry → Contains (range_with_len 0 (length named)) k
-              → (r : Option PrintFault) → Contains es (k, r) → slice_get refusals k ≡ Some r
+          by : (k : ℕ) → k < length named → entry_at k ≡ entry → (r : Option PrintFault) → get_or refusals k None ≡ r
               → Contains order entry ⊎ ((rule : PrintFault) × Contains rs (entry, rule))
-          by k at here None there kept =
-              inl (subst (λ (l : List ℕ). Contains l entry) (sym in-order)
-              (picked-there (printed_entry named) es (k, None) entry there at))
-          by k at here (Some rule) there kept = inr (
+          by k w e None none =
+              let (i, v, same) = Contains-permutation (range_with_len 0 (length named)) numbers k ranks.all
+              (range-there (length named) k w) in
+              let p : ℕ → Bool = is_printed refusals in
+              let passes : p (get_or numbers i k) ≡ true = ap p same
+              ∙ none-printed refusals k (omega (arith, h.long, w)) none in
+              let (j, u, at) = kept-there p numbers i k v passes in
+              let here : get_or keys j 0 ≡ k = get_or_default keys j 0 (get_or numbers i k) u ∙ at ∙ same in
+              inl (subst (Contains order) (ap entry_at here ∙ e) (into-map named keys order j refl u))
+          by k w e (Some rule) some = inr (
             rule,
-            picked-there (refused_number named refusals) (range_with_len 0 (length named)) k (entry, rule) here
-                (ap (λ (o : Option ℕ). refused_pair o (slice_get refusals k)) at
-                ∙ ap (refused_pair (Some entry)) kept),
+            picked-there (refused_number named refusals) (range_with_len 0 (length named)) k (entry, rule)
+                (range-there (length named) k w)
+                (ap (λ (o : Option ℕ). refused_pair o (slice_get refusals k)) (slice_get-get_or named k 0 w ∙ ap Some e)
+                ∙ ap (refused_pair (Some entry))
+                (slice_get-get_or refusals k None (omega (arith, h.long, w)) ∙ ap Some some)),
           )
+
+      pub listing-done : IsListing image order rs
+      listing-done = record {
+        level = ranks.level;
+        levels = ranks.levels;
+        printed = λ entry. (
+          printed-there entry,
+          λ (is, p). elim (each-named entry is) [
+            | inl has ↦ has
+            | inr (rule, has) ↦ absurd (printed-or-refused (shape_in image) (subject_in image entry) rule p
+                (refused-there entry rule has).1)
+          ],
+        );
+        by_level = λ i j d less w.
+            let v : j < length keys = omega (arith, length-map keys entry_at, w) in
+            let L : ℕ → ℕ → Type 0 = λ a b. StandsBefore ranks.level (entry_at a) (entry_at b) in
+            rw (get_or-map entry_at keys i 0 d (omega (arith, less, v)), get_or-map entry_at keys j 0 d v)
+            (AllPairs-filter L (is_printed refusals) numbers ranks.by_level i j 0 less v);
+        others = λ entry rule. (
+          refused-there entry rule,
+          λ (is, f). elim (each-named entry is) [
+            | inl has ↦ absurd (printed-or-refused (shape_in image) (subject_in image entry) rule
+                (printed-there entry has).1 f)
+            | inr (other, has) ↦
+                let C : PrintFault → Type 0 = λ r. Contains rs (entry, r) in
+                subst C (one-rule (shape_in image) (subject_in image entry) other rule (refused-there entry other has).1
+                f) has
+          ],
+        );
+        by_offset =
+            picked-pairs (λ (a b : ℕ). a < b) (λ (a b : ℕ × PrintFault). a.0 < b.0) (refused_number named refusals)
+            (range_with_len 0 (length named))
+            (λ j k a b less first second.
+            let (wj, aj) = get-at named j a.0 0
+            (refused-parts (slice_get named j) (slice_get refusals j) a.0 a.1 first).0 in
+            let (wk, ak) = get-at named k b.0 0
+            (refused-parts (slice_get named k) (slice_get refusals k) b.0 b.1 second).0 in
+            let step = names.rising j k 0 less wk in
+            omega (arith, aj, ak, step))
+            (range-rising (length named));
+        each = each-named;
+      }
+
+-- ---- one entry
+
+module _ (image : Image) (id : ℕ) (s : Survey) (subject : SubjectOf) (types : List TypeAt)
+    (is : subject ≡ subject_in image id) (are : types ≡ types_declared subject)
+    (survey : IsSurveyOf (shape_in image) (entries_among types) s) where
+  -- why an entry is refused, by a survey of the types that it leads to
+  pub judged-entry : (r : Option PrintFault)
+      → BySurvey s (first_steps subject) (λ shapes. IsRefusal shapes subject r)
+      → IsRefusal (shape_in image) (subject_in image id) r
+  judged-entry r known =
+      subst (λ (x : SubjectOf). IsRefusal (shape_in image) x r) is
+      (known (shape_in image) (entries_among types) survey (λ entry has. rw are has))
+
+  -- and the text of one that is printed
+  pub written-entry : (old new : List ℕ) → IsPrinted (shape_in image) (subject_in image id)
+      → WritesDeclaration s subject old new → AppendsDeclaration (shape_in image) (subject_in image id) old new
+  written-entry old new printed writes =
+      subst (λ (x : SubjectOf). AppendsDeclaration (shape_in image) x old new) is
+      (writes-printed (shape_in image) subject (entries_among types) s old new survey (λ entry has. rw are has)
+      (subst (IsPrinted (shape_in image)) (sym is) printed) writes)
+
+-- a text that is appended after it was written into a vector of its own
+pub appended : (shapes : ℕ → ShapeOf) (subject : SubjectOf) (old text read new : List ℕ)
+    → AppendsDeclaration shapes subject [] text → read ≡ text → new ≡ old ++ read
+    → AppendsDeclaration shapes subject old new
+appended shapes subject old text read new (d, there, is) same added =
+    (d, there, added ∙ ap (λ (u : List ℕ). old ++ u) (same ∙ is))
+
+-- ---- lists of entries
+
+-- what is picked by numbers that are all there
+pub all-there : (named keys : List ℕ) → All (λ k. k < length named) keys
+    → filter_map (slice_get named) keys ≡ map (λ k. get_or named k 0) keys
+all-there named [] all = refl
+all-there named (k ∷ keys) all =
+    let rest = all-there named keys (All-rest (λ k. k < length named) k keys (k ∷ keys) refl all) in
+    let here = slice_get-get_or named k 0 (all 0 0 (omega arith)) in
+    rw (here, rest) refl

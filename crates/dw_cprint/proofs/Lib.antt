@@ -6,7 +6,6 @@ pub mod LegibleLemmas
 pub mod OptionLemmas
 pub mod NameLemmas
 pub mod SameLemmas
-pub mod DraftLemmas
 pub mod WriterLemmas
 pub mod ItemWriterLemmas
 pub mod LookUpLemmas
@@ -16,6 +15,7 @@ pub mod DeclaratorReadingLemmas
 pub mod TextLaws
 pub mod WithinLemmas
 pub mod ReachLemmas
+pub mod RootLemmas
 pub mod LevelLemmas
 pub mod SurveyLemmas
 pub mod NumberLemmas

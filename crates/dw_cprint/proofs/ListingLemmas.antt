@@ -4,7 +4,7 @@ use Rattle.std.specs.Prelude.{◌&&◌, All, Contains, AllPairs, filter, flat_ma
 use Rattle.std.specs.List.{range_with_len, filter_map}
 use Rattle.std.proofs.lemmas.Bool.{and_parts}
 use Rattle.std.proofs.lemmas.Bool.Decides.{nat_tests}
-use Rattle.std.proofs.lemmas.List.{drop_more}
+use Rattle.std.proofs.lemmas.List.{drop_more, get_or_read}
 use Rattle.std.proofs.lemmas.List.Elements.{All-contains, Contains-get_or, filter_passes}
 use Rattle.std.proofs.lemmas.List.Kept.{AllPairs-filter}
 use Rattle.std.proofs.lemmas.List.FromFn.{get_or-range_with_len, length-range_with_len}
@@ -12,6 +12,7 @@ use Rattle.dw_image.specs.declared.image.Image.{Image}
 use Rattle.dw_image.specs.Images.{entries_in}
 use Rattle.dw_cprint.specs.EntryShapes.{subject_in}
 use Rattle.dw_cprint.specs.Listings.{IsNamedType, AreNamedTypes, is_named_type, named_number}
+use Rattle.dw_cprint.specs.Rows.{AreRows, Row, Tells}
 use Rattle.dw_cprint.proofs.LevelLemmas.{few-entries}
 use Rattle.dw_cprint.proofs.NumberLemmas.{kept-there}
 
@@ -92,3 +93,17 @@ named-done image named is = rw (is, kept-numbers p range) (record {
         let below : nat_lt entry n ≡ true = grind (arith, nat_tests) in
         subst (λ (x : ℕ). Contains (filter p range) x) at
         (kept-there p range entry 0 (omega arith) (ap p at ∙ rw (below, t) refl))
+
+-- ---- a named type by its number
+
+pub entry-there : (image : Image) (named : List ℕ) (k id : ℕ) → AreNamedTypes image named → k < length named
+    → id ≡ get_or named k id → id < length (entries_in image)
+entry-there image named k id names inside at =
+    rw (get_or_read named k id inside at 0) (named-within image named names k 0 inside)
+
+-- and its row
+pub row-there : (image : Image) (named : List ℕ) (rows : List Row) (k id : ℕ) (row : Row) → AreRows image named rows
+    → k < length named → id ≡ get_or named k id → row ≡ get_or rows k row → Tells image id row
+row-there image named rows k id row are inside at told =
+    let there : k < length rows = omega (arith, are.long, inside) in
+    rw (get_or_read named k id inside at 0, get_or_read rows k row there told row) (are.each k row there)

@@ -1,24 +1,16 @@
 -- The words of a base type's name, and its text.
-use Rattle.std.proofs.Common.{rules, ◌≡◌, ℕ, zero, suc, ◌+◌, ◌*◌, ◌<◌, ◌≤◌, Bool, true, false, List, [], ◌∷◌, ◌++◌, Option, Some, None, refl, sym, ◌∙◌, ap, subst, length, take, drop, append-nil, arith, ◌-◌, ◌/◌, ◌%◌, get_or, inl, inr}
-use Rattle.std.specs.Prelude.{◌==◌, ◌&&◌, ◌||◌, ◌-◌, count_by, position, bytes_eq, is_some, if◌then◌else◌, cond, filter, ◌⊎◌, slice_get}
-use Rattle.std.specs.List.{list_any, slice_split, position_or_len, join_with_byte, before_first, list_all}
+use Rattle.std.proofs.Common.{rules, ◌≡◌, ℕ, zero, suc, ◌+◌, ◌*◌, ◌<◌, ◌≤◌, Bool, true, false, List, [], ◌∷◌, ◌++◌, Option, Some, None, refl, sym, ◌∙◌, ap, length, take, drop, append-nil, arith, ◌-◌}
+use Rattle.std.specs.Prelude.{◌==◌, ◌&&◌, ◌||◌, ◌-◌, count_by, position, bytes_eq, is_some, if◌then◌else◌, cond, filter}
+use Rattle.std.specs.List.{list_any, slice_split, position_or_len, join_with_byte}
 use Rattle.std.proofs.lemmas.Bool.Decides.{nat_tests}
-use Rattle.std.proofs.lemmas.Option.{cond_some, get_or_from_slice_get, slice_get-get_or, slice_get_within}
-use Rattle.std.proofs.lemmas.List.{length-append, take-append-drop, length-take-le, length-drop, length_push, drop-drop, get_or_append_left, get_or_push}
+use Rattle.std.proofs.lemmas.Option.{cond_some}
+use Rattle.std.proofs.lemmas.List.{length-append}
 use Rattle.std.proofs.lemmas.Slice.Eq.{bytes_eq-Decides}
 use Rattle.std.proofs.lemmas.List.Splits.{slice_split_first, slice_split-cons_no, length-slice_split, join_with_byte-slice_split}
-use Rattle.std.proofs.lemmas.List.Folds.{list_all-append}
-use Rattle.std.proofs.Math.Nat.{div-add-mod}
-use Rattle.std.proofs.lemmas.Bool.{cases_lt}
-use Rattle.dw_image.specs.Contributions.{string_at}
-use Rattle.dw_image.proofs.FrontLemmas.{before-joined, before-front}
 use Rattle.dw_cprint.specs.Declarations.{parts_of, word_of, words_of}
-use Rattle.dw_cprint.specs.Legible.{is_word_byte}
 use Rattle.dw_cprint.specs.Terms.{TypeWord}
 use Rattle.dw_cprint.specs.Tokens.{type_word_spelling, text_of}
 use Rattle.dw_cprint.specs.Writing.{basic}
-use Rattle.dw_cprint.specs.StringSpans.{AreSpans, IsStringSpan}
-use Rattle.dw_cprint.specs.declared.source.Span.{Span}
 use Rattle.dw_cprint.proofs.OptionLemmas.{both_hold}
 
 -- a text is one of these if it is one of those whose length passes a test that its own length passes
@@ -156,97 +148,3 @@ no_words name long = by_words (words_of 4 (parts_of name)) refl
     by_words None is = refl
     by_words (Some ws) is =
         absurd (omega (arith, ap length (words-text name ws is), words-bytes ws, words-few 4 (parts_of name) ws is))
-
--- ---- the string at the front of some bytes, by the bytes before an offset and by the string there
-
--- a string that ends before the offset
-pub span-front : (bytes : List ℕ) (offset : ℕ) (front : List ℕ) (words : Bool) → offset ≤ length bytes
-    → front ≡ string_at (take offset bytes) 0 → words ≡ list_all is_word_byte front → length front < offset
-    → IsStringSpan bytes (record { len = length front; words = words })
-span-front bytes offset front words within is means short =
-    let all = length-take-le offset bytes within in
-    let same : before_first (λ (byte : ℕ). byte == 0) bytes ≡ front =
-    ap (before_first (λ (byte : ℕ). byte == 0)) (sym (take-append-drop offset bytes))
-    ∙ before-front (λ (byte : ℕ). byte == 0) (take offset bytes) (drop offset bytes)
-    (let e = ap length is in omega arith) ∙ sym is in
-    record { long = ap length (sym same); words = means ∙ ap (list_all is_word_byte) (sym same) }
-
--- one that goes on there
-pub span-joined : (bytes : List ℕ) (offset : ℕ) (next : Span) (front : List ℕ) (words both : Bool)
-    → offset ≤ length bytes → IsStringSpan (drop offset bytes) next
-    → front ≡ string_at (take offset bytes) 0 → words ≡ list_all is_word_byte front → offset ≤ length front
-    → both ≡ (words && next.words)
-    → IsStringSpan bytes (record { len = offset + next.len; words = both })
-span-joined bytes offset next front words both within known is means long split =
-    let zero : ℕ → Bool = λ byte. byte == 0 in
-    let start = take offset bytes in
-    let rest = before_first zero (drop offset bytes) in
-    let size = length-take-le offset bytes within in
-    let all : length start ≤ length (before_first zero start) = let e = ap length is in omega arith in
-    let same : before_first zero bytes ≡ start ++ rest =
-    ap (before_first zero) (sym (take-append-drop offset bytes)) ∙ before-joined zero start (drop offset bytes) all in
-    let whole : front ≡ start = is ∙ ap (before_first zero) (sym (append-nil start)) ∙ before-joined zero start [] all
-    ∙ append-nil start in
-    record {
-      long =
-          sym (ap length same ∙ length-append start rest ∙ ap (λ (n : ℕ). n + length rest) size
-          ∙ ap (λ (n : ℕ). offset + n) (sym known.long));
-      words = search (rules, list_all-append);
-    }
-
--- what is known of the last k blocks
-pub record SpansTo (section : List ℕ) (k : ℕ) (spans : List Span) (last : Span) : Type 0 where
-  pub count : length spans ≡ k + 1
-  pub each : (j : ℕ) (span : Span) → slice_get spans j ≡ Some span
-      → IsStringSpan (drop (length section - 64 * j) section) span
-  pub newest : IsStringSpan (drop (length section - 64 * k) section) last
-
--- the string at the start of the next block goes on where the last one starts
-pub span-before : (section bytes : List ℕ) (k : ℕ) (spans : List Span) (last : Span) → SpansTo section k spans last
-    → k < length section / 64
-    → bytes ≡ drop (length section - (k + 1) * 64) section → IsStringSpan (drop 64 bytes) last
-span-before section bytes k spans last known below is =
-    let place : length section - (k + 1) * 64 + 64 ≡ length section - 64 * k = omega arith in
-    let same : drop 64 bytes ≡ drop (length section - 64 * k) section =
-    ap (drop 64) is ∙ drop-drop 64 (length section - (k + 1) * 64) section ∙ ap (λ (n : ℕ). drop n section) place in
-    rw same known.newest
-
--- one block more
-pub spans-more : (section bytes : List ℕ) (k : ℕ) (spans more : List Span) (last span : Span)
-    → SpansTo section k spans last
-    → bytes ≡ drop (length section - (k + 1) * 64) section → IsStringSpan bytes span → more ≡ spans ++ span ∷ []
-    → SpansTo section (k + 1) more span
-spans-more section bytes k spans more last span known is new grown =
-    let place : length section - (k + 1) * 64 ≡ length section - 64 * (k + 1) = omega arith in
-    let P : List ℕ → Type 0 = λ xs. IsStringSpan xs span in
-    let newest = subst P (is ∙ ap (λ (n : ℕ). drop n section) place) new in
-    record {
-      count = ap length grown ∙ length_push spans span ∙ ap (λ (n : ℕ). n + 1) known.count;
-      each = λ j found at. by_place j found at (cases_lt j (length spans)) newest;
-      newest = newest;
-    }
-  where
-    by_place : (j : ℕ) (found : Span) → slice_get more j ≡ Some found → (j < length spans) ⊎ (length spans ≤ j)
-        → IsStringSpan (drop (length section - 64 * (k + 1)) section) span
-        → IsStringSpan (drop (length section - 64 * j) section) found
-    by_place j found at (inl below) newest =
-        let same = sym (get_or_from_slice_get more j found found at) ∙ ap (λ (xs : List Span). get_or xs j found) grown
-        ∙ get_or_append_left spans (span ∷ []) found j below in
-        known.each j found (slice_get-get_or spans j found below ∙ ap Some (sym same))
-    by_place j found at (inr past) newest =
-        let within = slice_get_within more j found at in
-        let long = ap length grown ∙ length_push spans span in
-        let size = known.count in
-        let here : length spans ≡ j = omega arith in
-        let place : k + 1 ≡ j = omega arith in
-        let same = sym (get_or_from_slice_get more j found found at) ∙ ap (λ (xs : List Span). get_or xs j found) grown
-        ∙ get_or_push spans span found j here in
-        let P : ℕ → Span → Type 0 = λ n one. IsStringSpan (drop (length section - 64 * n) section) one in
-        subst (λ (n : ℕ). P n found) place (subst (P (k + 1)) (sym same) newest)
-
--- what is known where fewer than 64 bytes more are left
-pub text-next : (section : List ℕ) (spans : List Span) (offset : ℕ) (bytes : List ℕ) (span d : Span)
-    → AreSpans section spans → offset ≤ length section → bytes ≡ drop offset section
-    → span ≡ get_or spans (length bytes / 64) d → IsStringSpan (drop (length bytes % 64) bytes) span
-text-next section spans offset bytes span d known offset_within is found =
-    search (rules, length-drop, div-add-mod, drop-drop, slice_get-get_or)

@@ -1,18 +1,20 @@
 -- The numbers of the named types, sorted by level: lists that are sorted, filtered and picked from.
-use Rattle.std.proofs.Common.{◌≡◌, ℕ, zero, suc, ◌+◌, ◌<◌, Bool, true, not, List, [], ◌∷◌, ◌++◌, refl, sym, ◌∙◌, ap, subst, inl, inr, length, get_or, map, arith, drop, take, Option, Some, None, slice_get}
+use Rattle.std.proofs.Common.{◌≡◌, ℕ, zero, suc, ◌+◌, ◌<◌, Bool, true, not, List, [], ◌∷◌, ◌++◌, refl, sym, ◌∙◌, ap, subst, inl, inr, length, get_or, arith, drop, take, Option, Some, None}
 use Rattle.std.specs.Prelude.{◌&&◌, Contains, AllPairs, IsPermutation, filter}
 use Rattle.std.specs.List.Sorted.{IsNonDecreasingBy, IsStableByKey, ties}
 use Rattle.std.specs.Ordering.{nat_cmp, is_lt}
 use Rattle.std.specs.List.{cons_option, range_with_len, filter_map}
-use Rattle.std.specs.Map.{keys_of}
+use Rattle.std.specs.Option.{option_map_or}
 use Rattle.std.proofs.lemmas.Bool.{cases_lt}
 use Rattle.std.proofs.lemmas.Bool.Decides.{nat_tests}
-use Rattle.std.proofs.lemmas.List.{get_or_append_left, get_or_default, get_or-take, drop_more, length-append, length-map, length-take-le, take-append-drop}
+use Rattle.std.proofs.lemmas.List.{get_or_append_left, get_or_default, get_or-take, drop_more, length-append, length-take-le, take-append-drop}
+use Rattle.std.proofs.lemmas.Option.{slice_get-get_or}
 use Rattle.std.proofs.Math.Seq.{get_or-append_seam}
 use Rattle.std.proofs.lemmas.List.Elements.{Contains-append_left, Contains-append_right, Contains-get_or, filter-append}
 use Rattle.std.proofs.lemmas.List.Kept.{AllPairs-cons, AllPairs-filter}
 use Rattle.std.proofs.lemmas.List.Sorted.{IsPermutation-sym, Contains-permutation}
 use Rattle.std.proofs.lemmas.List.FromFn.{get_or-range_with_len, length-range_with_len}
+use Rattle.dw_cprint.specs.Judgements.{level_of}
 use Rattle.dw_cprint.specs.Listings.{StandsBefore}
 
 -- ---- sorting
@@ -73,20 +75,6 @@ by-level level named sorted rising rises stable i j d less w =
     ]
 
 -- ---- lists
-
-pub slice-at : (xs : List ℕ) (k : ℕ) (d : ℕ) → k < length xs → slice_get xs k ≡ Some (get_or xs k d)
-slice-at [] k d w = absurd (omega arith)
-slice-at (x ∷ xs) zero d w = refl
-slice-at (x ∷ xs) (suc k) d w = slice-at xs k d (omega arith)
-
-pub keys-long : {V : Type 0} (es : List (ℕ × V)) → length (keys_of es) ≡ length es
-keys-long [] = refl
-keys-long (e ∷ es) = ap suc (keys-long es)
-
-pub key-at : {V : Type 0} (es : List (ℕ × V)) (i : ℕ) (d : ℕ × V) → get_or (keys_of es) i d.0 ≡ (get_or es i d).0
-key-at [] i d = refl
-key-at (e ∷ es) zero d = refl
-key-at (e ∷ es) (suc i) d = key-at es i d
 
 -- what is picked is picked of one
 pub picked-of : {X Y : Type 0} (f : X → Option Y) (xs : List X) (y : Y) → Contains (filter_map f xs) y
@@ -160,11 +148,6 @@ range-there n k w = (
   (let at = get_or-range_with_len 0 n k k w in omega arith),
 )
 
-get-mapped : (f : ℕ → ℕ) (xs : List ℕ) (k : ℕ) → k < length xs → get_or (map f xs) k 0 ≡ f (get_or xs k 0)
-get-mapped f [] k w = absurd (omega arith)
-get-mapped f (x ∷ xs) zero w = refl
-get-mapped f (x ∷ xs) (suc k) w = get-mapped f xs k (omega arith)
-
 -- each number is that of a named type
 pub numbers-within : (n : ℕ) (numbers : List ℕ) → IsPermutation (range_with_len 0 n) numbers → (i d : ℕ)
     → i < length numbers → get_or numbers i d < n
@@ -181,30 +164,20 @@ numbers-by-level level n numbers rises stable =
     by-level level (range_with_len 0 n) numbers (range-rising n) rises stable
 
 -- named types in rising offset, by their numbers that are sorted by level
-pub numbers-ranked : (level : ℕ → ℕ) (named own numbers : List ℕ) → AllPairs (λ a b. a < b) named
-    → own ≡ map level named → IsPermutation (range_with_len 0 (length own)) numbers
-    → AllPairs (λ j k. StandsBefore (λ n. get_or own n 0) j k) numbers
+pub numbers-ranked : (levels named numbers : List ℕ) → AllPairs (λ a b. a < b) named
     → IsPermutation (range_with_len 0 (length named)) numbers
-    × AllPairs (λ j k. StandsBefore level (get_or named j 0) (get_or named k 0)) numbers
-numbers-ranked level named own numbers rising is permuted sorted = (all, λ i j d less w. pair i j d less w)
+    → AllPairs (λ j k. StandsBefore (level_of levels named) j k) numbers
+    → AllPairs (λ j k. StandsBefore (λ id. get_or levels id 0) (get_or named j 0) (get_or named k 0)) numbers
+numbers-ranked levels named numbers rising all sorted i j d less w =
+    let inside = numbers-within (length named) numbers all j d w in
+    let first = same (get_or numbers i d) (numbers-within (length named) numbers all i d (omega arith)) in
+    let second = same (get_or numbers j d) inside in
+    elim (sorted i j d less w) [
+      | inl below ↦ inl (rw (← first, ← second) below)
+      | inr (level_same, before) ↦ inr
+          (sym first ∙ level_same ∙ second, rising (get_or numbers i d) (get_or numbers j d) 0 before inside)
+    ]
   where
-    long : length own ≡ length named
-    long = ap length is ∙ length-map named level
-
-    all : IsPermutation (range_with_len 0 (length named)) numbers
-    all = subst (λ (n : ℕ). IsPermutation (range_with_len 0 n) numbers) long permuted
-
-    same : (k : ℕ) → k < length named → get_or own k 0 ≡ level (get_or named k 0)
-    same k w = ap (λ (xs : List ℕ). get_or xs k 0) is ∙ get-mapped level named k w
-
-    pair : (i j d : ℕ) → i < j → j < length numbers
-        → StandsBefore level (get_or named (get_or numbers i d) 0) (get_or named (get_or numbers j d) 0)
-    pair i j d less w =
-        let first = same (get_or numbers i d) (numbers-within (length named) numbers all i d (omega arith)) in
-        let inside = numbers-within (length named) numbers all j d w in
-        let second = same (get_or numbers j d) inside in
-        elim (sorted i j d less w) [
-          | inl below ↦ inl (rw (← first, ← second) below)
-          | inr (level_same, before) ↦ inr
-              (sym first ∙ level_same ∙ second, rising (get_or numbers i d) (get_or numbers j d) 0 before inside)
-        ]
+    same : (k : ℕ) → k < length named → level_of levels named k ≡ get_or levels (get_or named k 0) 0
+    same k w =
+        ap (λ (o : Option ℕ). option_map_or (λ (id : ℕ). get_or levels id 0) o 0) (slice_get-get_or named k 0 w)

@@ -17,7 +17,7 @@ use Rattle.dw_types.specs.Packing.{cut, LeadsBelow}
 use Rattle.dw_types.specs.PackingLaws.{cut-more}
 use Rattle.dw_types.proofs.PackingLemmas.{AreEnds, ends-more}
 use Rattle.dw_cprint.specs.Steps.{entries_among, member_types, steps_reached, IsReachedFrom, root, further}
-use Rattle.dw_cprint.specs.Reach.{ArePlaces, Grows, IsRowOfPlaces, FindsAll, HasReached}
+use Rattle.dw_cprint.specs.Reach.{ArePlaces, Grows, IsRowOfPlaces, FindsAll, FindsRoots, HasReached}
 use Rattle.dw_cprint.specs.Shapes.{MemberOf, ShapeOf, view_shape}
 use Rattle.dw_cprint.specs.declared.survey.Survey.{Survey}
 use lib.Dec.{eqb}
@@ -137,15 +137,15 @@ pub record IsSoFar (shapes : ℕ → ShapeOf) (roots places found : List ℕ) (r
     pub roots_found : (to : ℕ) → Contains roots to → Contains found to
     pub reached : (entry : ℕ) → Contains found entry → IsReachedFrom shapes roots entry
 
-pub so_far-start : (shapes : ℕ → ShapeOf) (roots places places' found : List ℕ) (row : List ℕ)
-    → FindsAll roots places places' [] found row → IsSoFar shapes roots places' found [] []
-so_far-start shapes roots places places' found row f = record {
+pub so_far-start : (shapes : ℕ → ShapeOf) (roots places found : List ℕ) → FindsRoots roots places found
+    → IsSoFar shapes roots places found [] []
+so_far-start shapes roots places found f = record {
   placed = f.placed;
   made = omega arith;
   shapes_are = refl;
   rows_are = λ node w. absurd (omega arith);
-  roots_found = found-in-row found roots row f.is_row;
-  reached = λ entry has. root (f.grows.among entry (subst (λ (xs : List ℕ). Contains xs entry) f.grows.is has));
+  roots_found = λ to has. (f.each to).1 has;
+  reached = λ entry has. root ((f.each entry).0 has);
 }
 
 module _ (shapes : ℕ → ShapeOf) (roots places places' found found' : List ℕ) (rows : Graph) (read : List ShapeOf)

@@ -1,12 +1,11 @@
 -- The least refusal that holds, by the tests of each.
-use Rattle.std.proofs.Common.{rules, ◌≡◌, ℕ, suc, ◌<◌, ◌≤◌, List, [], Option, Some, ◌∙◌, ap, arith, refl}
+use Rattle.std.proofs.Common.{rules, ◌≡◌, ℕ, suc, ◌<◌, ◌≤◌, List, [], ◌∷◌, ◌++◌, Option, Some, ◌∙◌, ap, sym, append_assoc, arith, refl}
 use Rattle.std.specs.Prelude.{All, length}
 use Rattle.std.proofs.lemmas.Bool.{cases_lt}
 use Rattle.dw_cprint.specs.Declarations.{declaration_by, declaration_of, term_at}
-use Rattle.dw_cprint.specs.Drafts.{appended}
-use Rattle.dw_cprint.specs.Judgements.{IsDrafted}
 use Rattle.dw_cprint.specs.Kept.{WritesDeclaration}
-use Rattle.dw_cprint.specs.Refusals.{PrintFault, NotPrintable, TooDeep, TooLong, Memory, IsLonger, Holds, other_kind, cycle, deep, long, HoldsNoneBelow, Refuses, IsPrinted, number_of}
+use Rattle.dw_cprint.specs.Listings.{text_if}
+use Rattle.dw_cprint.specs.Refusals.{PrintFault, NotPrintable, TooDeep, TooLong, Memory, IsLonger, Holds, other_kind, cycle, deep, long, AppendsDeclaration, HoldsNoneBelow, Refuses, IsPrinted, number_of}
 use Rattle.dw_cprint.specs.Shapes.{ShapeOf, SubjectOf, other_subject, view_subject}
 use Rattle.dw_cprint.specs.Steps.{first_steps, types_declared, ReachACycle}
 use Rattle.dw_cprint.specs.Summaries.{KnowsType, known_of}
@@ -17,7 +16,6 @@ use Rattle.dw_cprint.specs.declared.shape.Subject.{Subject}
 use Rattle.dw_cprint.specs.declared.shape.Subject.TheVariants as subject
 use Rattle.dw_cprint.specs.declared.survey.Survey.{Survey}
 use Rattle.dw_cprint.specs.Lengths.{capped, declared_bytes}
-use Rattle.dw_cprint.proofs.DraftLemmas.{appended-fits}
 use Rattle.dw_cprint.proofs.LegibleLemmas.{subject_some}
 use Rattle.dw_cprint.proofs.SameLemmas.{declaration-kept}
 use Rattle.dw_cprint.proofs.LengthLemmas.{declared-length}
@@ -98,23 +96,34 @@ module _ (shapes : ℕ → ShapeOf) (subject : SubjectOf) where
       let (d, is, count) = counted s known none in
       record { holds = long (d, is, omega (arith, same, count, over)); least = none }
 
-  -- and else it is written
-  pub not-too-long : (roots : List ℕ) (s : Survey) (n : ℕ) (old new : Option (List ℕ)) → IsSurveyOf shapes roots s
-      → AreAmong (first_steps subject) roots
-      → All (KnowsType shapes s) (types_declared subject) → n ≡ capped (declared_bytes (known_of s) subject) → n ≤ 65536
-      → HoldsNoneBelow 6 shapes subject
-      → old ≡ Some [] → WritesDeclaration s subject old new → IsPrinted shapes subject × IsDrafted shapes subject new
-  not-too-long roots s n old new survey among known same under none empty writes =
+  -- and else it is printed
+  pub not-too-long : (s : Survey) (n : ℕ) → All (KnowsType shapes s) (types_declared subject)
+      → n ≡ capped (declared_bytes (known_of s) subject) → n ≤ 65536 → HoldsNoneBelow 6 shapes subject
+      → IsPrinted shapes subject
+  not-too-long s n known same under none =
       let (d, is, count) = counted s known none in
       let short : length (written d) ≤ 65536 = omega (arith, same, count, under) in
-      let text = writes d (declaration-kept shapes roots s subject survey among ∙ is)
-      ∙ ap (λ (o : Option (List ℕ)). appended o (written d)) empty in (
-        none-more TooLong none (λ h. elim h [ long far ↦ fits d is short far ]),
-        (d, is, text ∙ appended-fits [] (written d) (omega arith)),
-      )
+      none-more TooLong none (λ h. elim h [ long far ↦ fits d is short far ])
     where
       fits : (d : CDeclaration) → declaration_of shapes subject ≡ Some d → length (written d) ≤ 65536
           → IsLonger 65536 shapes subject → ⊥
       fits d is short (e, is_e, over) =
           let same : d ≡ e = cc in
           omega (arith, short, over, ap (λ (x : CDeclaration). length (written x)) same)
+
+  -- what is written of one that is printed is its declaration
+  pub writes-printed : (roots : List ℕ) (s : Survey) (old new : List ℕ) → IsSurveyOf shapes roots s
+      → AreAmong (first_steps subject) roots → IsPrinted shapes subject → WritesDeclaration s subject old new
+      → AppendsDeclaration shapes subject old new
+  writes-printed roots s old new survey among printed writes =
+      let (d, is) = there-declared (λ rule less holds. printed rule (omega arith) holds) in
+      (d, is, writes d (declaration-kept shapes roots s subject survey among ∙ is))
+
+  -- and its line, with a line feed after it
+  pub writes-line : (roots : List ℕ) (s : Survey) (old mid new : List ℕ) → IsSurveyOf shapes roots s
+      → AreAmong (first_steps subject) roots → IsPrinted shapes subject → WritesDeclaration s subject old mid
+      → new ≡ mid ++ 10 ∷ [] → new ≡ old ++ (text_if (declaration_of shapes subject) ++ 10 ∷ [])
+  writes-line roots s old mid new survey among printed writes ended =
+      let (d, is, text) = writes-printed roots s old mid survey among printed writes in
+      ended ∙ ap (λ (u : List ℕ). u ++ 10 ∷ []) (text ∙ ap (λ (o : Option CDeclaration). old ++ text_if o) (sym is))
+      ∙ append_assoc old (text_if (declaration_of shapes subject)) (10 ∷ [])

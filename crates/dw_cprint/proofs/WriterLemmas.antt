@@ -6,7 +6,6 @@ use Rattle.std.specs.Prelude.{is_some, Vec, flat_map, option_map}
 use Rattle.dw_types.specs.Sizes.{has_elements}
 use Rattle.dw_cprint.specs.Declarations.{base_term, nested_arrays, is_miscounted, is_misplaced, has_more, constants_of, parameters_by, members_by, term_by, declaration_by, term_at}
 use Rattle.dw_cprint.specs.Declarators.{gap, pointer_row, opening, closing, before, after, core, body_tokens, enumeration_tokens}
-use Rattle.dw_cprint.specs.Drafts.{appended}
 use Rattle.dw_cprint.specs.Kept.{Writes}
 use Rattle.dw_cprint.specs.Shapes.{Qualifier, AggregateKeyword, OfAggregate, Parameter, Name, TypeAt, MemberOf, EnumeratorOf, ShapeOf, base, typedef, qualified, pointer, array, function, tagged, body, enumeration, typedef_subject, variable_subject, aggregate_subject, enumeration_subject, view_shape}
 use Rattle.dw_cprint.specs.Terms.{Enum, Term, Void, Named, Tagged, Body, Function, Prototyped, Parameters, Members, Constant, CDeclaration, Aggregate}
@@ -14,7 +13,6 @@ use Rattle.dw_cprint.specs.Tokens.{Token, Blank, Star, Open, Close, LeftBrace, R
 use Rattle.dw_cprint.specs.Writing.{spell, qualifying, count_tokens, name_tokens, signature_tokens, members_tokens, declaration_tokens, written}
 use Rattle.dw_cprint.specs.declared.shape.Shape.{Shape}
 use Rattle.dw_cprint.specs.declared.shape.Shape.TheVariants as shape
-use Rattle.dw_cprint.proofs.DraftLemmas.{appended-twice}
 use Rattle.dw_cprint.proofs.DeclaratorLemmas.{in_parts}
 use Rattle.dw_cprint.proofs.NameLemmas.{words-text}
 use Rattle.dw_cprint.proofs.OptionLemmas.{map_holds, map_inverted, then_inverted, unless_holds, unless_inverted}
@@ -25,20 +23,20 @@ pub text-append : (xs ys : List Token) → text_of (xs ++ ys) ≡ text_of xs ++ 
 text-append xs ys = flat_map-append spelling xs ys
 
 -- one text behind another
-pub both : (a b : List Token) (old mid new : Option (List ℕ)) → Writes a old mid → Writes b mid new
+pub both : (a b : List Token) (old mid new : List ℕ) → Writes a old mid → Writes b mid new
     → Writes (a ++ b) old new
 both a b old mid new first second =
-    second ∙ ap (λ (u : Option (List ℕ)). appended u (text_of b)) first ∙ appended-twice old (text_of a) (text_of b)
-    ∙ ap (appended old) (sym (text-append a b))
+    second ∙ ap (λ (u : List ℕ). u ++ text_of b) first ∙ append_assoc old (text_of a) (text_of b)
+    ∙ ap (λ (u : List ℕ). old ++ u) (sym (text-append a b))
 
 -- the same text in other tokens
-pub as_text : (a b : List Token) (old new : Option (List ℕ)) → text_of a ≡ text_of b → Writes a old new
+pub as_text : (a b : List Token) (old new : List ℕ) → text_of a ≡ text_of b → Writes a old new
     → Writes b old new
-as_text a b old new e h = h ∙ ap (appended old) e
+as_text a b old new e h = h ∙ ap (λ (u : List ℕ). old ++ u) e
 
 -- the same tokens, written in another way
-pub as_tokens : (a b : List Token) (old new : Option (List ℕ)) → a ≡ b → Writes a old new → Writes b old new
-as_tokens a b old new e h = h ∙ ap (λ (u : List Token). appended old (text_of u)) e
+pub as_tokens : (a b : List Token) (old new : List ℕ) → a ≡ b → Writes a old new → Writes b old new
+as_tokens a b old new e h = h ∙ ap (λ (u : List Token). old ++ text_of u) e
 
 -- ---- what stands before a declarator
 
@@ -110,8 +108,8 @@ pub void-at : (shapes : ℕ → ShapeOf) (k : ℕ) (at : TypeAt) (t : Term) → 
 void-at shapes zero at t is e = absurd (cc)
 void-at shapes (suc k) at t is e = let found : Some Void ≡ Some t = sym (ap (term_at (suc k) shapes) is) ∙ e in cc
 
-module _ (term : TypeAt → Option Term) (o : Option Term) (old new : Option (List ℕ)) where
-  pub pointer_before : (mid mid2 mid3 : Option (List ℕ)) (qs : List Qualifier) (inside : Bool) (at : TypeAt)
+module _ (term : TypeAt → Option Term) (o : Option Term) (old new : List ℕ) where
+  pub pointer_before : (mid mid2 mid3 : List ℕ) (qs : List Qualifier) (inside : Bool) (at : TypeAt)
       → o ≡ term_by term (pointer at)
       → ((t : Term) → term at ≡ Some t → Writes (before [] t true) old mid)
       → ((t : Term) → term at ≡ Some t → Writes (opening t) mid mid2) → Writes (Star ∷ []) mid2 mid3
@@ -127,7 +125,7 @@ module _ (term : TypeAt → Option Term) (o : Option Term) (old new : Option (Li
   array_before qs inside (c ∷ cs) strange at step inner t e =
       search (rules, unless_inverted, map_inverted, as_tokens, before-arrays)
 
-  pub specifier_before : (mid mid2 : Option (List ℕ)) (qs : List Qualifier) (inside : Bool) (s : ShapeOf)
+  pub specifier_before : (mid mid2 : List ℕ) (qs : List Qualifier) (inside : Bool) (s : ShapeOf)
       → is_specifier s ≡ true → o ≡ term_by term s
       → Writes (qualifying qs) old mid → ((t : Term) → term_by term s ≡ Some t → Writes (core t) mid mid2)
       → Writes (gap inside) mid2 new → (t : Term) → o ≡ Some t → Writes (before qs t inside) old new
@@ -139,7 +137,7 @@ module _ (term : TypeAt → Option Term) (o : Option Term) (old new : Option (Li
 
   -- ---- what stands behind it
 
-  pub array_after : (mid : Option (List ℕ)) (counts : List (Option ℕ)) (strange : Bool) (at : TypeAt)
+  pub array_after : (mid : List ℕ) (counts : List (Option ℕ)) (strange : Bool) (at : TypeAt)
       → o ≡ term_by term (array counts strange at) → Writes (flat_map count_tokens counts) old mid
       → ((t : Term) → term at ≡ Some t → Writes (after t) mid new) → (t : Term) → o ≡ Some t → Writes (after t) old new
   array_after mid counts strange at step brackets inner t e =
@@ -150,12 +148,12 @@ module _ (term : TypeAt → Option Term) (o : Option Term) (old new : Option (Li
       (after-arrays counts u)
       (both (flat_map count_tokens counts) (after u) old mid new brackets (inner u is)))) t (sym step ∙ e)
 
-  pub pointer_after : (mid : Option (List ℕ)) (at : TypeAt) → o ≡ term_by term (pointer at)
+  pub pointer_after : (mid : List ℕ) (at : TypeAt) → o ≡ term_by term (pointer at)
       → ((t : Term) → term at ≡ Some t → Writes (closing t) old mid)
       → ((t : Term) → term at ≡ Some t → Writes (after t) mid new) → (t : Term) → o ≡ Some t → Writes (after t) old new
   pointer_after mid at step closes inner t e = search (rules, map_inverted, both)
 
-  pub prototype_after : (mid mid2 mid3 : Option (List ℕ)) (at : TypeAt) (ps : List Parameter)
+  pub prototype_after : (mid mid2 mid3 : List ℕ) (at : TypeAt) (ps : List Parameter)
       → o ≡ term_by term (function at (Some ps)) → Writes (Open ∷ []) old mid
       → (is_misplaced ps ≡ false → (us : Parameters) → parameters_by term ps ≡ Some us
       → Writes (signature_tokens (Prototyped us (has_more ps))) mid mid2) → Writes (Close ∷ []) mid2 mid3
@@ -175,7 +173,7 @@ there-name : (name : Name) → has_elements (name_tokens name) ≡ is_some name
 there-name None = refl
 there-name (Some name) = refl
 
-pub named_written : (term : TypeAt → Option Term) (at : TypeAt) (name : Name) (old mid mid2 new : Option (List ℕ))
+pub named_written : (term : TypeAt → Option Term) (at : TypeAt) (name : Name) (old mid mid2 new : List ℕ)
     → ((t : Term) → term at ≡ Some t → Writes (before [] t (is_some name)) old mid)
     → Writes (name_tokens name) mid mid2 → ((t : Term) → term at ≡ Some t → Writes (after t) mid2 new) → (t : Term)
     → term at ≡ Some t → Writes (spell [] t (name_tokens name)) old new
@@ -186,13 +184,13 @@ named_written term at name old mid mid2 new front word back t e = search (rules,
 pub base-core : (name : List ℕ) (t : Term) → base_term name ≡ Some t → text_of (Identifier name ∷ []) ≡ text_of (core t)
 base-core name t e = search (rules, append-nil, words-text)
 
-module _ (term : TypeAt → Option Term) (old new : Option (List ℕ)) where
+module _ (term : TypeAt → Option Term) (old new : List ℕ) where
   pub base_core : (name : Name) → Writes (name_tokens name) old new → (t : Term) → term_by term (base name) ≡ Some t
       → Writes (core t) old new
   base_core None h t e = absurd (cc)
   base_core (Some name) h t e = as_text (Identifier name ∷ []) (core t) old new (base-core name t e) h
 
-  pub body_core : (mid mid2 : Option (List ℕ)) (word : AggregateKeyword) (odd : Bool) (ms : List MemberOf)
+  pub body_core : (mid mid2 : List ℕ) (word : AggregateKeyword) (odd : Bool) (ms : List MemberOf)
       → Writes (TagWord (OfAggregate word) ∷ []) old mid → Writes (Blank ∷ []) mid mid2
       → ((us : Members) → members_by term ms ≡ Some us → Writes (body_tokens us) mid2 new) → (t : Term)
       → term_by term (body word odd ms) ≡ Some t → Writes (core t) old new
@@ -201,7 +199,7 @@ module _ (term : TypeAt → Option Term) (old new : Option (List ℕ)) where
       (λ us are. both (TagWord (OfAggregate word) ∷ []) (Blank ∷ body_tokens us) old mid new tag
       (both (Blank ∷ []) (body_tokens us) mid mid2 new blank (inner us are))) t e
 
-  pub enumeration_core : (mid : Option (List ℕ)) (odd : Bool) (es : List EnumeratorOf)
+  pub enumeration_core : (mid : List ℕ) (odd : Bool) (es : List EnumeratorOf)
       → Writes (TagWord Enum ∷ Blank ∷ []) old mid
       → ((cs : List Constant) → constants_of es ≡ Some cs → Writes (enumeration_tokens cs) mid new) → (t : Term)
       → term_by term (enumeration odd es) ≡ Some t → Writes (core t) old new
@@ -209,32 +207,32 @@ module _ (term : TypeAt → Option Term) (old new : Option (List ℕ)) where
 
 -- ---- declarations
 
-module _ (term : TypeAt → Option Term) (old mid mid2 new : Option (List ℕ)) where
+module _ (term : TypeAt → Option Term) (old mid mid2 new : List ℕ) where
   pub typedef_done : (name : Name) (at : TypeAt) → Writes (TypedefWord ∷ Blank ∷ []) old mid
       → ((t : Term) → term at ≡ Some t → Writes (spell [] t (name_tokens name)) mid mid2)
       → Writes (Semicolon ∷ []) mid2 new
-      → (d : CDeclaration) → declaration_by term (typedef_subject name at) ≡ Some d → new ≡ appended old (written d)
+      → (d : CDeclaration) → declaration_by term (typedef_subject name at) ≡ Some d → new ≡ old ++ written d
   typedef_done None at first inner last d e = absurd (cc)
   typedef_done (Some name) at first inner last d e = grind (arith, common_steps, map_inverted, both)
 
   pub variable_done : (name : Name) (at : TypeAt)
       → ((t : Term) → term at ≡ Some t → Writes (spell [] t (name_tokens name)) old mid)
       → Writes (Semicolon ∷ []) mid new
-      → (d : CDeclaration) → declaration_by term (variable_subject name at) ≡ Some d → new ≡ appended old (written d)
+      → (d : CDeclaration) → declaration_by term (variable_subject name at) ≡ Some d → new ≡ old ++ written d
   variable_done None at inner last d e = absurd (cc)
   variable_done (Some name) at inner last d e = search (rules, map_inverted, both)
 
-  pub aggregate_done : (mid3 : Option (List ℕ)) (word : AggregateKeyword) (name : Name) (odd : Bool)
+  pub aggregate_done : (mid3 : List ℕ) (word : AggregateKeyword) (name : Name) (odd : Bool)
       (ms : List MemberOf)
       → Writes (TagWord (OfAggregate word) ∷ Blank ∷ name_tokens name) old mid → Writes (Blank ∷ []) mid mid2
       → ((us : Members) → members_by term ms ≡ Some us → Writes (body_tokens us) mid2 mid3)
       → Writes (Semicolon ∷ []) mid3 new
       → (d : CDeclaration) → declaration_by term (aggregate_subject word name odd ms) ≡ Some d
-      → new ≡ appended old (written d)
+      → new ≡ old ++ written d
   aggregate_done mid3 word None odd ms first gap inner last d e = absurd (cc)
   aggregate_done mid3 word (Some name) odd ms first gap inner last d e =
       let tag = TagWord (OfAggregate word) ∷ Blank ∷ Identifier name ∷ [] in
-      map_holds (λ (d : CDeclaration). new ≡ appended old (written d)) (Aggregate word name) (members_by term ms)
+      map_holds (λ (d : CDeclaration). new ≡ old ++ written d) (Aggregate word name) (members_by term ms)
       (λ us are.
       let body = body_tokens us in
       let same : body ++ Semicolon ∷ [] ≡ LeftBrace ∷ Blank ∷ (members_tokens us ++ RightBrace ∷ Semicolon ∷ []) =
@@ -246,12 +244,12 @@ module _ (term : TypeAt → Option Term) (old mid mid2 new : Option (List ℕ)) 
       (both (Blank ∷ []) (body ++ Semicolon ∷ []) mid mid2 new gap
       (both body (Semicolon ∷ []) mid2 mid3 new (inner us are) last)))) d e
 
-  pub constants_done : (mid3 : Option (List ℕ)) (name : Name) (odd : Bool) (es : List EnumeratorOf)
+  pub constants_done : (mid3 : List ℕ) (name : Name) (odd : Bool) (es : List EnumeratorOf)
       → Writes (TagWord Enum ∷ Blank ∷ name_tokens name) old mid → Writes (Blank ∷ []) mid mid2
       → ((cs : List Constant) → constants_of es ≡ Some cs → Writes (enumeration_tokens cs) mid2 mid3)
       → Writes (Semicolon ∷ []) mid3 new
       → (d : CDeclaration) → declaration_by term (enumeration_subject name odd es) ≡ Some d
-      → new ≡ appended old (written d)
+      → new ≡ old ++ written d
   constants_done mid3 None odd es first gap inner last d e = absurd (cc)
   constants_done mid3 (Some name) odd es first gap inner last d e =
       grind (arith, common_steps, map_inverted, append_assoc, as_tokens, both)

@@ -5,7 +5,6 @@ use Rattle.std.specs.Option.{option_map_or}
 use Rattle.dw_cprint.specs.Declarations.{term_at, members_by, parameters_by, term_by, has_more, is_misplaced}
 use Rattle.dw_cprint.specs.Declarations.{constants_of, declaration_of}
 use Rattle.dw_cprint.specs.Declarators.{before, after, core, opening, closing, body_tokens, enumeration_tokens}
-use Rattle.dw_cprint.specs.Drafts.{appended}
 use Rattle.dw_cprint.specs.Shapes.{Qualifier, Parameter, Typed, More, Name, TypeAt, MemberOf, EnumeratorOf, ShapeOf}
 use Rattle.dw_cprint.specs.Shapes.{other, SubjectOf, view_shape}
 use Rattle.dw_cprint.specs.Terms.{Term, Members, Parameters, Prototyped, Constant, Valued, CDeclaration}
@@ -25,47 +24,47 @@ abbrev pub kept_term : Survey → ℕ → TypeAt → Option Term
 kept_term s k = term_at k (kept s)
 
 -- some tokens' text was written after what was there
-abbrev pub Writes : List Token → Option (List ℕ) → Option (List ℕ) → Type 0
-Writes tokens old new = new ≡ appended old (text_of tokens)
+abbrev pub Writes : List Token → List ℕ → List ℕ → Type 0
+Writes tokens old new = new ≡ old ++ text_of tokens
 
 -- what comes before the declarator of a type was written
-abbrev pub WritesBefore : Survey → ℕ → TypeAt → List Qualifier → Bool → Option (List ℕ) → Option (List ℕ) → Type 0
+abbrev pub WritesBefore : Survey → ℕ → TypeAt → List Qualifier → Bool → List ℕ → List ℕ → Type 0
 WritesBefore s k at qs inside old new = (t : Term) → kept_term s k at ≡ Some t → Writes (before qs t inside) old new
 
 -- what comes after it was written
-abbrev pub WritesAfter : Survey → ℕ → TypeAt → Option (List ℕ) → Option (List ℕ) → Type 0
+abbrev pub WritesAfter : Survey → ℕ → TypeAt → List ℕ → List ℕ → Type 0
 WritesAfter s k at old new = (t : Term) → kept_term s k at ≡ Some t → Writes (after t) old new
 
 -- the parenthesis before the star of a pointer to a type was written, if it takes one
-abbrev pub WritesOpened : Survey → TypeAt → Option (List ℕ) → Option (List ℕ) → Type 0
+abbrev pub WritesOpened : Survey → TypeAt → List ℕ → List ℕ → Type 0
 WritesOpened s to old new = (k : ℕ) (t : Term) → kept_term s k to ≡ Some t → Writes (opening t) old new
 
 -- the parenthesis that closes it was written
-abbrev pub WritesClosed : Survey → TypeAt → Option (List ℕ) → Option (List ℕ) → Type 0
+abbrev pub WritesClosed : Survey → TypeAt → List ℕ → List ℕ → Type 0
 WritesClosed s to old new = (k : ℕ) (t : Term) → kept_term s k to ≡ Some t → Writes (closing t) old new
 
 -- a type was written with a name inside, or with nothing
-abbrev pub WritesNamed : Survey → ℕ → TypeAt → Name → Option (List ℕ) → Option (List ℕ) → Type 0
+abbrev pub WritesNamed : Survey → ℕ → TypeAt → Name → List ℕ → List ℕ → Type 0
 WritesNamed s k at name old new =
     (t : Term) → kept_term s k at ≡ Some t → Writes (spell [] t (name_tokens name)) old new
 
 -- the specifier that a shape is without its qualifiers was written
-abbrev pub WritesCore : Survey → ℕ → ShapeOf → Option (List ℕ) → Option (List ℕ) → Type 0
+abbrev pub WritesCore : Survey → ℕ → ShapeOf → List ℕ → List ℕ → Type 0
 WritesCore s k shape old new = (t : Term) → term_by (kept_term s k) shape ≡ Some t → Writes (core t) old new
 
 -- a member of a body was written
-abbrev pub WritesMember : Survey → ℕ → MemberOf → Option (List ℕ) → Option (List ℕ) → Type 0
+abbrev pub WritesMember : Survey → ℕ → MemberOf → List ℕ → List ℕ → Type 0
 WritesMember s k m old new =
     (t : Term) → kept_term s k m.type_at ≡ Some t
     → Writes (spell [] t (name_tokens m.name) ++ (bits_tokens m.bits ++ Semicolon ∷ Blank ∷ [])) old new
 
 -- the members were written, in braces
-abbrev pub WritesMembers : Survey → ℕ → List MemberOf → Option (List ℕ) → Option (List ℕ) → Type 0
+abbrev pub WritesMembers : Survey → ℕ → List MemberOf → List ℕ → List ℕ → Type 0
 WritesMembers s k ms old new =
     (members : Members) → members_by (kept_term s k) ms ≡ Some members → Writes (body_tokens members) old new
 
 -- an enumerator was written
-abbrev pub WritesEnumerator : EnumeratorOf → Option (List ℕ) → Option (List ℕ) → Type 0
+abbrev pub WritesEnumerator : EnumeratorOf → List ℕ → List ℕ → Type 0
 WritesEnumerator e old new =
     (name : List ℕ) (value : ℤ) → e.name ≡ Some name → e.value ≡ Some value
     → Writes (constant_tokens (Valued name value)) old new
@@ -76,28 +75,28 @@ constants_left false cs = constants cs
 constants_left true cs = more_constants cs
 
 -- the enumerators that are left are still to be written
-pub record EnumeratorsLeft (all : List EnumeratorOf) (begin : Option (List ℕ)) (others : Bool)
-    (left : List EnumeratorOf) (out : Option (List ℕ)) : Type 0 where
+pub record EnumeratorsLeft (all : List EnumeratorOf) (begin : List ℕ) (others : Bool)
+    (left : List EnumeratorOf) (out : List ℕ) : Type 0 where
   pub rest : (us : List Constant) → constants_of all ≡ Some us
       → (vs : List Constant) × (constants_of left ≡ Some vs)
-      × (appended out (text_of (constants_left others vs)) ≡ appended begin (text_of (constants us)))
+      × (out ++ text_of (constants_left others vs) ≡ begin ++ text_of (constants us))
 
 -- the enumerators were written, in braces
-abbrev pub WritesEnumerators : List EnumeratorOf → Option (List ℕ) → Option (List ℕ) → Type 0
+abbrev pub WritesEnumerators : List EnumeratorOf → List ℕ → List ℕ → Type 0
 WritesEnumerators es old new = (cs : List Constant) → constants_of es ≡ Some cs → Writes (enumeration_tokens cs) old new
 
 -- a parameter was written, or that others follow
-abbrev pub WritesParameter : Survey → ℕ → Parameter → Option (List ℕ) → Option (List ℕ) → Type 0
+abbrev pub WritesParameter : Survey → ℕ → Parameter → List ℕ → List ℕ → Type 0
 WritesParameter s k (Typed at) old new = WritesNamed s k at None old new
 WritesParameter s k More old new = Writes (Dot ∷ Dot ∷ Dot ∷ []) old new
 
 -- the parameters of a function were written
-abbrev pub WritesParameters : Survey → ℕ → List Parameter → Option (List ℕ) → Option (List ℕ) → Type 0
+abbrev pub WritesParameters : Survey → ℕ → List Parameter → List ℕ → List ℕ → Type 0
 WritesParameters s k ps old new =
     is_misplaced ps ≡ false → (parameters : Parameters) → parameters_by (kept_term s k) ps ≡ Some parameters
     → Writes (signature_tokens (Prototyped parameters (has_more ps))) old new
 
 -- the declaration of the declared entry was written
-abbrev pub WritesDeclaration : Survey → SubjectOf → Option (List ℕ) → Option (List ℕ) → Type 0
+abbrev pub WritesDeclaration : Survey → SubjectOf → List ℕ → List ℕ → Type 0
 WritesDeclaration s subject old new =
-    (d : CDeclaration) → declaration_of (kept s) subject ≡ Some d → new ≡ appended old (written d)
+    (d : CDeclaration) → declaration_of (kept s) subject ≡ Some d → new ≡ old ++ written d

@@ -13,10 +13,10 @@ pub mod Writing
 pub mod Wrong
 pub mod Refusals
 pub mod Reading
+pub mod FaultTexts
 pub mod Listings
 -- State.
 pub mod Children
-pub mod StringSpans
 pub mod Declarators
 pub mod SameShapes
 pub mod Reach
@@ -24,7 +24,6 @@ pub mod Rows
 pub mod Lengths
 pub mod Counted
 pub mod Summaries
-pub mod Drafts
 pub mod Kept
 pub mod Surveys
 pub mod Judgements

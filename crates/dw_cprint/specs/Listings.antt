@@ -11,8 +11,9 @@ use Rattle.dw_types.specs.LongestRows.{IsLongest}
 use Rattle.dw_cprint.specs.Declarations.{declaration_of}
 use Rattle.dw_cprint.specs.Digits.{places}
 use Rattle.dw_cprint.specs.EntryShapes.{shape_in, subject_in}
+use Rattle.dw_cprint.specs.FaultTexts.{code_text, name_text}
 use Rattle.dw_cprint.specs.LookUps.{entry_offset}
-use Rattle.dw_cprint.specs.Refusals.{PrintFault, NotPrintable, BadName, Foreign, Unspeakable, TooDeep, TooLong, Memory}
+use Rattle.dw_cprint.specs.Refusals.{PrintFault}
 use Rattle.dw_cprint.specs.Refusals.{Refuses, IsPrinted}
 use Rattle.dw_cprint.specs.Shapes.{SubjectOf, typedef_subject, aggregate_subject, enumeration_subject}
 use Rattle.dw_cprint.specs.Terms.{CDeclaration}
@@ -72,26 +73,6 @@ pub record IsListing (image : Image) (order : List ℕ) (refused : List (ℕ × 
       → Contains order entry ⊎ ((rule : PrintFault) × Contains refused (entry, rule))
 
 -- ---- the text
-
--- the code of a refusal
-abbrev pub code_text : PrintFault → List ℕ
-code_text NotPrintable = codes "P1"
-code_text BadName = codes "P2"
-code_text Foreign = codes "P3"
-code_text Unspeakable = codes "P4"
-code_text TooDeep = codes "P5"
-code_text TooLong = codes "P6"
-code_text Memory = []
-
--- the long name of a refusal
-abbrev pub name_text : PrintFault → List ℕ
-name_text NotPrintable = codes "NotPrintable"
-name_text BadName = codes "BadName"
-name_text Foreign = codes "Foreign"
-name_text Unspeakable = codes "Unspeakable"
-name_text TooDeep = codes "TooDeep"
-name_text TooLong = codes "TooLong"
-name_text Memory = codes "Memory"
 
 -- the text of a declaration, or nothing if there is none
 abbrev pub text_if : Option CDeclaration → List ℕ

@@ -1,5 +1,6 @@
 -- State: the entries that are reached from some declared ones, and the graph of the steps between them.
-use Rattle.std.specs.Prelude.{◌≡◌, ℕ, ◌<◌, ◌++◌, List, length, map, slice_index, All, Contains}
+use Rattle.std.specs.Prelude.{◌≡◌, ℕ, ◌<◌, ◌++◌, ◌↔◌, Bool, true, false, List, length, map, slice_index, slice_index_or}
+use Rattle.std.specs.Prelude.{All, Contains}
 use Rattle.dw_types.specs.Graphs.{Graph, steps_of}
 use Rattle.dw_cprint.specs.Shapes.{ShapeOf, view_shape}
 use Rattle.dw_cprint.specs.Steps.{steps_reached, IsReachedFrom}
@@ -9,6 +10,24 @@ use Rattle.dw_cprint.specs.declared.survey.Survey.{Survey}
 pub record ArePlaces (places found : List ℕ) : Type 0 where
   pub below : All (λ entry. entry < length places) found
   pub back : (k : ℕ) → k < length found → slice_index places (slice_index found k) ≡ k
+
+-- an entry has a mark
+abbrev pub IsMarked : (marks : List Bool) → ℕ → Type 0
+IsMarked marks entry = slice_index_or marks entry false ≡ true
+
+-- exactly some entries have marks
+abbrev pub AreMarks : (entries : List ℕ) → (marks : List Bool) → Type 0
+AreMarks entries marks = (entry : ℕ) → IsMarked marks entry ↔ Contains entries entry
+
+-- exactly the entries with marks and smaller numbers are found
+pub record FindsMarked (marks : List Bool) (number : ℕ) (places found : List ℕ) : Type 0 where
+  pub placed : ArePlaces places found
+  pub each : (entry : ℕ) → Contains found entry ↔ ((entry < number) × IsMarked marks entry)
+
+-- exactly some entries are found
+pub record FindsRoots (roots places found : List ℕ) : Type 0 where
+  pub placed : ArePlaces places found
+  pub each : (entry : ℕ) → Contains found entry ↔ Contains roots entry
 
 -- some entries are found after those that were
 pub record Grows (steps old new : List ℕ) : Type 0 where

@@ -1,10 +1,11 @@
 -- State: what is kept of each named type of an image until its line is written.
-use Rattle.std.specs.Prelude.{◌≡◌, ℕ, ◌<◌, ◌≤◌, List, Some, length, slice_index, slice_index_or}
+use Rattle.std.specs.Prelude.{◌≡◌, ℕ, ◌<◌, ◌≤◌, List, Some, length, flat_map, slice_index, slice_index_or}
 use Rattle.dw_image.specs.declared.image.Image.{Image}
 use Rattle.dw_image.specs.Images.{sections_in}
 use Rattle.dw_image.specs.Contributions.{string_at}
 use Rattle.dw_cprint.specs.EntryShapes.{defined_in, subject_in}
 use Rattle.dw_cprint.specs.Shapes.{SubjectOf, TypeAt, typedef_subject}
+use Rattle.dw_cprint.specs.Steps.{first_steps}
 pub use Rattle.dw_cprint.specs.declared.rows.Place.{Place}
 pub use Rattle.dw_cprint.specs.declared.rows.Row.{Row}
 pub use Rattle.dw_cprint.specs.declared.rows.RowKind.{RowKind}
@@ -47,6 +48,10 @@ pub record TellsOf (image : Image) (id : ℕ) (subject : SubjectOf) (row : Row) 
 -- the same of the subject that the entry is
 abbrev pub Tells : Image → ℕ → Row → Type 0
 Tells image id row = TellsOf image id (subject_in image id) row
+
+-- the spelling steps of some named types
+abbrev pub named_steps : Image → List ℕ → List ℕ
+named_steps image named = flat_map (λ id. first_steps (subject_in image id)) named
 
 -- the rows of some named types, in their order
 pub record AreRows (image : Image) (named : List ℕ) (rows : List Row) : Type 0 where

@@ -2,7 +2,7 @@
 //! entries that it is made from. Otherwise their counts are read from the image each time that they are written.
 
 ghost use Rattle.std.specs.Prelude.{◌≡◌, ◌<◌, ◌&&◌, ◌||◌, List, [], Option, ℕ, length, flat_map, sum_by, OnOk};
-ghost use Rattle.std.specs.Prelude.{if◌then◌else◌, IfOk, IfSome, Some, is_some, not};
+ghost use Rattle.std.specs.Prelude.{if◌then◌else◌, IfOk, IfSome, nat_lt, is_some, not};
 ghost use Rattle.std.specs.List.{cons_option};
 ghost use Rattle.dw_image.specs.Images.{entries_in};
 ghost use Rattle.dw_cprint.specs.Counted.{AreDimensions, DimensionsSoFar, IsDimensionsStart, count_bytes, is_unknown};
@@ -14,8 +14,9 @@ ghost use Rattle.dw_cprint.specs.LookUps.{is_short};
 ghost use Rattle.dw_cprint.specs.Writing.{count_tokens};
 ghost use Rattle.dw_cprint.specs.Wrong.{starts_open};
 
+use crate::digits::put_decimal;
 use crate::source::{is_short, tag_at};
-use crate::text::{Draft, digit_count, plus};
+use crate::text::{LIMIT, digit_count, plus, put};
 use dw_entries::constants::*;
 use dw_image::{EntryId, Image};
 use std::alloc::{AllocError, Global};
@@ -40,22 +41,22 @@ fn count_length(count: Option<u128>) -> usize
 }
 
 /// The brackets of a dimension.
-fn put_count(out: &mut Draft, count: Option<u128>) -> Result<(), AllocError>
-    ensures { OnOk result (Writes (count_tokens count) out.old out.new) }
+fn put_count(out: &mut Vec<u8>, count: Option<u128>) -> Result<(), AllocError>
+    ensures { OnOk result (Writes (count_tokens count) out.old.items out.new.items) }
 {
     match count {
-        None => out.put(b"[]"),
+        None => put(out, b"[]"),
         Some(n) => {
-            out.put(b"[")?;
-            out.put_number(n)?;
-            out.put(b"]")
+            put(out, b"[")?;
+            put_decimal(out, n)?;
+            put(out, b"]")
         }
     }
 }
 
 /// The brackets of a child that is a dimension.
-fn put_next(out: &mut Draft, next: Option<Option<u128>>) -> Result<(), AllocError>
-    ensures { OnOk result (Writes (flat_map count_tokens (cons_option next [])) out.old out.new) }
+fn put_next(out: &mut Vec<u8>, next: Option<Option<u128>>) -> Result<(), AllocError>
+    ensures { OnOk result (Writes (flat_map count_tokens (cons_option next [])) out.old.items out.new.items) }
 {
     match next {
         None => Ok(()),
@@ -138,9 +139,9 @@ fn tally_of(image: &Image<'_>, id: EntryId) -> DimensionTally
 }
 
 /// Writes the brackets of the dimensions of an array.
-fn put_all(out: &mut Draft, image: &Image<'_>, id: EntryId) -> Result<(), AllocError>
+fn put_all(out: &mut Vec<u8>, image: &Image<'_>, id: EntryId) -> Result<(), AllocError>
     requires { id < length (entries_in image.now) }
-    ensures { OnOk result (Writes (flat_map count_tokens (dimension_counts image.now id)) out.old out.new) }
+    ensures { OnOk result (Writes (flat_map count_tokens (dimension_counts image.now id)) out.old.items out.new.items) }
 {
     for child in image.children(id) {
         put_next(out, dimension_at(image, child))?;
@@ -154,17 +155,18 @@ fn short_text(
     image: &Image<'_>,
     id: EntryId,
     tally: DimensionTally,
-) -> Result<Option<Box<Draft>>, AllocError>
+) -> Result<Option<Box<Vec<u8>>>, AllocError>
     requires { id < length (entries_in image.now) }
     ensures short { IfOk result (λ text. is_some text
-        ≡ (not tally.wrong && is_short image.now id tally.length)) }
+        ≡ (not (tally.wrong || nat_lt 65536 tally.length) && is_short image.now id tally.length)) }
     ensures text { IfOk result (λ text.
-        IfSome text (λ text. Writes (flat_map count_tokens (dimension_counts image.now id)) (Some []) text.value)) }
+        IfSome text (λ text. Writes (flat_map count_tokens (dimension_counts image.now id)) [] text.value.items)) }
 {
-    if tally.wrong || !is_short(image, id, tally.length) {
+    let fits = tally.length as usize <= LIMIT;
+    if tally.wrong || !fits || !is_short(image, id, tally.length) {
         return Ok(None);
     }
-    let mut text = Draft::with_room(alloc, tally.length as usize)?;
+    let mut text = Vec::with_capacity(alloc, tally.length as usize)?;
     put_all(&mut text, image, id)?;
     Ok(Some(Box::new(alloc, text)?))
 }
@@ -175,11 +177,11 @@ pub struct Dimensions<'a> {
     image: &'a Image<'a>,
     id: EntryId,
     tally: DimensionTally,
-    text: Option<Box<Draft>>,
+    text: Option<Box<Vec<u8>>>,
 }
 
 impl<'a> Model for Dimensions<'a> {
-    ghost use Rattle.std.specs.Prelude.{◌<◌, ℕ, List, [], Option, Some, IfSome, flat_map, length};
+    ghost use Rattle.std.specs.Prelude.{◌<◌, ℕ, List, [], Option, IfSome, flat_map, length};
     ghost use Rattle.dw_image.specs.Images.{entries_in};
 
     ghost Value = { List (Option ℕ) };
@@ -194,7 +196,7 @@ impl<'a> Model for Dimensions<'a> {
     ghost invariant = { λ it. (it.id < length (entries_in it.image.now))
         × AreDimensions (dimension_counts it.image.now it.id) it.tally
         × IfSome it.text (λ text.
-        Writes (flat_map count_tokens (dimension_counts it.image.now it.id)) (Some []) text.value) };
+        Writes (flat_map count_tokens (dimension_counts it.image.now it.id)) [] text.value.items) };
 }
 
 impl<'a> Dimensions<'a> {
@@ -239,12 +241,12 @@ impl<'a> Dimensions<'a> {
     }
 
     /// Writes their brackets.
-    pub fn write(&self, out: &mut Draft) -> Result<(), AllocError>
-        ensures { OnOk result (Writes (flat_map count_tokens self.now) out.old out.new) }
+    pub fn write(&self, out: &mut Vec<u8>) -> Result<(), AllocError>
+        ensures { OnOk result (Writes (flat_map count_tokens self.now) out.old.items out.new.items) }
     {
         match &self.text {
-            Some(text) if !text.is_over() => out.put(text.bytes()),
-            _ => put_all(out, self.image, self.id),
+            Some(text) => put(out, text),
+            None => put_all(out, self.image, self.id),
         }
     }
 }

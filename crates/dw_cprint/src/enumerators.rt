@@ -1,22 +1,25 @@
 //! The enumerators of an enumeration. What one pass over them finds is kept, and their text if it is short compared with
 //! the entries that it is made from. Otherwise they are read from the image each time that they are written.
 
-ghost use Rattle.std.specs.Prelude.{◌≡◌, ◌<◌, ◌+◌, ◌&&◌, ◌||◌, List, [], Option, Some, ℕ, length, IfOk, OnOk};
-ghost use Rattle.std.specs.Prelude.{if◌then◌else◌, IfSome, option_map, is_some, not};
+ghost use Rattle.std.specs.Prelude.{◌≡◌, ◌<◌, ◌+◌, ◌&&◌, ◌||◌, Bool, List, [], ℕ, length, IfOk, OnOk};
+ghost use Rattle.std.specs.Prelude.{if◌then◌else◌, IfSome, nat_lt, option_map, is_some, not};
 ghost use Rattle.std.specs.List.{cons_option, list_any};
 ghost use Rattle.dw_image.specs.Images.{entries_in};
 ghost use Rattle.dw_cprint.specs.Counted.{AreEnumerators, EnumeratorsSoFar, IsEnumeratorsStart, lacks_identifier};
 ghost use Rattle.dw_cprint.specs.EntryShapes.{enumerator_at, enumerators_in};
-ghost use Rattle.dw_cprint.specs.Kept.{EnumeratorsLeft, WritesEnumerator, WritesEnumerators};
+ghost use Rattle.dw_cprint.specs.Kept.{EnumeratorsLeft, WritesDeclaration, WritesEnumerator, WritesEnumerators};
 ghost use Rattle.dw_cprint.specs.Lengths.{capped, enumerator_bytes, enumerators_bytes};
 ghost use Rattle.dw_cprint.specs.LookUps.{is_short};
-ghost use Rattle.dw_cprint.specs.Shapes.{EnumeratorOf, view_enumerator};
+ghost use Rattle.dw_cprint.specs.Shapes.{EnumeratorOf, enumeration_subject, view_enumerator, view_name};
+ghost use Rattle.dw_cprint.specs.declared.survey.Survey.{Survey};
 ghost use Rattle.dw_cprint.specs.Wrong.{is_wrong_enumeration, lacks_name, lacks_value};
 
 use crate::names::lacks_name;
 use crate::source::{Source, integer_at, is_short, tag_at};
-use crate::text::{Draft, name_length, plus, put_comma, put_name, put_value, value_length};
-use crate::words::Name;
+use crate::text::{
+    LIMIT, name_length, plus, put, put_comma, put_name, put_tag, put_value, value_length,
+};
+use crate::words::{Name, TagKeyword};
 use dw_entries::constants::*;
 use dw_image::EntryId;
 use std::alloc::{AllocError, Global};
@@ -54,11 +57,11 @@ fn enumerator_length(enumerator: &Enumerator<'_>) -> usize
 }
 
 /// An enumerator and its value.
-fn put_enumerator(out: &mut Draft, enumerator: &Enumerator<'_>) -> Result<(), AllocError>
-    ensures { OnOk result (WritesEnumerator (view_enumerator enumerator.now) out.old out.new) }
+fn put_enumerator(out: &mut Vec<u8>, enumerator: &Enumerator<'_>) -> Result<(), AllocError>
+    ensures { OnOk result (WritesEnumerator (view_enumerator enumerator.now) out.old.items out.new.items) }
 {
     put_name(out, enumerator.name)?;
-    out.put(b" = ")?;
+    put(out, b" = ")?;
     match enumerator.value {
         None => Ok(()),
         Some(value) => put_value(out, value),
@@ -66,10 +69,14 @@ fn put_enumerator(out: &mut Draft, enumerator: &Enumerator<'_>) -> Result<(), Al
 }
 
 /// Writes the next enumerator, if a child is one, after a comma if others are before it. Whether one is written.
-fn put_next(out: &mut Draft, others: bool, next: Option<Enumerator<'_>>) -> Result<bool, AllocError>
-    ensures { IfOk result (λ some. (all left : List EnumeratorOf) (begin : Option (List ℕ))
-        → EnumeratorsLeft all begin others (cons_option (option_map view_enumerator next.entry) left) out.old
-        → EnumeratorsLeft all begin some left out.new) }
+fn put_next(
+    out: &mut Vec<u8>,
+    others: bool,
+    next: Option<Enumerator<'_>>,
+) -> Result<bool, AllocError>
+    ensures { IfOk result (λ some. (all left : List EnumeratorOf) (begin : List ℕ)
+        → EnumeratorsLeft all begin others (cons_option (option_map view_enumerator next.entry) left) out.old.items
+        → EnumeratorsLeft all begin some left out.new.items) }
 {
     let Some(enumerator) = next else {
         return Ok(others);
@@ -160,35 +167,55 @@ fn tally_of(source: &Source<'_>, id: EntryId) -> EnumeratorTally
 }
 
 /// Writes the enumerators of an enumeration, in braces.
-fn put_all(out: &mut Draft, source: &Source<'_>, id: EntryId) -> Result<(), AllocError>
+fn put_all(out: &mut Vec<u8>, source: &Source<'_>, id: EntryId) -> Result<(), AllocError>
     requires { id < length (entries_in source.now.image.now) }
-    ensures { OnOk result (WritesEnumerators (enumerators_in source.now.image.now id) out.old out.new) }
+    ensures { OnOk result (WritesEnumerators (enumerators_in source.now.image.now id) out.old.items out.new.items) }
 {
-    out.put(b"{ ")?;
+    put(out, b"{ ")?;
     let mut some = false;
     for child in source.image.children(id) {
         some = put_next(out, some, enumerator_at(source, child))?;
     }
-    out.put(b" }")
+    put(out, b" }")
 }
 
-/// The text of the enumerators of an enumeration, if it is short. One that is never printed has none.
+/// Writes an enumeration with its body.
+pub fn put_enumeration(
+    out: &mut Vec<u8>,
+    source: &Source<'_>,
+    id: EntryId,
+    name: Name<'_>,
+) -> Result<(), AllocError>
+    requires { id < length (entries_in source.now.image.now) }
+    ensures { OnOk result ((s : Survey) (odd : Bool) → WritesDeclaration s
+        (enumeration_subject (view_name name.entry) odd (enumerators_in source.now.image.now id))
+        out.old.items out.new.items) }
+{
+    put_tag(out, TagKeyword::Enum, name)?;
+    put(out, b" ")?;
+    put_all(out, source, id)?;
+    put(out, b";")
+}
+
+/// The text of the enumerators of an enumeration, if it is short. Those that are never printed have none.
 fn short_text(
     alloc: Global,
     source: &Source<'_>,
     id: EntryId,
     tally: EnumeratorTally,
-) -> Result<Option<Box<Draft>>, AllocError>
+) -> Result<Option<Box<Vec<u8>>>, AllocError>
     requires { id < length (entries_in source.now.image.now) }
     ensures short { IfOk result (λ text. is_some text
-        ≡ (not (tally.nameless || tally.wrong) && is_short source.now.image.now id tally.length)) }
+        ≡ (not (tally.nameless || tally.wrong || nat_lt 65536 tally.length)
+        && is_short source.now.image.now id tally.length)) }
     ensures text { IfOk result (λ text.
-        IfSome text (λ text. WritesEnumerators (enumerators_in source.now.image.now id) (Some []) text.value)) }
+        IfSome text (λ text. WritesEnumerators (enumerators_in source.now.image.now id) [] text.value.items)) }
 {
-    if tally.nameless || tally.wrong || !is_short(source.image, id, tally.length) {
+    let fits = tally.length as usize <= LIMIT;
+    if tally.nameless || tally.wrong || !fits || !is_short(source.image, id, tally.length) {
         return Ok(None);
     }
-    let mut text = Draft::with_room(alloc, tally.length as usize)?;
+    let mut text = Vec::with_capacity(alloc, tally.length as usize)?;
     put_all(&mut text, source, id)?;
     Ok(Some(Box::new(alloc, text)?))
 }
@@ -199,11 +226,11 @@ pub struct Enumerators<'a> {
     source: &'a Source<'a>,
     id: EntryId,
     tally: EnumeratorTally,
-    text: Option<Box<Draft>>,
+    text: Option<Box<Vec<u8>>>,
 }
 
 impl<'a> Model for Enumerators<'a> {
-    ghost use Rattle.std.specs.Prelude.{◌<◌, List, [], Some, IfSome, length};
+    ghost use Rattle.std.specs.Prelude.{◌<◌, List, [], IfSome, length};
     ghost use Rattle.dw_image.specs.Images.{entries_in};
     ghost use Rattle.dw_cprint.specs.Enumerators.{EnumeratorOf};
 
@@ -218,11 +245,24 @@ impl<'a> Model for Enumerators<'a> {
     ghost invariant = { λ it. (it.id < length (entries_in it.source.now.image.now))
         × AreEnumerators (enumerators_in it.source.now.image.now it.id) it.tally
         × IfSome it.text (λ text.
-        WritesEnumerators (enumerators_in it.source.now.image.now it.id) (Some []) text.value) };
+        WritesEnumerators (enumerators_in it.source.now.image.now it.id) [] text.value.items) };
 }
 
 impl<'a> Enumerators<'a> {
-    /// Reads those of an enumeration once.
+    /// Counts those of an enumeration that is written once: no text is kept.
+    pub fn count(source: &'a Source<'a>, id: EntryId) -> Enumerators<'a>
+        requires { id < length (entries_in source.now.image.now) }
+        ensures { result ≡ enumerators_in source.now.image.now id }
+    {
+        Enumerators {
+            source,
+            id,
+            tally: tally_of(source, id),
+            text: None,
+        }
+    }
+
+    /// Reads those of an enumeration that may be written many times.
     pub fn read(
         alloc: Global,
         source: &'a Source<'a>,
@@ -262,13 +302,21 @@ impl<'a> Enumerators<'a> {
         self.tally.length as usize
     }
 
+    /// Writes the enumeration that has this name and these enumerators.
+    pub fn declare(&self, out: &mut Vec<u8>, name: Name<'_>) -> Result<(), AllocError>
+        ensures { OnOk result ((s : Survey) (odd : Bool) → WritesDeclaration s
+            (enumeration_subject (view_name name.entry) odd self.now) out.old.items out.new.items) }
+    {
+        put_enumeration(out, self.source, self.id, name)
+    }
+
     /// Writes them, in braces.
-    pub fn write(&self, out: &mut Draft) -> Result<(), AllocError>
-        ensures { OnOk result (WritesEnumerators self.now out.old out.new) }
+    pub fn write(&self, out: &mut Vec<u8>) -> Result<(), AllocError>
+        ensures { OnOk result (WritesEnumerators self.now out.old.items out.new.items) }
     {
         match &self.text {
-            Some(text) if !text.is_over() => out.put(text.bytes()),
-            _ => put_all(out, self.source, self.id),
+            Some(text) => put(out, text),
+            None => put_all(out, self.source, self.id),
         }
     }
 }

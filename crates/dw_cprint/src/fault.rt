@@ -1,7 +1,8 @@
 //! Why an entry is not printed.
+//! All variants but `Memory`, and the arms of its functions, are made by docs/make-rules.py from docs/rules.tsv.
 
 ghost use Rattle.std.specs.Prelude.{◌≡◌};
-ghost use Rattle.dw_cprint.specs.Listings.{code_text, name_text};
+ghost use Rattle.dw_cprint.specs.FaultTexts.{code_text, name_text};
 ghost use Rattle.dw_cprint.specs.declared.fault.PrintFault.TheVariants.{Memory};
 
 use std::alloc::{AllocError, AllocFailed};

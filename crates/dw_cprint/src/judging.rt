@@ -1,7 +1,7 @@
-//! The judgement of a declaration: it is printed, and its text is written, or why it is refused.
+//! Why a declaration is refused, if it is, by what is known of the types that it leads to.
 
-ghost use Rattle.std.specs.Prelude.{◌≡◌, IfOk, IfSome};
-ghost use Rattle.dw_cprint.specs.Judgements.{IsJudgement, IsRefusalBelow};
+ghost use Rattle.std.specs.Prelude.{◌≡◌, IfOk};
+ghost use Rattle.dw_cprint.specs.Judgements.{IsRefusal, IsRefusalBelow};
 ghost use Rattle.dw_cprint.specs.Shapes.{view_subject};
 ghost use Rattle.dw_cprint.specs.Steps.{first_steps, types_declared};
 ghost use Rattle.dw_cprint.specs.Surveys.{BySurvey};
@@ -13,7 +13,7 @@ use crate::shape::Subject;
 use crate::source::TypeAt;
 use crate::summary::findings_of;
 use crate::survey::Survey;
-use crate::text::{Draft, LIMIT};
+use crate::text::LIMIT;
 use std::alloc::{AllocError, Global};
 
 impl<'a> Survey<'a> {
@@ -33,7 +33,7 @@ impl<'a> Survey<'a> {
     }
 
     /// The same, by the types that are read of the declared entry.
-    fn refusal(
+    fn refusal_without_length(
         &self,
         alloc: Global,
         subject: &Subject<'a>,
@@ -55,25 +55,22 @@ impl<'a> Survey<'a> {
         }
     }
 
-    /// Judges a declaration: writes its text to the draft, or returns why it is refused and writes none.
-    pub fn judge(
+    /// Why a declaration is refused, if it is. No text is written for that.
+    pub fn refusal(
         &self,
         alloc: Global,
         subject: &Subject<'a>,
-        draft: &mut Draft,
     ) -> Result<Option<PrintFault>, AllocError>
-        ensures judged { IfOk result (λ r. BySurvey self.now (first_steps (view_subject subject.now)) (λ shapes.
-            IsJudgement shapes (view_subject subject.now) draft.new r)) }
-        ensures unwritten { IfOk result (λ r. IfSome r (λ fault. draft.new ≡ draft.old)) }
+        ensures { IfOk result (λ r. BySurvey self.now (first_steps (view_subject subject.now)) (λ shapes.
+            IsRefusal shapes (view_subject subject.now) r)) }
     {
-        if let Some(fault) = self.refusal(alloc, subject)? {
+        if let Some(fault) = self.refusal_without_length(alloc, subject)? {
             return Ok(Some(fault));
         }
-        if length_declared(self, subject) > LIMIT {
+        let length = length_declared(self, subject);
+        if length > LIMIT {
             return Ok(Some(PrintFault::TooLong));
         }
-        draft.clear();
-        self.put_declaration(alloc, draft, subject)?;
         Ok(None)
     }
 }

@@ -8,6 +8,7 @@ mod fault;
 mod judging;
 mod laws;
 mod lengths;
+mod levels;
 mod listing;
 mod names;
 mod reaching;

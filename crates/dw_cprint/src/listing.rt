@@ -1,50 +1,37 @@
 //! The declaration of one entry, and the listing of all named types.
 
-ghost use Rattle.std.specs.Prelude.{◌≡◌, ◌≢◌, ◌<◌, [], ◌++◌, ◌^◌, length, map, slice_get, slice_index, flat_map};
-ghost use Rattle.std.specs.Prelude.{All, AllPairs, IsPermutation, IfOk, OnOk, OnErr, Err};
+ghost use Rattle.std.specs.Prelude.{◌≡◌, ◌≢◌, ◌<◌, ◌++◌, length, map, filter, slice_get, slice_index, flat_map};
+ghost use Rattle.std.specs.Prelude.{All, AllPairs, IfOk, OnOk, OnErr, Err};
 ghost use Rattle.std.specs.List.{filter_map, range_with_len};
 ghost use Rattle.dw_image.specs.Images.{entries_in};
 ghost use Rattle.dw_cprint.specs.EntryShapes.{shape_in, subject_in};
-ghost use Rattle.dw_cprint.specs.Judgements.{IsAdded, IsJudgedMore, IsJudgement, refused_number};
-ghost use Rattle.dw_cprint.specs.Listings.{AreLevels, AreNamedTypes, AreRanked, IsListing, StandsBefore, listing_text};
-ghost use Rattle.dw_cprint.specs.Listings.{refused_line, refused_line_in};
+ghost use Rattle.dw_cprint.specs.Judgements.{AreRefusals, IsPrintedNumber, IsRefusal, is_printed};
+ghost use Rattle.dw_cprint.specs.Judgements.{refused_number};
+ghost use Rattle.dw_cprint.specs.Kept.{WritesDeclaration};
+ghost use Rattle.dw_cprint.specs.Listings.{AreNamedTypes, IsListing, declared_line};
+ghost use Rattle.dw_cprint.specs.Listings.{listing_text, refused_line, refused_line_in};
 ghost use Rattle.dw_cprint.specs.Refusals.{AppendsDeclaration, HasOneReading, IsPrinted, Refuses};
-ghost use Rattle.dw_cprint.specs.Shapes.{view_subject};
+ghost use Rattle.dw_cprint.specs.Rows.{AreRows, Tells, named_steps};
 ghost use Rattle.dw_cprint.specs.Steps.{first_steps};
-ghost use Rattle.dw_cprint.specs.Surveys.{BySurvey};
+ghost use Rattle.dw_cprint.specs.Surveys.{BySurvey, IsSurveyOf};
 ghost use Rattle.dw_cprint.specs.declared.fault.PrintFault.{PrintFault as PrintFaultOf};
 ghost use Rattle.dw_cprint.specs.declared.fault.PrintFault.TheVariants.{Memory};
 
 use crate::digits::put_hex;
+use crate::enumerators::put_enumeration;
 use crate::fault::PrintFault;
+use crate::levels::numbers_in_order;
 use crate::reaching::put_declared_types;
-use crate::rows::{all_types, named_types, subject_at};
+use crate::rows::{Named, Row, RowKind, all_types, name_of, named_types, subject_at};
 use crate::shape::Subject;
-use crate::shape_reader::subject_of;
+use crate::shape_reader::{members_at, subject_of};
 use crate::source::Source;
 use crate::survey::Survey;
-use crate::text::Draft;
+use crate::words::TagKeyword;
+use crate::words::TagKeyword::OfAggregate;
 use dw_image::{EntryId, Image, NoMemory};
-use dw_types::{Numbers, clear_nodes, longest_at, longest_rows};
 use indexmap::IndexSet;
 use std::alloc::{AllocError, Global};
-
-/// Judges the declaration of an entry: writes its text to the draft, or returns why it is refused.
-fn judge_entry(
-    alloc: Global,
-    source: &Source<'_>,
-    id: EntryId,
-    draft: &mut Draft,
-) -> Result<Option<PrintFault>, AllocError>
-    requires { id < length (entries_in source.now.image.now) }
-    ensures { IfOk result (IsJudgement (shape_in source.now.image.now) (subject_in source.now.image.now id) draft.new) }
-{
-    let subject = subject_of(alloc, source, id)?;
-    let mut types = Vec::new(alloc);
-    put_declared_types(&mut types, &subject)?;
-    let survey = Survey::new(alloc, source, types)?;
-    survey.judge(alloc, &subject, draft)
-}
 
 /// Appends the C declaration of an entry (DWARF 5, chapter 5): a typedef, a variable, a structure, a union or an
 /// enumeration. The text has at most 65,536 bytes and no line feed.
@@ -68,11 +55,16 @@ pub fn declare(
         → Refuses (shape_in image.now) (subject_in image.now id) rule }
 {
     let source = Source::read(alloc, image)?;
-    let mut draft = Draft::new(alloc);
-    if let Some(fault) = judge_entry(alloc, &source, id, &mut draft)? {
+    let subject = subject_of(alloc, &source, id)?;
+    let mut types = Vec::new(alloc);
+    put_declared_types(&mut types, &subject)?;
+    let survey = Survey::new(alloc, &source, types)?;
+    if let Some(fault) = survey.refusal(alloc, &subject)? {
         return Err(fault);
     }
-    out.extend_from_slice(draft.bytes())?;
+    let mut text = Vec::new(alloc);
+    survey.put_declaration(alloc, &mut text, &subject)?;
+    out.extend_from_slice(&text)?;
     Ok(())
 }
 
@@ -88,129 +80,123 @@ pub struct Listing {
     pub refused: Vec<(EntryId, PrintFault)>,
 }
 
-/// The named types that are judged, by their numbers among those in rising offset, which are 0, 1, 2 and so on: no file
-/// chooses a key.
-#[derive(Drop)]
-pub struct Judgements {
-    /// Those that are printed, in the order of their lines.
-    pub printed: IndexSet<u32>,
-    /// Why each is refused, if it is.
-    pub refusals: Vec<Option<PrintFault>>,
-}
-
-impl Judgements {
-    /// None of so many is judged.
-    fn new(alloc: Global, count: usize) -> Result<Judgements, AllocError>
-        ensures printed { IfOk result (λ it. it.printed.keys ≡ []) }
-        ensures refusals { IfOk result (λ it. length it.refusals.items ≡ count) }
-    {
-        Ok(Judgements {
-            printed: IndexSet::with_capacity(alloc, count)?,
-            refusals: vec![in alloc; None; count]?,
-        })
-    }
-
-    /// Keeps why the one with a number is refused, or that it is printed.
-    fn add(&mut self, number: u32, refusal: Option<PrintFault>) -> Result<(), AllocError>
-        requires { number < length self.old.refusals.items }
-        ensures { OnOk result (IsJudgedMore number refusal self.old self.new) }
-    {
-        self.refusals[number as usize] = refusal;
-        if refusal.is_some() {
-            return Ok(());
-        }
-        self.printed.insert(number)?;
-        Ok(())
-    }
-}
-
-/// Judges a named type: writes its declaration and a line feed, or keeps why it is refused.
-fn judge_named<'a>(
+/// Why a named type is refused, if it is.
+fn refusal_at<'a>(
     alloc: Global,
-    judged: &mut Judgements,
-    text: &mut Vec<u8>,
+    source: &'a Source<'a>,
     survey: &Survey<'a>,
-    number: u32,
-    subject: &Subject<'a>,
-    draft: &mut Draft,
-) -> Result<(), AllocError>
-    requires { number < length judged.old.refusals.items }
-    ensures { OnOk result (BySurvey survey.now (first_steps (view_subject subject.now)) (λ shapes.
-        IsAdded shapes number (view_subject subject.now) judged.old judged.new text.old.items text.new.items)) }
+    id: EntryId,
+    row: Row,
+) -> Result<Option<PrintFault>, AllocError>
+    requires within { id < length (entries_in source.now.image.now) }
+    requires row { Tells source.now.image.now id row }
+    ensures { IfOk result (λ r. BySurvey survey.now (first_steps (subject_in source.now.image.now id)) (λ shapes.
+        IsRefusal shapes (subject_in source.now.image.now id) r)) }
 {
-    let refusal = survey.judge(alloc, subject, draft)?;
-    if refusal.is_none() {
-        text.extend_from_slice(draft.bytes())?;
-        text.push(b'\n')?;
-    }
-    judged.add(number, refusal)?;
-    Ok(())
+    let subject = subject_at(alloc, source, id, row)?;
+    survey.refusal(alloc, &subject)
 }
 
-/// The level of each entry: how many steps by value the longest path from it has.
-fn levels_of(alloc: Global, image: &Image<'_>) -> Result<Numbers, AllocError>
-    ensures { IfOk result (λ levels. AreLevels image.now (slice_index levels)) }
-{
-    let steps = image.by_value();
-    let clear = clear_nodes(alloc, steps)?;
-    let levels = longest_rows(alloc, steps, &clear)?;
-    Ok(levels)
-}
-
-/// The levels of the named types.
-fn levels_in(alloc: Global, named: &[EntryId], levels: &Numbers) -> Result<Vec<usize>, AllocError>
-    ensures { IfOk result (λ own. own.items ≡ map (slice_index levels.now) named.now) }
-{
-    named
-        .iter()
-        .map(|id| longest_at(levels, id.number()))
-        .collect(alloc)
-}
-
-/// The level of the named type with a number; 0 where there is none.
-#[inline]
-fn level_at(levels: &[usize], number: u32) -> usize
-    ensures { result ≡ slice_index levels.now number }
-{
-    match levels.get(number as usize) {
-        Some(level) => *level,
-        None => 0,
-    }
-}
-
-/// The numbers below a count.
-fn numbers_below(alloc: Global, count: u32) -> Result<Vec<u32>, AllocError>
-    ensures { IfOk result (λ numbers. numbers.items ≡ range_with_len 0 count) }
-{
-    (0..count).collect(alloc)
-}
-
-/// The numbers of the named types, by rising level. Those of one level stay in rising offset.
-fn numbers_by_level(alloc: Global, levels: &[usize]) -> Result<Vec<u32>, AllocError>
-    requires { length levels.now < 2 ^ 32 }
-    ensures all { IfOk result (λ numbers. IsPermutation (range_with_len 0 (length levels.now)) numbers.items) }
-    ensures sorted { IfOk result (λ numbers.
-        AllPairs (λ j k. StandsBefore (slice_index levels.now) j k) numbers.items) }
-{
-    let mut numbers = numbers_below(alloc, levels.len() as u32)?;
-    numbers.sort_by_key(|number| level_at(levels, *number))?;
-    Ok(numbers)
-}
-
-/// The numbers of the named types, by rising level, then by rising offset.
-fn numbers_in_order(
+/// Why each named type is refused, if it is, in rising offset. No text is written for that.
+fn refusals_of<'a>(
     alloc: Global,
-    image: &Image<'_>,
-    named: &[EntryId],
-) -> Result<Vec<u32>, AllocError>
-    requires { AreNamedTypes image.now named.now }
-    ensures { IfOk result (λ numbers. AreRanked image.now named.now numbers.items) }
+    source: &'a Source<'a>,
+    survey: &Survey<'a>,
+    named: &Named,
+) -> Result<Vec<Option<PrintFault>>, AllocError>
+    requires named { AreNamedTypes source.now.image.now named.now.ids.items }
+    requires rows { AreRows source.now.image.now named.now.ids.items named.now.rows.items }
+    requires survey { IsSurveyOf (shape_in source.now.image.now)
+        (named_steps source.now.image.now named.now.ids.items) survey.now }
+    ensures { IfOk result (λ refusals. AreRefusals source.now.image.now named.now.ids.items refusals.items) }
 {
-    let levels = levels_of(alloc, image)?;
-    let own = levels_in(alloc, named, &levels)?;
-    drop(levels);
-    let numbers = numbers_by_level(alloc, &own)?;
-    Ok(numbers)
+    let mut refusals = Vec::with_capacity(alloc, named.ids.len())?;
+    for k in 0..named.ids.len() {
+        let id = named.ids[k];
+        let row = named.rows[k];
+        let refusal = refusal_at(alloc, source, survey, id, row)?;
+        refusals.push(refusal)?;
+    }
+    Ok(refusals)
+}
+
+/// Whether the named type with a number has no refusal.
+#[inline]
+fn is_printed(refusals: &[Option<PrintFault>], number: u32) -> bool
+    ensures { result ≡ is_printed refusals.now number }
+{
+    matches!(refusals.get(number as usize), Some(None))
+}
+
+/// The numbers of those that are printed, in the order of their lines. They are below the count of named types: no
+/// file chooses a key.
+fn printed_of(
+    alloc: Global,
+    numbers: &[u32],
+    refusals: &[Option<PrintFault>],
+) -> Result<IndexSet<u32>, AllocError>
+    requires { AllPairs (λ j k. j ≢ k) numbers.now }
+    ensures { IfOk result (λ printed. printed.keys ≡ filter (is_printed refusals.now) numbers.now) }
+{
+    let mut printed = IndexSet::with_capacity(alloc, numbers.len())?;
+    for number in numbers {
+        if is_printed(refusals, *number) {
+            printed.insert(*number)?;
+        }
+    }
+    Ok(printed)
+}
+
+/// Writes the declaration of a named type.
+fn put_named_type<'a>(
+    alloc: Global,
+    out: &mut Vec<u8>,
+    source: &'a Source<'a>,
+    survey: &Survey<'a>,
+    id: EntryId,
+    row: Row,
+) -> Result<(), AllocError>
+    requires within { id < length (entries_in source.now.image.now) }
+    requires row { Tells source.now.image.now id row }
+    ensures { OnOk result
+        (WritesDeclaration survey.now (subject_in source.now.image.now id) out.old.items out.new.items) }
+{
+    let (kind, to) = (row.kind, row.to);
+    let name = Some(name_of(source, row));
+    match kind {
+        RowKind::Typedef => survey.put_declaration(alloc, out, &Subject::Typedef(name, to)),
+        RowKind::Tag(OfAggregate(word)) => {
+            let members = members_at(alloc, source, id)?;
+            survey.put_aggregate(alloc, out, word, name, &members)
+        }
+        RowKind::Tag(TagKeyword::Enum) => put_enumeration(out, source, id, name),
+    }
+}
+
+/// Writes the lines of those that are printed.
+fn put_lines<'a>(
+    alloc: Global,
+    out: &mut Vec<u8>,
+    source: &'a Source<'a>,
+    survey: &Survey<'a>,
+    named: &Named,
+    printed: &IndexSet<u32>,
+) -> Result<(), AllocError>
+    requires named { AreNamedTypes source.now.image.now named.now.ids.items }
+    requires rows { AreRows source.now.image.now named.now.ids.items named.now.rows.items }
+    requires survey { IsSurveyOf (shape_in source.now.image.now)
+        (named_steps source.now.image.now named.now.ids.items) survey.now }
+    requires printed { All (IsPrintedNumber source.now.image.now named.now.ids.items) printed.now.keys }
+    ensures { OnOk result (out.new.items ≡ out.old.items
+        ++ flat_map (declared_line source.now.image.now) (map (slice_index named.now.ids.items) printed.now.keys)) }
+{
+    for number in printed {
+        let id = named.ids[*number as usize];
+        let row = named.rows[*number as usize];
+        put_named_type(alloc, out, source, survey, id, row)?;
+        out.push(b'\n')?;
+    }
+    Ok(())
 }
 
 /// The named type with a number.
@@ -309,28 +295,15 @@ pub fn declare_all(alloc: Global, image: &Image<'_>) -> Result<Listing, NoMemory
     let source = Source::read(alloc, image)?;
     let types = all_types(alloc, image, &named)?;
     let survey = Survey::new(alloc, &source, types)?;
-    let mut judged = Judgements::new(alloc, named.ids.len())?;
+    let refusals = refusals_of(alloc, &source, &survey, &named)?;
+    let printed = printed_of(alloc, &numbers, &refusals)?;
+    drop(numbers);
     let mut text = Vec::new(alloc);
-    let mut draft = Draft::new(alloc);
-    for place in 0..numbers.len() {
-        let number = numbers[place];
-        let id = named.ids[number as usize];
-        let row = named.rows[number as usize];
-        let subject = subject_at(alloc, &source, id, row)?;
-        judge_named(
-            alloc,
-            &mut judged,
-            &mut text,
-            &survey,
-            number,
-            &subject,
-            &mut draft,
-        )?;
-    }
-    drop((survey, numbers));
+    put_lines(alloc, &mut text, &source, &survey, &named, &printed)?;
+    drop(survey);
     named.rows = Vec::new(alloc);
-    let order = order_of(alloc, &named.ids, &judged.printed)?;
-    let refused = refused_of(alloc, &named.ids, &judged.refusals)?;
+    let order = order_of(alloc, &named.ids, &printed)?;
+    let refused = refused_of(alloc, &named.ids, &refusals)?;
     put_all_refused(&mut text, image, &refused)?;
     Ok(Listing {
         order,

@@ -1,22 +1,11 @@
 //! Names that may be printed.
 
 ghost use Rattle.std.specs.Prelude.{◌≡◌, ◌==◌, is_some, position};
-ghost use Rattle.std.specs.List.{list_all};
 ghost use Rattle.dw_cprint.specs.Declarations.{parts_of, word_of, words_of};
-ghost use Rattle.dw_cprint.specs.Legible.{is_word_byte};
 ghost use Rattle.dw_cprint.specs.Shapes.{view_name};
 ghost use Rattle.dw_cprint.specs.Wrong.{is_base_name, lacks_name};
 
 use crate::words::{Name, Text, is_one_of};
-
-/// Whether all bytes are letters, digits or underscores.
-pub fn are_words(bytes: &[u8]) -> bool
-    ensures { result ≡ list_all is_word_byte bytes.now }
-{
-    bytes
-        .iter()
-        .all(|b| b.is_ascii_alphanumeric() || *b == b'_')
-}
 
 /// Whether a name is absent, or no identifier.
 pub fn lacks_name(name: Name<'_>) -> bool
@@ -24,7 +13,7 @@ pub fn lacks_name(name: Name<'_>) -> bool
 {
     match name {
         None => true,
-        Some(name) => !name.is_name,
+        Some(name) => !name.is_name(),
     }
 }
 
@@ -68,5 +57,5 @@ const MOST_BYTES: usize = 36;
 pub fn is_base_name(name: Text<'_>) -> bool
     ensures { result ≡ is_base_name name.entry.bytes.now }
 {
-    name.is_name || name.bytes.len() <= MOST_BYTES && are_type_words(name.bytes, 4)
+    name.is_name() || name.bytes.len() <= MOST_BYTES && are_type_words(name.bytes, 4)
 }

@@ -1,7 +1,7 @@
 //! The entries that are reached by spelling steps.
 
 ghost use Rattle.std.specs.Prelude.{◌≡◌, ◌++◌, ◌^◌, ◌<◌, [], ◌∷◌, length, map, All, IfOk, OnOk, option_map};
-ghost use Rattle.dw_cprint.specs.Reach.{AddsRow, ArePlaces, FindsAll, HasReached};
+ghost use Rattle.dw_cprint.specs.Reach.{AddsRow, AreMarks, ArePlaces, FindsAll, FindsMarked, FindsRoots, HasReached};
 ghost use Rattle.dw_image.specs.Images.{entries_in};
 ghost use Rattle.dw_cprint.specs.EntryShapes.{member_at, members_in, shape_in};
 ghost use Rattle.dw_cprint.specs.Shapes.{view_member, view_shape, view_subject};
@@ -18,6 +18,7 @@ use dw_types::{Numbers, Packed, StepGraph};
 use std::alloc::{AllocError, Global};
 
 /// The place of an entry, the next one if it was not found before.
+#[inline(always)]
 fn place_of(places: &mut Vec<u32>, found: &mut Numbers, entry: usize) -> Result<usize, AllocError>
     requires placed { ArePlaces places.old.items found.old }
     requires within { entry < length places.old.items }
@@ -34,6 +35,55 @@ fn place_of(places: &mut Vec<u32>, found: &mut Numbers, entry: usize) -> Result<
     found.push(entry)?;
     places[entry] = place as u32;
     Ok(place)
+}
+
+/// Marks the entries among some types, by their numbers.
+fn marks_of(alloc: Global, entries: usize, types: &[TypeAt]) -> Result<Vec<bool>, AllocError>
+    requires { All (λ to. to < entries) (entries_among types.now) }
+    ensures count { IfOk result (λ marks. length marks.items ≡ entries) }
+    ensures marks { IfOk result (λ marks. AreMarks (entries_among types.now) marks.items) }
+{
+    let mut marks = vec![in alloc; false; entries]?;
+    for at in types {
+        if let Some(entry) = at.get() {
+            marks[entry as usize] = true;
+        }
+    }
+    Ok(marks)
+}
+
+/// Finds the entries that are marked, in rising offset.
+fn find_marked(places: &mut Vec<u32>, found: &mut Numbers, marks: &[bool]) -> Result<(), AllocError>
+    requires none { found.old ≡ [] }
+    requires marks { length marks.now ≡ length places.old.items }
+    requires few { length places.old.items < 2 ^ 32 }
+    ensures found { OnOk result (FindsMarked marks.now (length marks.now) places.new.items found.new) }
+    ensures places { length places.new.items ≡ length places.old.items }
+{
+    for entry in 0..marks.len() {
+        if marks[entry] {
+            place_of(places, found, entry)?;
+        }
+    }
+    Ok(())
+}
+
+/// Finds the entries among some types, in rising offset, so that what is kept of neighbors is together.
+fn find_roots(
+    alloc: Global,
+    places: &mut Vec<u32>,
+    found: &mut Numbers,
+    types: &[TypeAt],
+) -> Result<(), AllocError>
+    requires none { found.old ≡ [] }
+    requires within { All (λ to. to < length places.old.items) (entries_among types.now) }
+    requires few { length places.old.items < 2 ^ 32 }
+    ensures found { OnOk result (FindsRoots (entries_among types.now) places.new.items found.new) }
+    ensures places { length places.new.items ≡ length places.old.items }
+{
+    let marks = marks_of(alloc, places.len(), types)?;
+    find_marked(places, found, &marks)?;
+    Ok(())
 }
 
 /// Appends the places of types; those that are new are found.
@@ -166,9 +216,7 @@ pub fn reach<'a>(
 {
     let mut places = vec![in alloc; 0; source.image.entries()]?;
     let mut found = Numbers::with_room(alloc, 0)?;
-    let mut roots = Numbers::with_room(alloc, 0)?;
-    push_row(&mut places, &mut found, &mut roots, types)?;
-    drop(roots);
+    find_roots(alloc, &mut places, &mut found, types)?;
     let mut shapes = Vec::new(alloc);
     let mut steps = Numbers::with_room(alloc, 0)?;
     let mut ends = Numbers::with_room(alloc, 0)?;

@@ -20,7 +20,7 @@ fn lacks_member_name(survey: &Survey<'_>, member: &Member<'_>) -> bool
         ≡ lacks_member_name (kind_known survey.now member.now.type_at) member.now.bits (view_name member.now.name) }
 {
     match member.name {
-        Some(name) => !name.is_name,
+        Some(name) => !name.is_name(),
         None => {
             let kind = survey.known(member.type_at).kind;
             !(matches!(kind, TypeKind::UnnamedAggregate) && member.bits.is_none())
@@ -45,7 +45,7 @@ pub fn has_bad_name(survey: &Survey<'_>, shape: &Shape<'_>) -> bool
         Shape::Base(None) | Shape::Nameless(_) => true,
         Shape::Base(Some(name)) => !is_base_name(*name),
         Shape::Typedef(name) => lacks_name(*name),
-        Shape::Tagged(_, name) => !name.is_name,
+        Shape::Tagged(_, name) => !name.is_name(),
         Shape::Body { members, .. } => lack_names(survey, members),
         Shape::Enumeration { enumerators, .. } => enumerators.lack_name(),
         _ => false,

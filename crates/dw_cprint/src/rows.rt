@@ -1,14 +1,14 @@
 //! The named types of an image, and what is kept of each until its line is written.
 
-ghost use Rattle.std.specs.Prelude.{◌≡◌, ◌<◌, [], ◌++◌, length, flat_map, is_some, option_map, IfOk, IfSome, OnOk};
+ghost use Rattle.std.specs.Prelude.{◌≡◌, ◌<◌, [], ◌++◌, length, is_some, option_map, IfOk, IfSome, OnOk};
 ghost use Rattle.std.specs.List.{cons_option};
 ghost use Rattle.dw_image.specs.Images.{entries_in};
 ghost use Rattle.dw_cprint.specs.EntryShapes.{subject_in, tag_in};
 ghost use Rattle.dw_cprint.specs.Listings.{AreNamedTypes, is_named_type, named_number};
 ghost use Rattle.dw_cprint.specs.LookUps.{name_at, type_at};
-ghost use Rattle.dw_cprint.specs.Rows.{AreRows, IsWithin, Tells, TellsOf, place_in, row_at, row_text};
+ghost use Rattle.dw_cprint.specs.Rows.{AreRows, IsWithin, Tells, TellsOf, named_steps, place_in, row_at, row_text};
 ghost use Rattle.dw_cprint.specs.Shapes.{typedef_subject, view_subject};
-ghost use Rattle.dw_cprint.specs.Steps.{entries_among, first_steps, types_declared};
+ghost use Rattle.dw_cprint.specs.Steps.{entries_among, types_declared};
 
 use crate::reaching::put_types_of_members;
 use crate::shape::Subject;
@@ -67,16 +67,6 @@ impl Row {
             to,
         }
     }
-
-    /// Where the name is.
-    fn place(self) -> Place
-        ensures { result ≡ place_in self }
-    {
-        Place {
-            section: self.section,
-            offset: self.offset,
-        }
-    }
 }
 
 /// Where the name of an entry is, if it has one.
@@ -103,13 +93,13 @@ fn name_place(image: &Image<'_>, id: EntryId) -> Option<Place>
     }
 }
 
-/// The text at a place.
-fn text_of<'a>(source: &Source<'a>, place: Place) -> Text<'a>
-    requires { IsWithin source.now.image.now place }
-    ensures { result.bytes.now ≡ row_text source.now.image.now place }
+/// The name of a named type.
+pub fn name_of<'a>(source: &Source<'a>, row: Row) -> Text<'a>
+    requires { IsWithin source.now.image.now (place_in row) }
+    ensures { result.bytes.now ≡ row_text source.now.image.now (place_in row) }
 {
-    let offset = place.offset as usize;
-    match place.section {
+    let offset = row.offset as usize;
+    match row.section {
         TextSection::Info => source.text(TextPlace::Info(offset)),
         TextSection::Str => source.text(TextPlace::Str(offset)),
         TextSection::LineStr => source.text(TextPlace::LineStr(offset)),
@@ -239,7 +229,7 @@ pub fn all_types(alloc: Global, image: &Image<'_>, named: &Named) -> Result<Vec<
     requires named { AreNamedTypes image.now named.now.ids.items }
     requires rows { AreRows image.now named.now.ids.items named.now.rows.items }
     ensures { IfOk result (λ types. entries_among types.items
-        ≡ flat_map (λ id. first_steps (subject_in image.now id)) named.now.ids.items) }
+        ≡ named_steps image.now named.now.ids.items) }
 {
     let mut types = Vec::new(alloc);
     for k in 0..named.ids.len() {
@@ -263,7 +253,7 @@ pub fn subject_at<'a>(
     ensures { IfOk result (λ subject. view_subject subject ≡ subject_in source.now.image.now id) }
 {
     let (kind, to) = (row.kind, row.to);
-    let name = text_of(source, row.place());
+    let name = name_of(source, row);
     match kind {
         RowKind::Typedef => Ok(Subject::Typedef(Some(name), to)),
         RowKind::Tag(word) => defined_at(alloc, source, id, word, Some(name)),

@@ -136,7 +136,7 @@ fn member_at<'a>(source: &Source<'a>, id: EntryId) -> Option<Member<'a>>
 }
 
 /// The plain members of a structure or union.
-fn members_at<'a>(
+pub fn members_at<'a>(
     alloc: Global,
     source: &Source<'a>,
     id: EntryId,
@@ -247,7 +247,7 @@ pub fn defined_at<'a>(
         TagKeyword::Enum => Ok(Subject::Enumeration {
             name,
             odd,
-            enumerators: Enumerators::read(alloc, source, id)?,
+            enumerators: Enumerators::count(source, id),
         }),
     }
 }

@@ -1,109 +1,41 @@
-//! What is declared is read from: an image, and its strings. A string is not read again for each of its suffixes.
+//! What is declared is read from: an image, and its strings.
 
-ghost use Rattle.std.specs.Prelude.{◌≡◌, ◌<◌, ◌≤◌, ◌^◌, length, drop, IfOk, IfSome, option_map};
+ghost use Rattle.std.specs.Prelude.{◌≡◌, ◌<◌, ◌≤◌, ◌^◌, length, IfOk, IfSome, option_map};
 ghost use Rattle.dw_forms.specs.Value.{view};
 ghost use Rattle.dw_forms.specs.Codes.{DW_AT_bit_size};
 ghost use Rattle.dw_image.specs.Contributions.{string_at};
 ghost use Rattle.dw_image.specs.Images.{entries_in, sections_in};
 ghost use Rattle.dw_image.specs.Slots.{IsTextPlace};
+ghost use Rattle.dw_image.specs.StringSpans.{IsSpan};
 ghost use Rattle.dw_image.specs.ValueTexts.{text_there};
 ghost use Rattle.dw_cprint.specs.LookUps.{name_at, tag_at, attribute_value_at, type_at, flag_at, integer_at};
 ghost use Rattle.dw_cprint.specs.LookUps.{bytes_at, is_short};
 ghost use Rattle.dw_cprint.specs.Shapes.{view_name};
-ghost use Rattle.dw_cprint.specs.StringSpans.{AreSpans, IsStringSpan};
 ghost use Rattle.dw_cprint.specs.EntryShapes.{bits_in};
 
-use crate::names::are_words;
 use crate::words::{Name, Text};
 use dw_entries::constants::*;
 use dw_entries::{Attribute, OptionalId, Tag, Value};
-use dw_image::{EntryId, Image, TextPlace, string_from};
+use dw_image::{EntryId, Image, StringSpan, Strings, TextPlace};
 use std::alloc::{AllocError, Global};
 
-/// How many bytes lie between two offsets whose strings are known. A string is read up to the next of them.
-const BLOCK: usize = 64;
-
-/// What is known of a string.
-#[derive(Clone, Copy, Debug)]
-struct Span {
-    /// How many bytes it has.
-    len: usize,
-    /// Whether all of them are letters, digits or underscores.
-    words: bool,
-}
-
-/// What the string at the front of some bytes is, by that at an offset: no byte after the offset is read.
-fn span_of(bytes: &[u8], offset: usize, next: Span) -> Span
-    requires within { offset ≤ length bytes.now }
-    requires next { IsStringSpan (drop offset bytes.now) next }
-    ensures { IsStringSpan bytes.now result }
+/// The string at an offset, by what is known of it. Its bytes are not read.
+fn text_by<'a>(section: &'a [u8], offset: usize, span: StringSpan) -> Text<'a>
+    requires within { offset ≤ length section.now }
+    requires span { IsSpan (string_at section.now offset) span }
+    ensures { result.bytes.now ≡ string_at section.now offset }
 {
-    let (before, _) = bytes.split_at(offset);
-    let front = string_from(before, 0);
-    let words = are_words(front);
-    if front.len() < offset {
-        return Span {
-            len: front.len(),
-            words,
-        };
-    }
-    Span {
-        len: offset + next.len,
-        words: words && next.words,
-    }
-}
-
-/// A section of strings, and what is known of those at some offsets.
-#[derive(Drop)]
-pub struct StringTable<'a> {
-    pub section: &'a [u8],
-    /// What the string is that has 0, 64, 128, .. bytes of the section from its start to the section's end.
-    spans: Vec<Span>,
-    ghost known: { AreSpans section.now spans.items },
-}
-
-impl<'a> StringTable<'a> {
-    /// The strings of a section, which is read once.
-    pub fn new(alloc: Global, section: &'a [u8]) -> Result<StringTable<'a>, AllocError>
-        ensures { IfOk result (λ it. it.section ≡ section.entry) }
-    {
-        let mut spans = Vec::with_capacity(alloc, section.len() / BLOCK + 1)?;
-        let mut span = Span {
-            len: 0,
-            words: true,
-        };
-        spans.push(span)?;
-        for k in 0..section.len() / BLOCK {
-            let (_, bytes) = section.split_at(section.len() - (k + 1) * BLOCK);
-            span = span_of(bytes, BLOCK, span);
-            spans.push(span)?;
-        }
-        Ok(StringTable { section, spans })
-    }
-
-    /// The text at an offset. Fewer than 64 bytes of it are read.
-    pub fn text(&self, offset: usize) -> Text<'a>
-        requires { offset ≤ length self.now.section.now }
-        ensures { result.bytes.now ≡ string_at self.now.section.now offset }
-    {
-        let (_, bytes) = self.section.split_at(offset);
-        let next = self.spans[bytes.len() / BLOCK];
-        let span = span_of(bytes, bytes.len() % BLOCK, next);
-        let (text, _) = bytes.split_at(span.len);
-        Text::new(text, span.words)
-    }
+    let (_, bytes) = section.split_at(offset);
+    let (text, _) = bytes.split_at(span.len);
+    Text::new(text, span.words)
 }
 
 /// An image and the strings that its entries share, in which names are found without being read to their ends.
 #[derive(Drop)]
 pub struct Source<'a> {
     pub image: &'a Image<'a>,
-    /// The strings of .debug_str.
-    str: StringTable<'a>,
-    /// Those of .debug_line_str.
-    line_str: StringTable<'a>,
-    ghost same_str: { str.section ≡ (sections_in image.now).str },
-    ghost same_line_str: { line_str.section ≡ (sections_in image.now).line_str },
+    strings: Strings<'a, 'a>,
+    ghost same: { strings.image ≡ image },
 }
 
 impl<'a> Source<'a> {
@@ -111,14 +43,8 @@ impl<'a> Source<'a> {
     pub fn read(alloc: Global, image: &'a Image<'a>) -> Result<Source<'a>, AllocError>
         ensures { IfOk result (λ it. it.image ≡ image.entry) }
     {
-        let sections = image.sections();
-        let str = StringTable::new(alloc, sections.str)?;
-        let line_str = StringTable::new(alloc, sections.line_str)?;
-        Ok(Source {
-            image,
-            str,
-            line_str,
-        })
+        let strings = Strings::read(alloc, image)?;
+        Ok(Source { image, strings })
     }
 
     /// The text at a place. One in .debug_info is read to its end.
@@ -126,13 +52,12 @@ impl<'a> Source<'a> {
         requires { IsTextPlace (sections_in self.now.image.now) place }
         ensures { result.bytes.now ≡ text_there (sections_in self.now.image.now) place }
     {
+        let span = self.strings.span(place);
+        let sections = self.image.sections();
         match place {
-            TextPlace::Info(offset) => {
-                let bytes = string_from(self.image.sections().info, offset);
-                Text::new(bytes, are_words(bytes))
-            }
-            TextPlace::Str(offset) => self.str.text(offset),
-            TextPlace::LineStr(offset) => self.line_str.text(offset),
+            TextPlace::Info(offset) => text_by(sections.info, offset, span),
+            TextPlace::Str(offset) => text_by(sections.str, offset, span),
+            TextPlace::LineStr(offset) => text_by(sections.line_str, offset, span),
         }
     }
 

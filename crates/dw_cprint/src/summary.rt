@@ -21,7 +21,7 @@ use crate::shape::{Shape, Subject, TypeKind, kind_of};
 use crate::source::{Source, TypeAt};
 use crate::survey::{Findings, NOTHING, Summary, Survey};
 use crate::words::TagKeyword;
-use dw_types::{Order, clear_nodes};
+use dw_types::{Numbers, clear_nodes};
 use std::alloc::{AllocError, Global};
 
 /// What is wrong with an entry itself that is reached. `types` are those that it leads to.
@@ -145,19 +145,19 @@ fn summary_of(alloc: Global, survey: &Survey<'_>, shape: &Shape<'_>) -> Result<S
 fn summarize<'a>(
     alloc: Global,
     mut survey: Survey<'a>,
-    clear: &Order,
+    clear: &Numbers,
 ) -> Result<Survey<'a>, AllocError>
-    requires { All (λ node. node < length survey.shapes.items) clear.now.by_rank }
+    requires { All (λ node. node < length survey.shapes.items) clear.now }
     ensures places { IfOk result (λ it. it.places.items ≡ survey.entry.places.items) }
     ensures shapes { IfOk result (λ it. it.shapes.items ≡ survey.entry.shapes.items) }
-    ensures clear { IfOk result (λ it. HaveSummaries clear.now.by_rank it.summaries.items) }
+    ensures clear { IfOk result (λ it. HaveSummaries clear.now it.summaries.items) }
     ensures right { IfOk result (λ it. (all : ℕ → ShapeOf) (found : List ℕ)
-        → AreNodes all survey.entry.places.items found survey.entry.shapes.items clear.now.by_rank
-        → AreRight all found clear.now.by_rank it) }
+        → AreNodes all survey.entry.places.items found survey.entry.shapes.items clear.now
+        → AreRight all found clear.now it) }
 {
     survey.summaries = vec![in alloc; None; survey.shapes.len()]?;
-    for rank in 0..clear.count() {
-        let node = clear.node(rank);
+    for rank in 0..clear.len() {
+        let node = clear.get(rank);
         let summary = summary_of(alloc, &survey, &survey.shapes[node])?;
         survey.summaries[node] = Some(summary);
     }

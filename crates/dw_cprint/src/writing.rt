@@ -1,18 +1,18 @@
 //! The text of a declaration, and of a type: what is before its declarator, and what is after it.
 
-ghost use Rattle.std.specs.Prelude.{◌≡◌, ◌<◌, Some, None, map, OnOk, IfSome, MatchOption};
+ghost use Rattle.std.specs.Prelude.{◌≡◌, ◌<◌, Bool, Some, None, map, OnOk, IfSome, MatchOption};
 ghost use Rattle.dw_cprint.specs.Declarations.{term_by};
 ghost use Rattle.dw_cprint.specs.Kept.{kept, kept_term, WritesBefore, WritesAfter, WritesOpened, WritesClosed};
 ghost use Rattle.dw_cprint.specs.Kept.{WritesNamed, WritesCore, WritesMember, WritesMembers, WritesParameter};
 ghost use Rattle.dw_cprint.specs.Kept.{WritesDeclaration, WritesParameters};
-ghost use Rattle.dw_cprint.specs.Shapes.{other, view_name, view_shape, view_subject, view_member};
+ghost use Rattle.dw_cprint.specs.Shapes.{aggregate_subject, other, view_name, view_shape, view_subject, view_member};
 ghost use Rattle.dw_cprint.specs.Wrong.{is_bracketed, kind_at};
 
 use crate::shape::{Member, Parameter, Shape, Subject, kind_of};
 use crate::source::TypeAt;
 use crate::survey::Survey;
-use crate::text::{Draft, put_bits, put_gap, put_joined, put_name, put_qualifiers, put_tag};
-use crate::words::{Name, Qualifier, TagKeyword};
+use crate::text::{put, put_bits, put_gap, put_joined, put_name, put_qualifiers, put_tag};
+use crate::words::{AggregateKeyword, Name, Qualifier, TagKeyword};
 use std::alloc::{AllocError, Global};
 
 /// The most types on a path that is printed: 64 entries, and void after the last.
@@ -58,21 +58,21 @@ impl<'a> Survey<'a> {
     }
 
     /// The parenthesis before the star of a pointer, if it needs one.
-    fn put_opened(&self, out: &mut Draft, to: TypeAt) -> Result<(), AllocError>
-        ensures { OnOk result (WritesOpened self.now to out.old out.new) }
+    fn put_opened(&self, out: &mut Vec<u8>, to: TypeAt) -> Result<(), AllocError>
+        ensures { OnOk result (WritesOpened self.now to out.old.items out.new.items) }
     {
         if self.is_bracketed(to) {
-            out.put(b"(")?;
+            put(out, b"(")?;
         }
         Ok(())
     }
 
     /// The parenthesis that closes it.
-    fn put_closed(&self, out: &mut Draft, to: TypeAt) -> Result<(), AllocError>
-        ensures { OnOk result (WritesClosed self.now to out.old out.new) }
+    fn put_closed(&self, out: &mut Vec<u8>, to: TypeAt) -> Result<(), AllocError>
+        ensures { OnOk result (WritesClosed self.now to out.old.items out.new.items) }
     {
         if self.is_bracketed(to) {
-            out.put(b")")?;
+            put(out, b")")?;
         }
         Ok(())
     }
@@ -82,12 +82,12 @@ impl<'a> Survey<'a> {
     fn put_named(
         &self,
         alloc: Global,
-        out: &mut Draft,
+        out: &mut Vec<u8>,
         at: TypeAt,
         name: Name<'_>,
         depth: usize,
     ) -> Result<(), AllocError>
-        ensures { OnOk result (WritesNamed self.now depth at (view_name name.entry) out.old out.new) }
+        ensures { OnOk result (WritesNamed self.now depth at (view_name name.entry) out.old.items out.new.items) }
     {
         self.put_before(alloc, out, at, Vec::new(alloc), name.is_some(), depth)?;
         put_name(out, name)?;
@@ -99,15 +99,15 @@ impl<'a> Survey<'a> {
     fn put_member(
         &self,
         alloc: Global,
-        out: &mut Draft,
+        out: &mut Vec<u8>,
         member: &Member<'a>,
         depth: usize,
     ) -> Result<(), AllocError>
-        ensures { OnOk result (WritesMember self.now depth (view_member member.now) out.old out.new) }
+        ensures { OnOk result (WritesMember self.now depth (view_member member.now) out.old.items out.new.items) }
     {
         self.put_named(alloc, out, member.type_at, member.name, depth)?;
         put_bits(out, member.bits)?;
-        out.put(b"; ")
+        put(out, b"; ")
     }
 
     /// The members of a body, in braces.
@@ -115,20 +115,17 @@ impl<'a> Survey<'a> {
     fn put_members(
         &self,
         alloc: Global,
-        out: &mut Draft,
+        out: &mut Vec<u8>,
         members: &[Member<'a>],
         depth: usize,
     ) -> Result<(), AllocError>
-        ensures { OnOk result (WritesMembers self.now depth (map view_member members.now) out.old out.new) }
+        ensures { OnOk result (WritesMembers self.now depth (map view_member members.now) out.old.items out.new.items) }
     {
-        out.put(b"{ ")?;
+        put(out, b"{ ")?;
         for member in members {
-            if out.is_over() {
-                return Ok(());
-            }
             self.put_member(alloc, out, member, depth)?;
         }
-        out.put(b"}")?;
+        put(out, b"}")?;
         Ok(())
     }
 
@@ -137,15 +134,15 @@ impl<'a> Survey<'a> {
     fn put_parameter(
         &self,
         alloc: Global,
-        out: &mut Draft,
+        out: &mut Vec<u8>,
         parameter: Parameter,
         depth: usize,
     ) -> Result<(), AllocError>
-        ensures { OnOk result (WritesParameter self.now depth parameter out.old out.new) }
+        ensures { OnOk result (WritesParameter self.now depth parameter out.old.items out.new.items) }
     {
         match parameter {
             Parameter::Typed(at) => self.put_named(alloc, out, at, None, depth),
-            Parameter::More => out.put(b"..."),
+            Parameter::More => put(out, b"..."),
         }
     }
 
@@ -154,21 +151,18 @@ impl<'a> Survey<'a> {
     fn put_parameters(
         &self,
         alloc: Global,
-        out: &mut Draft,
+        out: &mut Vec<u8>,
         parameters: &[Parameter],
         depth: usize,
     ) -> Result<(), AllocError>
-        ensures { OnOk result (WritesParameters self.now depth parameters.now out.old out.new) }
+        ensures { OnOk result (WritesParameters self.now depth parameters.now out.old.items out.new.items) }
     {
         let Some((first, others)) = parameters.split_first() else {
-            return out.put(b"void");
+            return put(out, b"void");
         };
         self.put_parameter(alloc, out, *first, depth)?;
         for parameter in others {
-            if out.is_over() {
-                return Ok(());
-            }
-            out.put(b", ")?;
+            put(out, b", ")?;
             self.put_parameter(alloc, out, *parameter, depth)?;
         }
         Ok(())
@@ -179,23 +173,23 @@ impl<'a> Survey<'a> {
     fn put_core(
         &self,
         alloc: Global,
-        out: &mut Draft,
+        out: &mut Vec<u8>,
         shape: &Shape<'a>,
         depth: usize,
     ) -> Result<(), AllocError>
-        ensures { OnOk result (WritesCore self.now depth (view_shape shape.now) out.old out.new) }
+        ensures { OnOk result (WritesCore self.now depth (view_shape shape.now) out.old.items out.new.items) }
     {
         match shape {
             Shape::Base(name) => put_name(out, *name),
             Shape::Typedef(name) => put_name(out, *name),
             Shape::Tagged(tag, name) => put_tag(out, *tag, Some(*name)),
             Shape::Body { word, members, .. } => {
-                out.put(TagKeyword::OfAggregate(*word).text())?;
-                out.put(b" ")?;
+                put(out, TagKeyword::OfAggregate(*word).text())?;
+                put(out, b" ")?;
                 self.put_members(alloc, out, members, depth)
             }
             Shape::Enumeration { enumerators, .. } => {
-                out.put(b"enum ")?;
+                put(out, b"enum ")?;
                 enumerators.write(out)
             }
             _ => Ok(()),
@@ -207,20 +201,17 @@ impl<'a> Survey<'a> {
     fn put_before(
         &self,
         alloc: Global,
-        out: &mut Draft,
+        out: &mut Vec<u8>,
         at: TypeAt,
         mut qualifiers: Vec<Qualifier>,
         inside: bool,
         depth: usize,
     ) -> Result<(), AllocError>
-        ensures { OnOk result (WritesBefore self.now depth at qualifiers.items inside out.old out.new) }
+        ensures { OnOk result (WritesBefore self.now depth at qualifiers.items inside out.old.items out.new.items) }
     {
-        if out.is_over() {
-            return Ok(());
-        }
         let Some(entry) = at.get() else {
             put_qualifiers(out, &qualifiers)?;
-            out.put(b"void")?;
+            put(out, b"void")?;
             return put_gap(out, inside);
         };
         let Some((shape, below)) = self.shape_within(entry as usize, depth) else {
@@ -234,7 +225,7 @@ impl<'a> Survey<'a> {
             Shape::Pointer(to) => {
                 self.put_before(alloc, out, *to, Vec::new(alloc), true, below)?;
                 self.put_opened(out, *to)?;
-                out.put(b"*")?;
+                put(out, b"*")?;
                 put_joined(out, &qualifiers, inside)
             }
             Shape::Array { element, .. } => {
@@ -256,15 +247,12 @@ impl<'a> Survey<'a> {
     fn put_after(
         &self,
         alloc: Global,
-        out: &mut Draft,
+        out: &mut Vec<u8>,
         at: TypeAt,
         depth: usize,
     ) -> Result<(), AllocError>
-        ensures { OnOk result (WritesAfter self.now depth at out.old out.new) }
+        ensures { OnOk result (WritesAfter self.now depth at out.old.items out.new.items) }
     {
-        if out.is_over() {
-            return Ok(());
-        }
         let Some(entry) = at.get() else {
             return Ok(());
         };
@@ -286,17 +274,36 @@ impl<'a> Survey<'a> {
                 self.put_after(alloc, out, *element, below)
             }
             Shape::Function(returned, None) => {
-                out.put(b"()")?;
+                put(out, b"()")?;
                 self.put_after(alloc, out, *returned, below)
             }
             Shape::Function(returned, Some(parameters)) => {
-                out.put(b"(")?;
+                put(out, b"(")?;
                 self.put_parameters(alloc, out, parameters, below)?;
-                out.put(b")")?;
+                put(out, b")")?;
                 self.put_after(alloc, out, *returned, below)
             }
             _ => Ok(()),
         }
+    }
+
+    /// A structure or union with its body.
+    pub fn put_aggregate(
+        &self,
+        alloc: Global,
+        out: &mut Vec<u8>,
+        word: AggregateKeyword,
+        name: Name<'_>,
+        members: &[Member<'a>],
+    ) -> Result<(), AllocError>
+        ensures { OnOk result ((odd : Bool) → WritesDeclaration self.now
+            (aggregate_subject word (view_name name.entry) odd (map view_member members.now))
+            out.old.items out.new.items) }
+    {
+        put_tag(out, TagKeyword::OfAggregate(word), name)?;
+        put(out, b" ")?;
+        self.put_members(alloc, out, members, DEPTH)?;
+        put(out, b";")
     }
 
     /// A declaration.
@@ -304,45 +311,35 @@ impl<'a> Survey<'a> {
     pub fn put_declaration(
         &self,
         alloc: Global,
-        out: &mut Draft,
+        out: &mut Vec<u8>,
         subject: &Subject<'a>,
     ) -> Result<(), AllocError>
-        ensures { OnOk result (WritesDeclaration self.now (view_subject subject.now) out.old out.new) }
+        ensures { OnOk result (WritesDeclaration self.now (view_subject subject.now) out.old.items out.new.items) }
     {
         match subject {
             Subject::Typedef(name, at) => {
-                out.put(b"typedef ")?;
+                put(out, b"typedef ")?;
                 self.put_named(alloc, out, *at, *name, DEPTH)?;
-                out.put(b";")
+                put(out, b";")
             }
             Subject::Variable(name, at) => {
                 self.put_named(alloc, out, *at, *name, DEPTH)?;
-                out.put(b";")
+                put(out, b";")
             }
             Subject::Aggregate {
                 word,
                 name,
                 members,
                 ..
-            } => {
-                put_tag(out, TagKeyword::OfAggregate(*word), *name)?;
-                out.put(b" ")?;
-                self.put_members(alloc, out, members, DEPTH)?;
-                out.put(b";")
-            }
+            } => { self.put_aggregate(alloc, out, *word, *name, members) }
             Subject::Enumeration {
                 name,
                 enumerators,
                 ..
-            } => {
-                put_tag(out, TagKeyword::Enum, *name)?;
-                out.put(b" ")?;
-                enumerators.write(out)?;
-                out.put(b";")
-            }
+            } => enumerators.declare(out, *name),
             Subject::Declared(word, name) => {
                 put_tag(out, *word, *name)?;
-                out.put(b";")
+                put(out, b";")
             }
             Subject::Other => Ok(()),
         }

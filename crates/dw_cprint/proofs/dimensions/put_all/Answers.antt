@@ -8,7 +8,6 @@ use Rattle.dw_cprint.specs.EntryShapes.{dimension_counts, dimension_at}
 use Rattle.dw_cprint.specs.Tokens.{Token, text_of}
 use Rattle.dw_cprint.specs.Writing.{count_tokens}
 use Rattle.dw_cprint.proofs.LookUpLemmas.{children_within}
-use Rattle.dw_cprint.proofs.DraftLemmas.{appended-nil}
 use Rattle.dw_cprint.proofs.ItemWriterLemmas.{moved}
 use Rattle.dw_cprint.proofs.dimensions.put_all.Goals as goal
 
@@ -39,7 +38,8 @@ loop-child-preserved c =
           c.loop-child.invariant.within;
       so_far =
           moved (flat_map count_tokens (cons_option next [])) (flat_map count_tokens left)
-          (flat_map count_tokens (cons_option next left)) c.args.out.now c.loop-child.out c.put_next.new.out
+          (flat_map count_tokens (cons_option next left)) c.args.out.now.items c.loop-child.out.items
+          c.put_next.new.out.items
           (text_of (flat_map count_tokens (dimension_counts image c.args.id))) c.in_ok-put_next.ensures
           (next-count next left)
           (rw (c.in-Some.ensures.steps, ← c.dimension_at.ensures) at c.loop-child.invariant.so_far);
@@ -47,4 +47,4 @@ loop-child-preserved c =
 
 pub returns : goal.returns
 returns c =
-    sym (appended-nil c.loop-child.out) ∙ (rw c.in-None.ensures.steps.0 at c.loop-child.invariant.so_far)
+    sym (append-nil c.loop-child.out.items) ∙ (rw c.in-None.ensures.steps.0 at c.loop-child.invariant.so_far)

@@ -30,9 +30,10 @@ loop-child-preserved c = record {
 pub returns : goal.returns
 returns c =
     let es = enumerators_in c.args.source.now.image.now c.args.id in
-    let out = c.loop-child.out in
-    let new = c.put-2.new.self in
-    ok_then c.put-2.result (Writes (Blank ∷ RightBrace ∷ []) out new) (WritesEnumerators es c.args.out.now new)
-    (λ closes. enumerators_done es c.args.out.now c.put.new.self out new c.loop-child.some c.in_ok-put.ensures
+    let out = c.loop-child.out.items in
+    let new = c.put-2.new.out.items in
+    ok_then c.put-2.result (Writes (Blank ∷ RightBrace ∷ []) out new) (WritesEnumerators es c.args.out.now.items new)
+    (λ closes. enumerators_done es c.args.out.now.items c.put.new.out.items out new c.loop-child.some
+    c.in_ok-put.ensures
     (rw c.in-None.ensures.steps.0 at c.loop-child.invariant.so_far) closes)
     c.put-2.ensures

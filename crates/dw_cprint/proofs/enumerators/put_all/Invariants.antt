@@ -10,6 +10,6 @@ use Rattle.dw_cprint.proofs.enumerators.put_all.Given as goal
 abbrev pub invariant-loop-child : goal.invariant-loop-child
 invariant-loop-child l = record {
   within : All (λ child. child < length (entries_in l.source.image.now)) (children_left l.child-iterator);
-  so_far : EnumeratorsLeft (enumerators_in l.source.image.now l.fn.id) l.initial.out l.some
-      (filter_map (enumerator_at l.source.image.now) (children_left l.child-iterator)) l.out;
+  so_far : EnumeratorsLeft (enumerators_in l.source.image.now l.fn.id) l.initial.out.items l.some
+      (filter_map (enumerator_at l.source.image.now) (children_left l.child-iterator)) l.out.items;
 }

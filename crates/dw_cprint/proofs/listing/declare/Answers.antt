@@ -1,28 +1,62 @@
-use Rattle.std.proofs.Common.{rules, ◌≡◌, Option, subst}
+use Rattle.std.proofs.Common.{rules, ◌≡◌, ◌++◌, ℕ, List, [], Option, Some, subst, ap, ◌∙◌}
 use Rattle.dw_cprint.specs.EntryShapes.{shape_in, subject_in}
-use Rattle.dw_cprint.specs.Judgements.{IsJudgement}
+use Rattle.dw_cprint.specs.Judgements.{IsRefusal}
 use Rattle.dw_cprint.specs.Refusals.{PrintFault, Refuses}
+use Rattle.dw_cprint.specs.Shapes.{view_subject}
+use Rattle.dw_cprint.specs.Steps.{types_declared}
+use Rattle.dw_cprint.proofs.JudgementLemmas.{appended, judged-entry, written-entry}
 use Rattle.dw_cprint.proofs.SameLemmas.{printed-one}
+use Rattle.dw_cprint.proofs.WithinLemmas.{subject_within}
 use Rattle.dw_cprint.proofs.listing.declare.Goals as goal
+
+pub new-requires : goal.new-requires
+new-requires c =
+    let image = c.args.image.now in
+    let types : c.put_declared_types.new.types.items ≡ types_declared (subject_in image c.args.id) = search rules in
+    rw (c.in_ok-source.ensures, types) (subject_within image c.args.id).all
 
 pub returns-in-Some-clause-refused : goal.returns-in-Some-clause-refused
 returns-in-Some-clause-refused c = λ rule other same.
-    let J : Option PrintFault → Type 0 = λ r. IsJudgement (shape_in c.args.image.now)
-    (subject_in c.args.image.now c.args.id) c.judge_entry.new.draft r in
-    let F : PrintFault → Type 0 = λ f. Refuses (shape_in c.args.image.now) (subject_in c.args.image.now c.args.id) f in
+    let image = c.args.image.now in
+    let is = rw c.in_ok-source.ensures at c.in_ok-subject.ensures in
+    let surveyed = rw c.in_ok-source.ensures at c.in_ok-survey.ensures in
+    let R : Option PrintFault → Type 0 = λ r. IsRefusal (shape_in image) (subject_in image c.args.id) r in
+    let known = judged-entry image c.args.id c.in_ok-survey.survey (view_subject c.in_ok-subject.subject)
+    c.put_declared_types.new.types.items is (search rules) surveyed _ c.in_ok-fault.ensures in
     let fault : c.in-Some.fault ≡ rule = cc in
-    subst F fault (subst J c.in-Some.is (rw c.in_ok-source.ensures at c.in_ok-fault.ensures))
+    subst (Refuses (shape_in image) (subject_in image c.args.id)) fault (subst R c.in-Some.is known)
 
 pub returns-clause-printed : goal.returns-clause-printed
-returns-clause-printed c = search rules
+returns-clause-printed c =
+    let image = c.args.image.now in
+    let is = rw c.in_ok-source.ensures at c.in_ok-subject.ensures in
+    let surveyed = rw c.in_ok-source.ensures at c.in_ok-survey.ensures in
+    let R : Option PrintFault → Type 0 = λ r. IsRefusal (shape_in image) (subject_in image c.args.id) r in
+    subst R c.in_default.is (judged-entry image c.args.id c.in_ok-survey.survey (view_subject c.in_ok-subject.subject)
+    c.put_declared_types.new.types.items is (search rules) surveyed _ c.in_ok-fault.ensures)
 
 pub returns-clause-text : goal.returns-clause-text
-returns-clause-text c = search rules
+returns-clause-text c =
+    let image = c.args.image.now in
+    let is = rw c.in_ok-source.ensures at c.in_ok-subject.ensures in
+    let surveyed = rw c.in_ok-source.ensures at c.in_ok-survey.ensures in
+    let R : Option PrintFault → Type 0 = λ r. IsRefusal (shape_in image) (subject_in image c.args.id) r in
+    let printed = subst R c.in_default.is (judged-entry image c.args.id c.in_ok-survey.survey
+    (view_subject c.in_ok-subject.subject) c.put_declared_types.new.types.items is (search rules) surveyed _
+    c.in_ok-fault.ensures) in
+    let written = written-entry image c.args.id c.in_ok-survey.survey (view_subject c.in_ok-subject.subject)
+    c.put_declared_types.new.types.items is (search rules) surveyed [] c.put_declaration.new.out.items printed
+    (rw c.new-text.ensures.items at c.in_ok-put_declaration.ensures) in
+    appended (shape_in image) (subject_in image c.args.id) c.args.out.now.items c.put_declaration.new.out.items
+    c.deref.result.now c.extend_from_slice.new.self.items written c.deref.ensures.value
+    c.in_ok-extend_from_slice.ensures.items
 
 pub returns-clause-one : goal.returns-clause-one
 returns-clause-one c =
     let image = c.args.image.now in
-    let J : Option PrintFault → Type 0 = λ r. IsJudgement (shape_in image) (subject_in image c.args.id)
-    c.judge_entry.new.draft r in
+    let is = rw c.in_ok-source.ensures at c.in_ok-subject.ensures in
+    let surveyed = rw c.in_ok-source.ensures at c.in_ok-survey.ensures in
+    let R : Option PrintFault → Type 0 = λ r. IsRefusal (shape_in image) (subject_in image c.args.id) r in
     printed-one (shape_in image) (subject_in image c.args.id)
-    (subst J c.in_default.is (rw c.in_ok-source.ensures at c.in_ok-fault.ensures)).0
+    (subst R c.in_default.is (judged-entry image c.args.id c.in_ok-survey.survey (view_subject c.in_ok-subject.subject)
+    c.put_declared_types.new.types.items is (search rules) surveyed _ c.in_ok-fault.ensures))

@@ -1,7 +1,7 @@
 use Rattle.std.proofs.Common.{◌++◌, ◌∷◌, [], List, ℕ, ap, ◌∙◌}
 use Rattle.std.specs.Prelude.{codes}
 use Rattle.dw_cprint.specs.Digits.{places}
-use Rattle.dw_cprint.specs.Listings.{code_text, name_text}
+use Rattle.dw_cprint.specs.FaultTexts.{code_text, name_text}
 use Rattle.dw_cprint.proofs.ListingLemmas.{seven-parts}
 use Rattle.dw_cprint.proofs.listing.put_refused.Goals as goal
 

@@ -11,31 +11,28 @@ use Rattle.dw_cprint.proofs.ReachLemmas.{so_far-start, so_far-more, so_far-done,
 use Rattle.dw_cprint.proofs.WithinLemmas.{shape_within}
 use Rattle.dw_cprint.proofs.reaching.reach.Goals as goal
 
-pub push_row-requires-clause-few : goal.push_row-requires-clause-few
-push_row-requires-clause-few c = search (rules, few-entries)
+pub find_roots-requires-clause-few : goal.find_roots-requires-clause-few
+find_roots-requires-clause-few c = search (rules, few-entries)
 
-pub push_row-requires-in-loop-found-clause-few : goal.push_row-requires-in-loop-found-clause-few
-push_row-requires-in-loop-found-clause-few c =
+pub push_row-requires-clause-few : goal.push_row-requires-clause-few
+push_row-requires-clause-few c =
     omega (arith, few-entries c.args.source.now.image.now, c.loop-found.invariant.2)
 
-pub push_row-requires-in-loop-found-clause-within : goal.push_row-requires-in-loop-found-clause-within
-push_row-requires-in-loop-found-clause-within c =
+pub push_row-requires-clause-within : goal.push_row-requires-clause-within
+push_row-requires-clause-within c =
     let steps : entries_among c.deref.result.now
     ≡ steps_reached (shape_in c.args.source.now.image.now) c.get.result = search rules in
     rw (steps, c.loop-found.invariant.2) (shape_within c.args.source.now.image.now c.get.result).all
 
 pub loop-found-init : goal.loop-found-init
 loop-found-init c =
-    let (row, finds, is) = c.in_ok-push_row.ensures.row in
-    let found = c.push_row.new.found in
-    let P : List ℕ → Type 0 = λ f. FindsAll (entries_among c.args.types.now) c.in_ok-places.places.items
-    c.push_row.new.places.items f found row in
+    let found = c.find_roots.new.found in
     let long : length c.in_ok-places.places.items ≡ c.entries.result = search rules in
     rw (c.in_ok-ends.ensures, c.in_ok-steps.ensures, c.new-shapes.ensures.items) (
-      so_far-start (shape_in c.args.source.now.image.now) (entries_among c.args.types.now) c.in_ok-places.places.items
-          c.push_row.new.places.items found row (subst P c.in_ok-found.ensures finds),
+      so_far-start (shape_in c.args.source.now.image.now) (entries_among c.args.types.now)
+          c.find_roots.new.places.items found c.in_ok-find_roots.ensures.found,
       packed-start found,
-      c.in_ok-push_row.ensures.places ∙ (long ∙ c.entries.ensures),
+      c.in_ok-find_roots.ensures.places ∙ (long ∙ c.entries.ensures),
     )
 
 pub loop-found-smaller : goal.loop-found-smaller
@@ -62,9 +59,9 @@ loop-found-preserved c =
     ∙ map-append view_shape c.loop-found.shapes.items (c.in_ok-shape.shape ∷ [])
     ∙ ap (λ (s : ShapeOf). read ++ s ∷ []) shape in
     let reached : entries_among c.deref.result.now ≡ steps_reached shapes c.get.result = search rules in
-    let p2 = c.push_row-in-loop-found.new.places.items in
-    let f2 = c.push_row-in-loop-found.new.found in
-    let (row, finds, all) = c.in_ok-push_row-2.ensures.row in
+    let p2 = c.push_row.new.places.items in
+    let f2 = c.push_row.new.found in
+    let (row, finds, all) = c.in_ok-push_row.ensures.row in
     let P : List ℕ → Type 0 = λ xs. FindsAll xs places p2 found f2 row in
     let placed = subst P (reached ∙ ap (steps_reached shapes) entry) finds in
     let end : c.push-in-loop-found.new.self
@@ -75,7 +72,7 @@ loop-found-preserved c =
           placed,
       packed-more (steps_reached shapes (get_or found (length rows) 0)) places p2 found f2 steps ends row
           c.loop-found.invariant.1 placed,
-      c.in_ok-push_row-2.ensures.places ∙ c.loop-found.invariant.2,
+      c.in_ok-push_row.ensures.places ∙ c.loop-found.invariant.2,
     )
 
 pub returns : goal.returns

@@ -11,20 +11,20 @@ use Rattle.dw_cprint.proofs.summary.summarize.Goals as goal
 pub loop-rank-preserved : goal.loop-rank-preserved
 loop-rank-preserved c =
     let i = c.loop-rank.rank in
-    let clear = c.args.clear.now.by_rank in
+    let clear = c.args.clear.now in
     let shapes = c.args.survey.shapes.items in
     let places = c.args.survey.places.items in
     let nodes = c.loop-rank.survey.summaries.items in
     let s = c.in_ok-summary.summary in
     let node = get_or clear i 0 in
     let shape = c.index.result.now in
-    let below : i < length clear = rw (← c.count-rank-end.ensures) c.loop-rank-test.true in
+    let below : i < length clear = rw (← c.len-rank-end.ensures) c.loop-rank-test.true in
     let in_shapes : node < length shapes = c.requires i 0 below in
     let there : node < length nodes = omega (arith, c.loop-rank.invariant.len) in
     let is : slice_get shapes node
     ≡ Some shape = slice_get_read shapes (length shapes) node shape refl in_shapes
-    (rw (c.node-node.ensures, c.loop-rank.invariant.shapes) at c.index.ensures) in
-    rw c.node-node.ensures (record {
+    (rw (c.get-node.ensures, c.loop-rank.invariant.shapes) at c.index.ensures) in
+    rw c.get-node.ensures (record {
       places = c.loop-rank.invariant.places;
       shapes = c.loop-rank.invariant.shapes;
       len = length-set nodes node (Some s) ∙ c.loop-rank.invariant.len;
@@ -48,9 +48,9 @@ returns-clause-clear c = search (rules, take_all)
 
 pub returns-clause-right : goal.returns-clause-right
 returns-clause-right c = λ all found are i lower.
-    let entry = get_or found (get_or c.args.clear.now.by_rank i 0) 0 in
-    let over : length c.args.clear.now.by_rank
-    ≤ c.loop-rank.rank = rw (← c.count-rank-end.ensures) c.loop-rank-test.false in
+    let entry = get_or found (get_or c.args.clear.now i 0) 0 in
+    let over : length c.args.clear.now
+    ≤ c.loop-rank.rank = rw (← c.len-rank-end.ensures) c.loop-rank-test.false in
     let P : List ℕ → Type 0 = λ ps. IsSummary all (Some entry)
     (known_by ps c.loop-rank.survey.summaries.items (Some entry)) in
     subst P (sym c.loop-rank.invariant.places) (c.loop-rank.invariant.right all found are i (omega arith))

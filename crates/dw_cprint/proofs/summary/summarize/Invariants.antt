@@ -9,8 +9,8 @@ invariant-loop-rank l = record {
   places : l.survey.places.items ≡ l.fn.survey.places.items;
   shapes : l.survey.shapes.items ≡ l.fn.survey.shapes.items;
   len : length l.survey.summaries.items ≡ length l.fn.survey.shapes.items;
-  have : HaveSummaries (take l.rank l.clear.by_rank) l.survey.summaries.items;
+  have : HaveSummaries (take l.rank l.clear) l.survey.summaries.items;
   right : (all : ℕ → ShapeOf) (found : List ℕ)
-      → AreNodes all l.fn.survey.places.items found l.fn.survey.shapes.items l.clear.by_rank
-      → RightBefore all found l.clear.by_rank l.fn.survey.places.items l.survey.summaries.items l.rank;
+      → AreNodes all l.fn.survey.places.items found l.fn.survey.shapes.items l.clear
+      → RightBefore all found l.clear l.fn.survey.places.items l.survey.summaries.items l.rank;
 }

@@ -1,11 +1,9 @@
 use Rattle.std.proofs.lemmas.Grind.{common_steps}
-use Rattle.std.proofs.Common.{arith, List, ap, sym, ◌∙◌, append-nil}
+use Rattle.std.proofs.Common.{arith, List, ◌++◌, ap, sym, ◌∙◌, append-nil}
 use Rattle.std.proofs.lemmas.List.{drop_all, drop_more}
-use Rattle.dw_cprint.specs.Drafts.{appended}
 use Rattle.dw_cprint.specs.Shapes.{Qualifier}
 use Rattle.dw_cprint.specs.Tokens.{text_of}
 use Rattle.dw_cprint.specs.Writing.{qualifying}
-use Rattle.dw_cprint.proofs.DraftLemmas.{appended-nil}
 use Rattle.dw_cprint.proofs.ItemWriterLemmas.{moved}
 use Rattle.dw_cprint.proofs.WriterLemmas.{both}
 use Rattle.dw_cprint.proofs.text.put_qualifiers.Goals as goal
@@ -15,7 +13,7 @@ loop-qualifier-preserved c = grind (arith, common_steps, append-nil, moved, both
 
 pub returns : goal.returns
 returns c =
-    let out = c.loop-qualifier.out in
-    sym (appended-nil out) ∙ ap (λ (qs : List Qualifier). appended out (text_of (qualifying qs)))
+    let out = c.loop-qualifier.out.items in
+    sym (append-nil out) ∙ ap (λ (qs : List Qualifier). out ++ text_of (qualifying qs))
     (sym (drop_all c.loop-qualifier.qualifier-index c.args.qualifiers.now c.loop-qualifier-test.false))
     ∙ c.loop-qualifier.invariant

@@ -1,10 +1,9 @@
-use Rattle.std.proofs.Common.{◌≡◌, drop}
-use Rattle.dw_cprint.specs.Drafts.{appended}
+use Rattle.std.proofs.Common.{◌≡◌, ◌++◌, drop}
 use Rattle.dw_cprint.specs.Tokens.{text_of}
 use Rattle.dw_cprint.specs.Writing.{qualifying}
 use Rattle.dw_cprint.proofs.text.put_qualifiers.Given as goal
 
 abbrev pub invariant-loop-qualifier : goal.invariant-loop-qualifier
 invariant-loop-qualifier l =
-    appended l.out (text_of (qualifying (drop l.qualifier-index l.qualifiers)))
-    ≡ appended l.fn.out (text_of (qualifying l.qualifiers))
+    l.out.items ++ text_of (qualifying (drop l.qualifier-index l.qualifiers))
+    ≡ l.fn.out.items ++ text_of (qualifying l.qualifiers)

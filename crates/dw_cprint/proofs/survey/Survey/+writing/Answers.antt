@@ -1,19 +1,17 @@
 use Rattle.std.proofs.lemmas.Grind.{common_steps}
-use Rattle.std.proofs.Common.{arith, ◌≡◌, [], ◌∷◌, Bool, List, Some, None, true, refl, ap, sym, ◌∙◌, subst, get_or, map, append-nil, rules}
+use Rattle.std.proofs.Common.{arith, ◌≡◌, ℕ, [], ◌∷◌, ◌++◌, Bool, List, Some, None, true, refl, ap, sym, ◌∙◌, subst, get_or, map, append-nil, rules}
 use Rattle.std.proofs.lemmas.List.{drop_more, drop_all, get_or_read}
 use Rattle.dw_cprint.specs.Declarations.{term_at}
 use Rattle.dw_cprint.specs.Declarators.{before, gap, pointer_row}
-use Rattle.dw_cprint.specs.Drafts.{appended}
 use Rattle.dw_cprint.specs.Kept.{kept, Writes, WritesBefore, WritesCore, WritesMembers, WritesParameters}
 use Rattle.dw_cprint.specs.Shapes.{OfAggregate, Qualifier, Parameter, Typed, MemberOf, ShapeOf, function, view_name, view_shape, view_member}
 use Rattle.dw_cprint.specs.Terms.{Term}
 use Rattle.dw_cprint.specs.declared.words.Text.{Text}
-use Rattle.dw_cprint.specs.Tokens.{VoidWord, TagWord, RightBrace, spelling, text_of}
+use Rattle.dw_cprint.specs.Tokens.{VoidWord, TagWord, spelling}
 use Rattle.dw_cprint.specs.Writing.{qualifying}
 use Rattle.dw_cprint.proofs.OptionLemmas.{ok_then}
 use Rattle.dw_cprint.proofs.WriterLemmas.{both, as_tokens, step-at, void-at, pointer_before, array_before, specifier_before, array_after, prototype_after, named_written, base_core, body_core, enumeration_core, pointer_after, specifier-shape, some-mapped}
-use Rattle.dw_cprint.proofs.ItemWriterLemmas.{IsLeft, next-of, left-over, members_left, members_next, parameters_left, parameters_next, parameters_done, members_done}
-use Rattle.dw_cprint.proofs.DraftLemmas.{none-is, over-stays}
+use Rattle.dw_cprint.proofs.ItemWriterLemmas.{IsLeft, next-of, members_left, members_next, parameters_left, parameters_next, parameters_done, members_done}
 use Rattle.dw_cprint.proofs.survey.Survey.+writing.Goals as goal
 
 pub put_after-returns-in_ok-write-in-Array : goal.put_after-returns-in_ok-write-in-Array
@@ -34,7 +32,7 @@ put_after-returns-in_ok-put-in-Function-default-Some-2 t c =
     let shape : view_shape seen.shape.now ≡ function f.returned (Some f.parameters.items) = search rules in
     let same : c.deref.result.now ≡ f.parameters.items = search rules in
     let P : List Parameter → Type 0 = λ us. WritesParameters c.args.self.now seen.below us
-    c.put-in-Function-default-Some.new.self c.put_parameters.new.out in
+    c.put-in-Function-default-Some.new.out.items c.put_parameters.new.out.items in
     ok_then _ _ _
     (prototype_after (term_at seen.below (kept c.args.self.now)) _ _ _ _ _ _ f.returned f.parameters.items
     (step-at _ _ _ _ _ _ _ is seen.ensures.found shape) c.in_ok-put-in-Function-default-Some.ensures
@@ -53,9 +51,9 @@ put_after-returns-in_ok-put_closed-in-Pointer t c =
 pub put_before-returns-in_default : goal.put_before-returns-in_default
 put_before-returns-in_default t c =
     let row = as_tokens _ _ _ _ (ap qualifying c.deref.ensures.value) c.in_ok-put_qualifiers.ensures in
-    let P : Term → Type 0 = λ u. Writes (before c.args.qualifiers.items u c.args.inside) c.args.out.now
-    c.put_gap.new.out in
-    ok_then _ (Writes (gap c.args.inside) c.put.new.self c.put_gap.new.out) _
+    let P : Term → Type 0 = λ u. Writes (before c.args.qualifiers.items u c.args.inside) c.args.out.now.items
+    c.put_gap.new.out.items in
+    ok_then _ (Writes (gap c.args.inside) c.put.new.out.items c.put_gap.new.out.items) _
     (λ end u e. subst P (void-at (kept c.args.self.now) c.args.depth c.args.at u (sym c.get.ensures ∙ c.in_default.is)
     e)
     (both (qualifying c.args.qualifiers.items) (VoidWord ∷ gap c.args.inside) _ _ _ row
@@ -68,10 +66,10 @@ put_before-returns-in_ok-put-in-Pointer t c =
     let seen = c.in-Some-shape_within in
     let is = sym c.get.ensures ∙ c.in-Some.is in
     let step = step-at _ _ _ _ _ _ _ is seen.ensures.found (ap view_shape c.in-Pointer.is) in
-    let P : List Qualifier → Type 0 = λ us. WritesBefore s seen.below c.in-Pointer.to us true c.args.out.now
-    c.put_before-in-Pointer.new.out in
-    let R : List Qualifier → Type 0 = λ us. Writes (pointer_row us c.args.inside) c.put-in-Pointer.new.self
-    c.put_joined.new.out in
+    let P : List Qualifier → Type 0 = λ us. WritesBefore s seen.below c.in-Pointer.to us true c.args.out.now.items
+    c.put_before-in-Pointer.new.out.items in
+    let R : List Qualifier → Type 0 = λ us. Writes (pointer_row us c.args.inside) c.put-in-Pointer.new.out.items
+    c.put_joined.new.out.items in
     ok_then _ _ _
     (λ row. pointer_before (term_at seen.below (kept s)) _ _ _ _ _ _ c.args.qualifiers.items c.args.inside
     c.in-Pointer.to step
@@ -87,8 +85,8 @@ put_before-returns-in-Array t c =
     let is = sym c.get.ensures ∙ c.in-Some.is in
     let a = c.in-Array in
     let step = step-at _ _ _ _ _ _ _ is seen.ensures.found (ap view_shape a.is) in
-    let P : List Qualifier → Type 0 = λ us. WritesBefore s seen.below a.element us true c.args.out.now
-    c.put_before-in-Array.new.out in
+    let P : List Qualifier → Type 0 = λ us. WritesBefore s seen.below a.element us true c.args.out.now.items
+    c.put_before-in-Array.new.out.items in
     ok_then _ _ _ (λ inner. array_before (term_at seen.below (kept s)) _ _ _ c.args.qualifiers.items c.args.inside
     a.dimensions a.strange a.element step (subst P c.new-in-Array.ensures.items inner))
     c.put_before-in-Array.ensures
@@ -109,7 +107,8 @@ put_before-returns-in_ok-put_core-in_default-shape t c =
 
 pub put_core-returns-in-Base : goal.put_core-returns-in-Base
 put_core-returns-in-Base t c =
-    let P : ShapeOf → Type 0 = λ shape. WritesCore c.args.self.now c.args.depth shape c.args.out.now c.put_name.new.out
+    let P : ShapeOf → Type 0 = λ shape. WritesCore c.args.self.now c.args.depth shape c.args.out.now.items
+    c.put_name.new.out.items
     in
     ok_then _ _ _ (λ word. subst P (sym (ap view_shape c.in-Base.is))
     (base_core (term_at c.args.depth (kept c.args.self.now)) _ _ (view_name c.in-Base.name) word))
@@ -120,9 +119,12 @@ put_core-returns-in_ok-put-in-Body-2 t c =
     let s = c.args.self.now in
     let b = c.in-Body in
     let tag = c.in_ok-put-in-Body.ensures
-    ∙ ap (appended c.args.out.now) (c.text.ensures ∙ sym (append-nil (spelling (TagWord (OfAggregate b.word))))) in
-    let P : ShapeOf → Type 0 = λ shape. WritesCore s c.args.depth shape c.args.out.now c.put_members.new.out in
-    let Q : List MemberOf → Type 0 = λ us. WritesMembers s c.args.depth us c.put-in-Body.new.self c.put_members.new.out
+    ∙ ap (λ (u : List ℕ). c.args.out.now.items ++ u)
+    (c.text.ensures ∙ sym (append-nil (spelling (TagWord (OfAggregate b.word))))) in
+    let P : ShapeOf → Type 0 = λ shape. WritesCore s c.args.depth shape c.args.out.now.items c.put_members.new.out.items
+    in
+    let Q : List MemberOf → Type 0 = λ us. WritesMembers s c.args.depth us c.put-in-Body.new.out.items
+    c.put_members.new.out.items
     in
     ok_then _ _ _
     (λ inner. subst P (sym (ap view_shape b.is))
@@ -136,7 +138,7 @@ put_core-returns-in_ok-put-in-Enumeration t c = grind (arith, common_steps, ok_t
 pub put_named-returns : goal.put_named-returns
 put_named-returns t c =
     let P : List Qualifier → Bool → Type 0 = λ us b. WritesBefore c.args.self.now c.args.depth c.args.at us b
-    c.args.out.now c.put_before.new.out in
+    c.args.out.now.items c.put_before.new.out.items in
     let some = c.is_some.ensures ∙ some-mapped (λ (text : Text). text.bytes.now) c.args.name in
     let front = subst (P []) some (subst (λ (us : List Qualifier). P us c.is_some.result) c.new.ensures.items
     c.in_ok-put_before.ensures) in
@@ -151,7 +153,7 @@ put_parameters-loop-parameter-preserved t c =
     let others = c.in-Some.others.now in
     let i = c.loop-parameter.parameter-index in
     let P : List Parameter → Type 0 = λ left. IsLeft (parameters_left (term_at c.args.depth (kept c.args.self.now)))
-    others c.put_parameter.new.out left c.loop-parameter.out in
+    others c.put_parameter.new.out.items left c.loop-parameter.out.items in
     let within = c.loop-parameter-test.true in
     let item = get_or_read others i c.parameter-item.result within c.parameter-item.is (Typed None) in
     parameters_next c.args.self.now c.args.depth _ (get_or others i (Typed None)) _ _ _ _ _
@@ -163,34 +165,17 @@ put_parameters-returns t c =
     let s = c.args.self.now in
     let others = c.in-Some.others.now in
     let P : List Parameter → Type 0 = λ left. IsLeft (parameters_left (term_at c.args.depth (kept s))) others
-    c.put_parameter.new.out left c.loop-parameter.out in
-    let Q : List Parameter → Type 0 = λ ps. WritesParameters s c.args.depth ps c.args.out.now c.loop-parameter.out in
+    c.put_parameter.new.out.items left c.loop-parameter.out.items in
+    let Q : List Parameter → Type 0 = λ ps. WritesParameters s c.args.depth ps c.args.out.now.items
+    c.loop-parameter.out.items in
     subst Q (sym c.in-Some.ensures.cases.0)
     (parameters_done s c.args.depth c.in-Some.first.now others _ _ _ c.in_ok-put_parameter.ensures
     (subst P (drop_all c.loop-parameter.parameter-index others c.loop-parameter-test.false) c.loop-parameter.invariant))
-
-pub put_members-returns-then-is_over : goal.put_members-returns-then-is_over
-put_members-returns-then-is_over t c = λ us e.
-    let out = c.loop-member.out in
-    let is = none-is out (sym c.is_over.ensures ∙ c.if-is_over.true) in
-    members_done (term_at c.args.depth (kept c.args.self.now)) _ _ _ out _ c.in_ok-put.ensures
-    (left-over _ _ _ _ out refl is c.loop-member.invariant) (over-stays out out (text_of (RightBrace ∷ [])) is refl)
-    us e
 
 pub put_members-returns : goal.put_members-returns
 put_members-returns t c = λ us e.
     let term = term_at c.args.depth (kept c.args.self.now) in
     let P : List MemberOf → Type 0 = λ left. IsLeft (members_left term) (map view_member c.args.members.now)
-    c.put.new.self left c.loop-member.out in
+    c.put.new.out.items left c.loop-member.out.items in
     let none = ap (map view_member) (drop_all c.loop-member.member-index c.args.members.now c.loop-member-test.false) in
     members_done term _ _ _ _ _ c.in_ok-put.ensures (subst P none c.loop-member.invariant) c.in_ok-put-2.ensures us e
-
-pub put_parameters-returns-then-is_over : goal.put_parameters-returns-then-is_over
-put_parameters-returns-then-is_over t c =
-    let s = c.args.self.now in
-    let out = c.loop-parameter.out in
-    let is = none-is out (sym c.is_over.ensures ∙ c.if-is_over.true) in
-    let Q : List Parameter → Type 0 = λ ps. WritesParameters s c.args.depth ps c.args.out.now out in
-    subst Q (sym c.in-Some.ensures.cases.0)
-    (parameters_done s c.args.depth c.in-Some.first.now c.in-Some.others.now _ _ _ c.in_ok-put_parameter.ensures
-    (left-over _ _ _ _ out refl is c.loop-parameter.invariant))

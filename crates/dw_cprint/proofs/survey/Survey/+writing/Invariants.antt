@@ -32,10 +32,11 @@ decreases-put_core l = 5 * l.depth + 4
 
 abbrev pub invariant-put_members-loop-member : goal.invariant-put_members-loop-member
 invariant-put_members-loop-member l =
-    IsLeft (members_left (term_at l.depth (kept l.self))) (map view_member l.members) l.initial.out
-    (map view_member (drop l.member-index l.members)) l.out
+    IsLeft (members_left (term_at l.depth (kept l.self))) (map view_member l.members) l.initial.out.items
+    (map view_member (drop l.member-index l.members)) l.out.items
 
 abbrev pub invariant-put_parameters-loop-parameter : goal.invariant-put_parameters-loop-parameter
 invariant-put_parameters-loop-parameter l =
-    IsLeft (parameters_left (term_at l.depth (kept l.self))) l.others l.initial.out (drop l.parameter-index l.others)
-    l.out
+    IsLeft (parameters_left (term_at l.depth (kept l.self))) l.others l.initial.out.items
+    (drop l.parameter-index l.others)
+    l.out.items

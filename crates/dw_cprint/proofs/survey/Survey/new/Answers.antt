@@ -15,7 +15,7 @@ summarize-requires c = λ k d below.
     omega (
       arith,
       c.in_ok-clear.ensures.within k below,
-      get_or_default c.in_ok-clear.clear.by_rank k d 0 below,
+      get_or_default c.in_ok-clear.clear k d 0 below,
       ap
           length r.are_shapes,
       r.reach.nodes,
@@ -34,7 +34,7 @@ returns c =
     let R : List ℕ → Type 0 = λ xs. HasReached shapes xs c.in_ok-survey.survey graph in
     let r = subst R (ap entries_among c.deref.ensures.value) c.in_ok-survey.ensures in
     survey-done shapes roots c.in_ok-survey.survey.places.items r.found graph r.reach c.in_ok-survey-2.survey
-    done.places c.in_ok-clear.clear.by_rank done.clear
+    done.places c.in_ok-clear.clear done.clear
     (ap (map view_shape) done.shapes ∙ r.are_shapes)
     (done.right shapes r.found (nodes-of shapes roots c.in_ok-survey.survey.places.items r.found graph r.reach
-    c.in_ok-survey.survey.shapes.items c.in_ok-clear.clear.by_rank r.are_shapes sorted)) sorted
+    c.in_ok-survey.survey.shapes.items c.in_ok-clear.clear r.are_shapes sorted)) sorted

@@ -1,16 +1,18 @@
-use Rattle.std.proofs.Common.{List, map, ap, sym, subst}
+use Rattle.std.proofs.Common.{Bool, List, map, ap, sym, subst, ◌∙◌}
 use Rattle.dw_cprint.specs.Declarations.{declaration_of, term_at}
-use Rattle.dw_cprint.specs.Kept.{kept, WritesDeclaration, WritesMembers}
-use Rattle.dw_cprint.specs.Shapes.{MemberOf, SubjectOf, view_member, view_name, view_subject}
+use Rattle.dw_cprint.specs.Kept.{kept, WritesDeclaration}
+use Rattle.dw_cprint.specs.Shapes.{MemberOf, SubjectOf, aggregate_subject, enumeration_subject, view_member, view_name, view_subject}
+use Rattle.dw_cprint.specs.declared.shape.Member.{Member}
+use Rattle.dw_cprint.specs.declared.survey.Survey.{Survey}
 use Rattle.dw_cprint.proofs.OptionLemmas.{ok_then}
-use Rattle.dw_cprint.proofs.WriterLemmas.{aggregate_done, constants_done, typedef_done, variable_done}
+use Rattle.dw_cprint.proofs.WriterLemmas.{typedef_done, variable_done}
 use Rattle.dw_cprint.proofs.survey.Survey.put_declaration.Goals as goal
 
 pub returns-in_ok-put_named-in-Typedef : goal.returns-in_ok-put_named-in-Typedef
 unfolding declaration_of
 returns-in_ok-put_named-in-Typedef c =
-    let P : SubjectOf → Type 0 = λ subject. WritesDeclaration c.args.self.now subject c.args.out.now
-    c.put-in-Typedef.new.self in
+    let P : SubjectOf → Type 0 = λ subject. WritesDeclaration c.args.self.now subject c.args.out.now.items
+    c.put-in-Typedef.new.out.items in
     ok_then _ _ _
     (λ last. subst P (sym (ap view_subject c.in-Typedef.is))
     (typedef_done (term_at 65 (kept c.args.self.now)) _ _ _ _ (view_name c.in-Typedef.name) c.in-Typedef.at
@@ -20,37 +22,37 @@ returns-in_ok-put_named-in-Typedef c =
 pub returns-in_ok-put_named-in-Variable : goal.returns-in_ok-put_named-in-Variable
 unfolding declaration_of
 returns-in_ok-put_named-in-Variable c =
-    let P : SubjectOf → Type 0 = λ subject. WritesDeclaration c.args.self.now subject c.args.out.now
-    c.put-in-Variable.new.self in
+    let P : SubjectOf → Type 0 = λ subject. WritesDeclaration c.args.self.now subject c.args.out.now.items
+    c.put-in-Variable.new.out.items in
     ok_then _ _ _
     (λ last. subst P (sym (ap view_subject c.in-Variable.is))
-    (variable_done (term_at 65 (kept c.args.self.now)) _ _ c.put_named-in-Variable.new.out _
+    (variable_done (term_at 65 (kept c.args.self.now)) _ _ c.put_named-in-Variable.new.out.items _
     (view_name c.in-Variable.name) c.in-Variable.at c.in_ok-put_named-in-Variable.ensures last))
     c.put-in-Variable.ensures
 
-pub returns-in_ok-put_members-in-Aggregate : goal.returns-in_ok-put_members-in-Aggregate
-unfolding declaration_of
-returns-in_ok-put_members-in-Aggregate c =
+pub returns-in-Aggregate : goal.returns-in-Aggregate
+returns-in-Aggregate c =
     let s = c.args.self.now in
     let a = c.in-Aggregate in
-    let P : SubjectOf → Type 0 = λ subject. WritesDeclaration s subject c.args.out.now c.put-in-Aggregate-2.new.self in
-    let Q : List MemberOf → Type 0 = λ ms. WritesMembers s 65 ms c.put-in-Aggregate.new.self c.put_members.new.out in
-    ok_then _ _ _
-    (λ last. subst P (sym (ap view_subject a.is))
-    (aggregate_done (term_at 65 (kept s)) _ _ _ _ _ a.word (view_name a.name) a.odd (map view_member a.members.items)
-    c.in_ok-put_tag-in-Aggregate.ensures c.in_ok-put-in-Aggregate.ensures
-    (subst Q (ap (map view_member) c.deref.ensures.value) c.in_ok-put_members-in-Aggregate.ensures) last))
-    c.put-in-Aggregate-2.ensures
+    let old = c.args.out.now.items in
+    let new = c.put_aggregate.new.out.items in
+    let of_members : List MemberOf → SubjectOf = aggregate_subject a.word (view_name a.name) a.odd in
+    let done : ((odd : Bool) → WritesDeclaration s
+    (aggregate_subject a.word (view_name a.name) odd (map view_member c.deref.result.now)) old new)
+    → WritesDeclaration s (view_subject c.args.subject.now) old new = λ written.
+    subst (λ (x : SubjectOf). WritesDeclaration s x old new)
+    (ap (λ (ms : List Member). of_members (map view_member ms)) c.deref.ensures.value ∙ sym (ap view_subject a.is))
+    (written a.odd) in
+    ok_then _ _ _ done c.put_aggregate.ensures
 
-pub returns-in_ok-write-in-Enumeration : goal.returns-in_ok-write-in-Enumeration
-unfolding declaration_of
-returns-in_ok-write-in-Enumeration c =
+pub returns-in-Enumeration : goal.returns-in-Enumeration
+returns-in-Enumeration c =
+    let s = c.args.self.now in
     let it = c.in-Enumeration in
-    let P : SubjectOf → Type 0 = λ subject. WritesDeclaration c.args.self.now subject c.args.out.now
-    c.put-in-Enumeration-2.new.self in
-    ok_then _ _ _
-    (λ last. subst P (sym (ap view_subject it.is))
-    (constants_done (term_at 65 (kept c.args.self.now)) _ _ _ _ _ (view_name it.name) it.odd it.enumerators
-    c.in_ok-put_tag-in-Enumeration.ensures c.in_ok-put-in-Enumeration.ensures
-    c.in_ok-write-in-Enumeration.ensures last))
-    c.put-in-Enumeration-2.ensures
+    let old = c.args.out.now.items in
+    let new = c.declare.new.out.items in
+    let done : ((s : Survey) (odd : Bool)
+    → WritesDeclaration s (enumeration_subject (view_name it.name) odd it.enumerators) old new)
+    → WritesDeclaration s (view_subject c.args.subject.now) old new = λ written.
+    subst (λ (x : SubjectOf). WritesDeclaration s x old new) (sym (ap view_subject it.is)) (written s it.odd) in
+    ok_then _ _ _ done c.declare.ensures

@@ -1,0 +1,73 @@
+use Rattle.std.proofs.Common.{◌≡◌, ◌++◌, ℕ, List, map, get_or, arith, sym, ap, ◌∙◌, subst, append-nil, append_assoc}
+use Rattle.std.specs.Prelude.{flat_map}
+use Rattle.std.proofs.lemmas.List.{get_or_read}
+use Rattle.std.proofs.lemmas.List.Elements.{All-head, All-rest}
+use Rattle.dw_cprint.specs.EntryShapes.{shape_in, subject_in}
+use Rattle.dw_cprint.specs.Judgements.{IsPrintedNumber}
+use Rattle.dw_cprint.specs.Listings.{declared_line}
+use Rattle.dw_cprint.specs.Refusals.{IsPrinted}
+use Rattle.dw_cprint.specs.Rows.{named_steps}
+use Rattle.dw_cprint.specs.Steps.{first_steps}
+use Rattle.dw_cprint.specs.Surveys.{AreAmong}
+use Rattle.dw_cprint.proofs.JudgementLemmas.{steps-among}
+use Rattle.dw_cprint.proofs.ListingLemmas.{entry-there, row-there}
+use Rattle.dw_cprint.proofs.RefusalLemmas.{writes-line}
+use Rattle.dw_cprint.proofs.listing.put_lines.Goals as goal
+
+pub index-id-requires : goal.index-id-requires
+index-id-requires c =
+    let known = All-head (IsPrintedNumber c.args.source.now.image.now c.args.named.now.ids.items) _ _
+    (rw c.in-Some.ensures.steps at c.loop-number.invariant.printed) in
+    omega (arith, known.0)
+
+pub index-row-requires : goal.index-row-requires
+index-row-requires c =
+    let known = All-head (IsPrintedNumber c.args.source.now.image.now c.args.named.now.ids.items) _ _
+    (rw c.in-Some.ensures.steps at c.loop-number.invariant.printed) in
+    omega (arith, known.0, c.requires.rows.long)
+
+pub put_named_type-requires-clause-within : goal.put_named_type-requires-clause-within
+put_named_type-requires-clause-within c =
+    let known = All-head (IsPrintedNumber c.args.source.now.image.now c.args.named.now.ids.items) _ _
+    (rw c.in-Some.ensures.steps at c.loop-number.invariant.printed) in
+    entry-there c.args.source.now.image.now c.args.named.now.ids.items _ c.index-id.result.now c.requires.named known.0
+    c.index-id.ensures
+
+pub put_named_type-requires-clause-row : goal.put_named_type-requires-clause-row
+put_named_type-requires-clause-row c =
+    let known = All-head (IsPrintedNumber c.args.source.now.image.now c.args.named.now.ids.items) _ _
+    (rw c.in-Some.ensures.steps at c.loop-number.invariant.printed) in
+    row-there c.args.source.now.image.now c.args.named.now.ids.items c.args.named.now.rows.items _
+    c.index-id.result.now c.index-row.result.now c.requires.rows known.0 c.index-id.ensures c.index-row.ensures
+
+pub loop-number-preserved : goal.loop-number-preserved
+loop-number-preserved c =
+    let image = c.args.source.now.image.now in
+    let named = c.args.named.now.ids.items in
+    let number = c.in-Some.number.now in
+    let entry = c.index-id.result.now in
+    let out = c.loop-number.out.items in
+    let left = c.next.new.self in
+    let line : ℕ → List ℕ = declared_line image in
+    let lines : List ℕ → List ℕ = λ numbers. flat_map line (map (λ k. get_or named k 0) numbers) in
+    let known = All-head (IsPrintedNumber image named) number left
+    (rw c.in-Some.ensures.steps at c.loop-number.invariant.printed) in
+    let at : entry ≡ get_or named number 0 = get_or_read named number entry known.0 c.index-id.ensures 0 in
+    let P : ℕ → Type 0 = λ x. IsPrinted (shape_in image) (subject_in image x) in
+    let among : AreAmong (first_steps (subject_in image entry)) (named_steps image named) =
+    rw at (steps-among (λ id. first_steps (subject_in image id)) named number known.0) in
+    let written = writes-line (shape_in image) (subject_in image entry) (named_steps image named) c.args.survey.now out
+    c.put_named_type.new.out.items c.push.new.self.items c.requires.survey among (subst P (sym at) known.1)
+    c.in_ok-put_named_type.ensures c.in_ok-push.ensures.items in
+    record {
+      printed =
+          All-rest (IsPrintedNumber image named) _ _ _ c.in-Some.ensures.steps c.loop-number.invariant.printed;
+      so_far =
+          ap (λ (u : List ℕ). u ++ lines left) (written ∙ ap (λ (x : ℕ). out ++ line x) at)
+          ∙ append_assoc out (line (get_or named number 0)) (lines left)
+          ∙ (rw c.in-Some.ensures.steps at c.loop-number.invariant.so_far);
+    }
+
+pub returns : goal.returns
+returns c =
+    sym (append-nil c.loop-number.out.items) ∙ (rw c.in-None.ensures.steps.0 at c.loop-number.invariant.so_far)
