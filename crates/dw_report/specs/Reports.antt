@@ -1,6 +1,6 @@
 -- Chapter: the report of a request over the bytes of a file.
 use Rattle.std.specs.Prelude.{◌≡◌, ℕ, ◌<◌, ◌≤◌, Bool, true, false, List, length}
-use Rattle.dw_elf.specs.declared.fault.ElfRule.TheVariants as elf_rules
+use Rattle.dw_elf.specs.declared.rule.ElfRule.TheVariants as elf_rules
 use Rattle.dw_elf.specs.declared.fault.ElfFault.{ElfFault}
 use Rattle.dw_elf.specs.declared.sections.Sections.{Sections}
 use Rattle.dw_elf.specs.Checks.{ChecksPass}

@@ -1,9 +1,12 @@
 //! The text for a request over the bytes of a file, and how the request ends.
 
-ghost use Rattle.std.specs.Prelude.{◌≡◌, IfOk, IfSome};
+ghost use Rattle.std.specs.Prelude.{◌≡◌, IfOk};
+ghost use Rattle.dw_elf.specs.declared.sections.Sections.{Sections};
+ghost use Rattle.dw_image.specs.Headline.{IsFaultOf};
 ghost use Rattle.dw_image.specs.Images.{sections_in};
 ghost use Rattle.dw_report.specs.Reports.{file_limit, fault_text, elf_fault_text, counts_text, AreTypeLines};
 ghost use Rattle.dw_report.specs.Reports.{SoundReport, SectionsReport, Report};
+ghost use Rattle.dw_report.specs.declared.request.Request.TheVariants.{Check};
 ghost use Rattle.dw_report.specs.Shown.{show_lines, size_text, size_status, type_at_offset};
 
 use crate::json::{put_elf_fault_object, put_fault_object, put_sound_object};
@@ -13,7 +16,7 @@ use crate::shown::{put_show_lines, put_size_at};
 use dw_cprint::declare_all;
 use dw_elf::{ElfFault, ElfRule, Sections, find};
 use dw_image::{Fault, Image, NoMemory, Verdict, verify};
-use dw_units::{Counts, Found, verify_by_unit};
+use dw_units::{Counts, Found, check};
 use std::alloc::{AllocError, Global};
 
 /// How many bytes the longest file has that is read as one.
@@ -105,6 +108,7 @@ fn answer_of_size(alloc: Global, image: &Image<'_>, offset: u32) -> Result<Answe
 }
 
 /// The result if the sections are sound.
+#[tactic(auto, using(crate::proofs::ReportLemmas::types_report))]
 fn answer_of_sound(alloc: Global, request: Request, image: &Image<'_>) -> Result<Answer, NoMemory>
     ensures { IfOk result (λ answer. SoundReport (sections_in image.now) request answer.status answer.text.items) }
 {
@@ -131,32 +135,30 @@ fn answer_of_sound(alloc: Global, request: Request, image: &Image<'_>) -> Result
     }
 }
 
-/// The result of `check` batch after batch. None for the other requests, and if nothing follows from the batches alone.
-fn answer_by_unit(
-    alloc: Global,
-    request: Request,
-    sections: &Sections<'_>,
-) -> Result<Option<Answer>, NoMemory>
-    ensures { IfOk result (λ found. IfSome found (λ answer.
-        SectionsReport sections.now request answer.status answer.text.items)) }
+/// The result for the first fault of sections.
+fn answer_of_fault(alloc: Global, request: Request, fault: &Fault) -> Result<Answer, AllocError>
+    ensures { IfOk result (λ answer. (s : Sections) → IsFaultOf s fault.now
+        → SectionsReport s request answer.status answer.text.items) }
 {
-    match request {
-        Request::Check { json } => match verify_by_unit(alloc, sections)? {
-            Some(Found::Sound(counts)) => {
-                let text = text_of_counts(alloc, json, counts)?;
-                let status = Status::Sound;
-                Ok(Some(Answer { status, text }))
-            }
-            Some(Found::Fault(fault)) => {
-                let text = text_of_fault(alloc, request, &fault)?;
-                let status = Status::Fault;
-                Ok(Some(Answer { status, text }))
-            }
-            None => Ok(None),
-        },
-        Request::Show => Ok(None),
-        Request::Types => Ok(None),
-        Request::Size(_) => Ok(None),
+    let text = text_of_fault(alloc, request, fault)?;
+    let status = Status::Fault;
+    Ok(Answer { status, text })
+}
+
+/// The result of `check` for the sections of a file.
+fn answer_of_check(alloc: Global, json: bool, sections: Sections<'_>) -> Result<Answer, NoMemory>
+    ensures { IfOk result (λ answer. SectionsReport sections.entry (Check json) answer.status answer.text.items) }
+{
+    match check(alloc, sections)? {
+        Found::Fault(fault) => {
+            let answer = answer_of_fault(alloc, Request::Check { json }, &fault)?;
+            Ok(answer)
+        }
+        Found::Sound(counts) => {
+            let text = text_of_counts(alloc, json, counts)?;
+            let status = Status::Sound;
+            Ok(Answer { status, text })
+        }
     }
 }
 
@@ -168,14 +170,13 @@ fn answer_of_sections(
 ) -> Result<Answer, NoMemory>
     ensures { IfOk result (λ answer. SectionsReport sections.entry request answer.status answer.text.items) }
 {
-    if let Some(answer) = answer_by_unit(alloc, request, &sections)? {
-        return Ok(answer);
+    if let Request::Check { json } = request {
+        return answer_of_check(alloc, json, sections);
     }
     match verify(alloc, sections)? {
         Verdict::Fault(fault) => {
-            let text = text_of_fault(alloc, request, &fault)?;
-            let status = Status::Fault;
-            Ok(Answer { status, text })
+            let answer = answer_of_fault(alloc, request, &fault)?;
+            Ok(answer)
         }
         Verdict::Sound(image) => {
             let answer = answer_of_sound(alloc, request, &image)?;

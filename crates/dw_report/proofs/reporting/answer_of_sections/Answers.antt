@@ -1,14 +1,15 @@
-use Rattle.std.proofs.Common.{sym, subst}
-use Rattle.dw_report.specs.declared.request.Status.TheVariants.{Fault}
+use Rattle.std.proofs.Common.{subst}
 use Rattle.dw_image.specs.Headline.{IsFaultOf, IsImageOf}
-use Rattle.dw_report.specs.Reports.{SoundReport, SectionsReport, fault, sound}
+use Rattle.dw_report.specs.Reports.{SoundReport, sound}
 use Rattle.dw_report.proofs.reporting.answer_of_sections.Goals as goal
 
-pub returns-in_ok-text-in-Fault : goal.returns-in_ok-text-in-Fault
-returns-in_ok-text-in-Fault c =
+pub returns-in-Check : goal.returns-in-Check
+returns-in-Check c = rw c.in-Check.is c.answer_of_check.ensures
+
+pub returns-in_ok-answer-in-Fault : goal.returns-in_ok-answer-in-Fault
+returns-in_ok-answer-in-Fault c =
     let judged : IsFaultOf c.args.sections c.in-Fault.fault = rw c.in-Fault.is at c.in_ok-fault.ensures in
-    subst (SectionsReport c.args.sections c.args.request Fault) (sym c.in_ok-text-in-Fault.ensures)
-    (fault c.in-Fault.fault judged)
+    c.in_ok-answer-in-Fault.ensures c.args.sections judged
 
 pub returns-in_ok-answer-in-Sound : goal.returns-in_ok-answer-in-Sound
 returns-in_ok-answer-in-Sound c =
