@@ -14,12 +14,12 @@
  * call, if the caller sees to this:
  *
  *   - No pointer is NULL, not even one to 0 bytes. Each is valid for its length, which is below 2^63.
- *   - During the call nothing else writes to the input, and nothing else reads or writes the verdict, the count and the
- *     buffer. None of them overlaps another one or the input.
+ *   - During the call nothing else writes to the input, and nothing else reads or writes the verdict, the counts and the
+ *     buffers. None of them overlaps another one or the input.
  *   - So a file that is mapped must not be written or truncated during the call, by this or another process, even if it
  *     is mapped with MAP_PRIVATE. Read the file if it may change.
- *   - The verdict, the count or counts, and the buffer have some value before the call, for example {0}. Arrays of rows
- *     need none: any bytes are a row, and no row is read before it is written.
+ *   - The verdict, the counts, and the buffer and length of a report have some value before the call, for example {0}.
+ *     Arrays of rows need none: any bytes are a row, and no row is read before it is written.
  *   - malloc, realloc and free belong to one allocator, which aligns blocks as C requires.
  *   - No call is made in a signal handler, nor in the child of a process with threads between fork and exec.
  *   - The stack has 64 KiB left, and the processor has the instructions of x86-64-v2.
@@ -110,27 +110,6 @@ enum dwv_status dwv_report(
     uint8_t *buffer, size_t capacity,
     size_t *needed);
 
-/* An entry of a sound file. */
-struct dwv_entry {
-    uint64_t size;        /* in bytes, of a type that has a size, else 0 */
-    uint64_t name;        /* where its name starts in the file, or 0 if it has none */
-    uint32_t offset;      /* where it starts in .debug_info */
-    uint32_t depth;       /* how many entries are above it */
-    uint32_t tag;         /* as 0x24 for a base type */
-    uint32_t has_size;    /* 1 for a type that has a size, else 0 */
-    uint32_t name_length; /* how many bytes its name has before the zero byte that ends it, or 0 if it has none */
-    uint32_t has_name;    /* 1 for an entry that has a name, which may be empty, else 0 */
-};
-
-/* Checks a file, and writes a row for each entry of a sound one in rising offset, and how many there are: DWV_SOUND,
- * DWV_FAULT, DWV_NO_MEMORY, or DWV_TOO_SHORT if there is no room for all of them. `rows` is not NULL, even if `room` is
- * 0. If the file is not sound, `count` is not written. */
-enum dwv_status dwv_entries(
-    const uint8_t *file, size_t file_length,
-    struct dwv_entry *rows, size_t room,
-    size_t *count,
-    struct dwv_verdict *verdict);
-
 /* No row. */
 #define DWV_NONE UINT32_MAX
 
@@ -157,7 +136,7 @@ enum dwv_place {
 
 /* An entry of a sound file, with its place among the others and its values. dwv_table counts `name` from the start of
  * the file, and dwv_table_sections from the start of the section that `name_section` names. */
-struct dwv_table_entry {
+struct dwv_entry {
     uint64_t size;         /* in bytes, of a type that has a size, else 0 */
     uint64_t name;         /* where its name starts, or 0 if it has none */
     uint32_t offset;       /* where it starts in .debug_info */
@@ -217,7 +196,7 @@ struct dwv_counts {
 enum dwv_status dwv_table(
     const uint8_t *file, size_t file_length,
     struct dwv_unit *units, size_t unit_capacity,
-    struct dwv_table_entry *entries, size_t entry_capacity,
+    struct dwv_entry *entries, size_t entry_capacity,
     struct dwv_value *values, size_t value_capacity,
     struct dwv_counts *counts,
     struct dwv_verdict *verdict);
@@ -231,7 +210,7 @@ enum dwv_status dwv_table_sections(
     const uint8_t *str_offsets, size_t str_offsets_length,
     const uint8_t *addr, size_t addr_length,
     struct dwv_unit *units, size_t unit_capacity,
-    struct dwv_table_entry *entries, size_t entry_capacity,
+    struct dwv_entry *entries, size_t entry_capacity,
     struct dwv_value *values, size_t value_capacity,
     struct dwv_counts *counts,
     struct dwv_verdict *verdict);

@@ -13,7 +13,7 @@ import pytest
 from common import BROKEN, SAMPLE
 
 LEAST = 15
-if not common.LIBRARY.exists():
+if "DWV_LIBRARY" not in os.environ and not common.LIBRARY.exists():
     common.lack("the C library is not built (make lib)", allow_module_level=True)
 os.environ.setdefault("DWV_LIBRARY", str(common.LIBRARY))
 import dwv
@@ -91,6 +91,11 @@ def test_table():
     assert len(dwv.table(SAMPLE, limit=4)) == 2
     with pytest.raises(MemoryError, match="^4 values, and the limit is 3$"):
         dwv.table(SAMPLE, limit=3)
+    # Without a limit there may be a value for each byte and a million more: here there are two million.
+    many = b"\x01\x11\x01\0\0\x02\x34\0" + b"".join(bytes([0x80 | k & 127, 0x40 + (k >> 7), 0x19]) for k in range(200))
+    info = common.unit(b"\x01" + b"\x02" * 10_000 + b"\0")
+    with pytest.raises(MemoryError, match="^2000000 values, and the limit is 1010014$"):
+        dwv.table_sections(info=info, abbrev=many + b"\0\0\0")
     with pytest.raises(dwv.NotSound) as raised:
         dwv.table(BROKEN)
     assert raised.value.fault == FAULT

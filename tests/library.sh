@@ -15,7 +15,7 @@ passed=0
 failed=0
 skipped=0
 # How many checks there are at least, if no tool is missing that they need.
-least=52
+least=44
 lacking=
 
 # is NAME SAID WANTED: the two texts must be the same.
@@ -75,7 +75,7 @@ is 'make lib ends' "$?" 0
 names() {
     sed -n "s/^[0-9a-f ]* [$1] \\([A-Za-z0-9_.]*\\)\$/\\1/p" | sort -u | xargs
 }
-calls='dwv_check dwv_check_sections dwv_entries dwv_report dwv_table dwv_table_sections dwv_version'
+calls='dwv_check dwv_check_sections dwv_report dwv_table dwv_table_sections dwv_version'
 needs='free malloc memcpy memmove memset realloc'
 if has nm; then
     is 'what libdwv.a has' "$(nm -g out/lib/libdwv.a | names TDBRVWC)" "$calls"
@@ -111,15 +111,14 @@ layout() {
 {
     echo '#include "dwv.h"'
     layout crates/dwv_c/src/verdict.rt Verdict dwv_verdict
-    layout crates/dwv_c/src/rows.rt EntryRow dwv_entry
     layout crates/dwv_c/src/table_rows.rt UnitRow dwv_unit
-    layout crates/dwv_c/src/table_rows.rt TableEntry dwv_table_entry
+    layout crates/dwv_c/src/table_rows.rt EntryRow dwv_entry
     layout crates/dwv_c/src/meaning.rt ValueRow dwv_value
     layout crates/dwv_c/src/table_rows.rt TableCounts dwv_counts
     sed -n 's/^pub const \([A-Z_]*\): u32 = \([0-9]*\);/_Static_assert(DWV_\1 == \2, "\1");/p' \
         crates/dwv_c/src/verdict.rt crates/dwv_c/src/places.rt
 } > "$folder/layout.c"
-is 'tests of the layout' "$(grep -c '^_Static_assert' "$folder/layout.c")" 110
+is 'tests of the layout' "$(grep -c '^_Static_assert' "$folder/layout.c")" 93
 
 # Files: a sound one, one with a fault, and one of each compiler. Names are in .debug_info, .debug_str and
 # .debug_line_str, and in clang's program at indexed offsets.
@@ -145,10 +144,8 @@ for compiler in gcc clang; do
     ends "$compiler: table.c compiles" build -o "$folder/table" "$tests/table.c"
     for file in "${files[@]}"; do
         name=$(basename "$file")
-        is "$compiler: check of $name" "$("$folder/calls" check "$file" 2>&1; echo $?)" \
+        is "$compiler: check of $name" "$("$folder/calls" "$file" 2>&1; echo $?)" \
             "$("$dwv" check "$file"; echo $?)"
-        is "$compiler: entries of $name" "$("$folder/calls" entries "$file" 2>&1 | md5sum)" \
-            "$("$dwv" show "$file" | sed '/^fault/d' | md5sum)"
         is "$compiler: table of $name" "$("$folder/table" "$file" 2>&1 | md5sum)" \
             "$("$dwv" show "$file" | sed '/^fault/d' | md5sum)"
     done
@@ -159,16 +156,10 @@ for compiler in gcc clang; do
     ends "$compiler: eight threads" "$folder/threads" "${files[@]:0:2}"
 done
 
-# block LANGUAGE [NUMBER]: the example of docs/LIBRARY.md in this language, the first one or that of the number.
-block() {
-    awk -v start="\`\`\`$1" -v number="${2:-1}" '
-        /^```$/ { inside = 0 } inside { print } $0 == start { inside = ++count == number }' docs/LIBRARY.md
-}
 wanted=$(printf 'sound, 2 entries\nG1 UndeclaredCode at .debug_info+0x0000000f')
-block c > "$folder/example.c"
-block c 2 > "$folder/functions.c"
-block c++ > "$folder/example.cc"
-block go > "$folder/example.go"
+# The first example of docs/LIBRARY.md in C, and the examples that are files.
+awk '/^```$/ && inside { exit } inside { print } $0 == "```c" { inside = 1 }' docs/LIBRARY.md > "$folder/example.c"
+examples=contrib/integrations/examples
 
 # The functions in what `nm -S` prints, as the example with the table prints them: start, end and name. Those of the C
 # runtime have no entry.
@@ -214,7 +205,7 @@ if has pkg-config && has gcc; then
         gcc -Wall -Wextra -Werror -o "$folder/c" "$folder/example.c" "${words[@]}"
     is 'the C example' "$(LD_LIBRARY_PATH="$installed/lib" "$folder/c" "$sample" "$folder/broken")" "$wanted"
     ends 'the C example with the table compiles' \
-        gcc -Wall -Wextra -Werror -o "$folder/functions" "$folder/functions.c" "${words[@]}"
+        gcc -Wall -Wextra -Werror -o "$folder/functions" $examples/functions.c "${words[@]}"
     if [ -e "$folder/program-gcc" ] && has nm; then
         # Functions of the program, as nm has them: where each starts and ends.
         is 'the C example with the table' \
@@ -223,12 +214,12 @@ if has pkg-config && has gcc; then
     fi
     if has g++; then
         ends 'the C++ example compiles' \
-            g++ -std=c++17 -Wall -Wextra -Werror -o "$folder/cc" "$folder/example.cc" "${words[@]}"
+            g++ -std=c++17 -Wall -Wextra -Werror -o "$folder/cc" $examples/check.cc "${words[@]}"
         is 'the C++ example' "$(LD_LIBRARY_PATH="$installed/lib" "$folder/cc" "$sample" "$folder/broken")" "$wanted"
     fi
     if has go; then
         mkdir "$folder/go"
-        cp "$folder/example.go" "$folder/go/main.go"
+        cp $examples/check.go "$folder/go/main.go"
         (cd "$folder/go" && printf 'module example\n' > go.mod && PKG_CONFIG_PATH="$installed/lib/pkgconfig" \
             GOCACHE="$folder/cache" go build -o ../example .) > "$folder/log" 2>&1
         is 'the Go example compiles' "$?" 0

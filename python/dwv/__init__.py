@@ -103,24 +103,21 @@ def check_sections(*, info: bytes = b"", abbrev: bytes = b"", str: bytes = b"", 
 
 
 def entries(file: File) -> Union[List[Entry], Fault]:
-    """The entries of a sound file in rising offset, or the fault of another one."""
-    data = _bytes(file)
-    raw, count = _Verdict(), ctypes.c_size_t(64)
-    while True:
-        rows = (_Entry * (count.value or 1))()
-        status = _library.dwv_entries(data, len(data), rows, len(rows), ctypes.byref(count), ctypes.byref(raw))
-        if status == 0:
-            return [_entry(data, row) for row in rows[: count.value]]
-        if status == 1:
-            return _fault(raw)
-        if status == 4:
-            raise MemoryError
+    """The entries of a sound file in rising offset, without their values, or the fault of another one."""
+    try:
+        found = table(file)
+    except NotSound as error:
+        return error.fault
+    rows = found.columns["entries"]
+    return [Entry(offset, depth, tag, found.size(row), found.name(row))
+            for row, (offset, depth, tag) in enumerate(zip(rows["offset"], rows["depth"], rows["tag"]))]
 
 
 def table(file: File, limit: Optional[int] = None) -> tables.Table:
     """The units, entries and values of a sound file. Any other raises NotSound, with the fault.
 
-    A small file may have very many values, of 32 bytes each. If it has more than the limit, MemoryError is raised.
+    A small file may have very many values, of 32 bytes each. If it has more than the limit, MemoryError is raised. The
+    limit is else a value for each byte and a million more, which is more than compilers write.
     """
     data = _bytes(file)
     return _table(_library.dwv_table, [data, len(data)], (data,) * 4, limit)
@@ -128,7 +125,8 @@ def table(file: File, limit: Optional[int] = None) -> tables.Table:
 
 def table_sections(*, info: bytes = b"", abbrev: bytes = b"", str: bytes = b"", line_str: bytes = b"",
                    str_offsets: bytes = b"", addr: bytes = b"", limit: Optional[int] = None) -> tables.Table:
-    """The same of six sections, which may come from a file of any format. One that is not given is empty."""
+    """The same of six sections, which may come from a file of any format. One that is not given is empty. The limit is
+    else by the bytes of `info`."""
     given = [bytes(it) for it in (info, abbrev, str, line_str, str_offsets, addr)]
     words = [word for data in given for word in (data, len(data))]
     return _table(_library.dwv_table_sections, words, (b"", given[0], given[2], given[3]), limit)
@@ -178,21 +176,6 @@ class _Verdict(ctypes.Structure):
     ]
 
 
-class _Entry(ctypes.Structure):
-    """struct dwv_entry of dwv.h."""
-
-    _fields_ = [
-        ("size", ctypes.c_uint64),
-        ("name", ctypes.c_uint64),
-        ("offset", ctypes.c_uint32),
-        ("depth", ctypes.c_uint32),
-        ("tag", ctypes.c_uint32),
-        ("has_size", ctypes.c_uint32),
-        ("name_length", ctypes.c_uint32),
-        ("has_name", ctypes.c_uint32),
-    ]
-
-
 def _verdict(status, raw):
     """The verdict of a call that returned this status."""
     if status == 0:
@@ -204,13 +187,6 @@ def _verdict(status, raw):
 
 def _fault(raw):
     return Fault(raw.rule.decode(), raw.name.decode(), raw.section.decode(), raw.at, raw.attribute)
-
-
-def _entry(data, row):
-    """An entry by its row. Its name is in the bytes of the file."""
-    size = row.size if row.has_size else None
-    name = data[row.name : row.name + row.name_length] if row.has_name else None
-    return Entry(row.offset, row.depth, row.tag, size, name)
 
 
 def _bytes(file):
@@ -242,12 +218,11 @@ def _loaded():
     library.dwv_check_sections.argtypes = [ctypes.c_char_p, size] * 6 + [pointer(_Verdict)]
     library.dwv_report.argtypes = [ctypes.c_char_p, size, ctypes.c_uint32, ctypes.c_uint32, ctypes.c_char_p, size,
                                    pointer(size)]
-    library.dwv_entries.argtypes = [ctypes.c_char_p, size, pointer(_Entry), size, pointer(size), pointer(_Verdict)]
     rooms = [ctypes.c_void_p, size] * 3 + [ctypes.c_void_p, pointer(_Verdict)]
     library.dwv_table.argtypes = [ctypes.c_char_p, size, *rooms]
     library.dwv_table_sections.argtypes = [ctypes.c_char_p, size] * 6 + rooms
-    for call in (library.dwv_check, library.dwv_check_sections, library.dwv_report, library.dwv_entries,
-                 library.dwv_table, library.dwv_table_sections):
+    for call in (library.dwv_check, library.dwv_check_sections, library.dwv_report, library.dwv_table,
+                 library.dwv_table_sections):
         call.restype = ctypes.c_uint32
     return library
 

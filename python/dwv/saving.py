@@ -19,7 +19,7 @@ import sys
 from typing import Iterator, List
 
 import dwv
-from dwv.tables import KINDS, NONE, TEXT, Table, name_of, usual_limit
+from dwv.tables import KINDS, NONE, TEXT, Table, name_of
 
 # The columns of each table, with their types in SQLite.
 COLUMNS = {
@@ -128,8 +128,7 @@ def main(words: List[str]) -> int:
     parser.add_argument("--limit", type=int, metavar="N", help="the most values that FILE may have")
     given = parser.parse_args(words)
     try:
-        limit = usual_limit(os.path.getsize(given.file)) if given.limit is None else given.limit
-        (given.save or save_arrays)(dwv.table(given.file, limit), given.out)
+        (given.save or save_arrays)(dwv.table(given.file, given.limit), given.out)
         return 0
     except dwv.NotSound as error:
         status, why = 1, str(error)

@@ -20,7 +20,7 @@ KINDS = (None, "unsigned", "signed", "flag", "address", "text", "block", "expres
 # The sections that a text or bytes may be in, by the number that a row has.
 SECTIONS = (None, ".debug_info", ".debug_str", ".debug_line_str")
 
-# The fields of struct dwv_unit, dwv_table_entry and dwv_value of dwv.h, and how many bytes each has.
+# The fields of struct dwv_unit, dwv_entry and dwv_value of dwv.h, and how many bytes each has.
 FIELDS = {
     "units": {"language": 8, "offset": 4, "version": 4, "unit_type": 4, "address_size": 4, "first": 4, "entries": 4,
               "rnglists_base": 4, "loclists_base": 4},
@@ -258,21 +258,22 @@ def code_of(kind: str, name: str) -> int:
 
 
 def usual_limit(length: int) -> int:
-    """The most values that the commands take of a file of so many bytes, if no other limit is given: a value for each
-    byte and a million more, which is more than compilers write."""
+    """The most values that a file of so many bytes may have, if no other limit is given: a value for each byte and a
+    million more, which is more than compilers write."""
     return length + 1_000_000
 
 
 def read(call, parts: Tuple[bytes, ...], limit: Optional[int]) -> Union[Table, int]:
-    """The table that a call of the library writes, or its status. More values than the limit raise MemoryError, before
-    memory is asked for them.
+    """The table that a call of the library writes, or its status. More values than the limit, or than `usual_limit`
+    says, raise MemoryError, before memory is asked for them.
 
     `call` gets the memory and the rooms of the arrays, and the counts. It is called again only if the bytes have more
     rows than compilers write, or there is no memory for so many: then the call says how many there are. Rows that are
     not written are not touched."""
     # Compilers write fewer rows for 64 bytes of .debug_info. In all, these take at most 1 GiB.
     blocks = min(len(parts[1]) // 64, 500_000) + 1
-    rooms = [blocks, 12 * blocks, 40 * blocks if limit is None else max(0, min(40 * blocks, limit))]
+    limit = usual_limit(len(parts[1])) if limit is None else limit
+    rooms = [blocks, 12 * blocks, max(0, min(40 * blocks, limit))]
     counts = (ctypes.c_uint64 * 3)()
     is_guess = True
     while True:
@@ -287,7 +288,7 @@ def read(call, parts: Tuple[bytes, ...], limit: Optional[int]) -> Union[Table, i
             return Table(parts, memory, dict(zip(FIELDS, counts)))
         if status == 5:
             rooms = list(counts)
-            if limit is not None and rooms[2] > limit:
+            if rooms[2] > limit:
                 raise MemoryError(f"{rooms[2]} values, and the limit is {limit}")
         elif status == 4 and is_guess:
             rooms = [0, 0, 0]

@@ -1,6 +1,6 @@
-/* calls check FILE prints what `dwv check` prints of a sound file or of a fault of its sections, and calls entries FILE
-   what `dwv show` prints of a sound file. Before that it tries arrays and buffers that are too short by one, and
-   requests that there are not. It ends with the status of the call, or with 99 if one did not do what dwv.h says. */
+/* calls FILE prints what `dwv check` prints of a sound file or of a fault of its sections. Before that it tries buffers
+   that are too short by one, and requests that there are not. It ends with the status of the call, or with 99 if one
+   did not do what dwv.h says. */
 #include <inttypes.h>
 #include <string.h>
 #include "dwv.h"
@@ -54,54 +54,6 @@ static void reports(const uint8_t *file, size_t length) {
     NEED(needed == 77 && is_untouched(buffer, sizeof buffer));
 }
 
-/* Prints the name of an entry as `dwv show` does. */
-static void print_name(const uint8_t *file, size_t length, const struct dwv_entry *row) {
-    NEED(row->has_name == 1 || (row->has_name == 0 && row->name == 0 && row->name_length == 0));
-    if (!row->has_name)
-        return;
-    NEED(row->name < length && row->name_length < length - row->name);
-    const uint8_t *name = file + row->name;
-    NEED(strlen((const char *)name) == row->name_length);
-    printf(" \"");
-    for (uint32_t k = 0; k < row->name_length; k++)
-        printf(name[k] < 0x20 || name[k] > 0x7e || strchr("\"\\", name[k]) ? "\\x%02x" : "%c", name[k]);
-    putchar('"');
-}
-
-static uint32_t entries(const uint8_t *file, size_t length) {
-    struct dwv_verdict v = {0}, w = {0};
-    size_t count = 77, again = 0;
-    struct dwv_entry *rows = filled(sizeof *rows);
-    uint32_t status = dwv_entries(file, length, rows, 0, &count, &v);
-    NEED(is_untouched(rows, sizeof *rows) && dwv_check(file, length, &w) == (status == DWV_FAULT));
-    NEED(!memcmp(&v, &w, sizeof v));
-    free(rows);
-    if (status == DWV_FAULT) {
-        NEED(count == 77);
-        return status;
-    }
-    NEED(count == v.entries && status == (count ? DWV_TOO_SHORT : DWV_SOUND));
-    if (count) {
-        rows = filled((count - 1) * sizeof *rows);
-        NEED(dwv_entries(file, length, rows, count - 1, &again, &w) == DWV_TOO_SHORT && again == count);
-        NEED(is_untouched(rows, (count - 1) * sizeof *rows));
-        free(rows);
-    }
-    rows = filled((count + 1) * sizeof *rows);
-    NEED(dwv_entries(file, length, rows, count + 1, &again, &w) == DWV_SOUND && again == count);
-    NEED(is_untouched(rows + count, sizeof *rows));
-    for (size_t k = 0; k < count; k++) {
-        printf("0x%08" PRIx32 " %*s0x%04" PRIx32, rows[k].offset, (int)(2 * rows[k].depth), "", rows[k].tag);
-        print_name(file, length, &rows[k]);
-        if (rows[k].has_size)
-            printf(" size %" PRIu64, rows[k].size);
-        NEED(rows[k].has_size == 1 || (rows[k].has_size == 0 && rows[k].size == 0));
-        puts("");
-    }
-    free(rows);
-    return DWV_SOUND;
-}
-
 /* Sections that are in no file: a unit with an int, the same cut by a byte, and one that is in .debug_str. */
 static void sections(void) {
     static const uint8_t table[] = {1, 0x11, 1, 0x03, 0x08, 0, 0, 2, 0x24, 0, 0x03, 0x0e, 0x0b, 0x0b, 0x3e, 0x0b, 0, 0,
@@ -126,12 +78,12 @@ static void sections(void) {
 }
 
 int main(int argc, char **argv) {
-    NEED(argc == 3);
+    NEED(argc == 2);
     size_t length;
-    uint8_t *file = read_file(argv[2], &length);
+    uint8_t *file = read_file(argv[1], &length);
     sections();
     reports(file, length);
-    uint32_t status = !strcmp(argv[1], "check") ? check(file, length) : entries(file, length);
+    uint32_t status = check(file, length);
     free(file);
     return (int)status;
 }

@@ -40,8 +40,11 @@ void __wrap_free(void *block) {
 /* All memory that calls write. */
 struct memory {
     struct dwv_verdict verdict;
-    size_t count;
-    struct dwv_entry rows[64];
+    size_t needed;
+    struct dwv_counts counts;
+    struct dwv_unit units[64];
+    struct dwv_entry entries[64];
+    struct dwv_value values[64];
     uint8_t text[1 << 16];
 };
 
@@ -53,11 +56,11 @@ static uint32_t call(int number, const uint8_t *file, size_t length, struct memo
     counting = 1;
     uint32_t status;
     if (number <= DWV_SIZE)
-        status = dwv_report(file, length, (uint32_t)number, 0x0f, to->text, sizeof to->text, &to->count);
+        status = dwv_report(file, length, (uint32_t)number, 0x0f, to->text, sizeof to->text, &to->needed);
     else if (number == 5)
         status = dwv_check(file, length, &to->verdict);
     else if (number == 6)
-        status = dwv_entries(file, length, to->rows, sizeof to->rows / sizeof *to->rows, &to->count, &to->verdict);
+        status = dwv_table(file, length, to->units, 64, to->entries, 64, to->values, 64, &to->counts, &to->verdict);
     else
         status = dwv_check_sections(file + 64, 64, file, 64, none, 0, none, 0, none, 0, none, 0, &to->verdict);
     counting = 0;

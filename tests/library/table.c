@@ -9,7 +9,7 @@
 
 struct table {
     struct dwv_unit *units;
-    struct dwv_table_entry *entries;
+    struct dwv_entry *entries;
     struct dwv_value *values;
 };
 
@@ -35,11 +35,17 @@ static void freed(struct table *t) {
     free(t->values);
 }
 
-/* Each text or block is in the file, a zero byte ends each text, and each reference names an entry. */
+/* Each name, text or block is in the file, a zero byte ends each text, and each reference names an entry. */
 static void check_values(const uint8_t *file, size_t length, const struct table *t, const struct dwv_counts *n) {
     uint64_t at = 0;
     for (uint64_t k = 0; k < n->entries; k++) {
-        const struct dwv_table_entry *entry = &t->entries[k];
+        const struct dwv_entry *entry = &t->entries[k];
+        if (entry->name_section == DWV_NOWHERE)
+            NEED(entry->name == 0 && entry->name_length == 0);
+        else
+            NEED(entry->name < length && entry->name_length < length - entry->name &&
+                 strlen((const char *)file + entry->name) == entry->name_length);
+        NEED(entry->has_size == 1 || (entry->has_size == 0 && entry->size == 0));
         NEED(entry->first_value == at && entry->unit < n->units && (entry->parent == DWV_NONE) == (entry->depth == 0));
         NEED(entry->parent == DWV_NONE || (entry->parent < k && t->entries[entry->parent].depth + 1 == entry->depth));
         NEED(entry->next_sibling == DWV_NONE || t->entries[entry->next_sibling].parent == entry->parent);
@@ -63,7 +69,7 @@ static void check_values(const uint8_t *file, size_t length, const struct table 
 
 static void print(const uint8_t *file, const struct table *t, const struct dwv_counts *n) {
     for (uint64_t k = 0; k < n->entries; k++) {
-        const struct dwv_table_entry *entry = &t->entries[k];
+        const struct dwv_entry *entry = &t->entries[k];
         printf("0x%08" PRIx32 " %*s0x%04" PRIx32, entry->offset, (int)(2 * entry->depth), "", entry->tag);
         const uint8_t *name = file + entry->name;
         if (entry->name_section != DWV_NOWHERE) {
@@ -85,7 +91,7 @@ static void sections(void) {
     static const uint8_t info[] = {0x17, 0, 0, 0, 5, 0, 1, 8, 0, 0, 0, 0, 1, 'a', 0, 2, 1, 0, 0, 0, 4, 5, 3, 0, 0, 0, 0};
     static const uint8_t str[] = {0, 'i', 'n', 't', 0}, none[1];
     struct dwv_unit units[1] = {{0}};
-    struct dwv_table_entry entries[3] = {{0}};
+    struct dwv_entry entries[3] = {{0}};
     struct dwv_value values[7] = {{0}};
     struct dwv_counts n = {0};
     struct dwv_verdict v = {0};
@@ -117,6 +123,7 @@ int main(int argc, char **argv) {
     struct dwv_verdict v = {0}, w = {0};
     uint32_t status = called(file, length, &t, &n, (int[]){0, 0, 0}, &n, &v);
     NEED(dwv_check(file, length, &w) == (status == DWV_FAULT) && !memcmp(&v, &w, sizeof v));
+    NEED(status != DWV_FAULT || (n.units == 0 && n.entries == 0 && n.values == 0));
     freed(&t);
     if (status == DWV_TOO_SHORT) {
         for (int k = 0; k < 3; k++) {

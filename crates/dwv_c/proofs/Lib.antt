@@ -3,8 +3,6 @@ pub mod CountLemmas
 pub mod MeaningLemmas
 pub mod NameLemmas
 pub mod NamedLemmas
-pub mod RowLemmas
-pub mod StringLemmas
 pub mod TableLemmas
 pub mod TableRowLemmas
 pub mod TextLemmas

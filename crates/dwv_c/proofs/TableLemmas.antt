@@ -1,5 +1,5 @@
 -- Rows that are written one after another, and the values of entries in their order.
-use Rattle.std.proofs.Common.{◌≡◌, ℕ, zero, suc, ◌+◌, ◌-◌, ◌<◌, ◌≤◌, inl, inr, List, [], ◌∷◌, ◌++◌, length, take, drop, map, Option, Some, None, refl, sym, ap, subst, ◌∙◌, append_assoc, append-nil, length-append, drop-drop, drop_at, arith}
+use Rattle.std.proofs.Common.{◌≡◌, ℕ, zero, suc, ◌+◌, ◌-◌, ◌<◌, ◌≤◌, ◌⊎◌, inl, inr, List, [], ◌∷◌, ◌++◌, length, take, drop, map, Option, Some, None, refl, sym, ap, subst, ◌∙◌, append_assoc, append-nil, length-append, drop-drop, drop_at, arith}
 use Rattle.std.proofs.lemmas.List.{drop-set-lt, length-map}
 use Rattle.std.proofs.lemmas.Option.{slice_get_within, slice_get-get_or, slice_get-map}
 use Rattle.std.specs.Prelude.{slice_get, slice_set, option_map}
@@ -14,18 +14,33 @@ use Rattle.dw_image.specs.declared.image.Image.{Image}
 use Rattle.dw_image.specs.Images.{entries_in, entry_count, name_in, name_place_in}
 use Rattle.dwv_c.specs.declared.meaning.ValueRow.{ValueRow}
 use Rattle.dwv_c.specs.declared.meaning.Meaning.{Meaning}
-use Rattle.dwv_c.specs.declared.values.UnitAtHand.{UnitAtHand}
+use Rattle.dw_image.specs.declared.unit_at_hand.UnitAtHand.{UnitAtHand}
 use Rattle.dwv_c.specs.declared.places.Span.{Span}
-use Rattle.dwv_c.specs.Meanings.{HasMeaning, HasValue, Means, named_after}
+use Rattle.dwv_c.specs.Meanings.{HasMeaning, Means, named_after}
+use Rattle.dw_image.specs.UnitsAtHand.{HasValue}
 use Rattle.dwv_c.specs.TableState.{IsNameSpan}
 use Rattle.dwv_c.specs.SectionPlaces.{Holders}
 use Rattle.dwv_c.specs.ValueRows.{IsValueRow, Told, told, values_from, values_in}
 use Rattle.dwv_c.specs.Tables.{HaveValues, value_count, values_before}
 use Rattle.dw_links.proofs.ListLookups.{there}
 use Rattle.dwv_c.proofs.NamedLemmas.{IsNamed, name_among, named_all, named_more}
-use Rattle.dwv_c.proofs.RowLemmas.{below_or_not, get_set_other, get_set_same}
 
 -- ---- rows, one after another
+
+get_set_same : {X : Type 0} (xs : List X) (k : ℕ) (y : X) → k < length xs → slice_get (slice_set xs k y) k ≡ Some y
+get_set_same [] k y less = absurd (omega (arith, less))
+get_set_same (x ∷ xs) zero y less = refl
+get_set_same (x ∷ xs) (suc k) y less = get_set_same xs k y (omega (arith, less))
+
+get_set_other : {X : Type 0} (xs : List X) (n k : ℕ) (y : X) → k < n
+    → slice_get (slice_set xs n y) k ≡ slice_get xs k
+get_set_other [] n k y less = refl
+get_set_other (x ∷ xs) zero k y less = absurd (omega (arith, less))
+get_set_other (x ∷ xs) (suc n) zero y less = refl
+get_set_other (x ∷ xs) (suc n) (suc k) y less = get_set_other xs n k y (omega (arith, less))
+
+below_or_not : (k n : ℕ) → (k < n) ⊎ (n ≤ k)
+below_or_not k n = grind arith
 
 -- the rows of the first items of a list
 abbrev pub Have : {X R : Type 0} → (ℕ → X → R → Type 0) → List X → ℕ → List R → Type 0
@@ -220,11 +235,13 @@ name_at_last h i id at left named none w =
 -- the value at hand is one of the entry
 pub value_of_entry : (h : Holders) (i : Image) (u : UnitAtHand) (id at : ℕ) (item : PlacedValue)
     (left : List PlacedValue) (named : Option (Option Span)) → IsAtValue h i id at (item ∷ left) named
-    → u.number ≡ (entry_of (entries_in i) id).unit → HasValue i u id item.attribute item.value
+    → u.number ≡ (entry_of (entries_in i) id).unit → HasValue i u item.value
 value_of_entry h i u id at item left named w unit = record {
+  id = id;
   within = w.within;
   in_unit = sym unit;
   position = length w.done;
+  attribute = item.attribute;
   has = has_here h i id at item left named w;
 }
 

@@ -1,8 +1,8 @@
 -- The rows of a table: that of an entry by what is told of it, and what a call returns.
-use Rattle.std.proofs.Common.{◌≡◌, ℕ, suc, ◌+◌, ◌-◌, ◌<◌, List, [], ◌∷◌, ◌++◌, length, min, Option, Some, None, Err, refl, sym, ap, subst, ◌∙◌, arith}
+use Rattle.std.proofs.Common.{◌≡◌, ℕ, suc, ◌+◌, ◌-◌, ◌<◌, ◌≤◌, List, [], ◌∷◌, ◌++◌, length, min, Option, Some, None, Err, IfSome, refl, sym, ap, subst, ◌∙◌, arith}
 use Rattle.std.specs.Prelude.{slice_get, slice_set, option_map}
 use Rattle.std.specs.Option.{IsSomeAnd}
-use Rattle.std.proofs.lemmas.Option.{get_or_from_slice_get}
+use Rattle.std.proofs.lemmas.Option.{get_or_from_slice_get, slice_get-get_or}
 use Rattle.dw_elf.specs.Checks.{ChecksPass}
 use Rattle.dw_elf.specs.Sections.{AreSections, IsAt}
 use Rattle.dw_elf.specs.declared.sections.Sections.{Sections}
@@ -13,38 +13,36 @@ use Rattle.dw_entries.proofs.DepthLaws.{no_depth, one_deeper}
 use Rattle.dw_forms.specs.declared.fault.Stop.{Stop}
 use Rattle.dw_forms.specs.declared.fault.Stop.TheVariants.{Fault, Memory}
 use Rattle.dw_image.specs.declared.image.Image.{Image}
-use Rattle.dw_image.specs.Headline.{IsImageOf}
-use Rattle.dw_image.specs.Images.{entries_in, name_in, name_place_in, sections_in, units_in}
+use Rattle.dw_image.specs.Images.{entries_in, entry_count, name_in, name_place_in, sections_in, units_in}
 use Rattle.dw_links.specs.declared.texts.TextPlace.{TextPlace}
 use Rattle.dw_report.specs.Shown.{entry_size}
 use Rattle.dwv_c.specs.declared.places.Span.{Span}
 use Rattle.dwv_c.specs.declared.table_rows.Links.{Links}
 use Rattle.dwv_c.specs.declared.table_rows.TableCounts.{TableCounts}
 use Rattle.dwv_c.specs.declared.meaning.ValueRow.{ValueRow}
-use Rattle.dwv_c.specs.declared.table_rows.TableEntry.{TableEntry}
+use Rattle.dwv_c.specs.declared.table_rows.EntryRow.{EntryRow}
 use Rattle.dwv_c.specs.declared.table_rows.UnitRow.{UnitRow}
 use Rattle.dwv_c.specs.declared.verdict.Verdict.{Verdict}
 use Rattle.dwv_c.specs.Checked.{IsErrorOf, status_of, verdict_after}
-use Rattle.dwv_c.specs.Rows.{greatest}
-use Rattle.dwv_c.specs.Tables.{AreTable, Arrays, HasName, HasRoom, HasSize, HaveEntries, IsTableEntry, LacksRoom, PutsTable, arrays, counts_of, row_of, sound, fault, memory, short, values_before, whole}
+use Rattle.dwv_c.specs.Tables.{AreHolders, AreTable, Arrays, HasName, HasRoom, HasSize, HaveEntries, IsEntryRow, LacksRoom, PutsTable, arrays, counts_of, greatest, row_of, sound, fault, memory, short, values_before, whole}
 use Rattle.dwv_c.specs.TableState.{HasLinks, HasNameSpan, IsNameSpan, Puts, depth_by, filled}
 use Rattle.dwv_c.specs.TableState as state
 use Rattle.dwv_c.specs.SectionPlaces.{Holders, held_in}
-use Rattle.dwv_c.specs.Verdicts.{NO_MEMORY, SOUND, TOO_SHORT, IsSoundFile, of_image}
+use Rattle.dwv_c.specs.Verdicts.{Given, of_file, NO_MEMORY, SOUND, TOO_SHORT, IsFaultOfGiven, IsSound, of_image}
 use Rattle.dwv_c.proofs.TableLemmas.{have_more}
 
 some_is : {X : Type 0} {x y : X} → Some x ≡ Some y → x ≡ y
 some_is e = cc
 
 -- the depth by the parent's row is the entry's
-depth_told : (h : Holders) (i : Image) (k : ℕ) (e : Entry) (rows : List TableEntry) (d : ℕ)
+depth_told : (h : Holders) (i : Image) (k : ℕ) (e : Entry) (rows : List EntryRow) (d : ℕ)
     → slice_get (entries_in i) k ≡ Some e
     → HaveEntries h i k rows → depth_by rows e.parent ≡ Some d → d ≡ min e.depth greatest
 depth_told h i k e rows d is so_far told = go e.parent refl told
   where
-    by_row : (p : ℕ) (above : Entry) (o : Option TableEntry) → e.depth ≡ suc above.depth
-        → IsSomeAnd o (IsTableEntry h i p above)
-        → option_map (λ (r : TableEntry). min (suc r.depth) greatest) o ≡ Some d → d ≡ min e.depth greatest
+    by_row : (p : ℕ) (above : Entry) (o : Option EntryRow) → e.depth ≡ suc above.depth
+        → IsSomeAnd o (IsEntryRow h i p above)
+        → option_map (λ (r : EntryRow). min (suc r.depth) greatest) o ≡ Some d → d ≡ min e.depth greatest
     by_row p above None deeper row told = absurd row
     by_row p above (Some r) deeper row told = omega (arith, some_is told, row.depth, deeper)
 
@@ -54,7 +52,7 @@ depth_told h i k e rows d is so_far told = go e.parent refl told
         let (above, at, deeper, less) = one_deeper (units_in i) k p e is under in
         by_row p above (slice_get rows p) deeper (so_far p above less at) told
 
-has_name : (h : Holders) (name : Option (List ℕ)) (place : Option TextPlace) (s : Option Span) (r : TableEntry)
+has_name : (h : Holders) (name : Option (List ℕ)) (place : Option TextPlace) (s : Option Span) (r : EntryRow)
     → IsNameSpan h name place s → HasNameSpan s r → HasName h name place r
 has_name h None place None r is has = has
 has_name h None place (Some s) r is has = absurd is
@@ -71,15 +69,15 @@ has_name h (Some text) (Some place) (Some s) r is has = record {
 }
 
 -- what is told of an entry makes its row
-pub entry_told : (h : Holders) (i : Image) (k : ℕ) (rows : List TableEntry) (e : Entry) (offset tag : ℕ)
-    (above : Option ℕ) (d : ℕ) (size : Option ℕ) (name : Option Span) (l : Links) (r : TableEntry)
+pub entry_told : (h : Holders) (i : Image) (k : ℕ) (rows : List EntryRow) (e : Entry) (offset tag : ℕ)
+    (above : Option ℕ) (d : ℕ) (size : Option ℕ) (name : Option Span) (l : Links) (r : EntryRow)
     → slice_get (entries_in i) k ≡ Some e → HaveEntries h i k rows → offset ≡ e.at → tag ≡ e.head.decl.tag
     → above ≡ e.parent → depth_by rows above ≡ Some d → size ≡ entry_size i k e
     → IsNameSpan h (name_in i e) (name_place_in i e) name
     → l.first_value ≡ values_before i k → l.values ≡ length (values_of e.head) → l.unit ≡ e.unit
     → l.parent ≡ e.parent → l.next_sibling ≡ e.next
     → r.offset ≡ offset → r.depth ≡ d → r.tag ≡ tag → HasSize size r → HasNameSpan name r → HasLinks l r
-    → IsTableEntry h i k e r
+    → IsEntryRow h i k e r
 entry_told h i k rows e offset tag above d size name l r at so_far is_offset is_tag is_above is_depth is_size is_name
     first values unit parent next r_offset r_depth r_tag r_size r_name r_links =
     record {
@@ -95,63 +93,66 @@ entry_told h i k rows e offset tag above d size name l r at so_far is_offset is_
       next_sibling = r_links.next_sibling ∙ ap row_of next;
     }
 
+-- a parent has an earlier number
+pub parent_before : (i : Image) (k : ℕ) (room : ℕ) (parent : Option ℕ) → k ≤ room → k < entry_count i
+    → parent ≡ (entry_of (entries_in i) k).parent → IfSome parent (λ p. p < room)
+parent_before i k room parent le within is = go (entry_of (entries_in i) k).parent refl
+  where
+    go : (above : Option ℕ) → (entry_of (entries_in i) k).parent ≡ above → IfSome parent (λ p. p < room)
+    go None top = rw (is, top) tt
+    go (Some p) under =
+        let (above, there, deeper, less) = one_deeper (units_in i) k p (entry_of (entries_in i) k)
+        (slice_get-get_or (entries_in i) k no_entry within) under in
+        rw (is, under) (omega (arith, less, le))
+
 -- the rows of entries and that of the next one
-pub entries_more : (h : Holders) (i : Image) (n : ℕ) (rows : List TableEntry) (r : TableEntry) → n < length rows
+pub entries_more : (h : Holders) (i : Image) (n : ℕ) (rows : List EntryRow) (r : EntryRow) → n < length rows
     → HaveEntries h i n rows
-    → IsTableEntry h i n (entry_of (entries_in i) n) r → HaveEntries h i (n + 1) (slice_set rows n r)
+    → IsEntryRow h i n (entry_of (entries_in i) n) r → HaveEntries h i (n + 1) (slice_set rows n r)
 entries_more h i n rows r room so_far says =
-    have_more (IsTableEntry h i) (entries_in i) n rows r room so_far
-    (λ e is. subst (λ (x : Entry). IsTableEntry h i n x r) (get_or_from_slice_get (entries_in i) n e no_entry is) says)
+    have_more (IsEntryRow h i) (entries_in i) n rows r room so_far
+    (λ e is. subst (λ (x : Entry). IsEntryRow h i n x r) (get_or_from_slice_get (entries_in i) n e no_entry is) says)
 
 -- ---- what a call returns
 
 -- one of the arrays is too short
-pub puts_short : (AreHolders : Holders → Type 0) (i : Image) (old : Arrays) (counts counts' : TableCounts)
+pub puts_short : (AreHeld : Holders → Type 0) (i : Image) (old : Arrays) (counts counts' : TableCounts)
     (v v' : Verdict) → LacksRoom i old → counts' ≡ counts_of i → v' ≡ of_image i
-    → Puts AreHolders i old counts v TOO_SHORT old counts' v'
-puts_short AreHolders i old counts counts' v v' lacks is_counts is_v =
+    → Puts AreHeld i old counts v TOO_SHORT old counts' v'
+puts_short AreHeld i old counts counts' v v' lacks is_counts is_v =
     rw (is_counts, is_v) (filled TOO_SHORT old (short lacks))
 
 -- all rows are written
-pub puts_whole : (AreHolders : Holders → Type 0) (i : Image) (old new : Arrays) (counts counts' : TableCounts)
-    (v v' : Verdict) → HasRoom i old → (h : Holders) × AreHolders h × AreTable h i old new → counts' ≡ counts_of i
-    → v' ≡ of_image i → Puts AreHolders i old counts v SOUND new counts' v'
-puts_whole AreHolders i old new counts counts' v v' room (h, held, are) is_counts is_v =
+pub puts_whole : (AreHeld : Holders → Type 0) (i : Image) (old new : Arrays) (counts counts' : TableCounts)
+    (v v' : Verdict) → HasRoom i old → (h : Holders) × AreHeld h × AreTable h i old new → counts' ≡ counts_of i
+    → v' ≡ of_image i → Puts AreHeld i old counts v SOUND new counts' v'
+puts_whole AreHeld i old new counts counts' v v' room (h, held, are) is_counts is_v =
     rw (is_counts, is_v) (filled SOUND new (whole h new held room are))
 
 -- an allocation failed
-pub puts_none : (AreHolders : Holders → Type 0) (i : Image) (units units' : List UnitRow)
-    (entries entries' : List TableEntry)
+pub puts_none : (AreHeld : Holders → Type 0) (i : Image) (units units' : List UnitRow)
+    (entries entries' : List EntryRow)
     (values values' : List ValueRow) (counts : TableCounts) (v : Verdict)
     → (units' ≡ units) × (entries' ≡ entries) × (values' ≡ values)
-    → Puts AreHolders i (arrays units entries values) counts v NO_MEMORY (arrays units' entries' values') counts v
-puts_none AreHolders i units units' entries entries' values values' counts v same =
+    → Puts AreHeld i (arrays units entries values) counts v NO_MEMORY (arrays units' entries' values') counts v
+puts_none AreHeld i units units' entries entries' values values' counts v same =
     rw (same.0, same.1, same.2) state.memory
 
-pub puts_found : (IsOfFault : Verdict → Type 0) (IsSoundBy : Image → Type 0) (AreHolders : Image → Holders → Type 0)
-    (i : Image)
-    (old new : Arrays) (counts counts' : TableCounts)
-    (v v' : Verdict) (status : ℕ) → IsSoundBy i → Puts (AreHolders i) i old counts v status new counts' v'
-    → PutsTable IsOfFault IsSoundBy AreHolders old counts v status new counts' v'
-puts_found IsOfFault IsSoundBy AreHolders i old new counts counts' v v' status is (filled s n fills) =
-    sound i status new is fills
-puts_found IsOfFault IsSoundBy AreHolders i old new counts counts' v v' status is state.memory = memory
+-- what is given is sound
+pub puts_found : (g : Given) (i : Image) (old new : Arrays) (counts counts' : TableCounts) (v v' : Verdict)
+    (status : ℕ) → IsSound g i → Puts (AreHolders g i) i old counts v status new counts' v'
+    → PutsTable g old counts v status new counts' v'
+puts_found g i old new counts counts' v v' status is (filled s n fills) = sound i status new is fills
+puts_found g i old new counts counts' v v' status is state.memory = memory
 
--- for sections that are not sound, or if an allocation failed
-pub puts_fault : (IsOfFault : Verdict → Type 0) (IsSoundBy : Image → Type 0) (AreHolders : Image → Holders → Type 0)
-    (old : Arrays)
-    (counts : TableCounts) (v v' : Verdict)
-    (e : Stop Verdict) (status : ℕ) → status ≡ status_of (Err e) → v' ≡ verdict_after (Err e) v → IsErrorOf IsOfFault e
-    → PutsTable IsOfFault IsSoundBy AreHolders old counts v status old counts v'
-puts_fault IsOfFault IsSoundBy AreHolders old counts v v' (Fault f) status is_status is_v is =
-    rw (is_status, is_v) (fault f is)
-puts_fault IsOfFault IsSoundBy AreHolders old counts v v' Memory status is_status is_v is = rw (is_status, is_v) memory
-
--- an image is of its own sections
-pub own_sections : (s : Sections) (i : Image) → IsImageOf s i → IsImageOf (sections_in i) i
-own_sections s i is = subst (λ (x : Sections). IsImageOf x i) (sym is.sections) is
+-- it is not sound, or an allocation failed
+pub puts_fault : (g : Given) (old : Arrays) (counts : TableCounts) (v v' : Verdict) (e : Stop Verdict) (status : ℕ)
+    → status ≡ status_of (Err e) → v' ≡ verdict_after (Err e) v → IsErrorOf (IsFaultOfGiven g) e
+    → PutsTable g old counts v status old counts v'
+puts_fault g old counts v v' (Fault f) status is_status is_v is = rw (is_status, is_v) (fault f is)
+puts_fault g old counts v v' Memory status is_status is_v is = rw (is_status, is_v) memory
 
 -- the file has them
-pub file_ground : (bytes : List ℕ) (i : Image) → IsSoundFile bytes i
+pub file_ground : (bytes : List ℕ) (i : Image) → IsSound (of_file bytes) i
     → ChecksPass bytes × AreSections bytes (sections_in i)
-file_ground bytes i is = (is.of_file.passes, subst (AreSections bytes) (sym is.image.sections) is.of_file.are)
+file_ground bytes i is = (is.given.passes, subst (AreSections bytes) (sym is.image.sections) is.given.are)

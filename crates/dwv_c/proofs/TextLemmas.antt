@@ -1,8 +1,8 @@
 -- The texts of a verdict are shorter than their fields.
 use Rattle.std.proofs.Common.{rules, ◌≡◌, ℕ, ◌<◌, List, ◌++◌, length, drop, replicate, refl, arith}
 use Rattle.std.proofs.lemmas.List.{drop-replicate}
-use Rattle.dw_elf.specs.declared.fault.ElfRule.{ElfRule}
-use Rattle.dw_elf.specs.declared.fault.ElfRule.TheVariants.{TooLarge}
+use Rattle.dw_elf.specs.declared.rule.ElfRule.{ElfRule}
+use Rattle.dw_elf.specs.declared.rule.ElfRule.TheVariants.{TooLarge}
 use Rattle.dw_elf.specs.RuleTexts as elf
 use Rattle.dw_entries.specs.declared.fault.Section.{Section}
 use Rattle.dw_entries.specs.declared.fault.Section.TheVariants.{Abbrev}

@@ -1,13 +1,10 @@
 -- Chapters, in reading order.
 pub mod Verdicts
 pub mod SectionPlaces
-pub mod Rows
 pub mod ValueRows
 pub mod Tables
 pub mod Texts
 -- State.
 pub mod Checked
-pub mod Filling
 pub mod Meanings
-pub mod Strings
 pub mod TableState

@@ -1,20 +1,15 @@
--- State: what a value means before its row is written, and the unit at hand.
-use Rattle.std.specs.Prelude.{◌≡◌, ℕ, ◌+◌, ◌*◌, ◌≤◌, List, [], ◌∷◌, ◌++◌, length, ◌==◌, Bool, true, false}
+-- State: what a value means before its row is written.
+use Rattle.std.specs.Prelude.{◌≡◌, ℕ, ◌+◌, ◌≤◌, List, [], ◌∷◌, ◌++◌, length, ◌==◌, Bool, true, false}
 use Rattle.std.specs.Prelude.{if◌then◌else◌}
-use Rattle.std.specs.Prelude.{Option, None, Some, ◌<◌}
+use Rattle.std.specs.Prelude.{Option, None, Some}
 use Rattle.std.specs.Int.{cast_unsigned, w64}
 use Rattle.dw_elf.specs.Checks.{ChecksPass}
 use Rattle.dw_elf.specs.Sections.{AreSections, IsAt}
-use Rattle.dw_forms.specs.Codes.{DW_AT_name, DW_AT_str_offsets_base, DW_AT_addr_base}
-use Rattle.dw_forms.specs.Value.{Datum, address, block, unsigned, signed, wide, text, flag, str, line_str, str_index}
-use Rattle.dw_forms.specs.Value.{sec_offset, expr, addr_index, loc_index, rng_index}
-use Rattle.dw_entries.specs.EntryRules.{HasAttribute}
-use Rattle.dw_entries.specs.Entries.{Entry, PlacedUnit, placed}
-use Rattle.dw_entries.specs.ByNumber.{entry_of, placed_of}
-use Rattle.dw_entries.specs.Header.{IsSize}
-use Rattle.dw_links.specs.Bases.{base_in}
+use Rattle.dw_forms.specs.Codes.{DW_AT_name}
+use Rattle.dw_forms.specs.Value.{Datum, block, unsigned, signed, wide, flag, sec_offset, expr, loc_index, rng_index}
+use Rattle.dw_entries.specs.Entries.{Entry}
 use Rattle.dw_image.specs.declared.image.Image.{Image}
-use Rattle.dw_image.specs.Images.{entries_in, sections_in, unit_count, units_in}
+use Rattle.dw_image.specs.Images.{sections_in}
 use Rattle.dwv_c.specs.declared.meaning.Meaning.{Meaning}
 use Rattle.dwv_c.specs.declared.meaning.Meaning.TheVariants as means
 use Rattle.dwv_c.specs.declared.places.Ground.{Ground}
@@ -22,7 +17,7 @@ use Rattle.dwv_c.specs.declared.places.Ground.TheVariants.{File, Sections as ByS
 use Rattle.dwv_c.specs.declared.places.Places.{Places}
 use Rattle.dwv_c.specs.declared.places.Span.{Span}
 use Rattle.dwv_c.specs.declared.meaning.ValueRow.{ValueRow}
-use Rattle.dwv_c.specs.declared.values.UnitAtHand.{UnitAtHand}
+use Rattle.dw_image.specs.declared.unit_at_hand.UnitAtHand.{UnitAtHand}
 use Rattle.dw_links.specs.declared.texts.TextPlace.{TextPlace}
 use Rattle.dwv_c.specs.SectionPlaces.{AreInFile, AreInImage, Holders, held_in, offset_of, section_of, start_in}
 use Rattle.dwv_c.specs.ValueRows.{HasNumber, Says}
@@ -101,6 +96,10 @@ HasMeaning (means.RangeList n) r = HasNumber RANGE_LIST n r
 abbrev pub Means : (h : Holders) → Image → Entry → (end : ℕ) → Datum → Meaning → Type 0
 Means h i e end v m = (r : ValueRow) → HasMeaning m r → Says h i e end v r
 
+-- so for each entry of the unit at hand that has this value
+abbrev pub MeansIn : (h : Holders) → Image → UnitAtHand → (end : ℕ) → Datum → Meaning → Type 0
+MeansIn h i u end v m = (e : Entry) → e.unit ≡ u.number → Means h i e end v m
+
 -- the value is a number, a flag, or an offset or an index that no rule is on: its meaning is in itself
 abbrev pub has_own_meaning : Datum → Bool
 has_own_meaning (unsigned n) = true
@@ -111,26 +110,12 @@ has_own_meaning (loc_index n) = true
 has_own_meaning (rng_index n) = true
 has_own_meaning _ = false
 
--- it is a text
-abbrev pub is_text : Datum → Bool
-is_text (text bytes) = true
-is_text (str offset) = true
-is_text (line_str offset) = true
-is_text (str_index index) = true
-is_text _ = false
-
 -- it has bytes whose meaning the attribute says
 abbrev pub is_bytes : Datum → Bool
 is_bytes (block bytes) = true
 is_bytes (expr bytes) = true
 is_bytes (wide bytes) = true
 is_bytes _ = false
-
--- it is an address
-abbrev pub is_address : Datum → Bool
-is_address (address n) = true
-is_address (addr_index index) = true
-is_address _ = false
 
 -- ---- names
 
@@ -143,29 +128,3 @@ text_span r =
 abbrev pub named_after : Option (Option Span) → ValueRow → Option (Option Span)
 named_after (Some name) r = Some name
 named_after None r = if r.attribute == DW_AT_name then Some (text_span r) else None
-
--- ---- the unit at hand
-
--- it, at its place
-abbrev pub place_at : Image → UnitAtHand → PlacedUnit
-place_at i u = placed_of (placed (units_in i)) u.number
-
--- what is known of it is right
-pub record IsAtHand (i : Image) (u : UnitAtHand) : Type 0 where
-  pub within : u.number < unit_count i
-  pub offset : u.offset ≡ (place_at i u).at
-  pub header : u.header ≡ (place_at i u).unit.header
-  pub str_base : u.str_base ≡ base_in (entries_in i) (place_at i u) DW_AT_str_offsets_base
-  pub addr_base : u.addr_base ≡ base_in (entries_in i) (place_at i u) DW_AT_addr_base
-
--- an entry of the unit at hand has this value
-pub record HasValue (i : Image) (u : UnitAtHand) (id attribute : ℕ) (v : Datum) : Type 0 where
-  pub within : id < length (entries_in i)
-  pub in_unit : (entry_of (entries_in i) id).unit ≡ u.number
-  pub position : ℕ
-  pub has : HasAttribute (entry_of (entries_in i) id) position attribute v
-
--- the slot of an index, of so many bytes from a base on, is within a section
-abbrev pub HasSlot : (section : List ℕ) → (size : ℕ) → (base : Option ℕ) → (index : ℕ) → Type 0
-HasSlot section size None index = ⊥
-HasSlot section size (Some base) index = IsSize size × (base + size * index + size ≤ length section)

@@ -28,22 +28,11 @@ section_of (Info offset) = INFO
 section_of (Str offset) = STR
 section_of (LineStr offset) = LINE_STR
 
--- the name of that section
-abbrev pub section_name_of : TextPlace → List ℕ
-section_name_of (Info offset) = name_of debug.Info
-section_name_of (Str offset) = name_of debug.Str
-section_name_of (LineStr offset) = name_of debug.LineStr
-
 -- the offset in that section at which the text starts
 abbrev pub offset_of : TextPlace → ℕ
 offset_of (Info offset) = offset
 offset_of (Str offset) = offset
 offset_of (LineStr offset) = offset
-
--- an offset of a file is that of a place in one of its sections
-abbrev pub IsPlaceInFile : List ℕ → TextPlace → ℕ → Type 0
-IsPlaceInFile file place at =
-    (start : ℕ) × StartsAt file (section_name_of place) start × (at ≡ start + offset_of place)
 
 -- what places in the three sections are counted from: some bytes for each, in which the section starts at an offset
 pub record Holders : Type 0 where

@@ -1,22 +1,27 @@
 -- State: what is known of an entry before its row in a table is written, and of the arrays before a call returns.
-use Rattle.std.specs.Prelude.{◌≡◌, ℕ, suc, List, min, slice_get, Option, None, Some, option_map}
+use Rattle.std.specs.Prelude.{◌≡◌, ℕ, suc, ◌<◌, List, length, min, slice_get, Option, None, Some, option_map}
+use Rattle.dw_entries.specs.declared.cursor.Cursor.{Cursor}
+use Rattle.dw_entries.specs.ByNumber.{entry_of}
 use Rattle.dw_image.specs.declared.image.Image.{Image}
+use Rattle.dw_image.specs.Images.{entries_in}
 use Rattle.dw_links.specs.declared.texts.TextPlace.{TextPlace}
 use Rattle.dwv_c.specs.declared.places.Span.{Span}
 use Rattle.dwv_c.specs.declared.table_rows.Links.{Links}
 use Rattle.dwv_c.specs.declared.table_rows.TableCounts.{TableCounts}
-use Rattle.dwv_c.specs.declared.table_rows.TableEntry.{TableEntry}
+use Rattle.dwv_c.specs.declared.table_rows.EntryRow.{EntryRow}
 use Rattle.dwv_c.specs.declared.verdict.Verdict.{Verdict}
+use Rattle.dwv_c.specs.declared.meaning.ValueRow.{ValueRow}
+use Rattle.dw_image.specs.declared.unit_at_hand.UnitAtHand.{UnitAtHand}
 use Rattle.dwv_c.specs.Meanings.{IsTextSpan}
-use Rattle.dwv_c.specs.Rows.{greatest}
-use Rattle.dwv_c.specs.Tables.{Arrays, FillsTable, counts_of, row_of}
+use Rattle.dw_image.specs.UnitsAtHand.{IsAtHand}
+use Rattle.dwv_c.specs.Tables.{Arrays, FillsTable, HaveEntries, HaveValues, counts_of, greatest, row_of}
 use Rattle.dwv_c.specs.SectionPlaces.{Holders}
 use Rattle.dwv_c.specs.Verdicts.{NO_MEMORY, of_image}
 
 -- one more than the depth in a parent's row, or 0 if there is no parent
-abbrev pub depth_by : List TableEntry → Option ℕ → Option ℕ
+abbrev pub depth_by : List EntryRow → Option ℕ → Option ℕ
 depth_by rows None = Some 0
-depth_by rows (Some p) = option_map (λ (r : TableEntry). min (suc r.depth) greatest) (slice_get rows p)
+depth_by rows (Some p) = option_map (λ (r : EntryRow). min (suc r.depth) greatest) (slice_get rows p)
 
 -- a name is there, at this place, or there is none
 abbrev pub IsNameSpan : (h : Holders) → Option (List ℕ) → Option TextPlace → Option Span → Type 0
@@ -25,21 +30,38 @@ IsNameSpan h (Some name) (Some place) (Some s) = IsTextSpan h name place s
 IsNameSpan h _ _ _ = ⊥
 
 -- a row has this name, or none
-abbrev pub HasNameSpan : Option Span → TableEntry → Type 0
+abbrev pub HasNameSpan : Option Span → EntryRow → Type 0
 HasNameSpan None r = (r.name ≡ 0) × (r.name_length ≡ 0) × (r.name_section ≡ 0)
 HasNameSpan (Some s) r = (r.name ≡ s.start) × (r.name_length ≡ s.length) × (r.name_section ≡ s.section)
 
 -- a row has this place among the others, and these values
-pub record HasLinks (l : Links) (r : TableEntry) : Type 0 where
+pub record HasLinks (l : Links) (r : EntryRow) : Type 0 where
   pub first_value : r.first_value ≡ l.first_value
   pub values : r.values ≡ min l.values greatest
   pub unit : r.unit ≡ l.unit
   pub parent : r.parent ≡ row_of l.parent
   pub next_sibling : r.next_sibling ≡ row_of l.next_sibling
 
+-- the unit at hand is that of an entry
+pub record IsUnitOf (i : Image) (u : UnitAtHand) (id : ℕ) : Type 0 where
+  pub hand : IsAtHand i u
+  pub within : id < length (entries_in i)
+  pub in_unit : u.number ≡ (entry_of (entries_in i) id).unit
+
+-- the cursor is over the entries of an image, and the unit at hand is one of its units
+pub record AreOf (i : Image) (c : Cursor) (u : UnitAtHand) : Type 0 where
+  pub cursor : c.entries.now ≡ i.entries
+  pub unit : IsAtHand i u
+
+-- the rows of the entries before a number are written, and those of so many values
+pub record AreBefore (h : Holders) (i : Image) (number count : ℕ) (es : List EntryRow) (vs : List ValueRow)
+    : Type 0 where
+  pub entries : HaveEntries h i number es
+  pub values : HaveValues h i count vs
+
 -- what is returned for an image, and the arrays, the counts and the verdict then
-pub data Puts (AreHolders : Holders → Type 0) (i : Image) (old : Arrays) (counts : TableCounts) (v : Verdict)
+pub data Puts (AreHeld : Holders → Type 0) (i : Image) (old : Arrays) (counts : TableCounts) (v : Verdict)
     : ℕ → Arrays → TableCounts → Verdict → Type 0 where
-  filled : (status : ℕ) (new : Arrays) → FillsTable AreHolders i old status new
-      → Puts AreHolders i old counts v status new (counts_of i) (of_image i)
-  memory : Puts AreHolders i old counts v NO_MEMORY old counts v
+  filled : (status : ℕ) (new : Arrays) → FillsTable AreHeld i old status new
+      → Puts AreHeld i old counts v status new (counts_of i) (of_image i)
+  memory : Puts AreHeld i old counts v NO_MEMORY old counts v

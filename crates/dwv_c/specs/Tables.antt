@@ -4,7 +4,6 @@ use Rattle.std.specs.Prelude.{Option, Some, None}
 use Rattle.std.specs.Prelude.{unwrap_or}
 use Rattle.std.specs.Option.{IsSomeAnd}
 use Rattle.dw_elf.specs.Sections.{IsAt}
-use Rattle.dw_elf.specs.declared.sections.Sections.{Sections}
 use Rattle.dw_forms.specs.Codes.{DW_AT_language}
 use Rattle.dw_entries.specs.EntryRules.{values_of}
 use Rattle.dw_entries.specs.Entries.{Entry, PlacedUnit, node_count, placed}
@@ -14,19 +13,18 @@ use Rattle.dw_entries.specs.Lookups.{unit_head, value_at_entry}
 use Rattle.dw_links.specs.Bases.{section_offset_of}
 use Rattle.dw_links.specs.Constants.{constant_of, natural_of}
 use Rattle.dw_image.specs.declared.image.Image.{Image}
-use Rattle.dw_image.specs.Headline.{IsImageOf}
-use Rattle.dw_image.specs.Images.{entries_in, entry_count, name_in, name_place_in, sections_in, unit_count, units_in}
+use Rattle.dw_image.specs.Images.{entries_in, entry_count, name_in, name_place_in, unit_count, units_in}
 use Rattle.dw_links.specs.declared.texts.TextPlace.{TextPlace}
 use Rattle.dw_report.specs.Shown.{entry_size}
 use Rattle.dwv_c.specs.declared.meaning.ValueRow.{ValueRow}
 use Rattle.dwv_c.specs.declared.table_rows.TableCounts.{TableCounts}
-use Rattle.dwv_c.specs.declared.table_rows.TableEntry.{TableEntry}
+use Rattle.dwv_c.specs.declared.table_rows.EntryRow.{EntryRow}
 use Rattle.dwv_c.specs.declared.table_rows.UnitRow.{UnitRow}
 use Rattle.dwv_c.specs.declared.verdict.Verdict.{Verdict}
-use Rattle.dwv_c.specs.Rows.{greatest}
-use Rattle.dwv_c.specs.SectionPlaces.{Holders, held_in, offset_of, section_of, start_in}
+use Rattle.dwv_c.specs.SectionPlaces.{AreInFile, AreInImage, Holders, held_in, offset_of, section_of, start_in}
 use Rattle.dwv_c.specs.ValueRows.{IsValueRow, Told, values_from, values_in}
-use Rattle.dwv_c.specs.Verdicts.{SOUND, FAULT, NO_MEMORY, TOO_SHORT, HaveBytes, of_image}
+use Rattle.dwv_c.specs.Verdicts.{Given, of_file, of_six, SOUND, FAULT, NO_MEMORY, TOO_SHORT, IsFaultOfGiven}
+use Rattle.dwv_c.specs.Verdicts.{IsSound, of_image}
 
 -- where a unit's range lists are counted from in .debug_rnglists, and its location lists in .debug_loclists (DWARF 5,
 -- table 7.5)
@@ -35,6 +33,10 @@ DW_AT_rnglists_base = 0x74
 
 abbrev pub DW_AT_loclists_base : ℕ
 DW_AT_loclists_base = 0x8c
+
+-- the greatest number that a field of 32 bits has
+abbrev pub greatest : ℕ
+greatest = 4_294_967_295
 
 -- the row of an entry, or the greatest number of 32 bits for none
 abbrev pub row_of : Option ℕ → ℕ
@@ -70,25 +72,26 @@ pub record IsUnitRow (i : Image) (p : PlacedUnit) (r : UnitRow) : Type 0 where
   pub loclists_base : r.loclists_base ≡ offset_under (entry_of (entries_in i) p.first) DW_AT_loclists_base
 
 -- a row has this size, or none
-abbrev pub HasSize : Option ℕ → TableEntry → Type 0
+abbrev pub HasSize : Option ℕ → EntryRow → Type 0
 HasSize None r = (r.size ≡ 0) × (r.has_size ≡ 0)
 HasSize (Some n) r = (r.size ≡ n) × (r.has_size ≡ 1)
 
 -- a row says where this name is: at this place of a section, and a zero byte follows it there
-pub record HasNameAt (h : Holders) (text : List ℕ) (p : TextPlace) (r : TableEntry) : Type 0 where
+pub record HasNameAt (h : Holders) (text : List ℕ) (p : TextPlace) (r : EntryRow) : Type 0 where
   pub section_is : r.name_section ≡ section_of p
   pub name_is : r.name ≡ start_in h (section_of p) + offset_of p
   pub length_is : r.name_length ≡ length text
   pub place : IsAt (held_in h r.name_section) r.name (text ++ 0 ∷ [])
 
 -- a row says where this name is, or that there is none
-abbrev pub HasName : (h : Holders) → Option (List ℕ) → Option TextPlace → TableEntry → Type 0
+abbrev pub HasName : (h : Holders) → Option (List ℕ) → Option TextPlace → EntryRow → Type 0
 HasName h None place r = (r.name ≡ 0) × (r.name_length ≡ 0) × (r.name_section ≡ 0)
 HasName h (Some text) None r = ⊥
 HasName h (Some text) (Some place) r = HasNameAt h text place r
 
--- the row of the entry with a number: what dwv_entries says of it, and its place among the others
-pub record IsTableEntry (h : Holders) (i : Image) (number : ℕ) (e : Entry) (r : TableEntry) : Type 0 where
+-- the row of the entry with a number: its offset, its depth (or the greatest number, if it does not fit), its tag, its
+-- size, where its name is, and its place among the others
+pub record IsEntryRow (h : Holders) (i : Image) (number : ℕ) (e : Entry) (r : EntryRow) : Type 0 where
   pub offset : r.offset ≡ e.at
   pub depth : r.depth ≡ min e.depth greatest
   pub tag : r.tag ≡ e.head.decl.tag
@@ -106,9 +109,9 @@ HaveUnits i n rows = (k : ℕ) (p : PlacedUnit) → k < n → slice_get (placed 
     → IsSomeAnd (slice_get rows k) (IsUnitRow i p)
 
 -- the first n rows are those of the first n entries
-abbrev pub HaveEntries : (h : Holders) → Image → ℕ → List TableEntry → Type 0
+abbrev pub HaveEntries : (h : Holders) → Image → ℕ → List EntryRow → Type 0
 HaveEntries h i n rows = (k : ℕ) (e : Entry) → k < n → slice_get (entries_in i) k ≡ Some e
-    → IsSomeAnd (slice_get rows k) (IsTableEntry h i k e)
+    → IsSomeAnd (slice_get rows k) (IsEntryRow h i k e)
 
 -- the first n rows are those of the first n values
 abbrev pub HaveValues : (h : Holders) → Image → ℕ → List ValueRow → Type 0
@@ -118,7 +121,7 @@ HaveValues h i n rows = (k : ℕ) (t : Told) → k < n → slice_get (values_in 
 -- the three arrays, as they are before or after a call
 pub record Arrays : Type 0 where
   pub units : List UnitRow
-  pub entries : List TableEntry
+  pub entries : List EntryRow
   pub values : List ValueRow
 
 -- there is room for all rows
@@ -142,31 +145,29 @@ pub record AreTable (h : Holders) (i : Image) (old new : Arrays) : Type 0 where
   pub other_values : drop (value_count i) new.values ≡ drop (value_count i) old.values
 
 -- what is returned for sound sections, and the arrays then; places are counted from such holders
-pub data FillsTable (AreHolders : Holders → Type 0) (i : Image) (old : Arrays) : ℕ → Arrays → Type 0 where
-  whole : (h : Holders) (new : Arrays) → AreHolders h → HasRoom i old → AreTable h i old new
-      → FillsTable AreHolders i old SOUND new
-  short : LacksRoom i old → FillsTable AreHolders i old TOO_SHORT old
+pub data FillsTable (AreHeld : Holders → Type 0) (i : Image) (old : Arrays) : ℕ → Arrays → Type 0 where
+  whole : (h : Holders) (new : Arrays) → AreHeld h → HasRoom i old → AreTable h i old new
+      → FillsTable AreHeld i old SOUND new
+  short : LacksRoom i old → FillsTable AreHeld i old TOO_SHORT old
 
 -- how many rows an image has
 abbrev pub counts_of : Image → TableCounts
 counts_of i = record { units = unit_count i; entries = entry_count i; values = value_count i }
 
+-- what places in rows are counted from: the start of the file that is given, or of each of the sections
+abbrev pub AreHolders : Given → Image → Holders → Type 0
+AreHolders (of_file bytes) i h = AreInFile bytes h
+AreHolders (of_six info abbrevs strs line_strs offsets addrs) i h = AreInImage i h
+
 -- what is returned, and the arrays, the counts and the verdict then. If an allocation failed, the arrays are as they
 -- were
-pub data PutsTable (IsOfFault : Verdict → Type 0) (IsSoundBy : Image → Type 0) (AreHolders : Image → Holders → Type 0)
-    (old : Arrays) (counts : TableCounts) (v : Verdict) : ℕ → Arrays → TableCounts → Verdict → Type 0 where
-  sound : (i : Image) (status : ℕ) (new : Arrays) → IsSoundBy i → FillsTable (AreHolders i) i old status new
-      → PutsTable IsOfFault IsSoundBy AreHolders old counts v status new (counts_of i) (of_image i)
-  fault : (found : Verdict) → IsOfFault found
-      → PutsTable IsOfFault IsSoundBy AreHolders old counts v FAULT old counts found
-  memory : PutsTable IsOfFault IsSoundBy AreHolders old counts v NO_MEMORY old counts v
+pub data PutsTable (g : Given) (old : Arrays) (counts : TableCounts) (v : Verdict)
+    : ℕ → Arrays → TableCounts → Verdict → Type 0 where
+  sound : (i : Image) (status : ℕ) (new : Arrays) → IsSound g i → FillsTable (AreHolders g i) i old status new
+      → PutsTable g old counts v status new (counts_of i) (of_image i)
+  fault : (found : Verdict) → IsFaultOfGiven g found → PutsTable g old counts v FAULT old counts found
+  memory : PutsTable g old counts v NO_MEMORY old counts v
 
 -- the arrays of these rows
-abbrev pub arrays : List UnitRow → List TableEntry → List ValueRow → Arrays
+abbrev pub arrays : List UnitRow → List EntryRow → List ValueRow → Arrays
 arrays units entries values = record { units = units; entries = entries; values = values }
-
--- six sections are sound, and the image is of them
-pub record IsSoundSix (info abbrevs strs line_strs offsets addrs : List ℕ) (i : Image) : Type 0 where
-  pub sections : Sections
-  pub bytes : HaveBytes sections info abbrevs strs line_strs offsets addrs
-  pub image : IsImageOf sections i

@@ -79,33 +79,16 @@ of_counts c = record {
 abbrev pub of_image : Image → Verdict
 of_image i = of_counts (counts_in i)
 
+-- what a call is given: the bytes of a file, or those of six sections
+pub data Given : Type 0 where
+  of_file : (bytes : List ℕ) → Given
+  of_six : (info abbrevs strs line_strs offsets addrs : List ℕ) → Given
+
 -- the file is within the limit, all checks of it pass, and these are its sections
 pub record AreOfFile (bytes : List ℕ) (s : Sections) : Type 0 where
   pub within : length bytes ≤ file_limit
   pub passes : ChecksPass bytes
   pub are : AreSections bytes s
-
--- the file is sound, and the image is of its sections
-pub record IsSoundFile (bytes : List ℕ) (i : Image) : Type 0 where
-  pub sections : Sections
-  pub of_file : AreOfFile bytes sections
-  pub image : IsImageOf sections i
-
--- the file is sound, and these are the counts of its sections
-pub record AreCountsOfFile (bytes : List ℕ) (c : Counts) : Type 0 where
-  pub sections : Sections
-  pub of_file : AreOfFile bytes sections
-  pub counts : AreCounts sections c
-
--- the verdict is of the first fault of the sections
-abbrev pub IsFaultOfSections : Sections → Verdict → Type 0
-IsFaultOfSections s v = (f : FirstFault) × IsFaultOf s f × (v ≡ of_fault f)
-
--- the fault of a file that is too long, the first check of the file that fails, or the first fault of its sections
-pub data IsFaultOfFile (bytes : List ℕ) : Verdict → Type 0 where
-  large : file_limit < length bytes → IsFaultOfFile bytes (of_file_fault too_large)
-  fails : (f : ElfFault) → length bytes ≤ file_limit → IsFault bytes f → IsFaultOfFile bytes (of_file_fault f)
-  violates : (s : Sections) (v : Verdict) → AreOfFile bytes s → IsFaultOfSections s v → IsFaultOfFile bytes v
 
 -- the sections have these bytes, .debug_info from its start
 pub record HaveBytes (s : Sections) (info abbrevs strs line_strs offsets addrs : List ℕ) : Type 0 where
@@ -117,23 +100,47 @@ pub record HaveBytes (s : Sections) (info abbrevs strs line_strs offsets addrs :
   pub addr_is : s.addr.now ≡ addrs
   pub base_is : s.base ≡ 0
 
--- six sections are sound, and these are their counts
-pub record AreCountsOfSix (info abbrevs strs line_strs offsets addrs : List ℕ) (c : Counts) : Type 0 where
+-- these are the sections that are given
+abbrev pub AreGiven : Given → Sections → Type 0
+AreGiven (of_file bytes) s = AreOfFile bytes s
+AreGiven (of_six info abbrevs strs line_strs offsets addrs) s =
+    HaveBytes s info abbrevs strs line_strs offsets addrs
+
+-- the fault if no sections are given: of a file that is too long, or of which a check fails, or of six sections of
+-- which one is longer than a section may be
+pub data IsRefusal : Given → Verdict → Type 0 where
+  large_file : (bytes : List ℕ) → file_limit < length bytes → IsRefusal (of_file bytes) (of_file_fault too_large)
+  fails : (bytes : List ℕ) (f : ElfFault) → length bytes ≤ file_limit → IsFault bytes f
+      → IsRefusal (of_file bytes) (of_file_fault f)
+  large_section : (info abbrevs strs line_strs offsets addrs : List ℕ)
+      → (section_limit < length abbrevs) ⊎ (section_limit < length info) ⊎ (section_limit < length strs)
+      ⊎ (section_limit < length line_strs) ⊎ (section_limit < length offsets) ⊎ (section_limit < length addrs)
+      → IsRefusal (of_six info abbrevs strs line_strs offsets addrs) (of_file_fault too_large)
+
+-- what is given is sound, and the image is of its sections
+pub record IsSound (g : Given) (i : Image) : Type 0 where
   pub sections : Sections
-  pub bytes : HaveBytes sections info abbrevs strs line_strs offsets addrs
+  pub given : AreGiven g sections
+  pub image : IsImageOf sections i
+
+-- it is sound, and these are the counts of its sections
+pub record AreCountsOf (g : Given) (c : Counts) : Type 0 where
+  pub sections : Sections
+  pub given : AreGiven g sections
   pub counts : AreCounts sections c
 
--- the fault if one of six sections is longer than a section may be, or their first fault
-pub data IsFaultOfSix (info abbrevs strs line_strs offsets addrs : List ℕ) : Verdict → Type 0 where
-  large : (section_limit < length abbrevs) ⊎ (section_limit < length info) ⊎ (section_limit < length strs)
-      ⊎ (section_limit < length line_strs) ⊎ (section_limit < length offsets) ⊎ (section_limit < length addrs)
-      → IsFaultOfSix info abbrevs strs line_strs offsets addrs (of_file_fault too_large)
-  violates : (s : Sections) (v : Verdict) → HaveBytes s info abbrevs strs line_strs offsets addrs
-      → IsFaultOfSections s v → IsFaultOfSix info abbrevs strs line_strs offsets addrs v
+-- the verdict is of the first fault of the sections
+abbrev pub IsFaultOfSections : Sections → Verdict → Type 0
+IsFaultOfSections s v = (f : FirstFault) × IsFaultOf s f × (v ≡ of_fault f)
+
+-- the fault of what is given: no sections are given, or it is the first fault of its sections
+pub data IsFaultOfGiven (g : Given) : Verdict → Type 0 where
+  refused : (v : Verdict) → IsRefusal g v → IsFaultOfGiven g v
+  violates : (s : Sections) (v : Verdict) → AreGiven g s → IsFaultOfSections s v → IsFaultOfGiven g v
 
 -- what a check returns, and the caller's struct then: the counts, the fault, or the struct as it was if an allocation
 -- failed
-pub data Checks (IsOfFault : Verdict → Type 0) (AreSound : Counts → Type 0) (old : Verdict) : ℕ → Verdict → Type 0 where
-  sound : (c : Counts) → AreSound c → Checks IsOfFault AreSound old SOUND (of_counts c)
-  fault : (v : Verdict) → IsOfFault v → Checks IsOfFault AreSound old FAULT v
-  memory : Checks IsOfFault AreSound old NO_MEMORY old
+pub data Checks (g : Given) (old : Verdict) : ℕ → Verdict → Type 0 where
+  sound : (c : Counts) → AreCountsOf g c → Checks g old SOUND (of_counts c)
+  fault : (v : Verdict) → IsFaultOfGiven g v → Checks g old FAULT v
+  memory : Checks g old NO_MEMORY old

@@ -2,21 +2,17 @@
 
 ghost use Rattle.std.specs.Prelude.{◌≡◌, MatchResult};
 ghost use Rattle.dw_report.specs.Reports.{status_code};
-ghost use Rattle.dwv_c.specs.Verdicts.{AreCountsOfFile, AreCountsOfSix, Checks, IsFaultOfFile, IsFaultOfSix};
-ghost use Rattle.dwv_c.specs.Verdicts.{AreOfFile, IsSoundFile, IsFaultOfSections};
-ghost use Rattle.dwv_c.specs.Rows.{PutsRows};
-ghost use Rattle.dwv_c.specs.SectionPlaces.{AreInFile, AreInImage};
-ghost use Rattle.dwv_c.specs.Tables.{IsSoundSix, PutsTable, arrays};
+ghost use Rattle.dwv_c.specs.Verdicts.{Given, of_file, of_six, AreCountsOf, Checks, IsFaultOfSections, IsSound};
+ghost use Rattle.dwv_c.specs.Tables.{PutsTable, arrays};
 ghost use Rattle.dwv_c.specs.Texts.{PutsReport, request_of};
-ghost use Rattle.dwv_c.specs.Checked.{status_of, verdict_after, IsErrorOf};
+ghost use Rattle.dwv_c.specs.Checked.{AreFound, IsErrorOf, IsFound, status_of, verdict_after};
 ghost use Rattle.dw_image.specs.Headline.{IsImageOf};
 ghost use Rattle.dw_units.specs.Counts.{AreCounts};
 
 use crate::meaning::ValueRow;
 use crate::places::Ground;
-use crate::rows::{EntryRow, put_rows};
 use crate::table::put_table;
-use crate::table_rows::{TableCounts, TableEntry, UnitRow};
+use crate::table_rows::{EntryRow, TableCounts, UnitRow};
 use crate::verdict::{
     FAULT, NO_MEMORY, NO_REQUEST, SOUND, TOO_SHORT, Verdict, put_text, verdict_of_counts,
     verdict_of_fault, verdict_of_file_fault, verdict_of_large,
@@ -25,12 +21,12 @@ use dw_elf::{Sections, TooLarge, find};
 use dw_forms::Stop;
 use dw_image::{Image, NoMemory, Verdict as Verified, verify};
 use dw_report::{Request, Status, longest_file, report};
-use dw_units::{Counts, Found, verify_by_unit};
+use dw_units::{Counts, Found, check};
 use std::alloc::Global;
 
 /// The sections of a file.
 fn sections_of_file(file: &[u8]) -> Result<Sections<'_>, Stop<Verdict>>
-    ensures { MatchResult result (AreOfFile file.now) (IsErrorOf (IsFaultOfFile file.now)) }
+    ensures { AreFound (of_file file.now) result }
 {
     if file.len() > longest_file() {
         return Err(Stop::Fault(verdict_of_large()));
@@ -38,6 +34,23 @@ fn sections_of_file(file: &[u8]) -> Result<Sections<'_>, Stop<Verdict>>
     match find(file) {
         Ok(sections) => Ok(sections),
         Err(fault) => Err(Stop::Fault(verdict_of_file_fault(fault))),
+    }
+}
+
+/// Six sections as they are given.
+fn sections_of_six<'a>(
+    info: &'a [u8],
+    abbrev: &'a [u8],
+    str: &'a [u8],
+    line_str: &'a [u8],
+    str_offsets: &'a [u8],
+    addr: &'a [u8],
+) -> Result<Sections<'a>, Stop<Verdict>>
+    ensures { AreFound (of_six info.now «abbrev».now str.now line_str.now str_offsets.now addr.now) result }
+{
+    match Sections::new(abbrev, info, str, line_str, str_offsets, addr) {
+        Ok(sections) => Ok(sections),
+        Err(TooLarge) => Err(Stop::Fault(verdict_of_large())),
     }
 }
 
@@ -52,72 +65,37 @@ fn verify_sections<'a>(alloc: Global, sections: Sections<'a>) -> Result<Image<'a
     }
 }
 
-/// The image of a sound file.
-pub fn verify_file<'a>(alloc: Global, file: &'a [u8]) -> Result<Image<'a>, Stop<Verdict>>
-    ensures { MatchResult result (IsSoundFile file.now) (IsErrorOf (IsFaultOfFile file.now)) }
-{
-    let sections = sections_of_file(file)?;
-    verify_sections(alloc, sections)
-}
-
-/// The counts of sound sections. They are verified batch after batch if the batches can be verified alone.
+/// The counts of sound sections.
 fn count_sections(alloc: Global, sections: Sections<'_>) -> Result<Counts, Stop<Verdict>>
     ensures { MatchResult result (AreCounts sections.entry) (IsErrorOf (IsFaultOfSections sections.entry)) }
 {
-    match verify_by_unit(alloc, &sections) {
-        Ok(Some(Found::Sound(counts))) => return Ok(counts),
-        Ok(Some(Found::Fault(fault))) => return Err(Stop::Fault(verdict_of_fault(&fault))),
-        Ok(None) => {}
-        Err(NoMemory) => return Err(Stop::Memory),
-    }
-    let image = verify_sections(alloc, sections)?;
-    Ok(Counts::of(&image))
-}
-
-/// The counts of a sound file.
-pub fn count_file(alloc: Global, file: &[u8]) -> Result<Counts, Stop<Verdict>>
-    ensures { MatchResult result (AreCountsOfFile file.now) (IsErrorOf (IsFaultOfFile file.now)) }
-{
-    let sections = sections_of_file(file)?;
-    count_sections(alloc, sections)
-}
-
-/// The counts of six sound sections.
-pub fn count_six(
-    alloc: Global,
-    info: &[u8],
-    abbrev: &[u8],
-    str: &[u8],
-    line_str: &[u8],
-    str_offsets: &[u8],
-    addr: &[u8],
-) -> Result<Counts, Stop<Verdict>>
-    ensures { MatchResult result (AreCountsOfSix info.now «abbrev».now str.now line_str.now str_offsets.now addr.now)
-        (IsErrorOf (IsFaultOfSix info.now «abbrev».now str.now line_str.now str_offsets.now addr.now)) }
-{
-    match Sections::new(abbrev, info, str, line_str, str_offsets, addr) {
-        Ok(sections) => count_sections(alloc, sections),
-        Err(TooLarge) => Err(Stop::Fault(verdict_of_large())),
+    match check(alloc, sections) {
+        Ok(Found::Sound(counts)) => Ok(counts),
+        Ok(Found::Fault(fault)) => Err(Stop::Fault(verdict_of_fault(&fault))),
+        Err(NoMemory) => Err(Stop::Memory),
     }
 }
 
-/// The image of six sound sections.
-pub fn verify_six<'a>(
+/// The image of the sections that are given, if there are some and they are sound.
+fn verify_found<'a>(
     alloc: Global,
-    info: &'a [u8],
-    abbrev: &'a [u8],
-    str: &'a [u8],
-    line_str: &'a [u8],
-    str_offsets: &'a [u8],
-    addr: &'a [u8],
+    found: Result<Sections<'a>, Stop<Verdict>>,
 ) -> Result<Image<'a>, Stop<Verdict>>
-    ensures { MatchResult result (IsSoundSix info.now «abbrev».now str.now line_str.now str_offsets.now addr.now)
-        (IsErrorOf (IsFaultOfSix info.now «abbrev».now str.now line_str.now str_offsets.now addr.now)) }
+    ensures { (g : Given) → AreFound g found.entry → IsFound g (IsSound g) result }
 {
-    match Sections::new(abbrev, info, str, line_str, str_offsets, addr) {
-        Ok(sections) => verify_sections(alloc, sections),
-        Err(TooLarge) => Err(Stop::Fault(verdict_of_large())),
-    }
+    let sections = found?;
+    verify_sections(alloc, sections)
+}
+
+/// Their counts.
+fn count_found(
+    alloc: Global,
+    found: Result<Sections<'_>, Stop<Verdict>>,
+) -> Result<Counts, Stop<Verdict>>
+    ensures { (g : Given) → AreFound g found.entry → IsFound g (AreCountsOf g) result }
+{
+    let sections = found?;
+    count_sections(alloc, sections)
 }
 
 /// Writes the counts or the fault into the struct of the caller.
@@ -141,9 +119,9 @@ fn put_verdict(counts: Result<Counts, Stop<Verdict>>, verdict: &mut Verdict) -> 
 /// Checks a file: SOUND and its counts, FAULT and its fault, or NO_MEMORY.
 #[unsafe(no_mangle)]
 pub extern "C" fn dwv_check(alloc: Global, file: &[u8], verdict: &mut Verdict) -> u32
-    ensures { Checks (IsFaultOfFile file.now) (AreCountsOfFile file.now) verdict.old result verdict.new }
+    ensures { Checks (of_file file.now) verdict.old result verdict.new }
 {
-    put_verdict(count_file(alloc, file), verdict)
+    put_verdict(count_found(alloc, sections_of_file(file)), verdict)
 }
 
 /// Checks six sections of a file of any format. A section that the file does not have is empty.
@@ -158,12 +136,11 @@ pub extern "C" fn dwv_check_sections(
     addr: &[u8],
     verdict: &mut Verdict,
 ) -> u32
-    ensures { Checks (IsFaultOfSix info.now «abbrev».now str.now line_str.now str_offsets.now addr.now)
-        (AreCountsOfSix info.now «abbrev».now str.now line_str.now str_offsets.now addr.now)
+    ensures { Checks (of_six info.now «abbrev».now str.now line_str.now str_offsets.now addr.now)
         verdict.old result verdict.new }
 {
-    let counts = count_six(alloc, info, abbrev, str, line_str, str_offsets, addr);
-    put_verdict(counts, verdict)
+    let sections = sections_of_six(info, abbrev, str, line_str, str_offsets, addr);
+    put_verdict(count_found(alloc, sections), verdict)
 }
 
 /// The request with a number.
@@ -217,24 +194,6 @@ pub extern "C" fn dwv_report(
     }
 }
 
-/// Checks a file, and writes a row for each entry of a sound one: all rows and SOUND, or none and TOO_SHORT, FAULT or
-/// NO_MEMORY. `count` is that of the entries.
-#[unsafe(no_mangle)]
-pub extern "C" fn dwv_entries(
-    alloc: Global,
-    file: &[u8],
-    rows: &mut [EntryRow],
-    count: &mut usize,
-    verdict: &mut Verdict,
-) -> u32
-    ensures { PutsRows file.now rows.old count.old verdict.old result rows.new count.new verdict.new }
-{
-    match verify_file(alloc, file) {
-        Ok(image) => put_rows(alloc, file, &image, rows, count, verdict),
-        Err(error) => put_verdict(Err(error), verdict),
-    }
-}
-
 /// Checks a file, and writes a row for each unit, each entry and each value of a sound one: all rows and SOUND, or none
 /// and TOO_SHORT, FAULT or NO_MEMORY. `counts` says how many rows there are. Places are counted from the file's start.
 #[unsafe(no_mangle)]
@@ -242,16 +201,15 @@ pub extern "C" fn dwv_table(
     alloc: Global,
     file: &[u8],
     units: &mut [UnitRow],
-    entries: &mut [TableEntry],
+    entries: &mut [EntryRow],
     values: &mut [ValueRow],
     counts: &mut TableCounts,
     verdict: &mut Verdict,
 ) -> u32
-    ensures { PutsTable (IsFaultOfFile file.now) (IsSoundFile file.now) (λ _. AreInFile file.now)
-        (arrays units.old entries.old values.old) counts.old verdict.old result
-        (arrays units.new entries.new values.new) counts.new verdict.new }
+    ensures { PutsTable (of_file file.now) (arrays units.old entries.old values.old) counts.old verdict.old
+        result (arrays units.new entries.new values.new) counts.new verdict.new }
 {
-    match verify_file(alloc, file) {
+    match verify_found(alloc, sections_of_file(file)) {
         Ok(image) => {
             let ground = Ground::File(file);
             put_table(
@@ -273,17 +231,17 @@ pub extern "C" fn dwv_table_sections(
     str_offsets: &[u8],
     addr: &[u8],
     units: &mut [UnitRow],
-    entries: &mut [TableEntry],
+    entries: &mut [EntryRow],
     values: &mut [ValueRow],
     counts: &mut TableCounts,
     verdict: &mut Verdict,
 ) -> u32
-    ensures { PutsTable (IsFaultOfSix info.now «abbrev».now str.now line_str.now str_offsets.now addr.now)
-        (IsSoundSix info.now «abbrev».now str.now line_str.now str_offsets.now addr.now) AreInImage
+    ensures { PutsTable (of_six info.now «abbrev».now str.now line_str.now str_offsets.now addr.now)
         (arrays units.old entries.old values.old) counts.old verdict.old result
         (arrays units.new entries.new values.new) counts.new verdict.new }
 {
-    match verify_six(alloc, info, abbrev, str, line_str, str_offsets, addr) {
+    let found = sections_of_six(info, abbrev, str, line_str, str_offsets, addr);
+    match verify_found(alloc, found) {
         Ok(image) => {
             let ground = Ground::Sections;
             put_table(

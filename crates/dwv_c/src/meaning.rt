@@ -1,18 +1,16 @@
 //! What a value means, and its row.
 
-ghost use Rattle.std.specs.Prelude.{◌≡◌, ℕ, true, IfSome};
+ghost use Rattle.std.specs.Prelude.{◌≡◌, ℕ, true};
 ghost use Rattle.dw_entries.specs.Entries.{Entry};
 ghost use Rattle.dw_forms.specs.Value.{view};
 ghost use Rattle.dw_image.specs.declared.image.Image.{Image as ImageData};
-ghost use Rattle.dw_links.specs.Contributions.{slot_at};
-ghost use Rattle.dwv_c.specs.Meanings.{HasMeaning, HasSlot, HasSpan, Means, has_own_meaning, named_after, text_span};
+ghost use Rattle.dwv_c.specs.Meanings.{HasMeaning, HasSpan, Means, has_own_meaning, named_after, text_span};
 ghost use Rattle.dwv_c.specs.SectionPlaces.{Holders};
 ghost use Rattle.dwv_c.specs.ValueRows.{HasNumber};
 
 use crate::places::Span;
 use dw_forms::constants::DW_AT_name;
 use dw_forms::{Attribute, Value};
-use dw_links::number;
 
 /// What a value means: no form, no index and no offset is left in it, but those that no rule is on.
 #[derive(Clone, Copy, Debug)]
@@ -145,20 +143,6 @@ pub fn named_after(named: Option<Option<Span>>, row: &ValueRow) -> Option<Option
         Some(text_span(row))
     } else {
         named
-    }
-}
-
-/// The number in the slot of an index, where slots of so many bytes start at a base.
-pub fn slot(section: &[u8], size: u8, base: Option<u32>, index: u64) -> u64
-    requires { HasSlot section.now size base index }
-    ensures { IfSome base (λ base. result ≡ slot_at section.now size base index) }
-{
-    match base {
-        Some(base) => {
-            let size = size as usize;
-            number(section, base as usize + size * index as usize, size)
-        }
-        None => unreachable!(),
     }
 }
 

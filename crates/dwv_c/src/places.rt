@@ -9,9 +9,8 @@ ghost use Rattle.dw_image.specs.Slots.{BeginsString};
 ghost use Rattle.dw_image.specs.ValueTexts.{text_there};
 ghost use Rattle.dw_links.specs.declared.texts.TextPlace.TheVariants.{Info};
 
-use crate::strings::Strings;
 use dw_elf::{DebugSection, section_start};
-use dw_image::{Image, TextPlace};
+use dw_image::{Image, Strings, TextPlace};
 use std::alloc::{AllocError, Global};
 
 /// The places of bytes in .debug_info, in .debug_str and in .debug_line_str.
@@ -156,7 +155,7 @@ impl<'i, 'a> Places<'i, 'a> {
             self.str.bytes.len(),
             self.line_str.bytes.len(),
         );
-        let length = self.strings.length(place) as u32;
+        let length = self.strings.span(place).len as u32;
         let (section, start) = match place {
             TextPlace::Info(offset) => (INFO, self.info.start + offset),
             TextPlace::Str(offset) => (STR, self.str.start + offset),

@@ -4,25 +4,22 @@ ghost use Rattle.std.specs.Prelude.{◌≡◌, ◌+◌, ◌<◌, ◌≤◌, leng
 ghost use Rattle.std.specs.Bool.{OnTrue, OnFalse};
 ghost use Rattle.dw_entries.specs.EntryRules.{values_of};
 ghost use Rattle.dw_entries.specs.ByNumber.{entry_of};
-ghost use Rattle.dw_image.specs.Headline.{IsImageOf};
-ghost use Rattle.dw_image.specs.Images.{entries_in, entry_count, name_in, name_place_in, sections_in};
+ghost use Rattle.dw_image.specs.Images.{entries_in, entry_count, name_in, name_place_in};
 ghost use Rattle.dw_image.specs.Images.{unit_count};
-ghost use Rattle.dwv_c.specs.Meanings.{AreOnGround, IsAtHand, IsGround, holders_of};
-ghost use Rattle.dwv_c.specs.Tables.{AreTable, HasRoom, HaveEntries, HaveUnits, HaveValues, IsTableEntry, LacksRoom};
+ghost use Rattle.dwv_c.specs.Meanings.{AreOnGround, IsGround, holders_of};
+ghost use Rattle.dwv_c.specs.Tables.{AreTable, HasRoom, HaveEntries, HaveUnits, HaveValues, IsEntryRow, LacksRoom};
 ghost use Rattle.dwv_c.specs.SectionPlaces.{Holders};
 ghost use Rattle.dwv_c.specs.Tables.{arrays, counts_of, value_count, values_before};
-ghost use Rattle.dwv_c.specs.TableState.{IsNameSpan, Puts};
+ghost use Rattle.dwv_c.specs.TableState.{AreBefore, AreOf, IsNameSpan, IsUnitOf, Puts};
 ghost use Rattle.dwv_c.specs.Verdicts.{of_image};
 
 use crate::meaning::{ValueRow, named_after, value_row};
 use crate::places::{Ground, Places, Span};
-use crate::table_rows::{
-    Links, TableCounts, TableEntry, UnitRow, depth_by_rows, row_with, unit_row,
-};
-use crate::values::{Resolver, UnitAtHand};
+use crate::table_rows::{EntryRow, Links, TableCounts, UnitRow, depth_by_rows, row_with, unit_row};
+use crate::values::Resolver;
 use crate::verdict::{NO_MEMORY, SOUND, TOO_SHORT, Verdict, verdict_of_counts};
 use dw_entries::{Cursor, EntryId};
-use dw_image::Image;
+use dw_image::{Image, UnitAtHand};
 use dw_report::size_of_entry;
 use dw_units::Counts;
 use std::alloc::Global;
@@ -38,10 +35,7 @@ impl<'p, 'i, 'a> Resolver<'p, 'i, 'a> {
         from: usize,
         id: EntryId,
     ) -> (usize, Option<Span>)
-        requires sound { IsImageOf (sections_in self.now.image.now) self.now.image.now }
-        requires unit { IsAtHand self.now.image.now unit.now }
-        requires id { id < length (entries_in self.now.image.now) }
-        requires in_unit { unit.now.number ≡ (entry_of (entries_in self.now.image.now) id).unit }
+        requires unit { IsUnitOf self.now.image.now unit.now id }
         requires room { value_count self.now.image.now ≤ length values.old }
         requires from { from ≡ values_before self.now.image.now id }
         requires before { HaveValues (holders_of self.now.places.now) self.now.image.now from values.old }
@@ -56,8 +50,8 @@ impl<'p, 'i, 'a> Resolver<'p, 'i, 'a> {
         let mut left = self.image.scanned().placed(id, unit.number);
         let mut at = from;
         let mut named = None;
-        'items: while let Some((attribute, value, end)) = left.take() {
-            let meaning = self.meaning(unit, id, attribute, &value, end);
+        'items: while let Some((attribute, value, end)) = left.next_placed() {
+            let meaning = self.meaning(unit, &value, end);
             let row = value_row(id.number() as u32, attribute, meaning);
             values[at] = row;
             named = named_after(named, &row);
@@ -71,15 +65,13 @@ impl<'p, 'i, 'a> Resolver<'p, 'i, 'a> {
     fn entry_row(
         &self,
         unit: &UnitAtHand,
-        entries: &[TableEntry],
+        entries: &[EntryRow],
         from: usize,
         next: usize,
         name: Option<Span>,
         id: EntryId,
-    ) -> TableEntry
-        requires unit { IsAtHand self.now.image.now unit.now }
-        requires id { id < length (entries_in self.now.image.now) }
-        requires in_unit { unit.now.number ≡ (entry_of (entries_in self.now.image.now) id).unit }
+    ) -> EntryRow
+        requires unit { IsUnitOf self.now.image.now unit.now id }
         requires room { id ≤ length entries.now }
         requires before { HaveEntries (holders_of self.now.places.now) self.now.image.now id entries.now }
         requires from { from ≡ values_before self.now.image.now id }
@@ -87,7 +79,7 @@ impl<'p, 'i, 'a> Resolver<'p, 'i, 'a> {
         requires name { IsNameSpan (holders_of self.now.places.now)
             (name_in self.now.image.now (entry_of (entries_in self.now.image.now) id))
             (name_place_in self.now.image.now (entry_of (entries_in self.now.image.now) id)) name }
-        ensures { IsTableEntry (holders_of self.now.places.now) self.now.image.now id
+        ensures { IsEntryRow (holders_of self.now.places.now) self.now.image.now id
             (entry_of (entries_in self.now.image.now) id) result }
     {
         let image = self.image;
@@ -103,51 +95,34 @@ impl<'p, 'i, 'a> Resolver<'p, 'i, 'a> {
         row_with(image.offset(id), depth, image.tag(id), size, name, links)
     }
 
-    /// A unit, which may be at hand.
-    fn unit_from(&self, unit: UnitAtHand, number: usize) -> UnitAtHand
-        requires number { number < unit_count self.now.image.now }
-        requires unit { IsAtHand self.now.image.now unit }
-        ensures unit { IsAtHand self.now.image.now result }
-        ensures number { result.number ≡ number }
-    {
-        if unit.number == number {
-            unit
-        } else {
-            self.unit(number)
-        }
-    }
-
     /// Writes the rows of an entry and of its values, and says which row follows these.
     #[tactic(auto, unfolding(dw_image::specs::Images::units_in))]
     fn put_entry(
         &self,
         cursor: &mut Cursor<'i, 'a>,
         unit: &mut UnitAtHand,
-        entries: &mut [TableEntry],
+        entries: &mut [EntryRow],
         values: &mut [ValueRow],
         number: usize,
         from: usize,
     ) -> usize
-        requires sound { IsImageOf (sections_in self.now.image.now) self.now.image.now }
-        requires cursor { cursor.old.entries.now ≡ self.now.image.now.entries }
-        requires unit { IsAtHand self.now.image.now unit.old }
+        requires at { AreOf self.now.image.now cursor.old unit.old }
         requires number { number < entry_count self.now.image.now }
         requires room { number < length entries.old }
         requires value_room { value_count self.now.image.now ≤ length values.old }
         requires from { from ≡ values_before self.now.image.now number }
-        requires entries { HaveEntries (holders_of self.now.places.now) self.now.image.now number entries.old }
-        requires values { HaveValues (holders_of self.now.places.now) self.now.image.now from values.old }
-        ensures cursor { cursor.new.entries.now ≡ cursor.old.entries.now }
-        ensures unit { IsAtHand self.now.image.now unit.new }
+        requires before { AreBefore (holders_of self.now.places.now) self.now.image.now number from entries.old
+            values.old }
+        ensures at { AreOf self.now.image.now cursor.new unit.new }
         ensures next { result ≡ values_before self.now.image.now (number + 1) }
-        ensures entries { HaveEntries (holders_of self.now.places.now) self.now.image.now (number + 1) entries.new }
-        ensures other_entries { drop (number + 1) entries.new ≡ drop (number + 1) entries.old }
-        ensures values { HaveValues (holders_of self.now.places.now) self.now.image.now result values.new }
-        ensures other_values { drop result values.new ≡ drop result values.old }
+        ensures rows { AreBefore (holders_of self.now.places.now) self.now.image.now (number + 1) result entries.new
+            values.new }
+        ensures rest { (drop (number + 1) entries.new ≡ drop (number + 1) entries.old)
+            × (drop result values.new ≡ drop result values.old) }
     {
         let id = self.image.scanned().id(number);
         let entry = cursor.at(id);
-        *unit = self.unit_from(*unit, entry.unit());
+        unit.keep(self.image, entry.unit());
         let (next, name) = self.put_values(unit, values, from, id);
         entries[number] = self.entry_row(unit, entries, from, next, name, id);
         next
@@ -155,24 +130,20 @@ impl<'p, 'i, 'a> Resolver<'p, 'i, 'a> {
 
     /// Writes the rows of all entries and values.
     #[tactic(auto, unfolding(dw_image::specs::Images::units_in))]
-    fn put_entries(&self, entries: &mut [TableEntry], values: &mut [ValueRow])
-        requires sound { IsImageOf (sections_in self.now.image.now) self.now.image.now }
+    fn put_entries(&self, entries: &mut [EntryRow], values: &mut [ValueRow])
         requires room { entry_count self.now.image.now ≤ length entries.old }
         requires value_room { value_count self.now.image.now ≤ length values.old }
-        ensures entries { HaveEntries (holders_of self.now.places.now) self.now.image.now
-            (entry_count self.now.image.now) entries.new }
-        ensures values { HaveValues (holders_of self.now.places.now) self.now.image.now
-            (value_count self.now.image.now) values.new }
-        ensures other_entries { drop (entry_count self.now.image.now) entries.new
-            ≡ drop (entry_count self.now.image.now) entries.old }
-        ensures other_values { drop (value_count self.now.image.now) values.new
-            ≡ drop (value_count self.now.image.now) values.old }
+        ensures rows { AreBefore (holders_of self.now.places.now) self.now.image.now
+            (entry_count self.now.image.now) (value_count self.now.image.now) entries.new values.new }
+        ensures rest { (drop (entry_count self.now.image.now) entries.new
+            ≡ drop (entry_count self.now.image.now) entries.old)
+            × (drop (value_count self.now.image.now) values.new ≡ drop (value_count self.now.image.now) values.old) }
     {
         if self.image.units() == 0 {
             return;
         }
         let mut cursor = self.image.scanned().cursor();
-        let mut unit = self.unit(0);
+        let mut unit = UnitAtHand::read(self.image, 0);
         let mut at = 0;
         for number in 0..self.image.entries() {
             at = self.put_entry(&mut cursor, &mut unit, entries, values, number, at);
@@ -233,7 +204,7 @@ fn is_room(
     image: &Image<'_>,
     count: usize,
     units: &[UnitRow],
-    entries: &[TableEntry],
+    entries: &[EntryRow],
     values: &[ValueRow],
 ) -> bool
     requires { count ≡ value_count image.now }
@@ -249,10 +220,9 @@ fn put_rows(
     ground: Ground<'_>,
     image: &Image<'_>,
     units: &mut [UnitRow],
-    entries: &mut [TableEntry],
+    entries: &mut [EntryRow],
     values: &mut [ValueRow],
 ) -> bool
-    requires sound { IsImageOf (sections_in image.now) image.now }
     requires ground { IsGround ground image.now }
     requires room { HasRoom image.now (arrays units.old entries.old values.old) }
     ensures whole { OnTrue result ((h : Holders) × AreOnGround ground.entry image.now h × AreTable h image.now
@@ -281,12 +251,11 @@ pub fn put_table(
     ground: Ground<'_>,
     image: &Image<'_>,
     units: &mut [UnitRow],
-    entries: &mut [TableEntry],
+    entries: &mut [EntryRow],
     values: &mut [ValueRow],
     counts: &mut TableCounts,
     verdict: &mut Verdict,
 ) -> u32
-    requires sound { IsImageOf (sections_in image.now) image.now }
     requires ground { IsGround ground image.now }
     ensures { Puts (AreOnGround ground.entry image.now) image.now (arrays units.old entries.old values.old) counts.old
         verdict.old result (arrays units.new entries.new values.new) counts.new verdict.new }

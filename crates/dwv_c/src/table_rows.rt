@@ -4,8 +4,7 @@ ghost use Rattle.std.specs.Prelude.{◌≡◌, ◌<◌, Some, length, min, IfSom
 ghost use Rattle.dw_entries.specs.ByNumber.{entry_of, placed_of};
 ghost use Rattle.dw_entries.specs.Entries.{placed};
 ghost use Rattle.dw_image.specs.Images.{entries_in, unit_count, units_in};
-ghost use Rattle.dwv_c.specs.Rows.{greatest};
-ghost use Rattle.dwv_c.specs.Tables.{HasSize, IsUnitRow, number_under, offset_under, row_of};
+ghost use Rattle.dwv_c.specs.Tables.{HasSize, greatest, IsUnitRow, number_under, offset_under, row_of};
 ghost use Rattle.dwv_c.specs.TableState.{HasLinks, HasNameSpan, depth_by};
 
 use crate::places::Span;
@@ -47,7 +46,7 @@ pub struct UnitRow {
 /// An entry of sound sections, with its place among the others and its values.
 #[repr(C)]
 #[derive(Clone, Copy, Debug)]
-pub struct TableEntry {
+pub struct EntryRow {
     /// The size in bytes, or 0 if `has_size` is 0.
     pub size: u64,
     /// Where the name starts, or 0 if there is none.
@@ -149,7 +148,7 @@ pub fn unit_row(image: &Image<'_>, number: usize) -> UnitRow
 }
 
 /// The depth of an entry, by the row of its parent.
-pub fn depth_by_rows(rows: &[TableEntry], parent: Option<EntryId>) -> u32
+pub fn depth_by_rows(rows: &[EntryRow], parent: Option<EntryId>) -> u32
     requires { IfSome parent (λ p. p < length rows.now) }
     ensures { depth_by rows.now parent ≡ Some result }
 {
@@ -177,7 +176,7 @@ pub fn row_with(
     size: Option<u64>,
     name: Option<Span>,
     links: Links,
-) -> TableEntry
+) -> EntryRow
     requires { links.unit < 4_294_967_296 }
     ensures offset { result.offset ≡ offset }
     ensures depth { result.depth ≡ depth }
@@ -194,7 +193,7 @@ pub fn row_with(
         Some(span) => (span.start, span.length, span.section),
         None => (0, 0, 0),
     };
-    TableEntry {
+    EntryRow {
         size,
         name,
         offset,

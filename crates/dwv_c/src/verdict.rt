@@ -1,7 +1,7 @@
 //! What a call returns, and the verdict as a struct of fixed size.
 
 ghost use Rattle.std.specs.Prelude.{◌≡◌, ◌<◌, ◌≤◌, ◌++◌, length, drop};
-ghost use Rattle.dw_elf.specs.declared.fault.ElfRule.{ElfRule as FileRule};
+ghost use Rattle.dw_elf.specs.declared.rule.ElfRule.{ElfRule as FileRule};
 ghost use Rattle.dw_elf.specs.RuleTexts as elf;
 ghost use Rattle.dw_entries.specs.declared.fault.Section.{Section};
 ghost use Rattle.dw_forms.specs.declared.rule.Rule.{Rule};

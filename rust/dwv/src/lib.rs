@@ -55,21 +55,6 @@ pub struct Fault {
     pub attribute: u32,
 }
 
-/// An entry of a sound file. Its name is in the bytes of the file.
-#[derive(Clone, Copy, Debug, PartialEq, Eq)]
-pub struct Entry<'a> {
-    /// Where it starts in .debug_info, in bytes.
-    pub offset: u32,
-    /// How many entries are above it.
-    pub depth: u32,
-    /// The tag, as 0x24 for a base type.
-    pub tag: u32,
-    /// In bytes. None if it is no type, or has no size.
-    pub size: Option<u64>,
-    /// The bytes of its name, without the zero byte after them.
-    pub name: Option<&'a [u8]>,
-}
-
 /// The six sections that are checked, from a file of any format. One that a file does not have is empty.
 #[derive(Clone, Copy, Debug, Default, PartialEq, Eq)]
 pub struct Sections<'a> {
@@ -160,25 +145,6 @@ pub fn check_sections(sections: &Sections<'_>) -> Result<Counts, Error> {
         )
     };
     raw.verdict(status)
-}
-
-/// The entries of a sound file in rising offset. Any other file gives its fault.
-pub fn entries(file: &[u8]) -> Result<Vec<Entry<'_>>, Error> {
-    let (mut raw, mut rows) = (Raw::default(), vec![Row::default(); 64]);
-    loop {
-        let mut count = 0;
-        let (to, room) = (rows.as_mut_ptr(), rows.len());
-        // SAFETY: as in `check`, and the array has `room` rows that are initialized.
-        let status = unsafe { dwv_entries(file.as_ptr(), file.len(), to, room, &mut count, &mut raw) };
-        match status {
-            1 => return Err(Error::Fault(raw.fault())),
-            4 => return Err(Error::NoMemory),
-            _ => rows.resize(count, Row::default()),
-        }
-        if status == 0 {
-            return Ok(rows.iter().map(|row| row.entry(file)).collect());
-        }
-    }
 }
 
 /// What a command of the program prints of a file, and its exit status. The only error is `NoMemory`.
@@ -284,28 +250,6 @@ impl Raw {
     }
 }
 
-/// `struct dwv_entry` of dwv.h.
-#[repr(C)]
-#[derive(Clone, Copy, Default)]
-struct Row {
-    size: u64,
-    name: u64,
-    offset: u32,
-    depth: u32,
-    tag: u32,
-    has_size: u32,
-    name_length: u32,
-    has_name: u32,
-}
-
-impl Row {
-    fn entry<'a>(&self, file: &'a [u8]) -> Entry<'a> {
-        let size = (self.has_size == 1).then_some(self.size);
-        let name = (self.has_name == 1).then(|| &file[self.name as usize..][..self.name_length as usize]);
-        Entry { offset: self.offset, depth: self.depth, tag: self.tag, size, name }
-    }
-}
-
 extern "C" {
     fn dwv_check(file: *const u8, length: usize, verdict: *mut Raw) -> u32;
     fn dwv_check_sections(
@@ -321,14 +265,6 @@ extern "C" {
         str_offsets_length: usize,
         addr: *const u8,
         addr_length: usize,
-        verdict: *mut Raw,
-    ) -> u32;
-    fn dwv_entries(
-        file: *const u8,
-        length: usize,
-        rows: *mut Row,
-        room: usize,
-        count: *mut usize,
         verdict: *mut Raw,
     ) -> u32;
     fn dwv_report(

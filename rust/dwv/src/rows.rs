@@ -1,7 +1,7 @@
 //! The rows that the library writes, and the calls that write them.
 use crate::{table::Unit, Raw};
 
-/// `struct dwv_table_entry` of dwv.h.
+/// `struct dwv_entry` of dwv.h.
 #[repr(C)]
 #[derive(Clone, Copy, Debug)]
 pub(crate) struct EntryRow {

@@ -1,4 +1,4 @@
-use dwv::{constants::*, table::Value, Counts, Entry, Error, Fault, Request, Rule, Section, Sections, Status, Table};
+use dwv::{constants::*, table::Value, Counts, Error, Fault, Request, Rule, Section, Sections, Status, Table};
 use std::{collections::BTreeSet, thread};
 
 const SAMPLE: &[u8] = include_bytes!("../../../crates/dwv/data/X1");
@@ -11,9 +11,6 @@ fn a_sound_file() {
     assert_eq!(dwv::report(SAMPLE, Request::Size(15)), Ok((Status::Sound, b"size 4\n".to_vec())));
     assert_eq!(dwv::report(SAMPLE, Request::Size(12)), Ok((Status::NotAType, b"not a type\n".to_vec())));
     assert_eq!(dwv::report(SAMPLE, Request::Check).unwrap().1, format!("{SOUND}\n").as_bytes());
-    let unit = Entry { offset: 12, depth: 0, tag: 0x11, size: None, name: Some(b"a") };
-    let number = Entry { offset: 15, depth: 1, tag: 0x24, size: Some(4), name: Some(b"int") };
-    assert_eq!(dwv::entries(SAMPLE), Ok(vec![unit, number]));
 }
 
 #[test]
@@ -24,7 +21,7 @@ fn a_fault_of_the_sections() {
     let fault = Fault { rule: Rule::UndeclaredCode, section: Section::Info, at: 15, attribute: 0 };
     assert_eq!(fault.to_string(), "fault G1 UndeclaredCode at .debug_info+0x0000000f attribute 0x0");
     assert_eq!(dwv::check(&file), Err(Error::Fault(fault)));
-    assert_eq!(dwv::entries(&file), Err(Error::Fault(fault)));
+    assert_eq!(Table::of(&file).err(), Some(Error::Fault(fault)));
     assert_eq!(dwv::report(&file, Request::Types), Ok((Status::Fault, format!("{fault}\n").into_bytes())));
     assert_eq!(dwv::report(&file, Request::CheckJson).unwrap().0, Status::Fault);
     assert_eq!(dwv::report(&file, Request::Show).unwrap().1, format!("{fault}\n").as_bytes());
@@ -115,18 +112,6 @@ fn a_table_with_more_values_than_compilers_write() -> Result<(), Error> {
         assert!(unit.attributes().eq((0..count).map(|code| (0x2000 + u32::from(code), Value::Flag(true)))));
     }
     Ok(())
-}
-
-#[test]
-fn names_of_codes() {
-    let named = include_str!("../../../contrib/dwv_tools/names.txt");
-    let constants = include_str!("../src/constants.rs");
-    let wanted = named.lines().filter(|line| line.contains(" DW_TAG_") || line.contains(" DW_AT_"));
-    assert!(wanted.clone().all(|line| {
-        let (code, name) = line.split_at(4);
-        constants.contains(&format!("pub const {}: u32 = 0x{};", name.trim(), code.trim_start_matches('0')))
-    }));
-    assert_eq!(constants.matches("pub const").count(), wanted.count());
 }
 
 #[test]

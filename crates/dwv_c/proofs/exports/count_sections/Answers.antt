@@ -1,15 +1,9 @@
-use Rattle.std.proofs.Common.{rules, subst}
+use Rattle.std.proofs.Common.{rules}
 use Rattle.dw_image.specs.Headline.{IsFaultOf}
-use Rattle.dw_units.specs.Counts.{AreCounts}
 use Rattle.dwv_c.proofs.exports.count_sections.Goals as goal
 
-pub returns-in-Ok-Some-Sound : goal.returns-in-Ok-Some-Sound
-returns-in-Ok-Some-Sound c = search rules
-
-pub returns-in-Ok-Some-Fault : goal.returns-in-Ok-Some-Fault
-returns-in-Ok-Some-Fault c =
-    let found : IsFaultOf c.args.sections c.in-Ok-Some-Fault.fault = search rules in
-    (c.in-Ok-Some-Fault.fault, found, rw c.in-Ok-Some-Fault.field-0-0-is at c.verdict_of_fault.ensures)
-
-pub returns : goal.returns
-returns c = subst (λ s. AreCounts s c.of.result) c.in_ok-image.ensures.sections c.of.ensures.counts
+pub returns-in-Ok-Fault : goal.returns-in-Ok-Fault
+returns-in-Ok-Fault c =
+    let found : IsFaultOf c.args.sections c.in-Ok-Fault.fault = rw c.in-Ok-Fault.field-0-is at c.in-Ok-Fault.ensures
+    in
+    (c.in-Ok-Fault.fault, found, c.verdict_of_fault.ensures)

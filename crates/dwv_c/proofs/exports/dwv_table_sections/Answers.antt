@@ -1,31 +1,21 @@
-use Rattle.dwv_c.specs.SectionPlaces.{AreInImage}
-use Rattle.dwv_c.specs.Tables.{IsSoundSix, arrays}
-use Rattle.dwv_c.specs.Verdicts.{IsFaultOfSix}
-use Rattle.dwv_c.proofs.TableRowLemmas.{own_sections, puts_fault, puts_found}
+use Rattle.dwv_c.specs.Tables.{arrays}
+use Rattle.dwv_c.specs.Verdicts.{of_six}
+use Rattle.dwv_c.proofs.TableRowLemmas.{puts_fault, puts_found}
 use Rattle.dwv_c.proofs.exports.dwv_table_sections.Goals as goal
-
-pub put_table-requires-clause-sound : goal.put_table-requires-clause-sound
-put_table-requires-clause-sound c = own_sections c.in-Ok.ensures.sections c.in-Ok.image c.in-Ok.ensures.image
 
 pub returns-in-Ok : goal.returns-in-Ok
 returns-in-Ok c =
-    puts_found
-    (IsFaultOfSix c.args.info.now c.args.abbrev.now c.args.str.now c.args.line_str.now c.args.str_offsets.now
-    c.args.addr.now)
-    (IsSoundSix c.args.info.now c.args.abbrev.now c.args.str.now c.args.line_str.now c.args.str_offsets.now
-    c.args.addr.now)
-    AreInImage c.in-Ok.image (arrays c.args.units.now c.args.entries.now c.args.values.now)
+    let g = of_six c.args.info.now c.args.abbrev.now c.args.str.now c.args.line_str.now c.args.str_offsets.now
+    c.args.addr.now in
+    puts_found g c.in-Ok.image (arrays c.args.units.now c.args.entries.now c.args.values.now)
     (arrays c.put_table.new.units c.put_table.new.entries c.put_table.new.values) c.args.counts.now
-    c.put_table.new.counts c.args.verdict.now c.put_table.new.verdict c.put_table.result c.in-Ok.ensures
-    c.put_table.ensures
+    c.put_table.new.counts c.args.verdict.now c.put_table.new.verdict c.put_table.result
+    (c.in-Ok.ensures g c.sections_of_six-found.ensures) c.put_table.ensures
 
 pub returns-in-Err : goal.returns-in-Err
 returns-in-Err c =
-    puts_fault
-    (IsFaultOfSix c.args.info.now c.args.abbrev.now c.args.str.now c.args.line_str.now c.args.str_offsets.now
-    c.args.addr.now)
-    (IsSoundSix c.args.info.now c.args.abbrev.now c.args.str.now c.args.line_str.now c.args.str_offsets.now
-    c.args.addr.now)
-    AreInImage (arrays c.args.units.now c.args.entries.now c.args.values.now) c.args.counts.now c.args.verdict.now
-    c.put_verdict.new.verdict c.in-Err.error c.put_verdict.result c.put_verdict.ensures.status
-    c.put_verdict.ensures.verdict c.in-Err.ensures
+    let g = of_six c.args.info.now c.args.abbrev.now c.args.str.now c.args.line_str.now c.args.str_offsets.now
+    c.args.addr.now in
+    puts_fault g (arrays c.args.units.now c.args.entries.now c.args.values.now)
+    c.args.counts.now c.args.verdict.now c.put_verdict.new.verdict c.in-Err.error c.put_verdict.result
+    c.put_verdict.ensures.status c.put_verdict.ensures.verdict (c.in-Err.ensures g c.sections_of_six-found.ensures)

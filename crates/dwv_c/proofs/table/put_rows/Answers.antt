@@ -7,10 +7,10 @@ returns-clause-whole c = (
   c.in-Ok.ensures.holders,
   record {
     units = c.put_units.ensures.rows;
-    entries = c.put_entries.ensures.entries;
-    values = c.put_entries.ensures.values;
+    entries = c.put_entries.ensures.rows.entries;
+    values = c.put_entries.ensures.rows.values;
     other_units = c.put_units.ensures.rest;
-    other_entries = c.put_entries.ensures.other_entries;
-    other_values = c.put_entries.ensures.other_values;
+    other_entries = c.put_entries.ensures.rest.0;
+    other_values = c.put_entries.ensures.rest.1;
   },
 )

@@ -26,7 +26,7 @@ returns-in-Info c =
     rw c.in-Info.is (record {
       section_is = refl;
       start_is = refl;
-      length_is = rw c.in-Info.is at c.length-length.ensures;
+      length_is = rw c.in-Info.is at c.span-length.ensures.long;
       place = rw c.in-Info.is at place;
     })
 
@@ -38,7 +38,7 @@ returns-in-Str c =
     rw c.in-Str.is (record {
       section_is = refl;
       start_is = refl;
-      length_is = rw c.in-Str.is at c.length-length.ensures;
+      length_is = rw c.in-Str.is at c.span-length.ensures.long;
       place = rw c.in-Str.is at place;
     })
 
@@ -50,6 +50,6 @@ returns-in-LineStr c =
     rw c.in-LineStr.is (record {
       section_is = refl;
       start_is = refl;
-      length_is = rw c.in-LineStr.is at c.length-length.ensures;
+      length_is = rw c.in-LineStr.is at c.span-length.ensures.long;
       place = rw c.in-LineStr.is at place;
     })

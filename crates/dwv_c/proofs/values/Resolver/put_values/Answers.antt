@@ -1,7 +1,8 @@
-use Rattle.std.proofs.Common.{rules, ◌≡◌, ◌≤◌, ℕ, List, length, refl, ap, subst, ◌∙◌, arith}
+use Rattle.std.proofs.Common.{rules, ◌≡◌, ◌≤◌, ℕ, List, length, refl, sym, ap, subst, ◌∙◌, arith}
 use Rattle.dw_forms.specs.Value.{view}
 use Rattle.dw_entries.specs.ValuePlaces.{PlacedValue}
-use Rattle.dw_entries.specs.Placed.{EndsAt, placed_left}
+use Rattle.dw_entries.specs.OwnBytes.{EndsAt}
+use Rattle.dw_entries.specs.ValuesLeft.{placed_left}
 use Rattle.dw_image.specs.Images.{entries_in, units_in, sections_in}
 use Rattle.dw_entries.specs.ByNumber.{entry_of}
 use Rattle.dw_entries.specs.Entries.{Entry}
@@ -20,7 +21,7 @@ unfolding units_in sections_in
 items-init c = record {
   here =
       at_entry (holders_of c.args.self.now.places.now) c.args.self.now.image.now c.args.id c.args.from
-      (placed_left c.placed-left.result) c.requires.id
+      (placed_left c.placed-left.result) c.requires.unit.within
       c.requires.from
       (rw c.scanned.ensures at c.placed-left.ensures.left);
   info = rw c.scanned.ensures at c.placed-left.ensures.info;
@@ -34,8 +35,9 @@ meaning-meaning-requires-clause-value c =
     let i = c.args.self.now.image.now in
     let w = subst (λ (l : List PlacedValue). IsAtValue h i c.args.id c.items.at l c.items.named) c.in-Some.ensures.steps
     c.items.invariant.here in
-    let own = value_of_entry h i c.args.unit.now c.args.id c.items.at _ (placed_left c.take.new.self) c.items.named w
-    c.requires.in_unit in
+    let own = value_of_entry h i c.args.unit.now c.args.id c.items.at _ (placed_left c.next_placed.new.self)
+    c.items.named w
+    c.requires.unit.in_unit in
     search (rules, own)
 
 pub meaning-meaning-requires-clause-place : goal.meaning-meaning-requires-clause-place
@@ -59,7 +61,9 @@ means_there c =
     means_same (holders_of c.args.self.now.places.now) c.args.self.now.image.now
     (entry_of (entries_in c.args.self.now.image.now) c.args.id) _ c.in-Some.end _ c.in-Some.value _
     (search (rules, c.in-Some.end-is))
-    (search (rules, c.in-Some.value-is)) c.meaning-meaning.ensures
+    (search (rules, c.in-Some.value-is))
+    (c.meaning-meaning.ensures (entry_of (entries_in c.args.self.now.image.now) c.args.id)
+    (sym c.requires.unit.in_unit))
 
 pub items-preserved : goal.items-preserved
 items-preserved c =
@@ -73,11 +77,12 @@ items-preserved c =
     let room : value_count i ≤ length c.items.values = search rules in
     record {
       here =
-          rw c.named_after-named.ensures (at_next h i c.args.id c.items.at _ (placed_left c.take.new.self) c.items.named
+          rw c.named_after-named.ensures
+          (at_next h i c.args.id c.items.at _ (placed_left c.next_placed.new.self) c.items.named
           w _ row attribute c.value_row-row.ensures.meaning means);
-      info = c.take.ensures.info ∙ c.items.invariant.info;
+      info = c.next_placed.ensures.info ∙ c.items.invariant.info;
       rows =
-          values_more h i c.args.id c.items.at _ (placed_left c.take.new.self) c.items.named w _ row
+          values_more h i c.args.id c.items.at _ (placed_left c.next_placed.new.self) c.items.named w _ row
           c.meaning-meaning.result room c.items.invariant.rows (c.value_row-row.ensures.entry ∙ c.number.ensures)
           attribute
           c.value_row-row.ensures.meaning c.value_row-row.ensures.zero means;

@@ -1,5 +1,5 @@
 use Rattle.std.proofs.Common.{◌≡◌, length, drop}
-use Rattle.dw_entries.specs.Placed.{info_of, placed_left}
+use Rattle.dw_entries.specs.ValuesLeft.{info_of, placed_left}
 use Rattle.dw_image.specs.Images.{sections_in}
 use Rattle.dwv_c.specs.Meanings.{holders_of}
 use Rattle.dwv_c.specs.Tables.{HaveValues}

@@ -1,10 +1,10 @@
-use Rattle.std.proofs.Common.{sym, ◌∙◌}
+use Rattle.std.proofs.Common.{Some, sym, ◌∙◌}
 use Rattle.dw_forms.specs.Value.{view}
-use Rattle.dwv_c.proofs.MeaningLemmas.{has_target}
+use Rattle.dwv_c.specs.Meanings.{holders_of}
+use Rattle.dwv_c.proofs.MeaningLemmas.{target_means}
 use Rattle.dwv_c.proofs.values.Resolver.reference.Goals as goal
 
-pub unreachable-requires : goal.unreachable-requires
-unreachable-requires c =
-    has_target c.args.self.now.image.now c.args.unit.now c.requires.unit c.requires.sound c.args.id c.args.attribute
-    (view c.args.value.now)
-    c.requires.value c.requires.reference (sym c.target.ensures ∙ c.in-None.is)
+pub returns : goal.returns
+returns c end =
+    rw c.number.ensures (target_means (holders_of c.args.self.now.places.now) c.args.self.now.image.now c.args.unit.now
+    c.requires.unit end (view c.args.value.now) _ (sym c.target.ensures.exact ∙ c.in-Some.is))
