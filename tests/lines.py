@@ -1,10 +1,12 @@
 #!/usr/bin/env python3
 """Compares the rows that dw_lines makes of line programs with those of llvm-dwarfdump and of pyelftools.
 
-`crates/line_rows` prints the rows. They must be those of the two readers, row by row and field by field, on programs
-that compilers make. Small sections are cut at each byte, and each byte of them is changed: there must be rows, and then
-at most one fault that has a code. With --all there are more programs, and the files of this machine that have line
-programs. It prints a line a file and ends with 'N passed, N failed, N skipped'.
+`crates/line_rows` prints the rows, the directories and the files. The rows must be those of the two readers, row by row
+and field by field, on programs that compilers make. Directories and files must be those of llvm-dwarfdump, and so must
+the rows of some programs made by hand, whose instructions have several operations. Small sections are cut at each byte,
+and each byte of them is changed: there must be rows, and then at most one fault that has a code. With --all there are
+more programs, and the files of this machine that have line programs. It prints a line a file and ends with 'N passed,
+N failed, N skipped'.
 """
 import importlib.util
 import itertools
@@ -12,21 +14,25 @@ import os
 import pathlib
 import re
 import shutil
+import struct
 import subprocess
 import sys
 
 sys.dont_write_bytecode = True
 import common
 import generate
+from common import LINE_ROWS
 
-CRATE = common.TOP / "crates/line_rows"
-LINE_ROWS = CRATE / "out/line_rows"
 RULES = set(re.findall(r'"([LM]\d+)"', (common.TOP / "crates/dw_lines/src/rule.rt").read_text()))
 FLAGS = ("is_stmt", "basic_block", "prologue_end", "epilogue_begin", "end_sequence")
 FIELDS = ("line", "column", "file", "isa", "discriminator", "op_index")
 WORDS = ("-O0", "-O2", "-gdwarf-2 -gstrict-dwarf", "-gdwarf-3", "-gdwarf-4", "-gdwarf-5",
          "-O2 -ffunction-sections -Wl,--gc-sections", "-O2 -flto", "-O2 -gdwarf-4 -gno-column-info")
 OLD = re.compile(r"(?m)^Address .* Discriminator Flags$")
+# A directory or a file by its number, as line_rows and as llvm-dwarfdump print it.
+OWN_TABLES = re.compile(r'(?m)^(?:directory (\d+) "(.*)"|file (\d+) (\d+) "(.*)")$')
+LLVM_TABLES = re.compile(
+    r'(?m)^(?:include_directories\[ *(\d+)\] = "(.*)"|file_names\[ *(\d+)\]:\n +name: "(.*)"\n +dir_index: (\d+))$')
 tally = common.Tally(22)
 total = dict.fromkeys(("dw_lines", "llvm-dwarfdump", "pyelftools"), 0)
 
@@ -41,18 +47,25 @@ def programs_of(text):
     return found
 
 
-def printed(*paths):
+def tables_of(text, pattern):
+    """The directories and the files of each program by its offset."""
+    parts = re.split(r"(?m)^debug_line\[", text)[1:]
+    return {int(part[:10], 16): [sorted(filter(None, it)) for it in pattern.findall(part)] for part in parts}
+
+
+def printed(*words):
     """What line_rows prints of files, one after another."""
-    status, text, errors = common.run(LINE_ROWS, *paths, timeout=600, text=True, errors="replace")
+    status, text, errors = common.run(LINE_ROWS, *words, timeout=600, text=True, errors="replace")
     if status or errors:
         raise common.Failed(f"line_rows ends with status {status}: {errors[-200:]}")
     return text
 
 
 def llvm_programs(tool, path):
-    """The programs as llvm-dwarfdump prints them, and whether its rows have op_index."""
+    """The programs as llvm-dwarfdump prints them, their tables, and whether its rows have op_index."""
     text = common.run(tool, "--debug-line", path, timeout=600, text=True, errors="replace")[1]
-    return {at: rows for at, (rows, _) in programs_of(text).items()}, not OLD.search(text)
+    rows = {at: rows for at, (rows, _) in programs_of(text).items()}
+    return rows, tables_of(text, LLVM_TABLES), not OLD.search(text)
 
 
 def elftools_programs(path):
@@ -97,12 +110,16 @@ def unlike(reader, ours, theirs, change):
 
 
 def compare(title, path, tool, has_elftools):
-    """The rows of a file must be those of both readers."""
-    ours, wrong = programs_of(printed(path)), []
+    """The rows of a file must be those of both readers, and its directories and files those of llvm-dwarfdump."""
+    text = printed("--tables", path)
+    ours, wrong = programs_of(text), []
     count = sum(len(rows) for rows, _ in ours.values())
     total["dw_lines"] += count
     if tool:
-        theirs, has_operations = llvm_programs(tool, path)
+        theirs, tables, has_operations = llvm_programs(tool, path)
+        own = tables_of(text, OWN_TABLES)
+        wrong += [f"0x{at:x}: tables {own.get(at)}, those of llvm-dwarfdump {it}" for at, it in tables.items()
+                  if own.get(at) != it]
         wrong += unlike("llvm-dwarfdump", ours, theirs, lambda row: row if has_operations else row[:6] + row[7:])
         if ours.keys() != theirs.keys():
             wrong.append(f"{len(ours)} programs, llvm-dwarfdump has {len(theirs)}")
@@ -137,6 +154,24 @@ def compiled(folder, is_all):
                 yield f"rustc {words}", folder / "program"
             else:
                 tally.skip(f"rustc {words} does not compile")
+
+
+def by_hand(folder):
+    """Programs whose instructions have several operations, for llvm-dwarfdump from version 19 on."""
+    counts = bytes((0, 1, 1, 1, 1, 0, 0, 0, 1, 0, 0, 1))
+    address = bytes.fromhex("00 09 02 00 10 00 00 00 00 00 00")
+    opcodes = address + bytes.fromhex("01  02 03  01  20  7b  08  ff  01  02 ff 7f  01  09 34 12  33  00 01 01")
+    opcodes += address + bytes.fromhex("05 03  0a  4c  02 0b  fd  06  0c 02  e7  00 01 01")
+    for version, least, most in itertools.product((4, 5), (1, 4), (2, 3, 255)):
+        fields = bytes((least, most, 1, 0xfb, 14, 13)) + counts
+        start, tables = struct.pack("<H", version), b"dir\0\0a.c\0\1\0\0\0"
+        if version == 5:
+            start, tables = start + b"\x08\0", b"\1\1\x08\1dir\0" + b"\2\1\x08\2\x0b\2a.c\0\0b.c\0\0"
+        content = start + struct.pack("<I", len(fields + tables)) + fields + tables + opcodes
+        path = folder / "program"
+        sections = [(".debug_info", 1, b""), (".debug_line", 1, struct.pack("<I", len(content)) + content)]
+        path.write_bytes(common.elf(sections))
+        yield f"version {version}, {least} bytes and {most} operations", path
 
 
 def installed(folder):
@@ -192,8 +227,7 @@ def with_section(file, at, size, section):
 
 
 def main():
-    if not LINE_ROWS.exists():
-        subprocess.run(["rt", "run", "--", "data/X1"], cwd=CRATE, check=True, stdout=subprocess.DEVNULL)
+    common.build_line_rows()
     is_all = "--all" in sys.argv[1:]
     tool = next(filter(shutil.which, ("llvm-dwarfdump-19", "llvm-dwarfdump", "llvm-dwarfdump-14")), None)
     if not tool:
@@ -202,6 +236,11 @@ def main():
         more = installed(folder) if is_all else ()
         for title, path in itertools.chain(compiled(folder, is_all), more):
             compare(title, path, tool, HAS_ELFTOOLS)
+        if tool == "llvm-dwarfdump-19":
+            for title, path in by_hand(folder):
+                compare(title, path, tool, False)
+        else:
+            tally.skip("several operations: llvm-dwarfdump-19 is not installed")
         for version in (5, 4) if tally.has("objcopy") else ():
             path = folder / "small"
             words = f"gcc -gdwarf-{version} -nostdlib -static -Wl,--build-id=none -Wl,-e,twice -x c"

@@ -1,26 +1,21 @@
 -- What holds of each row of a run, and of the sequences of rows.
-use Rattle.std.proofs.Common.{◌≡◌, ℕ, zero, suc, ◌+◌, ◌≤◌, ◌⊎◌, Bool, true, false, List, [], ◌∷◌, length, All, inl, inr}
-use Rattle.std.proofs.Common.{Option, Some, None, Result, Ok, Err, refl, subst, arith}
-use Rattle.std.specs.Prelude.{IfOk, if◌then◌else◌, ◌||◌, unwrap_or, nat_lt}
-use Rattle.std.proofs.lemmas.Bool.{ltb-false}
+use Rattle.std.proofs.Common.{◌≡◌, ℕ, zero, suc, ◌+◌, ◌≤◌, List, [], ◌∷◌, length, All, Option, Some, None, Result, Ok, Err}
+use Rattle.std.proofs.Common.{refl, subst, arith}
+use Rattle.std.specs.Prelude.{IfOk, unwrap_or}
 use Rattle.std.proofs.lemmas.List.Elements.{All-nil, All-cons}
 use Rattle.std.proofs.lemmas.Result.{MatchResult-weaker}
 use Rattle.dw_forms.specs.Formats.{as_other_says}
-use Rattle.dw_forms.specs.StepLaws.{bind_says, cond_says}
-use Rattle.dw_forms.specs.Steps.{◌>>=◌}
-use Rattle.dw_lines.specs.Files.{has_file}
-use Rattle.dw_lines.specs.Machine.{start, Turn, after, appends, cleared, last_after, checked, step, turn}
+use Rattle.dw_forms.specs.StepLaws.{bind_says}
+use Rattle.dw_lines.specs.Machine.{start, Turn, last_after}
 use Rattle.dw_lines.specs.Opcodes.{opcode}
 use Rattle.dw_lines.specs.Rows.{Run, with_row, at_end, turn_at, after_turn, run_of, program_run}
 use Rattle.dw_lines.specs.Sequences.{HasFile, Ascend, AllEnd}
 use Rattle.dw_lines.specs.declared.fault.LineFault.{LineFault}
 use Rattle.dw_lines.specs.declared.files.Files.{Files}
-use Rattle.dw_lines.specs.declared.opcode.Opcode.{Opcode}
 use Rattle.dw_lines.specs.declared.parameters.Parameters.{Parameters}
 use Rattle.dw_lines.specs.declared.program.Program.{Program}
 use Rattle.dw_lines.specs.declared.row.Row.{Row}
-use Rattle.dw_lines.specs.declared.rule.LineRule.{LineRule}
-use Rattle.dw_lines.proofs.RunSteps.{all_ok, turn_shorter}
+use Rattle.dw_lines.proofs.RunSteps.{all_ok, turn_says, turn_shorter}
 
 -- what holds of the rows of a run, and if nothing is violated of their ends
 pub record GoodRun (files : Files) (last : Option ℕ) (run : Run) : Type 0 where
@@ -32,35 +27,6 @@ pub record GoodRun (files : Files) (last : Option ℕ) (run : Run) : Type 0 wher
 abbrev GoodTurn : Files → Option ℕ → Option Row → Option ℕ → Type 0
 GoodTurn files last None next = next ≡ last
 GoodTurn files last (Some r) next = HasFile files r × (unwrap_or last 0 ≤ r.address) × (next ≡ last_after r)
-
-either_true : (a b : Bool) → (a || b) ≡ true → (a ≡ true) ⊎ (b ≡ true)
-either_true true b h = inl refl
-either_true false b h = inr h
-
-checked_good : (files : Files) (last : Option ℕ) (r : Row)
-    → IfOk (checked files last r) (λ x. HasFile files x × (unwrap_or last 0 ≤ x.address))
-unfolding checked
-checked_good files last r =
-    cond_says (nat_lt r.address (unwrap_or last 0)) _ _ _ _ (λ low. tt) (λ high.
-    cond_says (r.end_sequence || has_file files r.file) _ _ (λ x. HasFile files x × (unwrap_or last 0 ≤ x.address)) _
-    (λ file. (either_true r.end_sequence (has_file files r.file) file, ltb-false _ _ high)) (λ none. tt))
-
-turn_good : (p : Parameters) (files : Files) (last : Option ℕ) (registers : Row) (o : Opcode) (rest : List ℕ)
-    → IfOk (turn p files last registers o rest) (λ t. GoodTurn files last t.row t.last)
-unfolding turn step
-turn_good p files last registers o rest = go (after p o registers) (appends o)
-  where
-    go : (a : Result Row LineRule) (b : Bool)
-        → IfOk ((a >>= λ next. if b then checked files last next else Ok next) >>= λ r. Ok (
-        if b then record { row = Some r; registers = cleared p r; last = last_after r; rest = rest }
-        else record { row = None; registers = r; last = last; rest = rest }))
-        (λ (t : Turn). GoodTurn files last t.row t.last)
-    go (Err rule) b = tt
-    go (Ok next) false = refl
-    go (Ok next) true =
-        bind_says (checked files last next) _ (λ x. HasFile files x × (unwrap_or last 0 ≤ x.address)) (λ e. Unit {0})
-        (λ (t : Turn). GoodTurn files last t.row t.last) (λ e. Unit {0}) (checked_good files last next)
-        (λ r h. (h.0, h.1, refl)) (λ e h. tt)
 
 with_good : (files : Files) (last next : Option ℕ) (o : Option Row) (run : Run) → GoodTurn files last o next
     → GoodRun files next run → GoodRun files last (with_row o run)
@@ -97,7 +63,8 @@ module _ (p : Parameters) (lengths : List ℕ) (files : Files) (end : ℕ) where
       MatchResult-weaker (turn_at p lengths files end registers last bytes)
       (as_other_says _ P (λ e. Unit {0}) _
       (bind_says ((opcode p lengths).read bytes) _ (λ x. Unit {0}) (λ e. Unit {0}) P (λ e. Unit {0})
-      (all_ok ((opcode p lengths).read bytes)) (λ x h. turn_good p files last registers x.0 x.1) (λ e h. tt)))
+      (all_ok ((opcode p lengths).read bytes))
+      (λ x h. turn_says p files last registers x.0 x.1 P (λ r. refl) (λ r file high. (file, high, refl))) (λ e h. tt)))
       (λ x h. h) (λ e h. tt)
 
   end_good : (last : Option ℕ) → GoodRun files last (at_end end last)

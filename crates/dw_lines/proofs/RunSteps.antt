@@ -1,19 +1,22 @@
 -- The run of a program, one opcode after another.
-use Rattle.std.proofs.Common.{◌≡◌, ℕ, zero, suc, ◌-◌, ◌<◌, ◌≤◌, List, [], ◌∷◌, length, Option, Result, Ok, Err}
-use Rattle.std.proofs.Common.{refl, ap, ◌∙◌, arith, Bool, true, false}
-use Rattle.std.specs.Prelude.{IfOk, if◌then◌else◌}
+use Rattle.std.proofs.Common.{◌≡◌, ℕ, zero, suc, ◌-◌, ◌<◌, ◌≤◌, ◌⊎◌, List, [], ◌∷◌, length, Option, Some, None}
+use Rattle.std.proofs.Common.{Result, Ok, Err, refl, ap, ◌∙◌, arith, Bool, true, false, inl, inr}
+use Rattle.std.specs.Prelude.{IfOk, if◌then◌else◌, ◌||◌, unwrap_or, nat_lt}
+use Rattle.std.proofs.lemmas.Bool.{ltb-false}
 use Rattle.std.proofs.lemmas.List.{length-append}
 use Rattle.std.proofs.lemmas.Result.{IfOk-weaker, IfOk-at_ok, MatchResult-weaker}
 use Rattle.dw_forms.specs.Formats.{then_some, as_other_says}
-use Rattle.dw_forms.specs.StepLaws.{bind_says}
-use Rattle.dw_lines.specs.Machine.{Turn, appends, step, turn, then_turn}
-use Rattle.dw_lines.specs.Opcodes.{opcode, opcode_after}
+use Rattle.dw_forms.specs.StepLaws.{bind_says, cond_says}
+use Rattle.dw_forms.specs.Steps.{◌>>=◌}
+use Rattle.dw_lines.specs.Files.{has_file}
+use Rattle.dw_lines.specs.Machine.{Turn, after, appends, cleared, last_after, row_turn, turn, then_turn}
+use Rattle.dw_lines.specs.Opcodes.{Opcode, opcode, opcode_after}
 use Rattle.dw_lines.specs.Rows.{Run, failed, with_row, at_end, turn_at, after_turn, run_of, run}
+use Rattle.dw_lines.specs.Sequences.{HasFile}
 use Rattle.dw_lines.specs.Turns.{Turns}
 use Rattle.dw_lines.specs.declared.machine.Machine.{Machine}
 use Rattle.dw_lines.specs.declared.fault.LineFault.{LineFault}
 use Rattle.dw_lines.specs.declared.files.Files.{Files}
-use Rattle.dw_lines.specs.declared.opcode.Opcode.{Opcode}
 use Rattle.dw_lines.specs.declared.parameters.Parameters.{Parameters}
 use Rattle.dw_lines.specs.declared.row.Row.{Row}
 use Rattle.dw_lines.specs.declared.rule.LineRule.{LineRule}
@@ -25,18 +28,28 @@ pub all_ok : {A E : Type 0} (r : Result A E) → IfOk r (λ x. Unit {0})
 all_ok (Ok x) = tt
 all_ok (Err e) = tt
 
-either : {rest : List ℕ} (b : Bool) (t u : Turn) → t.rest ≡ rest → u.rest ≡ rest
-    → (if b then t else u).rest ≡ rest
-either true t u d e = d
-either false t u d e = e
+either_true : (a b : Bool) → (a || b) ≡ true → (a ≡ true) ⊎ (b ≡ true)
+either_true true b h = inl refl
+either_true false b h = inr h
 
--- a turn leaves the bytes after its opcode
-turn_rest : (p : Parameters) (files : Files) (last : Option ℕ) (registers : Row) (o : Opcode) (rest : List ℕ)
-    → IfOk (turn p files last registers o rest) (λ t. t.rest ≡ rest)
-unfolding turn
-turn_rest p files last registers o rest =
-    bind_says (step p files last o registers) _ (λ r. Unit {0}) (λ e. Unit {0}) (λ t. t.rest ≡ rest) (λ e. Unit {0})
-    (all_ok (step p files last o registers)) (λ r h. either (appends o) _ _ refl refl) (λ e h. tt)
+-- what holds of a turn, if it does without a row and with each that violates no rule
+pub turn_says : (p : Parameters) (files : Files) (last : Option ℕ) (registers : Row) (o : Opcode) (rest : List ℕ)
+    (P : Turn → Type 0) → ((r : Row) → P (record { row = None; registers = r; last = last; rest = rest }))
+    → ((r : Row) → HasFile files r → unwrap_or last 0 ≤ r.address
+    → P (record { row = Some r; registers = cleared p r; last = last_after r; rest = rest }))
+    → IfOk (turn p files last registers o rest) P
+unfolding turn row_turn
+turn_says p files last registers o rest P none some = go (after p o registers) (appends o)
+  where
+    go : (a : Result Row LineRule) (b : Bool)
+        → IfOk (a >>= λ r. if b then row_turn p files last r rest
+        else Ok (record { row = None; registers = r; last = last; rest = rest })) P
+    go (Err rule) b = tt
+    go (Ok r) false = none r
+    go (Ok r) true =
+        cond_says (nat_lt r.address (unwrap_or last 0)) _ _ P _ (λ low. tt) (λ high.
+        cond_says (r.end_sequence || has_file files r.file) _ _ P _
+        (λ file. some r (either_true r.end_sequence (has_file files r.file) file) (ltb-false _ _ high)) (λ none. tt))
 
 same_after : (go to : Row → Option ℕ → List ℕ → Run) (t : Result Turn LineFault)
     → IfOk t (λ t. (r : Row) (l : Option ℕ) → go r l t.rest ≡ to r l t.rest) → after_turn go t ≡ after_turn to t
@@ -61,8 +74,7 @@ module _ (p : Parameters) (lengths : List ℕ) (files : Files) (end : ℕ) where
       (as_other_says _ P (λ e. Unit {0}) _
       (bind_says ((opcode p lengths).read bytes) _ (λ x. length x.1 < length bytes) (λ e. Unit {0}) P (λ e. Unit {0})
       (read_shorter bytes)
-      (λ x short. MatchResult-weaker (turn p files last registers x.0 x.1)
-      (turn_rest p files last registers x.0 x.1) (λ t e. omega (arith, ap length e)) (λ e h. tt))
+      (λ x short. turn_says p files last registers x.0 x.1 P (λ r. short) (λ r file high. short))
       (λ e h. tt)))
       (λ x h. h) (λ e h. tt)
 
@@ -133,9 +145,10 @@ module _ (p : Parameters) (lengths : List ℕ) (files : Files) (end : ℕ) where
           ∙ ap (λ (r : Option Row). with_row r (run p lengths files end t.registers t.last t.rest)) row
 
       -- no opcode is added
-      pub rest_within : (result : Result (Option Row) LineRule) (old new : Machine) → old.rest.now ≡ whole
-          → Turns result (then_turn (opcode_after p lengths code) p files last registers bytes) old new
+      pub rest_within : (result : Result Bool LineRule) (old new : Machine) → old.rest.now ≡ whole
+          → Turns p result (then_turn (opcode_after p lengths code) p files last registers bytes) old new
           → length new.rest.now ≤ length whole
-      rest_within (Ok row) old new same t = let short = rest_shorter _ t in omega arith
+      rest_within (Ok true) old new same t = let short = rest_shorter _ t in omega arith
+      rest_within (Ok false) old new same t = let short = rest_shorter _ t in omega arith
       rest_within (Err rule) old new same t =
           omega (arith, ap (λ (m : Machine). length m.rest.now) t.1, ap length same)

@@ -1,34 +1,13 @@
 -- Strings of a section, by where its last zero byte is.
-use Rattle.std.proofs.Common.{◌≡◌, ◌≢◌, ℕ, suc, ◌+◌, ◌-◌, ◌<◌, ◌≤◌, ◌==◌, List, length, take, drop, get_or}
-use Rattle.std.proofs.Common.{Ok, Err, Bool, true, false, arith, rules, length-drop, sym, ap, ◌∙◌}
+use Rattle.std.proofs.Common.{◌≡◌, ◌≢◌, ℕ, suc, ◌+◌, ◌-◌, ◌<◌, ◌≤◌, ◌==◌, List, length, drop, get_or}
+use Rattle.std.proofs.Common.{Ok, Err, Bool, true, false, arith, length-drop, sym, ap, ◌∙◌}
 use Rattle.std.specs.List.{before_first, position_or_len}
-use Rattle.std.proofs.lemmas.List.{get_or-drop, take_all}
-use Rattle.std.proofs.lemmas.List.Sums.{position_or_len_is, passes_at_first, fails_before_first}
-use Rattle.std.proofs.lemmas.Bool.{cases_Bool, eqb-true, eq-eqb}
-use Rattle.memchr.specs.Find.{Nowhere, NoneBefore, NoneAfter, Passes, is_byte}
+use Rattle.std.proofs.lemmas.List.{get_or-drop}
+use Rattle.std.proofs.lemmas.List.Sums.{passes_at_first, fails_before_first}
+use Rattle.std.proofs.lemmas.Bool.{eqb-true, eq-eqb}
 use Rattle.dw_forms.proofs.Texts.{text_none, text_found}
 use Rattle.dw_forms.specs.BaseFormats.{null_terminated_at}
-use Rattle.dw_lines.specs.SectionStrings.{IsAfterLastZero}
-
--- no byte is zero
-pub no_zero : (bytes : List ℕ) → Nowhere (Passes (is_byte 0) bytes) 0 (length bytes) → IsAfterLastZero bytes 0
-no_zero bytes none = search (rules, eq-eqb)
-
--- the byte with this number is the last that is zero
-pub last_zero : (bytes : List ℕ) (last : ℕ) → NoneAfter (Passes (is_byte 0) bytes) 0 (length bytes) last
-    → Passes (is_byte 0) bytes last → IsAfterLastZero bytes (last + 1)
-last_zero bytes last none here = search (rules, eqb-true, eq-eqb)
-
--- what is before a first zero byte
-pub take_before_first : (xs : List ℕ) (k : ℕ) → NoneBefore (Passes (is_byte 0) xs) 0 (length xs) k
-    → Passes (is_byte 0) xs k
-    → take k xs ≡ before_first (λ b. b == 0) xs
-take_before_first xs k none here = search (rules, position_or_len_is, cases_Bool)
-
--- all bytes where none is zero
-pub all_before_first : (xs : List ℕ) → Nowhere (Passes (is_byte 0) xs) 0 (length xs)
-    → xs ≡ before_first (λ b. b == 0) xs
-all_before_first xs none = search (rules, (passes_at_first (λ b. b == 0) xs 0), take_all)
+use Rattle.dw_elf.specs.Elf.{IsAfterLastZero}
 
 module _ {E : Type 0} (cut : E) where
   -- a zero byte ends what is before the first of them

@@ -8,7 +8,8 @@ use Rattle.dw_forms.specs.declared.value.ValueFault.{ValueFault}
 use Rattle.dw_forms.specs.declared.value.ValueFault.TheVariants as values
 use Rattle.dw_forms.specs.Formats.{Format, and_then, nothing, failing, mapped, inside, choose, found, tested, renamed}
 use Rattle.dw_forms.specs.FormCodes.{form_of}
-use Rattle.dw_forms.specs.Value.{Datum, text, str, line_str, unsigned, attribute_value}
+use Rattle.dw_forms.specs.Value.{Datum, text, str, line_str, unsigned}
+use Rattle.dw_forms.specs.ValueFormats.{attribute_value}
 use Rattle.dw_lines.specs.declared.content.Content.{Content}
 use Rattle.dw_lines.specs.declared.files.Files.{Files}
 use Rattle.dw_lines.specs.declared.files.FileEntry.{FileEntry}

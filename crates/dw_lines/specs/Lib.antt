@@ -2,7 +2,6 @@
 pub mod LineRules
 pub mod Repeats
 pub mod Header
-pub mod SectionStrings
 pub mod Files
 pub mod Programs
 pub mod Opcodes

@@ -1,4 +1,5 @@
 -- Chapter: the code and the name of each rule on line programs.
+-- Its equations are made by docs/make-rules.py from docs/rules.tsv.
 use Rattle.std.specs.Prelude.{ℕ, List, codes}
 use Rattle.dw_lines.specs.declared.rule.LineRule.{LineRule}
 use Rattle.dw_lines.specs.declared.rule.LineRule.TheVariants.{LineOffset, LineCut, Line64, LineVersion, LineAddressSize}

@@ -6,12 +6,12 @@ use Rattle.dw_forms.specs.Formats.{Format}
 use Rattle.dw_forms.specs.Steps.{◌>>=◌, on_option}
 use Rattle.dw_lines.specs.Files.{has_file}
 use Rattle.dw_lines.specs.declared.files.Files.{Files}
-use Rattle.dw_lines.specs.declared.opcode.Opcode.{Opcode}
-use Rattle.dw_lines.specs.declared.opcode.Opcode.TheVariants as op
 use Rattle.dw_lines.specs.declared.parameters.Parameters.{Parameters}
 use Rattle.dw_lines.specs.declared.row.Row.{Row}
 use Rattle.dw_lines.specs.declared.rule.LineRule.{LineRule}
 use Rattle.dw_lines.specs.declared.rule.LineRule.TheVariants.{RowAddress, RowLine, RowDescends, RowFile}
+use Rattle.dw_lines.specs.Opcodes.{Opcode}
+use Rattle.dw_lines.specs.Opcodes as op
 
 -- the registers at the start of each sequence (table 6.4)
 abbrev pub start : Bool → Row
@@ -96,17 +96,6 @@ cleared p r =
 abbrev pub last_after : Row → Option ℕ
 last_after r = if r.end_sequence then None else Some r.address
 
--- a row, unless it violates a rule: it has no smaller address than the last row of its sequence, and unless it ends the
--- sequence (then its file means nothing) its file is one of the program's
-unfoldable pub checked : Files → Option ℕ → Row → Result Row LineRule
-checked files last r =
-    if nat_lt r.address (unwrap_or last 0) then Err RowDescends
-    else (if r.end_sequence || has_file files r.file then Ok r else Err RowFile)
-
--- the registers after an opcode, which are a row if it appends one
-unfoldable pub step : Parameters → Files → Option ℕ → Opcode → Row → Result Row LineRule
-step p files last opcode r = after p opcode r >>= λ next. if appends opcode then checked files last next else Ok next
-
 -- what an opcode makes of the machine: the row that it appends, if any, the registers and the address of the last row
 -- of the sequence after it, and the bytes after it
 pub record Turn : Type 0 where
@@ -115,11 +104,20 @@ pub record Turn : Type 0 where
   pub last : Option ℕ
   pub rest : List ℕ
 
+-- the turn of an opcode that appends this row, unless that violates a rule: it has no smaller address than the last row
+-- of its sequence, and unless it ends the sequence (then its file means nothing) its file is one of the program's
+unfoldable pub row_turn : Parameters → Files → Option ℕ → Row → List ℕ → Result Turn LineRule
+row_turn p files last r rest =
+    if nat_lt r.address (unwrap_or last 0) then Err RowDescends else
+    if r.end_sequence || has_file files r.file
+    then Ok (record { row = Some r; registers = cleared p r; last = last_after r; rest = rest })
+    else Err RowFile
+
 -- the turn of an opcode, after which these bytes follow
 unfoldable pub turn : Parameters → Files → Option ℕ → Row → Opcode → List ℕ → Result Turn LineRule
-turn p files last registers opcode rest = step p files last opcode registers >>= λ r. Ok (
-    if appends opcode then record { row = Some r; registers = cleared p r; last = last_after r; rest = rest }
-    else record { row = None; registers = r; last = last; rest = rest })
+turn p files last registers opcode rest = after p opcode registers >>= λ r.
+    if appends opcode then row_turn p files last r rest
+    else Ok (record { row = None; registers = r; last = last; rest = rest })
 
 -- the turn of the opcode that a format reads at the front of the bytes
 abbrev pub then_turn : Format Opcode LineRule → Parameters → Files → Option ℕ → Row → List ℕ → Result Turn LineRule

@@ -4,14 +4,39 @@ use Rattle.dw_forms.specs.BaseFormats.{byte, so_many, fixed_number, uleb, sleb}
 use Rattle.dw_forms.specs.Formats.{Format, and_then, nothing, mapped, inside, choose, tested, renamed}
 use Rattle.dw_forms.specs.declared.leb.NumberFault.{NumberFault}
 use Rattle.dw_forms.specs.declared.leb.NumberFault.TheVariants as faults
-use Rattle.dw_lines.specs.declared.opcode.Opcode.{Opcode}
-use Rattle.dw_lines.specs.declared.opcode.Opcode.TheVariants.{Special, Copy, AdvancePc, AdvanceLine, SetFile, SetColumn}
-use Rattle.dw_lines.specs.declared.opcode.Opcode.TheVariants.{NegateStmt, SetBasicBlock, ConstAddPc, FixedAdvancePc}
-use Rattle.dw_lines.specs.declared.opcode.Opcode.TheVariants.{SetPrologueEnd, SetEpilogueBegin, SetIsa, EndSequence}
-use Rattle.dw_lines.specs.declared.opcode.Opcode.TheVariants.{SetAddress, SetDiscriminator, Other}
+use Rattle.dw_lines.specs.declared.opcode.Extended.{Extended}
+use Rattle.dw_lines.specs.declared.opcode.Extended.TheVariants as kinds
 use Rattle.dw_lines.specs.declared.parameters.Parameters.{Parameters}
 use Rattle.dw_lines.specs.declared.rule.LineRule.{LineRule}
 use Rattle.dw_lines.specs.declared.rule.LineRule.TheVariants.{OpcodeCut, OpcodeNumber, ExtendedLength}
+
+-- an opcode with its operands: a special one by its code less the opcode base (6.2.5.1), the standard ones (6.2.5.2),
+-- the extended ones (6.2.5.3), and one that this version of the standard does not define, which does nothing
+pub data Opcode : Type 0 where
+  Special : ℕ → Opcode
+  Copy : Opcode
+  AdvancePc : ℕ → Opcode
+  AdvanceLine : ℤ → Opcode
+  SetFile : ℕ → Opcode
+  SetColumn : ℕ → Opcode
+  NegateStmt : Opcode
+  SetBasicBlock : Opcode
+  ConstAddPc : Opcode
+  FixedAdvancePc : ℕ → Opcode
+  SetPrologueEnd : Opcode
+  SetEpilogueBegin : Opcode
+  SetIsa : ℕ → Opcode
+  EndSequence : Opcode
+  SetAddress : ℕ → Opcode
+  SetDiscriminator : ℕ → Opcode
+  Other : Opcode
+
+-- an extended opcode
+abbrev pub opcode_of : Extended → Opcode
+opcode_of kinds.EndSequence = EndSequence
+opcode_of (kinds.SetAddress address) = SetAddress address
+opcode_of (kinds.SetDiscriminator discriminator) = SetDiscriminator discriminator
+opcode_of kinds.Other = Other
 
 -- the rule that an operand violates; one that the bytes end in violates the first
 abbrev pub operand_rule : LineRule → NumberFault → LineRule

@@ -47,14 +47,11 @@ after_length sections size v = and_then (parameters v size) (λ numbers.
       tables = t;
     }) (tables sections v)))
 
--- header_length, and the fields after it, which have so many bytes
-unfoldable pub measured : LineSections → ℕ → ℕ → Format HeaderFields LineRule
-measured sections size v = and_then (field 4) (λ header_length. mapped (λ x. x.0)
-    (tested (λ x. x.1 == header_length) LineHeaderLength (sized (after_length sections size v))))
-
--- a header after unit_length
+-- a header after unit_length; the fields after header_length have so many bytes
 unfoldable pub header : LineSections → ℕ → Format HeaderFields LineRule
-header sections size = and_then version (λ v. and_then (address_size v size) (λ s. measured sections size v))
+header sections size = and_then version (λ v. and_then (address_size v size) (λ s.
+    and_then (field 4) (λ header_length. mapped (λ x. x.0)
+    (tested (λ x. x.1 == header_length) LineHeaderLength (sized (after_length sections size v))))))
 
 -- a program; where there are no bytes, there is no program at the offset
 unfoldable pub line_program : LineSections → ℕ → Format (HeaderFields × List ℕ) LineRule

@@ -1,24 +1,26 @@
-//! The fields of a header, one after another.
+//! The fields of a header, one after another, and numbers of so many bytes.
 
 ghost use Rattle.std.specs.Prelude.{◌≡◌, ◌≤◌, ◌<◌, length, IfOk};
+ghost use Rattle.dw_forms.specs.BaseFormats.{fixed_number};
 ghost use Rattle.dw_forms.specs.ValueReading.{Gives};
-ghost use Rattle.dw_lines.specs.Header.{field as field_format, byte as byte_format, number as number_format};
-ghost use Rattle.dw_lines.specs.Header.{path as path_format};
+ghost use Rattle.dw_lines.specs.Header.{byte as byte_format, number as number_format, path as path_format};
 
 use crate::rule::LineRule;
 use byteorder::{ByteOrder, LittleEndian};
 use dw_forms::read_uleb;
 use memchr::memchr;
 
-/// A field of so many bytes, and the bytes after it.
+/// A number of so many bytes, the lowest first, and the bytes after it. `cut` is the rule that is violated if the bytes
+/// end in it.
+#[inline(always)]
 #[tactic(auto, unfolding(dw_forms::specs::BaseFormats::taken_at))]
-pub(crate) fn field(bytes: &[u8], size: usize) -> Result<(u64, &[u8]), LineRule>
+pub(crate) fn fixed(cut: LineRule, size: usize, bytes: &[u8]) -> Result<(u64, &[u8]), LineRule>
     requires some { 1 ≤ size }
     requires few { size ≤ 8 }
-    ensures { Gives (λ x. (x.0, x.1.now)) result ((field_format size).read bytes.now) }
+    ensures { Gives (λ x. (x.0, x.1.now)) result ((fixed_number cut size).read bytes.now) }
 {
     if bytes.len() < size {
-        return Err(LineRule::LineCut);
+        return Err(cut);
     }
     let (front, rest) = bytes.split_at(size);
     Ok((LittleEndian::read_uint(front, size), rest))

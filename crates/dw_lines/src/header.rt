@@ -7,7 +7,7 @@ ghost use Rattle.dw_lines.specs.Header.{address_size as size_format, maximum_ope
 ghost use Rattle.dw_lines.specs.Header.{parameters as parameters_format, numbers_of, are_standard as are_standard_in};
 ghost use Rattle.dw_lines.specs.Header.{standard_opcode_lengths as lengths_format};
 
-use crate::fields::{byte, field};
+use crate::fields::{byte, fixed};
 use crate::parameters::Parameters;
 use crate::rule::LineRule;
 
@@ -20,7 +20,7 @@ pub(crate) fn content(bytes: &[u8]) -> Result<(&[u8], &[u8]), LineRule>
     ensures within { IfOk result (λ x. 4 + length x.0.now ≤ length bytes.now) }
     ensures place { IfOk result (λ x. take (length x.0.now) (drop 4 bytes.now) ≡ x.0.now) }
 {
-    let (len, rest) = field(bytes, 4)?;
+    let (len, rest) = fixed(LineRule::LineCut, 4, bytes)?;
     if len < 0xfffffff0 {
         if (rest.len() as u64) < len {
             return Err(LineRule::LineCut);
@@ -35,7 +35,7 @@ pub(crate) fn content(bytes: &[u8]) -> Result<(&[u8], &[u8]), LineRule>
 pub(crate) fn version(bytes: &[u8]) -> Result<(u16, &[u8]), LineRule>
     ensures { Gives (λ x. (x.0, x.1.now)) result (version_format.read bytes.now) }
 {
-    let (version, rest) = field(bytes, 2)?;
+    let (version, rest) = fixed(LineRule::LineCut, 2, bytes)?;
     if 2 <= version && version <= 5 {
         return Ok((version as u16, rest));
     }

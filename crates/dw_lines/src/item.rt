@@ -3,7 +3,7 @@
 ghost use Rattle.std.specs.Prelude.{◌≡◌, ℕ, List, [], ◌∷◌};
 ghost use Rattle.dw_forms.specs.Value.{view};
 ghost use Rattle.dw_forms.specs.ValueReading.{Gives};
-ghost use Rattle.dw_lines.specs.SectionStrings.{IsAfterLastZero};
+ghost use Rattle.dw_elf.specs.Elf.{IsAfterLastZero};
 ghost use Rattle.dw_lines.specs.Files.{string_at as string_format, item_of as item_of_format, item as item_format};
 ghost use Rattle.dw_lines.specs.Files.{item_view, path_view, file_view, with_item as with_item_in};
 ghost use Rattle.dw_lines.specs.Files.{entry as entry_format_of};

@@ -1,20 +1,21 @@
 //! The machine that a line program runs on (DWARF 5, 6.2.2): one opcode after another is read and run.
 
-ghost use Rattle.std.specs.Prelude.{◌≡◌, ◌<◌, ◌≤◌, length};
-ghost use Rattle.dw_lines.specs.Machine.{then_turn, turn};
-ghost use Rattle.dw_lines.specs.Opcodes.{count_in, opcode_after, standard_opcode};
+ghost use Rattle.std.specs.Prelude.{◌≡◌};
+ghost use Rattle.dw_lines.specs.Machine.{cleared, last_after, row_turn, then_turn, turn};
+ghost use Rattle.dw_lines.specs.Opcodes.{Special, extended_opcode, opcode_after};
 ghost use Rattle.dw_lines.specs.Turns.{Turns};
+ghost use Rattle.dw_lines.specs.declared.parameters.Parameters.{Parameters as AnyParameters};
 
 use crate::files::Files;
-use crate::opcode::{Opcode, extended, operand_count, signed, skip_operands, unsigned};
+use crate::opcode::{Extended, read_extended};
 use crate::parameters::Parameters;
 use crate::row::Row;
 use crate::rule::LineRule;
-use byteorder::{ByteOrder, LittleEndian};
 
 /// What a machine goes on with.
 #[derive(Drop)]
 pub(crate) struct Machine<'a> {
+    /// After an opcode that appends a row they are that row, until it is taken.
     pub(crate) registers: Row,
     /// The address of the last row of the sequence.
     pub(crate) last: Option<u64>,
@@ -23,90 +24,104 @@ pub(crate) struct Machine<'a> {
 }
 
 impl<'a> Machine<'a> {
-    /// Runs an opcode, after which these opcodes are left. Returns the row that it appends.
+    /// Appends a row, after which these opcodes are left.
     #[inline(always)]
-    #[tactic(auto, unfolding(crate::specs::Machine::turn))]
-    fn run(
-        &mut self,
-        parameters: &Parameters,
-        files: &Files<'_>,
-        opcode: Opcode,
-        rest: &'a [u8],
-    ) -> Result<Option<Row>, LineRule>
-        ensures { Turns result (turn parameters.now files.now self.old.last self.old.registers opcode rest.now)
+    #[tactic(auto, unfolding(crate::specs::Machine::row_turn))]
+    fn append(&mut self, files: &Files<'_>, row: Row, rest: &'a [u8]) -> Result<bool, LineRule>
+        ensures { (p : AnyParameters) → Turns p result (row_turn p files.now self.old.last row rest.now)
             self.old self.new }
     {
-        let registers = self.registers.step(parameters, files, self.last, opcode)?;
-        self.rest = rest;
-        if opcode.appends_row() {
-            self.registers = registers.cleared(parameters);
-            self.last = registers.last_after();
-            return Ok(Some(registers));
+        if row.address < self.last.unwrap_or(0) {
+            return Err(LineRule::RowDescends);
         }
-        self.registers = registers;
-        Ok(None)
+        if row.end_sequence || files.has(row.file) {
+            self.registers = row;
+            self.rest = rest;
+            return Ok(true);
+        }
+        Err(LineRule::RowFile)
     }
 
-    /// Runs a standard opcode after its code, which is below the opcode base.
+    /// Takes the row that was appended, and clears the registers.
     #[inline(always)]
-    #[tactic(auto, unfolding(crate::specs::Opcodes::standard_opcode, dw_forms::specs::BaseFormats::taken_at))]
-    fn run_standard(
+    pub(crate) fn take_row(&mut self, parameters: &Parameters) -> Row
+        ensures row { result ≡ self.old.registers }
+        ensures registers { self.new.registers ≡ cleared parameters.now self.old.registers }
+        ensures last { self.new.last ≡ last_after self.old.registers }
+        ensures rest { self.new.rest.now ≡ self.old.rest.now }
+    {
+        let row = self.registers;
+        if row.end_sequence {
+            self.registers = Row::start(parameters.default_is_stmt);
+            self.last = None;
+            return row;
+        }
+        self.registers.discriminator = 0;
+        self.registers.basic_block = false;
+        self.registers.prologue_end = false;
+        self.registers.epilogue_begin = false;
+        self.last = Some(row.address);
+        row
+    }
+
+    /// Runs a special opcode, whose code is this much above the opcode base.
+    #[inline(always)]
+    #[tactic(auto, unfolding(crate::specs::Machine::turn, crate::specs::Machine::after))]
+    fn run_special(
         &mut self,
         parameters: &Parameters,
-        lengths: &[u8],
         files: &Files<'_>,
-        code: u8,
-        bytes: &'a [u8],
-    ) -> Result<Option<Row>, LineRule>
-        requires { 1 ≤ code }
-        ensures { Turns result (then_turn (standard_opcode (count_in lengths.now code) code)
-            parameters.now files.now self.old.last self.old.registers bytes.now) self.old self.new }
+        adjusted: u8,
+        rest: &'a [u8],
+    ) -> Result<bool, LineRule>
+        ensures { Turns parameters.now result
+            (turn parameters.now files.now self.old.last self.old.registers (Special adjusted) rest.now)
+            self.old self.new }
     {
-        match code {
-            1 => self.run(parameters, files, Opcode::Copy, bytes),
-            2 => {
-                let (operations, rest) = unsigned(LineRule::OpcodeCut, bytes)?;
-                self.run(parameters, files, Opcode::AdvancePc(operations), rest)
-            }
-            3 => {
-                let (lines, rest) = signed(bytes)?;
-                self.run(parameters, files, Opcode::AdvanceLine(lines), rest)
-            }
-            4 => {
-                let (file, rest) = unsigned(LineRule::OpcodeCut, bytes)?;
-                self.run(parameters, files, Opcode::SetFile(file), rest)
-            }
-            5 => {
-                let (column, rest) = unsigned(LineRule::OpcodeCut, bytes)?;
-                self.run(parameters, files, Opcode::SetColumn(column), rest)
-            }
-            6 => self.run(parameters, files, Opcode::NegateStmt, bytes),
-            7 => self.run(parameters, files, Opcode::SetBasicBlock, bytes),
-            8 => self.run(parameters, files, Opcode::ConstAddPc, bytes),
-            9 => {
-                if bytes.len() < 2 {
-                    return Err(LineRule::OpcodeCut);
-                }
-                let (front, rest) = bytes.split_at(2);
-                let advance = LittleEndian::read_u16(front);
-                self.run(parameters, files, Opcode::FixedAdvancePc(advance), rest)
-            }
-            10 => self.run(parameters, files, Opcode::SetPrologueEnd, bytes),
-            11 => self.run(parameters, files, Opcode::SetEpilogueBegin, bytes),
-            12 => {
-                let (isa, rest) = unsigned(LineRule::OpcodeCut, bytes)?;
-                self.run(parameters, files, Opcode::SetIsa(isa), rest)
-            }
-            _ => {
-                let (opcode, rest) = skip_operands(operand_count(lengths, code), bytes)?;
-                self.run(parameters, files, opcode, rest)
-            }
-        }
+        let range = parameters.line_range;
+        let mut row = self.registers;
+        row.advance(parameters, u64::from(adjusted / range))?;
+        row.add_lines(i64::from(parameters.line_base) + i64::from(adjusted % range))?;
+        self.append(files, row, rest)
     }
 
-    /// Runs the opcode with this first byte, after which these bytes follow. Returns the row that it appends.
+    /// Runs an extended opcode after its zero byte.
     #[inline(always)]
-    #[tactic(auto, unfolding(crate::specs::Opcodes::opcode_after))]
+    #[tactic(auto, unfolding(crate::specs::Machine::turn, crate::specs::Machine::after))]
+    fn run_extended(
+        &mut self,
+        parameters: &Parameters,
+        files: &Files<'_>,
+        bytes: &'a [u8],
+    ) -> Result<bool, LineRule>
+        ensures { Turns parameters.now result (then_turn (extended_opcode parameters.now.address_size)
+            parameters.now files.now self.old.last self.old.registers bytes.now) self.old self.new }
+    {
+        let (opcode, rest) = read_extended(parameters.address_size, bytes)?;
+        match opcode {
+            Extended::EndSequence => {
+                let row = Row {
+                    end_sequence: true,
+                    ..self.registers
+                };
+                return self.append(files, row, rest);
+            }
+            Extended::SetAddress(address) => {
+                self.registers.address = address;
+                self.registers.op_index = 0;
+            }
+            Extended::SetDiscriminator(discriminator) => {
+                self.registers.discriminator = discriminator;
+            }
+            Extended::Other => {}
+        }
+        self.rest = rest;
+        Ok(false)
+    }
+
+    /// Runs the opcode with this first byte, after which these bytes follow. Returns whether it appends a row.
+    #[inline(always)]
+    #[tactic(auto, unfolding(crate::specs::Opcodes::opcode_after, crate::specs::Opcodes::standard_opcode, crate::specs::Machine::turn, crate::specs::Machine::after))]
     pub(crate) fn run_next(
         &mut self,
         parameters: &Parameters,
@@ -114,18 +129,23 @@ impl<'a> Machine<'a> {
         files: &Files<'_>,
         code: u8,
         bytes: &'a [u8],
-    ) -> Result<Option<Row>, LineRule>
-        ensures { Turns result (then_turn (opcode_after parameters.now lengths.now code)
+    ) -> Result<bool, LineRule>
+        ensures { Turns parameters.now result (then_turn (opcode_after parameters.now lengths.now code)
             parameters.now files.now self.old.last self.old.registers bytes.now) self.old self.new }
     {
         let base = parameters.opcode_base;
         if base <= code {
-            return self.run(parameters, files, Opcode::Special(code - base), bytes);
+            return self.run_special(parameters, files, code - base, bytes);
         }
-        if code == 0 {
-            let (opcode, rest) = extended(parameters, bytes)?;
-            return self.run(parameters, files, opcode, rest);
+        match code {
+            0 => self.run_extended(parameters, files, bytes),
+            1 => self.append(files, self.registers, bytes),
+            _ => {
+                self.rest = self
+                    .registers
+                    .run_standard(parameters, lengths, code, bytes)?;
+                Ok(false)
+            }
         }
-        self.run_standard(parameters, lengths, files, code, bytes)
     }
 }

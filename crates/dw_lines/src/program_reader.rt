@@ -6,12 +6,11 @@ ghost use Rattle.dw_forms.specs.Stops.{IfFault, GivesOrMemory};
 ghost use Rattle.dw_lines.specs.Files.{tables as tables_format, path_view, file_view};
 ghost use Rattle.dw_lines.specs.Header.{length_end};
 ghost use Rattle.dw_lines.specs.Programs.{fields_of, program_view, after_length as after_format};
-ghost use Rattle.dw_lines.specs.Programs.{measured as measured_format, header as header_format};
-ghost use Rattle.dw_lines.specs.Programs.{program_alone as alone, program_from};
+ghost use Rattle.dw_lines.specs.Programs.{header as header_format, program_alone as alone, program_from};
 ghost use Rattle.dw_lines.specs.Programs.{SpellsProgram, ProgramFails};
 
 use crate::fault::LineFault;
-use crate::fields::field;
+use crate::fields::fixed;
 use crate::files::Files;
 use crate::header::{address_size, content, parameters, standard_opcode_lengths, version};
 use crate::path::LinePath;
@@ -78,28 +77,6 @@ fn after_length<'a>(
     Ok((header, rest))
 }
 
-/// header_length and the fields after it, and the bytes of the opcodes.
-#[tactic(auto, unfolding(crate::specs::Programs::measured))]
-fn measured<'a>(
-    alloc: Global,
-    sections: &LineSections<'a>,
-    size: u8,
-    version: u16,
-    bytes: &'a [u8],
-) -> Result<(LineHeader<'a>, &'a [u8]), Stop<LineRule>>
-    requires size { (size ≡ 4) ⊎ (size ≡ 8) }
-    requires short { length bytes.now < length_end }
-    ensures { GivesOrMemory (λ x. (fields_of x.0, x.1.now)) result
-        ((measured_format sections.now size version).read bytes.now) }
-{
-    let (header_length, rest) = field(bytes, 4)?;
-    let (header, opcodes) = after_length(alloc, sections, size, version, rest)?;
-    if (rest.len() - opcodes.len()) as u64 == header_length {
-        return Ok((header, opcodes));
-    }
-    Err(Stop::Fault(LineRule::LineHeaderLength))
-}
-
 /// The header of a program that has these bytes after its length, and the bytes of the opcodes.
 #[tactic(auto, unfolding(crate::specs::Programs::header))]
 fn header<'a>(
@@ -115,7 +92,12 @@ fn header<'a>(
 {
     let (version, rest) = version(bytes)?;
     let rest = address_size(version, size, rest)?;
-    measured(alloc, sections, size, version, rest)
+    let (header_length, rest) = fixed(LineRule::LineCut, 4, rest)?;
+    let (header, opcodes) = after_length(alloc, sections, size, version, rest)?;
+    if (rest.len() - opcodes.len()) as u64 == header_length {
+        return Ok((header, opcodes));
+    }
+    Err(Stop::Fault(LineRule::LineHeaderLength))
 }
 
 /// The program at an offset of `.debug_line`.
@@ -146,7 +128,7 @@ fn program_alone<'a>(
 }
 
 /// Reads the line program at an offset of `.debug_line`, up to its opcodes. The address size is that of the unit that names
-/// the program.
+/// the program. A header may be as long as the section, so a program that many units name should be read once.
 pub fn read_program<'a>(
     alloc: Global,
     sections: &LineSections<'a>,

@@ -1,23 +1,28 @@
 //! The registers of the machine that a line program runs on, which are a row of the line number table (DWARF 5, 6.2.2),
 //! and what an opcode does to them (6.2.5).
 
-ghost use Rattle.std.specs.Prelude.{◌≡◌, ◌<◌, ◌≤◌, ◌^◌};
-ghost use Rattle.dw_lines.specs.Machine.{start, moved, advanced, with_line, after, cleared, last_after, checked, step};
+ghost use Rattle.std.specs.Prelude.{◌≡◌, ◌<◌, ◌≤◌, ◌^◌, ◌/◌, ◌%◌, ℕ, Option};
+ghost use Rattle.dw_lines.specs.Machine.{start, moved, advanced, with_line, then_turn};
+ghost use Rattle.dw_lines.specs.Opcodes.{count_in, standard_opcode};
+ghost use Rattle.dw_lines.specs.Turns.{Changes, Passes};
+ghost use Rattle.dw_lines.specs.declared.files.Files.{Files as AnyFiles};
 
-use crate::files::Files;
-use crate::opcode::Opcode;
+use crate::fields::fixed;
+use crate::opcode::{signed, skip_others, unsigned};
 use crate::parameters::Parameters;
 use crate::rule::LineRule;
 
 /// A row of the line number table, which is what the machine's registers hold when the row is appended. The fields have
-/// the names of the registers (DWARF 5, 6.2.2).
+/// the names of the registers (DWARF 5, 6.2.2). The widest come first, so that no bytes between them are copied.
 #[derive(Clone, Copy, Debug, PartialEq, Eq)]
 pub struct Row {
     pub address: u64,
-    pub op_index: u8,
     pub file: u64,
+    pub isa: u64,
+    pub discriminator: u64,
     pub line: u32,
     pub column: u32,
+    pub op_index: u8,
     pub is_stmt: bool,
     pub basic_block: bool,
     /// Whether the row ends its sequence: its address is the first after the sequence, and its other fields mean
@@ -25,8 +30,20 @@ pub struct Row {
     pub end_sequence: bool,
     pub prologue_end: bool,
     pub epilogue_begin: bool,
-    pub isa: u64,
-    pub discriminator: u64,
+}
+
+/// So many operations in instructions of `most` operations, and the operations that are left.
+#[inline(always)]
+fn divided(operations: u128, most: u8) -> (u128, u8)
+    requires { 0 < most }
+    ensures instructions { result.0 ≡ operations / most }
+    ensures left { result.1 ≡ operations % most }
+{
+    if most == 1 {
+        return (operations, 0);
+    }
+    let most = u128::from(most);
+    (operations / most, (operations % most) as u8)
 }
 
 impl Row {
@@ -50,19 +67,19 @@ impl Row {
         }
     }
 
-    /// The address is this many bytes greater.
+    /// Makes the address this many bytes greater.
     #[inline(always)]
     #[tactic(auto, unfolding(crate::specs::Machine::moved))]
-    fn add_bytes(self, bytes: u128, op_index: u8) -> Result<Row, LineRule>
+    fn add_bytes(&mut self, bytes: u128, op_index: u8) -> Result<(), LineRule>
         requires { bytes < 2 ^ 80 }
-        ensures { result ≡ moved bytes op_index self }
+        ensures { Changes result (moved bytes op_index self.old) self.old self.new }
     {
         match u64::try_from(u128::from(self.address) + bytes) {
-            Ok(address) => Ok(Row {
-                address,
-                op_index,
-                ..self
-            }),
+            Ok(address) => {
+                self.address = address;
+                self.op_index = op_index;
+                Ok(())
+            }
             Err(_) => Err(LineRule::RowAddress),
         }
     }
@@ -70,157 +87,117 @@ impl Row {
     /// An operation advance.
     #[inline(always)]
     #[tactic(auto, unfolding(crate::specs::Machine::advanced))]
-    fn advance(self, parameters: &Parameters, operations: u64) -> Result<Row, LineRule>
-        ensures { result ≡ advanced parameters.now operations self }
+    pub(crate) fn advance(
+        &mut self,
+        parameters: &Parameters,
+        operations: u64,
+    ) -> Result<(), LineRule>
+        ensures { Changes result (advanced parameters.now operations self.old) self.old self.new }
     {
         let least = u128::from(parameters.minimum_instruction_length);
-        let most = u128::from(parameters.maximum_operations_per_instruction);
         let sum = u128::from(self.op_index) + u128::from(operations);
-        if most == 1 {
-            return self.add_bytes(least * sum, 0);
-        }
-        self.add_bytes(least * (sum / most), (sum % most) as u8)
+        let (instructions, op_index) = divided(sum, parameters.maximum_operations_per_instruction);
+        self.add_bytes(least * instructions, op_index)
     }
 
-    /// The line is this much greater.
+    /// Makes the line this much greater.
     #[inline(always)]
     #[tactic(auto, unfolding(crate::specs::Machine::with_line))]
-    fn add_lines(self, lines: i64) -> Result<Row, LineRule>
-        ensures { result ≡ with_line lines self }
+    pub(crate) fn add_lines(&mut self, lines: i64) -> Result<(), LineRule>
+        ensures { Changes result (with_line lines self.old) self.old self.new }
     {
         let line = i128::from(self.line) + i128::from(lines);
         if line < 0 || line > 0xffff_ffff {
             return Err(LineRule::RowLine);
         }
-        Ok(Row {
-            line: line as u32,
-            ..self
-        })
+        self.line = line as u32;
+        Ok(())
     }
 
-    /// The registers after an opcode, before a row is appended.
+    /// Runs a standard opcode other than DW_LNS_copy after its code, which is below the opcode base (DWARF 5, 6.2.5.2).
+    /// Returns the bytes after it.
     #[inline(always)]
-    #[tactic(auto, unfolding(crate::specs::Machine::after))]
-    fn after(self, parameters: &Parameters, opcode: Opcode) -> Result<Row, LineRule>
-        ensures { result ≡ after parameters.now opcode self }
-    {
-        match opcode {
-            Opcode::Special(adjusted) => {
-                let range = parameters.line_range;
-                let lines = i64::from(parameters.line_base) + i64::from(adjusted % range);
-                self.advance(parameters, u64::from(adjusted / range))?
-                    .add_lines(lines)
-            }
-            Opcode::Copy => Ok(self),
-            Opcode::AdvancePc(operations) => self.advance(parameters, operations),
-            Opcode::AdvanceLine(lines) => self.add_lines(lines),
-            Opcode::SetFile(file) => Ok(Row { file, ..self }),
-            Opcode::SetColumn(column) => match u32::try_from(column) {
-                Ok(column) => Ok(Row { column, ..self }),
-                Err(_) => Err(LineRule::RowLine),
-            },
-            Opcode::NegateStmt => Ok(Row {
-                is_stmt: !self.is_stmt,
-                ..self
-            }),
-            Opcode::SetBasicBlock => Ok(Row {
-                basic_block: true,
-                ..self
-            }),
-            Opcode::ConstAddPc => {
-                let adjusted = 255 - parameters.opcode_base;
-                self.advance(parameters, u64::from(adjusted / parameters.line_range))
-            }
-            Opcode::FixedAdvancePc(bytes) => self.add_bytes(u128::from(bytes), 0),
-            Opcode::SetPrologueEnd => Ok(Row {
-                prologue_end: true,
-                ..self
-            }),
-            Opcode::SetEpilogueBegin => Ok(Row {
-                epilogue_begin: true,
-                ..self
-            }),
-            Opcode::SetIsa(isa) => Ok(Row { isa, ..self }),
-            Opcode::EndSequence => Ok(Row {
-                end_sequence: true,
-                ..self
-            }),
-            Opcode::SetAddress(address) => Ok(Row {
-                address,
-                op_index: 0,
-                ..self
-            }),
-            Opcode::SetDiscriminator(discriminator) => Ok(Row {
-                discriminator,
-                ..self
-            }),
-            Opcode::Other => Ok(self),
-        }
-    }
-
-    /// Checks a row. `last` is the address of the last row of its sequence.
-    #[inline(always)]
-    #[tactic(auto, unfolding(crate::specs::Machine::checked))]
-    fn checked(self, files: &Files<'_>, last: Option<u64>) -> Result<Row, LineRule>
-        ensures { result ≡ checked files.now last self }
-    {
-        if self.address < last.unwrap_or(0) {
-            return Err(LineRule::RowDescends);
-        }
-        if self.end_sequence || files.has(self.file) {
-            Ok(self)
-        } else {
-            Err(LineRule::RowFile)
-        }
-    }
-
-    /// The registers after an opcode, which are a row if it appends one. `last` is the address of the last row of the
-    /// sequence.
-    #[inline(always)]
-    #[tactic(auto, unfolding(crate::specs::Machine::step))]
-    pub(crate) fn step(
-        self,
+    #[tactic(auto, unfolding(crate::specs::Opcodes::standard_opcode, crate::specs::Machine::turn, crate::specs::Machine::after))]
+    pub(crate) fn run_standard<'a>(
+        &mut self,
         parameters: &Parameters,
-        files: &Files<'_>,
-        last: Option<u64>,
-        opcode: Opcode,
-    ) -> Result<Row, LineRule>
-        ensures { result ≡ step parameters.now files.now last opcode self }
+        lengths: &[u8],
+        code: u8,
+        bytes: &'a [u8],
+    ) -> Result<&'a [u8], LineRule>
+        requires { 2 ≤ code }
+        ensures { (files : AnyFiles) (last : Option ℕ) → Passes (λ rest. rest.now) last result
+            (then_turn (standard_opcode (count_in lengths.now code) code) parameters.now files last self.old bytes.now)
+            self.old self.new }
     {
-        let next = self.after(parameters, opcode)?;
-        if opcode.appends_row() {
-            next.checked(files, last)
-        } else {
-            Ok(next)
-        }
-    }
-
-    /// The registers after the row is appended.
-    #[inline(always)]
-    pub(crate) fn cleared(self, parameters: &Parameters) -> Row
-        ensures { result ≡ cleared parameters.now self }
-    {
-        if self.end_sequence {
-            return Row::start(parameters.default_is_stmt);
-        }
-        Row {
-            discriminator: 0,
-            basic_block: false,
-            prologue_end: false,
-            epilogue_begin: false,
-            ..self
-        }
-    }
-
-    /// The address of the last row of the sequence after the row is appended.
-    #[inline(always)]
-    pub(crate) fn last_after(self) -> Option<u64>
-        ensures { result ≡ last_after self }
-    {
-        if self.end_sequence {
-            None
-        } else {
-            Some(self.address)
+        match code {
+            // DW_LNS_advance_pc
+            2 => {
+                let (operations, rest) = unsigned(LineRule::OpcodeCut, bytes)?;
+                self.advance(parameters, operations)?;
+                Ok(rest)
+            }
+            // DW_LNS_advance_line
+            3 => {
+                let (lines, rest) = signed(bytes)?;
+                self.add_lines(lines)?;
+                Ok(rest)
+            }
+            // DW_LNS_set_file
+            4 => {
+                let (file, rest) = unsigned(LineRule::OpcodeCut, bytes)?;
+                self.file = file;
+                Ok(rest)
+            }
+            // DW_LNS_set_column
+            5 => {
+                let (column, rest) = unsigned(LineRule::OpcodeCut, bytes)?;
+                match u32::try_from(column) {
+                    Ok(column) => self.column = column,
+                    Err(_) => return Err(LineRule::RowLine),
+                }
+                Ok(rest)
+            }
+            // DW_LNS_negate_stmt
+            6 => {
+                self.is_stmt = !self.is_stmt;
+                Ok(bytes)
+            }
+            // DW_LNS_set_basic_block
+            7 => {
+                self.basic_block = true;
+                Ok(bytes)
+            }
+            // DW_LNS_const_add_pc
+            8 => {
+                let adjusted = 255 - parameters.opcode_base;
+                self.advance(parameters, u64::from(adjusted / parameters.line_range))?;
+                Ok(bytes)
+            }
+            // DW_LNS_fixed_advance_pc
+            9 => {
+                let (advance, rest) = fixed(LineRule::OpcodeCut, 2, bytes)?;
+                self.add_bytes(u128::from(advance), 0)?;
+                Ok(rest)
+            }
+            // DW_LNS_set_prologue_end
+            10 => {
+                self.prologue_end = true;
+                Ok(bytes)
+            }
+            // DW_LNS_set_epilogue_begin
+            11 => {
+                self.epilogue_begin = true;
+                Ok(bytes)
+            }
+            // DW_LNS_set_isa
+            12 => {
+                let (isa, rest) = unsigned(LineRule::OpcodeCut, bytes)?;
+                self.isa = isa;
+                Ok(rest)
+            }
+            // One that the standard does not define does nothing.
+            _ => skip_others(lengths, code, bytes),
         }
     }
 }

@@ -1,6 +1,6 @@
 //! The rows of a line program, one after another (DWARF 5, 6.2.2).
 
-ghost use Rattle.std.specs.Prelude.{◌≡◌, ◌≤◌, length, None};
+ghost use Rattle.std.specs.Prelude.{◌≡◌, ◌≤◌, length};
 
 use crate::fault::LineFault;
 use crate::files::Files;
@@ -14,6 +14,7 @@ use crate::rule::LineRule;
 #[derive(Drop)]
 pub struct Rows<'p, 'a> {
     pub(crate) parameters: Parameters,
+    /// The header's `standard_opcode_lengths`.
     pub(crate) lengths: &'a [u8],
     pub(crate) files: &'p Files<'a>,
     /// The offset of the program's end in `.debug_line`.
@@ -22,36 +23,9 @@ pub struct Rows<'p, 'a> {
     ghost within: { length machine.rest.now ≤ end },
 }
 
-impl<'p, 'a> Rows<'p, 'a> {
-    ghost use Rattle.dw_lines.specs.Machine.{start};
-    ghost use Rattle.dw_lines.specs.Rows.{Yields, run};
+impl Rows<'_, '_> {
+    ghost use Rattle.dw_lines.specs.Rows.{Yields};
     ghost use Rattle.dw_lines.specs.RowsLeft.{run_left};
-
-    /// The rows of these opcodes, which end at an offset of `.debug_line`. `lengths` is the header's
-    /// `standard_opcode_lengths`.
-    pub(crate) fn new(
-        parameters: Parameters,
-        lengths: &'a [u8],
-        files: &'p Files<'a>,
-        opcodes: &'a [u8],
-        end: usize,
-    ) -> Rows<'p, 'a>
-        requires { length opcodes.now ≤ end }
-        ensures { run_left result ≡ run parameters lengths.now files.now end (start parameters.default_is_stmt) None
-            opcodes.now }
-    {
-        Rows {
-            parameters,
-            lengths,
-            files,
-            end,
-            machine: Machine {
-                registers: Row::start(parameters.default_is_stmt),
-                last: None,
-                rest: opcodes,
-            },
-        }
-    }
 
     /// The next row, or none after the last. Returns the first rule that the program violates, at its place; the rows
     /// before that place are returned first.
@@ -60,14 +34,16 @@ impl<'p, 'a> Rows<'p, 'a> {
         ensures { Yields result (run_left self.old) (run_left self.new) }
     {
         while let Some((code, bytes)) = self.machine.rest.split_first() {
-            let at = self.end - self.machine.rest.len();
             match self
                 .machine
                 .run_next(&self.parameters, self.lengths, self.files, *code, bytes)
             {
-                Ok(None) => {}
-                Ok(Some(row)) => return Ok(Some(row)),
-                Err(rule) => return Err(LineFault { rule, at }),
+                Ok(false) => {}
+                Ok(true) => return Ok(Some(self.machine.take_row(&self.parameters))),
+                Err(rule) => {
+                    let at = self.end - self.machine.rest.len();
+                    return Err(LineFault { rule, at });
+                }
             }
         }
         match self.machine.last {
@@ -88,12 +64,17 @@ impl<'a> Program<'a> {
     pub fn rows(&self) -> Rows<'_, 'a>
         ensures { run_left result ≡ program_run self.now }
     {
-        Rows::new(
-            self.header.parameters,
-            self.header.standard_opcode_lengths,
-            &self.header.files,
-            self.opcodes,
-            self.opcodes_at + self.opcodes.len(),
-        )
+        let parameters = self.header.parameters;
+        Rows {
+            parameters,
+            lengths: self.header.standard_opcode_lengths,
+            files: &self.header.files,
+            end: self.opcodes_at + self.opcodes.len(),
+            machine: Machine {
+                registers: Row::start(parameters.default_is_stmt),
+                last: None,
+                rest: self.opcodes,
+            },
+        }
     }
 }

@@ -1,4 +1,5 @@
 //! The rules on line programs, each with its code and its name.
+//! Its variants, and the arms of its functions, are made by docs/make-rules.py from docs/rules.tsv.
 
 ghost use Rattle.std.specs.Prelude.{◌≡◌};
 ghost use Rattle.dw_lines.specs.LineRules.{code_text, name_text};

@@ -1,9 +1,9 @@
 //! The sections that line programs are read from.
 
 ghost use Rattle.std.specs.Prelude.{◌≡◌};
-ghost use Rattle.dw_lines.specs.SectionStrings.{IsAfterLastZero};
+ghost use Rattle.dw_elf.specs.Elf.{IsAfterLastZero};
 
-use memchr::memrchr;
+use dw_elf::end_of_texts;
 
 /// The contents of these sections. One that the file does not have is empty.
 #[derive(Clone, Copy, Debug)]
@@ -22,17 +22,6 @@ pub struct LineSections<'a> {
     ghost str_ends: { IsAfterLastZero str.now str_end },
 }
 
-/// The count of bytes of a section up to its last zero byte, with it, or 0.
-#[tactic(auto, using(crate::proofs::StringLaws::no_zero, crate::proofs::StringLaws::last_zero))]
-fn end_of_strings(section: &[u8]) -> usize
-    ensures { IsAfterLastZero section.now result }
-{
-    match memrchr(0, section) {
-        Some(last) => last + 1,
-        None => 0,
-    }
-}
-
 impl<'a> LineSections<'a> {
     /// The sections, and where the strings of two of them end, which is looked for once.
     pub fn new(line: &'a [u8], line_str: &'a [u8], str: &'a [u8]) -> LineSections<'a>
@@ -44,8 +33,8 @@ impl<'a> LineSections<'a> {
             line,
             line_str,
             str,
-            line_str_end: end_of_strings(line_str),
-            str_end: end_of_strings(str),
+            line_str_end: end_of_texts(line_str),
+            str_end: end_of_texts(str),
         }
     }
 }

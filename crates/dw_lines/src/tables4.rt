@@ -4,7 +4,7 @@ ghost use Rattle.std.specs.Prelude.{◌≡◌, ◌≤◌, ◌<◌, length, map, 
 ghost use Rattle.dw_forms.specs.Stops.{GivesOrMemory};
 ghost use Rattle.dw_forms.specs.ValueReading.{Gives};
 ghost use Rattle.dw_lines.specs.Files.{path_or_end as path_format, file_or_end as file_format, path_view, file_view};
-ghost use Rattle.dw_lines.specs.Files.{in_directory as directory_format, directories4, files4};
+ghost use Rattle.dw_lines.specs.Files.{directories4, files4};
 ghost use Rattle.dw_lines.specs.Header.{length_end};
 
 use crate::fields::{number, path};
@@ -57,10 +57,7 @@ pub(crate) fn directories<'a>(
     paths.push(LinePath::Header(&[]))?;
     let mut rest = bytes;
     loop {
-        let (next, after) = match path_or_end(rest) {
-            Ok(found) => found,
-            Err(rule) => return Err(Stop::Fault(rule)),
-        };
+        let (next, after) = path_or_end(rest)?;
         let Some(path) = next else {
             return Ok((paths, after));
         };
@@ -85,10 +82,7 @@ pub(crate) fn files<'a>(
     })?;
     let mut rest = bytes;
     loop {
-        let (next, after) = match file_or_end(count, rest) {
-            Ok(found) => found,
-            Err(rule) => return Err(Stop::Fault(rule)),
-        };
+        let (next, after) = file_or_end(count, rest)?;
         let Some(file) = next else {
             return Ok((files, after));
         };

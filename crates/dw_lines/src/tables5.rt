@@ -3,9 +3,9 @@
 ghost use Rattle.std.specs.Prelude.{◌≡◌, map};
 ghost use Rattle.dw_forms.specs.Stops.{GivesOrMemory};
 ghost use Rattle.dw_forms.specs.ValueReading.{Gives};
-ghost use Rattle.dw_lines.specs.Files.{content_format, entry_format as format_of_entries, table_head as head_format};
+ghost use Rattle.dw_lines.specs.Files.{content_format, table_head as head_format, file_entry as file_format};
+ghost use Rattle.dw_lines.specs.Files.{path_view, file_view, directories5, files5};
 ghost use Rattle.dw_lines.specs.Repeats.{times};
-ghost use Rattle.dw_lines.specs.Files.{file_entry as file_format, path_view, file_view, directories5, files5};
 
 use crate::content::{Content, DW_LNCT_path, are_valid, has_kind};
 use crate::fields::{byte, number};
@@ -37,36 +37,24 @@ fn contents(alloc: Global, count: u8, bytes: &[u8]) -> Result<(Vec<Content>, &[u
     let mut contents = Vec::new(alloc);
     let mut rest = bytes;
     for _ in 0..count {
-        let (content, after) = match content(rest) {
-            Ok(found) => found,
-            Err(rule) => return Err(Stop::Fault(rule)),
-        };
+        let (content, after) = content(rest)?;
         contents.push(content)?;
         rest = after;
     }
     Ok((contents, rest))
 }
 
-/// The format of the entries of a table, and the bytes after it.
-#[tactic(auto, unfolding(crate::specs::Files::entry_format))]
-fn entry_format(alloc: Global, bytes: &[u8]) -> Result<(Vec<Content>, &[u8]), Stop<LineRule>>
-    ensures { GivesOrMemory (λ x. (x.0.items, x.1.now)) result (format_of_entries.read bytes.now) }
-{
-    let (count, rest) = byte(bytes)?;
-    let (contents, rest) = contents(alloc, count, rest)?;
-    if are_valid(&contents) {
-        return Ok((contents, rest));
-    }
-    Err(Stop::Fault(LineRule::LineForm))
-}
-
 /// The format of the entries of a table, how many there are, and the bytes after both. Entries have a path, which takes
 /// a byte at least.
-#[tactic(auto, unfolding(crate::specs::Files::table_head))]
+#[tactic(auto, unfolding(crate::specs::Files::table_head, crate::specs::Files::entry_format))]
 fn table_head(alloc: Global, bytes: &[u8]) -> Result<(Vec<Content>, u64, &[u8]), Stop<LineRule>>
     ensures { GivesOrMemory (λ x. ((x.0.items, x.1), x.2.now)) result (head_format.read bytes.now) }
 {
-    let (contents, rest) = entry_format(alloc, bytes)?;
+    let (count, rest) = byte(bytes)?;
+    let (contents, rest) = contents(alloc, count, rest)?;
+    if !are_valid(&contents) {
+        return Err(Stop::Fault(LineRule::LineForm));
+    }
     let (count, rest) = number(rest)?;
     if has_kind(&contents, DW_LNCT_path) || count == 0 {
         return Ok((contents, count, rest));
@@ -88,10 +76,7 @@ pub(crate) fn directories<'a>(
     let mut paths = Vec::new(alloc);
     let mut rest = rest;
     for _ in 0..count {
-        let (entry, after) = match entry(sections, &contents, rest) {
-            Ok(found) => found,
-            Err(rule) => return Err(Stop::Fault(rule)),
-        };
+        let (entry, after) = entry(sections, &contents, rest)?;
         paths.push(entry.path)?;
         rest = after;
     }
@@ -129,10 +114,7 @@ pub(crate) fn files<'a>(
     let mut files = Vec::new(alloc);
     let mut rest = rest;
     for _ in 0..count {
-        let (file, after) = match file(sections, &contents, directories, rest) {
-            Ok(found) => found,
-            Err(rule) => return Err(Stop::Fault(rule)),
-        };
+        let (file, after) = file(sections, &contents, directories, rest)?;
         files.push(file)?;
         rest = after;
     }

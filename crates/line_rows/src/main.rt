@@ -1,12 +1,23 @@
 //! Prints the rows that the line programs of each file make, in the words of `llvm-dwarfdump --debug-line`, to compare
-//! `dw_lines` with other readers.
+//! `dw_lines` with other readers. After the word `--tables` it prints directories and files too, and after `--count`
+//! how many rows a program makes in place of the rows.
 #![tactic(auto)]
 
+use dw_elf::{OtherSection, find, find_other};
 use dw_forms::Stop;
-use dw_lines::{LineFault, LineSections, Program, Row, read_program};
-use slow_reader::find_section;
+use dw_lines::{LineFault, LinePath, LineSections, Program, Row, read_program};
 use std::rt::{Env, Files};
 use std::{env, fs, io};
+
+/// What is printed of a program.
+#[derive(Clone, Copy, Debug, PartialEq, Eq)]
+enum Shown {
+    Rows,
+    /// Directories and files, and then the rows.
+    Tables,
+    /// How many rows there are, and the sum of their lines.
+    Count,
+}
 
 /// The word of a flag, if a row has it.
 fn word(flag: bool, text: &'static str) -> &'static str {
@@ -42,18 +53,78 @@ fn print_fault<R: Print + AllocGlobal>(rt: &R, fault: LineFault) -> io::Result<(
     )
 }
 
-/// The lines of a program's rows, and of the fault after them.
-fn print_rows<R: Print + AllocGlobal>(rt: &R, program: &Program<'_>) -> io::Result<()> {
+/// The lines of a program's rows, or of their count, and of the fault after them.
+fn print_rows<R: Print + AllocGlobal>(
+    rt: &R,
+    program: &Program<'_>,
+    shown: Shown,
+) -> io::Result<()> {
     let mut rows = program.rows();
+    let mut count = 0_u64;
+    let mut lines = 0_u64;
+    let mut end = None;
     // An opcode appends one row at most.
     for _ in 0..=program.opcodes.len() {
         match rows.next() {
-            Ok(Some(row)) => print_row(rt, row)?,
-            Ok(None) => return Ok(()),
-            Err(fault) => return print_fault(rt, fault),
+            Ok(Some(row)) => {
+                count = count.saturating_add(1);
+                lines = lines.saturating_add(u64::from(row.line));
+                if shown != Shown::Count {
+                    print_row(rt, row)?;
+                }
+            }
+            Ok(None) => break,
+            Err(fault) => {
+                end = Some(fault);
+                break;
+            }
         }
     }
+    if shown == Shown::Count {
+        println!(rt; "{count} rows, lines {lines}")?;
+    }
+    match end {
+        Some(fault) => print_fault(rt, fault),
+        None => Ok(()),
+    }
+}
+
+/// A path in quotes. Bytes other than those of printed ASCII, and quotes and backslashes, are in octal.
+fn print_path<R: Print + AllocGlobal>(rt: &R, path: LinePath<'_>) -> io::Result<()> {
+    print!(rt; "\"")?;
+    for byte in path.bytes() {
+        match byte {
+            b' ' | b'!' | b'#'..=b'[' | b']'..=b'~' => print!(rt; "{}", char::from(*byte))?,
+            _ => print!(rt; "\\{byte:03o}")?,
+        }
+    }
+    println!(rt; "\"")
+}
+
+/// The lines of a program's directories and files, by number: before version 5 from 1 on.
+fn print_tables<R: Print + AllocGlobal>(rt: &R, program: &Program<'_>) -> io::Result<()> {
+    let first = usize::from(program.header.files.first);
+    for (number, path) in program.header.directories.iter().enumerate().skip(first) {
+        print!(rt; "directory {number} ")?;
+        print_path(rt, *path)?;
+    }
+    for (number, file) in program.header.files.entries.iter().enumerate().skip(first) {
+        print!(rt; "file {number} {} ", file.directory)?;
+        print_path(rt, file.path)?;
+    }
     Ok(())
+}
+
+/// The lines of a program.
+fn print_program<R: Print + AllocGlobal>(
+    rt: &R,
+    program: &Program<'_>,
+    shown: Shown,
+) -> io::Result<()> {
+    if shown == Shown::Tables {
+        print_tables(rt, program)?;
+    }
+    print_rows(rt, program, shown)
 }
 
 /// Whether addresses have 4 bytes, as a header of version 5 says. Otherwise they have 8.
@@ -72,11 +143,15 @@ fn after(line: &[u8], offset: usize) -> Option<usize> {
 }
 
 /// The lines of the programs of a file.
-fn print_programs<R: Print + AllocGlobal>(rt: &R, sections: &LineSections<'_>) -> io::Result<()> {
+fn print_programs<R: Print + AllocGlobal>(
+    rt: &R,
+    sections: &LineSections<'_>,
+    shown: Shown,
+) -> io::Result<()> {
     let mut offset = 0;
-    // A program has four bytes at least.
-    for _ in 0..sections.line.len() {
-        if offset >= sections.line.len() {
+    // A program has four bytes at least. The first is read even if the section is empty.
+    for _ in 0..=sections.line.len() {
+        if 0 < offset && offset >= sections.line.len() {
             return Ok(());
         }
         println!(rt; "debug_line[0x{offset:08x}]")?;
@@ -86,7 +161,7 @@ fn print_programs<R: Print + AllocGlobal>(rt: &R, sections: &LineSections<'_>) -
             read_program(rt.alloc(), sections, offset, 8)
         };
         match program {
-            Ok(program) => print_rows(rt, &program)?,
+            Ok(program) => print_program(rt, &program, shown)?,
             Err(Stop::Fault(fault)) => print_fault(rt, fault)?,
             Err(Stop::Memory) => return println!(rt; "out of memory"),
         }
@@ -98,27 +173,47 @@ fn print_programs<R: Print + AllocGlobal>(rt: &R, sections: &LineSections<'_>) -
     Ok(())
 }
 
-/// The bytes of a section of a file. One that the file does not have is empty.
-fn section<'a>(file: &'a [u8], name: &[u8]) -> &'a [u8] {
-    let found = find_section(file, name);
-    found.unwrap_or(&[])
+/// The sections that line programs are read from, or the line of the first check of the file that fails.
+fn sections_of<'a, R: Print + AllocGlobal>(
+    rt: &R,
+    file: &'a [u8],
+) -> io::Result<Option<LineSections<'a>>> {
+    let found = find(file).and_then(|sections| Ok((
+        sections,
+        find_other(file, OtherSection::Line)?,
+    )));
+    match found {
+        Ok((sections, line)) => Ok(Some(LineSections::new(line, sections.line_str, sections.str))),
+        Err(fault) => {
+            println!(rt;
+                "fault {} {} at section {}",
+                fault.rule.code(),
+                fault.rule.name(),
+                fault.section
+            )?;
+            Ok(None)
+        }
+    }
 }
 
 /// The name of a file, and its lines.
-fn print_file<R: Files + Print + AllocGlobal>(rt: &R, name: &str) -> io::Result<()> {
+fn print_file<R: Files + Print + AllocGlobal>(rt: &R, name: &str, shown: Shown) -> io::Result<()> {
     let file = fs::read(rt, name)?;
     println!(rt; "{name}:")?;
-    let sections = LineSections::new(
-        section(file.as_slice(), b".debug_line"),
-        section(file.as_slice(), b".debug_line_str"),
-        section(file.as_slice(), b".debug_str"),
-    );
-    print_programs(rt, &sections)
+    match sections_of(rt, file.as_slice())? {
+        Some(sections) => print_programs(rt, &sections, shown),
+        None => Ok(()),
+    }
 }
 
 fn run<R: Env + Files + Print + AllocGlobal>(rt: &R) -> io::Result<()> {
-    for name in env::args(rt)?.skip(1) {
-        print_file(rt, name.as_str())?;
+    let mut shown = Shown::Rows;
+    for word in env::args(rt)?.skip(1) {
+        match word.as_str() {
+            "--tables" => shown = Shown::Tables,
+            "--count" => shown = Shown::Count,
+            name => print_file(rt, name, shown)?,
+        }
     }
     Ok(())
 }

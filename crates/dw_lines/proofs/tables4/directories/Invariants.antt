@@ -4,11 +4,11 @@ use Rattle.dw_lines.specs.Files.{path_or_end, path_view, directories4}
 use Rattle.dw_lines.proofs.RepeatLaws.{ReadsOn}
 use Rattle.dw_lines.proofs.tables4.directories.Given as goal
 
-abbrev pub invariant-loop-found : goal.invariant-loop-found
-invariant-loop-found l = record {
+abbrev pub invariant-loop-paths : goal.invariant-loop-paths
+invariant-loop-paths l = record {
   within : length l.rest ≤ length l.bytes;
   goes_on : ReadsOn LineCut path_or_end (map path_view l.paths.items) l.rest (directories4.read l.bytes);
 }
 
-abbrev pub decreases-loop-found : goal.decreases-loop-found
-decreases-loop-found l = length l.rest
+abbrev pub decreases-loop-paths : goal.decreases-loop-paths
+decreases-loop-paths l = length l.rest

@@ -4,9 +4,9 @@ use Rattle.dw_lines.specs.Files.{file_or_end, file_view, files4}
 use Rattle.dw_lines.proofs.RepeatLaws.{ReadsOn}
 use Rattle.dw_lines.proofs.tables4.files.Given as goal
 
-abbrev pub invariant-loop-found : goal.invariant-loop-found
-invariant-loop-found l =
+abbrev pub invariant-loop-files : goal.invariant-loop-files
+invariant-loop-files l =
     ReadsOn LineCut (file_or_end l.count) (map file_view l.files.items) l.rest ((files4 l.count).read l.bytes)
 
-abbrev pub decreases-loop-found : goal.decreases-loop-found
-decreases-loop-found l = length l.rest
+abbrev pub decreases-loop-files : goal.decreases-loop-files
+decreases-loop-files l = length l.rest

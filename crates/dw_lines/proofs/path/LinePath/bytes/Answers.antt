@@ -1,4 +1,4 @@
-use Rattle.dw_lines.proofs.StringLaws.{take_before_first, all_before_first}
+use Rattle.dw_elf.proofs.NameLemmas.{take_before_first, all_before_first}
 use Rattle.dw_lines.proofs.path.LinePath.bytes.Goals as goal
 
 pub returns-in-Some : goal.returns-in-Some

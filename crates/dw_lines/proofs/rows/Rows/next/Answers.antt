@@ -1,11 +1,16 @@
-use Rattle.std.proofs.Common.{rules, refl, sym, ap, ◌∙◌, arith}
+use Rattle.std.proofs.Common.{rules, refl, sym, ap, ◌∙◌, arith, length, Some, None}
 use Rattle.dw_lines.proofs.RunSteps.{run_done, run_fails, run_on, rest_shorter, rest_within}
-use Rattle.dw_lines.specs.Rows.{run}
-use Rattle.dw_lines.specs.declared.machine.Machine.{Machine}
 use Rattle.dw_lines.proofs.rows.Rows.next.Goals as goal
 
 pub invariant_of-self : goal.invariant_of-self
 invariant_of-self c =
+    let s = c.loop-code.self in
+    let short = rest_within s.parameters s.lengths.now s.files.now s.end s.machine.registers s.machine.last
+    s.machine.rest.now c.in-Some.code.now c.in-Some.bytes.now (search rules) _ _ _ refl c.run_next.ensures in
+    record { within = omega (arith, short, ap length c.take_row.ensures.rest) }
+
+pub invariant_of-self-else-run_next : goal.invariant_of-self-else-run_next
+invariant_of-self-else-run_next c =
     let s = c.loop-code.self in
     let short = rest_within s.parameters s.lengths.now s.files.now s.end s.machine.registers s.machine.last
     s.machine.rest.now c.in-Some.code.now c.in-Some.bytes.now (search rules) _ _ _ refl c.run_next.ensures in
@@ -15,7 +20,8 @@ pub loop-code-smaller : goal.loop-code-smaller
 loop-code-smaller c =
     let s = c.loop-code.self in
     let short = rest_shorter s.parameters s.lengths.now s.files.now s.end s.machine.registers s.machine.last
-    s.machine.rest.now c.in-Some.code.now c.in-Some.bytes.now (search rules) _ c.in-Ok-None.ensures in
+    s.machine.rest.now c.in-Some.code.now c.in-Some.bytes.now (search rules) _
+    (rw c.in-Ok-false.field-0-test at c.in-Ok-false.ensures) in
     omega (arith, short)
 
 pub loop-code-preserved : goal.loop-code-preserved
@@ -23,23 +29,27 @@ loop-code-preserved c =
     let s = c.loop-code.self in
     c.loop-code.invariant
     ∙ run_on s.parameters s.lengths.now s.files.now s.end s.machine.registers s.machine.last s.machine.rest.now
-    c.in-Some.code.now c.in-Some.bytes.now (search rules) _ c.in-Ok-None.ensures _ c.in-Ok-None.field-0-is
+    c.in-Some.code.now c.in-Some.bytes.now (search rules) _ (rw c.in-Ok-false.field-0-test at c.in-Ok-false.ensures)
+    None refl
 
-pub returns-in-Ok-Some : goal.returns-in-Ok-Some
-returns-in-Ok-Some c =
+pub returns-in-Ok-true : goal.returns-in-Ok-true
+returns-in-Ok-true c =
     let s = c.loop-code.self in
-    c.loop-code.invariant
+    let took = c.take_row.ensures in
+    rw (took.row, took.registers, took.last, took.rest)
+    (c.loop-code.invariant
     ∙ run_on s.parameters s.lengths.now s.files.now s.end s.machine.registers s.machine.last s.machine.rest.now
-    c.in-Some.code.now c.in-Some.bytes.now (search rules) _ c.in-Ok-Some.ensures _ c.in-Ok-Some.field-0-is
+    c.in-Some.code.now c.in-Some.bytes.now (search rules) _ (rw c.in-Ok-true.field-0-test at c.in-Ok-true.ensures)
+    (Some _) refl)
 
 pub returns-in-Err : goal.returns-in-Err
 returns-in-Err c =
-    let s = c.loop-code.self in (
+    let s = c.loop-code.self in
+    rw c.in-Err.ensures.1 (
       c.loop-code.invariant
           ∙ run_fails s.parameters s.lengths.now s.files.now s.end s.machine.registers s.machine.last
           s.machine.rest.now c.in-Some.code.now c.in-Some.bytes.now (search rules) _ c.in-Err.ensures.0,
-      ap (λ (m : Machine). run s.parameters s.lengths.now s.files.now s.end m.registers m.last m.rest.now)
-          c.in-Err.ensures.1 ∙ sym c.loop-code.invariant,
+      sym c.loop-code.invariant,
     )
 
 pub returns-in-None : goal.returns-in-None
