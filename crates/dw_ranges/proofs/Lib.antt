@@ -1,0 +1,10 @@
+mod ListSteps
+mod BoundLaws
+mod UnitLemmas
+mod AreaLemmas
+mod SpanLemmas
+mod LiveLemmas
+mod CodeLemmas
+mod ChainLaws
+mod FunctionLemmas
+mod KnownLemmas

@@ -1,0 +1,12 @@
+-- Chapters, in reading order.
+pub mod RangeRules
+pub mod Addresses
+pub mod ListEntries
+pub mod RangeLists
+pub mod Contributions
+pub mod Bounds
+pub mod EntryRanges
+pub mod Areas
+pub mod Spans
+pub mod Live
+pub mod Functions

@@ -1,0 +1,357 @@
+//! The functions of a unit with the addresses of their code (DWARF 5, 3.3), and the rules on these.
+
+ghost use Rattle.std.specs.Prelude.{◌≡◌, ◌++◌, ◌+◌, ◌-◌, ◌^◌, ◌<◌, ◌≤◌, ◌∷◌, [], List, ℕ, Ok, Err, Some, IfErr};
+ghost use Rattle.std.specs.Prelude.{OnOk};
+ghost use Rattle.std.specs.Prelude.{All, AllPairs, IsPermutation, length, map, slice_range};
+ghost use Rattle.dw_entries.specs.Views.{all_entries};
+ghost use Rattle.dw_forms.specs.Stops.{IfFault};
+ghost use Rattle.dw_ranges.specs.Areas.{AreAreas};
+ghost use Rattle.dw_ranges.specs.Functions.{AreInside, HasFunctions, IsInside, IsMeeting, Reads, Refuses, Starts};
+ghost use Rattle.dw_ranges.specs.Functions.{Takes};
+ghost use Rattle.dw_ranges.specs.Functions.{Violates, group_with, home_of, known_of, meeting, outer_of, scope_at};
+ghost use Rattle.dw_ranges.specs.Functions.{scope_of, scopes_of};
+ghost use Rattle.dw_ranges.specs.Functions.{span_in, outside as outside_rule};
+ghost use Rattle.dw_ranges.specs.Live.{CodeFails};
+ghost use Rattle.dw_ranges.specs.Spans.{Agree, AreOrdered, IsSpan};
+ghost use Rattle.dw_ranges.specs.declared.range.Range.{Range as AnyRange};
+
+use crate::addresses::UnitAddresses;
+use crate::bounds::RangeSections;
+use crate::code::{code_of_entry, contain};
+use crate::fault::RangeFault;
+use crate::range::Range;
+use crate::rule::RangeRule;
+use crate::spans::{Span, order};
+use dw_entries::{Entries, EntryAt, EntryId, Stop, Tag};
+use std::alloc::{AllocError, AllocFailed};
+
+/// DW_TAG_subprogram
+const DW_TAG_SUBPROGRAM: Tag = Tag(0x2e);
+/// DW_TAG_inlined_subroutine
+const DW_TAG_INLINED_SUBROUTINE: Tag = Tag(0x1d);
+
+/// The function that an entry is or is in.
+#[derive(Clone, Copy, Debug, PartialEq, Eq)]
+pub struct Inside {
+    /// The group of what is inlined there: one more than the number of the function's entry; 0 if there is no function.
+    pub group: usize,
+    /// The areas of the function are those of the unit from this number on, and before `end`.
+    pub first: usize,
+    pub end: usize,
+}
+
+/// What is known of the entries of a unit, up to one of them.
+#[derive(Drop)]
+pub struct UnitFunctions {
+    /// For each entry, the function that it is or is in. That of the first entry has the areas of the unit.
+    pub inside: Vec<Inside>,
+    /// The areas of the unit, and of its functions, one after another.
+    pub areas: Vec<Range>,
+    /// The ranges of the functions.
+    pub spans: Vec<Span>,
+}
+
+/// The function that an entry of the unit is or is in, by how many entries of the unit are before it.
+fn inside_at(known: &UnitFunctions, k: usize) -> Inside
+    requires { AreInside known.now }
+    ensures scope { scope_of known.now.areas.items result ≡ scope_at (scopes_of known.now) k }
+    ensures is { IsInside known.now.areas.items result }
+{
+    if k < known.inside.len() {
+        return known.inside[k];
+    }
+    Inside {
+        group: 0,
+        first: 0,
+        end: 0,
+    }
+}
+
+/// The function that an entry with this parent is in. The first entry of the unit has the number `first`.
+fn outer_of_entry(known: &UnitFunctions, first: usize, parent: Option<EntryId>) -> Inside
+    requires { AreInside known.now }
+    ensures scope { scope_of known.now.areas.items result ≡ outer_of (scopes_of known.now) first parent }
+    ensures is { IsInside known.now.areas.items result }
+{
+    match parent {
+        Some(parent) => inside_at(known, parent.number().saturating_sub(first)),
+        None => Inside {
+            group: 0,
+            first: 0,
+            end: 0,
+        },
+    }
+}
+
+/// The group of an entry with these areas, if it is a function.
+fn group_of_entry(tag: Tag, outer: usize, areas: &[Range]) -> Option<usize>
+    ensures { (o : List AnyRange) → result ≡ group_with tag (record { group = outer; areas = o }) areas.now }
+{
+    if areas.is_empty() {
+        return None;
+    }
+    if tag == DW_TAG_SUBPROGRAM {
+        return Some(0);
+    }
+    if tag == DW_TAG_INLINED_SUBROUTINE && outer != 0 {
+        return Some(outer);
+    }
+    None
+}
+
+/// The rule that a function with this tag violates if it has an address outside of its unit or its function.
+fn outside(tag: Tag) -> RangeRule
+    ensures { result ≡ outside_rule tag }
+{
+    if tag == DW_TAG_SUBPROGRAM {
+        RangeRule::OutsideUnit
+    } else {
+        RangeRule::OutsideParent
+    }
+}
+
+/// Appends a span for each area of a function.
+fn push_spans(
+    spans: &mut Vec<Span>,
+    areas: &[Range],
+    group: usize,
+    function: usize,
+) -> Result<(), AllocFailed<Span>>
+    ensures { OnOk result (spans.new.items ≡ spans.old.items ++ map (span_in group function) areas.now) }
+{
+    for area in areas {
+        spans.push(Span {
+            group,
+            low: area.low,
+            high: area.high,
+            function,
+        })?;
+    }
+    Ok(())
+}
+
+/// Appends the areas of the unit or of a function, as the function that the next entry is.
+fn push_inside(known: &mut UnitFunctions, group: usize, areas: &[Range]) -> Result<(), AllocError>
+    requires inside { AreInside known.old }
+    requires areas { AreAreas areas.now }
+    ensures inside { OnOk result (AreInside known.new) }
+    ensures scopes { OnOk result (scopes_of known.new
+        ≡ scopes_of known.old ++ record { group = group; areas = areas.now } ∷ []) }
+    ensures spans { known.new.spans.items ≡ known.old.spans.items }
+{
+    let first = known.areas.len();
+    known.areas.extend_from_slice(areas)?;
+    let end = known.areas.len();
+    known.inside.push(Inside { group, first, end })?;
+    Ok(())
+}
+
+/// The function, or the unit, of which the addresses of a function with this tag are a part.
+fn home_of_entry(known: &UnitFunctions, tag: Tag, outer: Inside) -> Inside
+    requires inside { AreInside known.now }
+    requires outer { IsInside known.now.areas.items outer }
+    ensures scope { scope_of known.now.areas.items result
+        ≡ home_of tag (scope_at (scopes_of known.now) 0) (scope_of known.now.areas.items outer) }
+    ensures is { IsInside known.now.areas.items result }
+{
+    if tag == DW_TAG_SUBPROGRAM {
+        return inside_at(known, 0);
+    }
+    outer
+}
+
+/// Adds an entry that is no function, and is in this one.
+fn push_outer(known: &mut UnitFunctions, outer: Inside) -> Result<(), AllocError>
+    requires inside { AreInside known.old }
+    requires outer { IsInside known.old.areas.items outer }
+    ensures inside { OnOk result (AreInside known.new) }
+    ensures scopes { OnOk result (scopes_of known.new
+        ≡ scopes_of known.old ++ scope_of known.old.areas.items outer ∷ []) }
+    ensures spans { known.new.spans.items ≡ known.old.spans.items }
+{
+    known.inside.push(outer)?;
+    Ok(())
+}
+
+/// Reads the entry with a number, which is not the first one of its unit, that of number `first`. Overwrites `ranges`
+/// and `spans`.
+fn read_entry(
+    sections: &RangeSections<'_>,
+    unit: &UnitAddresses<'_>,
+    code: &[Range],
+    first: usize,
+    number: usize,
+    entry: &EntryAt<'_, '_>,
+    budget: &mut usize,
+    known: &mut UnitFunctions,
+    ranges: &mut Vec<Range>,
+    spans: &mut Vec<Span>,
+) -> Result<(), Stop<RangeFault>>
+    requires code { AreAreas code.now }
+    requires number { number < 2 ^ 64 - 1 }
+    requires inside { AreInside known.old }
+    ensures inside { OnOk result (AreInside known.new) }
+    ensures found { OnOk result (Takes sections.now unit.now code.now first (known_of known.old budget.old) number
+        entry.now (known_of known.new budget.new)) }
+    ensures fault { IfErr result (IfFault
+        (Refuses sections.now unit.now code.now first (known_of known.old budget.old) entry.now)) }
+    ensures less { budget.new ≤ budget.old }
+{
+    code_of_entry(sections, unit, code, entry, budget, ranges, spans)?;
+    let outer = outer_of_entry(known, first, entry.parent());
+    let tag = entry.tag();
+    let Some(group) = group_of_entry(tag, outer.group, ranges) else {
+        push_outer(known, outer)?;
+        return Ok(());
+    };
+    let home = home_of_entry(known, tag, outer);
+    if !contain(&known.areas[home.first..home.end], ranges) {
+        return Err(Stop::Fault(RangeFault {
+            rule: outside(tag),
+            at: entry.offset(),
+        }));
+    }
+    push_inside(known, number + 1, ranges)?;
+    push_spans(&mut known.spans, ranges, group, number)?;
+    Ok(())
+}
+
+/// Reads the entries of a unit after its first one, that of number `first`, up to the one before the number `end`.
+/// Overwrites `ranges` and `spans`.
+fn read_entries(
+    sections: &RangeSections<'_>,
+    unit: &UnitAddresses<'_>,
+    code: &[Range],
+    entries: &Entries<'_>,
+    first: usize,
+    end: usize,
+    budget: &mut usize,
+    known: &mut UnitFunctions,
+    ranges: &mut Vec<Range>,
+    spans: &mut Vec<Span>,
+) -> Result<(), Stop<RangeFault>>
+    requires code { AreAreas code.now }
+    requires some { first < end }
+    requires within { end ≤ length (all_entries entries.now) }
+    requires inside { AreInside known.old }
+    ensures found { OnOk result (Reads sections.now unit.now code.now first (known_of known.old budget.old) (first + 1)
+        (slice_range (all_entries entries.now) (first + 1) end) (Ok (known_of known.new budget.new))) }
+    ensures fault { IfErr result (IfFault (λ fault. Reads sections.now unit.now code.now first
+        (known_of known.old budget.old) (first + 1) (slice_range (all_entries entries.now) (first + 1) end)
+        (Err fault))) }
+    ensures less { budget.new ≤ budget.old }
+{
+    for number in first + 1..end {
+        let entry = entries.at(entries.id(number));
+        match read_entry(
+            sections, unit, code, first, number, &entry, budget, known, ranges, spans,
+        ) {
+            Ok(()) => {}
+            Err(stop) => return Err(stop),
+        }
+    }
+    Ok(())
+}
+
+/// Reads the first entry of a unit: its areas are those of the unit. Overwrites `ranges` and `spans`.
+fn read_first(
+    sections: &RangeSections<'_>,
+    unit: &UnitAddresses<'_>,
+    code: &[Range],
+    entry: &EntryAt<'_, '_>,
+    budget: &mut usize,
+    known: &mut UnitFunctions,
+    ranges: &mut Vec<Range>,
+    spans: &mut Vec<Span>,
+) -> Result<(), Stop<RangeFault>>
+    requires { AreAreas code.now }
+    ensures inside { OnOk result (AreInside known.new) }
+    ensures found { OnOk result
+        (Starts sections.now unit.now code.now entry.now budget.old (known_of known.new budget.new)) }
+    ensures fault { IfErr result (IfFault (CodeFails sections.now unit.now code.now entry.now budget.old)) }
+    ensures less { budget.new ≤ budget.old }
+{
+    known.inside.clear();
+    known.areas.clear();
+    known.spans.clear();
+    code_of_entry(sections, unit, code, entry, budget, ranges, spans)?;
+    push_inside(known, 0, ranges)?;
+    Ok(())
+}
+
+/// The rule that two spans of a group violate if they do not agree.
+fn meeting_rule(group: usize) -> RangeRule
+    ensures { result ≡ meeting group }
+{
+    if group == 0 {
+        RangeRule::FunctionsMeet
+    } else {
+        RangeRule::InlinedMeet
+    }
+}
+
+/// Puts the spans of a unit in order, unless two do not agree.
+fn order_spans(entries: &Entries<'_>, spans: &mut [Span]) -> Result<(), RangeFault>
+    requires each { All IsSpan spans.old }
+    requires within { All (λ s. s.function < length (all_entries entries.now)) spans.old }
+    ensures permutation { IsPermutation spans.old spans.new }
+    ensures ordered { OnOk result (AreOrdered spans.new) }
+    ensures agree { OnOk result (AllPairs Agree spans.old) }
+    ensures fault { IfErr result (IsMeeting (all_entries entries.now) spans.old spans.new) }
+{
+    match order(spans) {
+        None => Ok(()),
+        Some(number) => {
+            let span = spans[number];
+            Err(RangeFault {
+                rule: meeting_rule(span.group),
+                at: entries.offset(entries.id(span.function)),
+            })
+        }
+    }
+}
+
+/// Reads the functions of a unit, of which the first entry has the number `first`, and the last one is that before the
+/// number `end`; `unit` is what its addresses are read by, and `code` are the areas of the program's code. A range list
+/// takes its bytes from `budget` each time that an entry names it: apart from sorting and binary searches, the time of
+/// all units with one budget is linear in it and in the entries. Afterwards the spans are in order, for `functions_at`.
+/// Of the rules that are violated the first one is returned: of X1 to X10 and X13 by the order of the entries, then of
+/// X11 and X12 by addresses. Overwrites `known`, `ranges` and `spans`.
+pub fn functions_of_unit(
+    sections: &RangeSections<'_>,
+    unit: &UnitAddresses<'_>,
+    code: &[Range],
+    entries: &Entries<'_>,
+    first: usize,
+    end: usize,
+    budget: &mut usize,
+    known: &mut UnitFunctions,
+    ranges: &mut Vec<Range>,
+    spans: &mut Vec<Span>,
+) -> Result<(), Stop<RangeFault>>
+    requires code { AreAreas code.now }
+    requires some { first < end }
+    requires within { end ≤ length (all_entries entries.now) }
+    ensures found { OnOk result (HasFunctions sections.now unit.now code.now first (all_entries entries.now) end
+        budget.old (known_of known.new budget.new)) }
+    ensures fault { IfErr result (IfFault
+        (Violates sections.now unit.now code.now first (all_entries entries.now) end budget.old)) }
+    ensures few { OnOk result (All (λ s. s.function < 2 ^ 64 - 1) known.new.spans.items) }
+    ensures less { budget.new ≤ budget.old }
+{
+    let entry = entries.at(entries.id(first));
+    match read_first(sections, unit, code, &entry, budget, known, ranges, spans) {
+        Ok(()) => {}
+        Err(stop) => return Err(stop),
+    }
+    match read_entries(
+        sections, unit, code, entries, first, end, budget, known, ranges, spans,
+    ) {
+        Ok(()) => {}
+        Err(stop) => return Err(stop),
+    }
+    match order_spans(entries, known.spans.as_mut_slice()) {
+        Ok(()) => Ok(()),
+        Err(fault) => Err(Stop::Fault(fault)),
+    }
+}
