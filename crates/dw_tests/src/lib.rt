@@ -20,6 +20,8 @@ mod lines;
 #[cfg(test)]
 mod links;
 #[cfg(test)]
+mod ranges;
+#[cfg(test)]
 mod surface;
 #[cfg(test)]
 mod types;
