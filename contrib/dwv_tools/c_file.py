@@ -1,7 +1,6 @@
 """The entries of a sound file, by the table that the C library makes. The module `dwv` of python/ calls it."""
 import bisect
 import functools
-import os
 import pathlib
 import sys
 
@@ -85,12 +84,11 @@ class Entry:
 
 
 class File:
-    """The table of a file, which has at most so many values, or as many as `dwv.tables.usual_limit` says."""
+    """The table of a file, which has at most so many values, or as many as `dwv.table` takes."""
 
     def __init__(self, path, limit=None):
         import dwv
-        from dwv.tables import usual_limit
-        self.table = dwv.table(path, usual_limit(os.path.getsize(path)) if limit is None else limit)
+        self.table = dwv.table(path, limit)
         entries, values = self.table.columns["entries"], self.table.columns["values"]
         self.tags, self.offsets, self.units = entries["tag"], entries["offset"], entries["unit"]
         self.first, self.count, self.attributes = entries["first_value"], entries["values"], values["attribute"]

@@ -11,8 +11,8 @@ import struct
 import time
 
 from dwv_tools.reading import (
-    ADDR, BLOCKS, FIXED, FLAG_PRESENT, IMPLICIT, INDIRECT, LINE_STRP, OFFSET, REF_ADDR, REF_SIG8, REF_UNIT, SDATA,
-    STRING, STRP, STRX, STR_OFFSETS_BASE, ULEB, Cursor, Section, Unreadable, read_declaration,
+    ADDR, FIXED, INDIRECT, LINE_STRP, OFFSET, REF_ADDR, REF_SIG8, REF_UNIT, STRING, STRP, STRX, STR_OFFSETS_BASE,
+    Cursor, Section, Unreadable, read_declaration, read_value,
 )
 
 # How long a search may take, and how many abbreviation tables are kept.
@@ -88,22 +88,9 @@ class Unit:
 
     def value(self, form, number, cursor):
         """A value of a form: a number, a text or a block as bytes."""
-        if form in FIXED:
-            if form == IMPLICIT:
-                return number
-            return 1 if form == FLAG_PRESENT else cursor.number(FIXED[form])
-        if form in OFFSET:
-            # An address in version 2.
-            return cursor.number(self.address_size if form == REF_ADDR and self.version == 2 else self.offset_size)
-        if form == ADDR:
-            return cursor.number(self.address_size)
-        if form in ULEB or form == SDATA:
-            return cursor.leb(form == SDATA)
-        if form == STRING:
-            return cursor.text()
-        if form in BLOCKS:
-            return cursor.bytes(cursor.number(BLOCKS[form]) if BLOCKS[form] else cursor.leb())
-        raise Unreadable(f"there is no form 0x{form:x}")
+        # In version 2 this form is an address.
+        form = ADDR if form == REF_ADDR and self.version == 2 else form
+        return read_value(cursor, form, number, self.offset_size, self.address_size)
 
     def skips(self, code):
         """How the values of a code's entries are passed: by so many bytes, or by a form. Then whether it has children.
@@ -280,7 +267,8 @@ class File:
             self.types = {}
             for unit in map(self.unit, self.starts()):
                 if unit.signature is not None and unit.type_offset is not None:
-                    self.types.setdefault(unit.signature, (unit, unit.at + unit.type_offset))
+                    self.types.setdefault(unit.signature, (unit.at, unit.at + unit.type_offset))
         if signature not in self.types:
             raise Unreadable(f"no type unit has the signature 0x{signature:016x}")
-        return self.types[signature]
+        unit, at = self.types[signature]
+        return self.kept.setdefault(unit, self.unit(unit)), at

@@ -2,7 +2,7 @@
 import pathlib
 import textwrap
 
-from dwv_tools import causes, entries, finding, measured, names, reading
+from dwv_tools import causes, entries, finding, measured, names, reading, running
 from dwv_tools import lines as line_tables
 from dwv_tools.finding import MOST
 from dwv_tools.running import plain
@@ -140,7 +140,7 @@ def unit_lines(place):
         return []
     rows = [("name", place.unit_name), ("producer", place.producer), ("language", place.language)]
     if place.declared:
-        rows.append(("declared", line_tables.place_of(place.line_table, place.unit, *place.declared)))
+        rows.append(("declared", line_tables.place_of(place.line_table, place.unit.at, *place.declared, place.limits)))
     version = f"version {place.unit.version}" if place.unit.version is not None else "a part of a header"
     return [f"Unit at 0x{place.unit.at:08x}, {version}", *(f"  {what:<9} {plain(text)}" for what, text in rows if text)]
 
@@ -151,9 +151,9 @@ def folded(title, text):
                          break_on_hyphens=False, break_long_words=False)
 
 
-def lines(verdict, path):
+def lines(verdict, path, limits=running.Limits()):
     """The explanation of a fault in lines of text, the line of `dwv` first."""
-    place = finding.Place(verdict, path)
+    place = finding.Place(verdict, path, limits)
     text, required = rules()[place.rule]
     cause, found = causes.cause(place), measured.found(place)
     blocks = [

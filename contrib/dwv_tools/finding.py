@@ -1,22 +1,24 @@
 """What is at the place of a fault: the unit, the entry, and those above it, as far as they can be read."""
 import re
 
-from dwv_tools import dwarf, names, reading
+from dwv_tools import dwarf, names, reading, running
 from dwv_tools.entries import number_of, readable, text_of
 
 LINE = re.compile(
     r"fault ([A-Z]\d+) (\w+) at (?:section (\d+)|(\.debug_\w+)\+0x([0-9a-f]{8}) attribute 0x([0-9a-f]+))"
 )
 JOINED = re.compile(r"joined with .* from 0x([0-9a-f]{8}) on")
-# How many entries above one are read, and how many attributes, entries of a cycle and fields are shown.
-MOST = 40
+# How many entries above one are read, and how many attributes, entries of a cycle and fields are shown. How many fields
+# of a declaration are read.
+MOST, FIELDS = 40, 1000
 HEADER_RULES = {"U1", "U2", "U3", "U4", "U5", "U6", "U7", "R5", "R6"}
 
 
 class Place:
-    """The place of a fault. What can't be read of it is None, and `trouble` says why."""
+    """The place of a fault. What can't be read of it is None, and `trouble` says why. Steps that read more of the file
+    keep the limits."""
 
-    def __init__(self, verdict, path):
+    def __init__(self, verdict, path, limits=running.Limits()):
         rule, name, number, section, at, attribute = LINE.fullmatch(verdict.lines[0]).groups()
         self.rule, self.name, self.lines, self.note = rule, name, verdict.lines, verdict.note
         self.section, self.at = section or "file", int(at or "0", 16) if section else int(number)
@@ -24,7 +26,7 @@ class Place:
         cycles = [line.split()[1:] for line in verdict.lines if line.startswith("cycle ")]
         self.cycle = [int(it, 16) for it in cycles[0]] if cycles else []
         self.unit = self.declaration = self.entry = self.trouble = None
-        self.above, self.file = [], dwarf.File(path)
+        self.above, self.file, self.limits = [], dwarf.File(path), limits
         try:
             if section == ".debug_abbrev":
                 self._find_declaration()
@@ -49,11 +51,10 @@ class Place:
 
     def _find_declaration(self):
         """The first unit of the table that has the place, and what can be read of the declaration there."""
-        before = [unit for unit in map(self.file.unit, self.file.starts()) if unit.table is not None]
-        before = [unit for unit in before if unit.table <= self.at]
-        self.unit = max(before, key=lambda unit: unit.table, default=None)
+        before = (unit for unit in map(self.file.unit, self.file.starts()) if unit.table is not None)
+        self.unit = max((unit for unit in before if unit.table <= self.at), key=lambda unit: unit.table, default=None)
         cursor = reading.Cursor(self.file.data, self.file.abbrev, self.at)
-        self.declaration = reading.fields_of_declaration(cursor)
+        self.declaration = reading.readable_parts(cursor, FIELDS)
 
     def _find_entry(self):
         self.unit = self.file.unit_of(self.at)

@@ -9,8 +9,7 @@ import struct
 
 from dwv_tools.copying import SIX, Refused, content
 from dwv_tools.reading import (
-    ADDR, BLOCKS, FIXED, IMPLICIT, INDIRECT, LINE_STRP, OFFSET, REF_ADDR, SDATA, STRING, STRP, ULEB, Cursor, Section,
-    Unreadable,
+    INDIRECT, LINE_STRP, REF_ADDR, STRP, Cursor, Section, Unreadable, parts_of_declaration, read_value,
 )
 
 # The forms that refer to the shared file: by offset of an entry, and by offset of a string.
@@ -46,29 +45,22 @@ class Rewriter:
             if self.table(at) != wanted:
                 raise Refused("its abbreviation tables overlap")
 
-    def form(self, cursor, codes):
-        """The form at a cursor. If it refers to the shared file, its new code is noted by its place."""
-        start, form = cursor.at, cursor.leb()
+    def note(self, start, end, form, codes):
+        """Notes the new code of a form at a place, if the form refers to the shared file."""
         if form in NEW:
             if form not in self.plus:
                 raise Refused("the shared file refers to another one")
-            count = cursor.at - start
+            count = end - start
             codes[start] = bytes([NEW[form] | 0x80, *[0x80] * (count - 2), 0] if count > 1 else [NEW[form]])
-        return form
 
     def table(self, at):
         """The declarations of a table: from a code to whether there are children, and the forms."""
         cursor, found = self.cursor(self.abbrev, at), {}
-        while code := cursor.leb():
-            _, has_children, forms = cursor.leb(), cursor.number(1), []
-            while True:
-                attribute, form = cursor.leb(), self.form(cursor, self.codes)
-                if form == IMPLICIT:
-                    cursor.leb(True)
-                if attribute == form == 0:
-                    break
-                forms.append(form)
-            found.setdefault(code, (has_children, tuple(forms)))
+        while len(parts := list(parts_of_declaration(cursor))) > 1:
+            forms = [(start, end, number) for start, end, what, number in parts[:-2] if what == "form"]
+            for place in forms:
+                self.note(*place, self.codes)
+            found.setdefault(parts[0][3], (parts[2][3], tuple(form for *_, form in forms)))
         # Each table is read twice. Tables of which many have a part in common would be read again and again.
         self.read += cursor.at - at
         if self.read > 2 * len(self.abbrev):
@@ -103,14 +95,15 @@ class Rewriter:
                 raise Refused(f"the code {code} of an entry is not declared")
             for form in table[code][1]:
                 while form == INDIRECT:
-                    codes = {}
-                    form = self.form(cursor, codes)
+                    codes, start = {}, cursor.at
+                    form = cursor.leb()
+                    self.note(start, cursor.at, form, codes)
                     for at, new in codes.items():
                         self.info[at : at + len(new)] = new
                 if form in self.plus:
                     self.change(cursor, form)
                 else:
-                    skip(cursor, form, address_size)
+                    read_value(cursor, form, 0, 4, address_size)
 
     def change(self, cursor, form):
         at, value = cursor.at, cursor.number(4)
@@ -118,24 +111,6 @@ class Rewriter:
         if new > NOWHERE:
             raise Refused("the joined sections would be too large")
         self.info[at : at + 4] = struct.pack("<I", new)
-
-
-def skip(cursor, form, address_size):
-    """Passes a value."""
-    if form in FIXED:
-        cursor.bytes(FIXED[form])
-    elif form in OFFSET:
-        cursor.bytes(4)
-    elif form == ADDR:
-        cursor.bytes(address_size)
-    elif form in ULEB or form == SDATA:
-        cursor.leb(form == SDATA)
-    elif form == STRING:
-        cursor.text()
-    elif form in BLOCKS:
-        cursor.bytes(cursor.number(BLOCKS[form]) if BLOCKS[form] else cursor.leb())
-    else:
-        raise Refused(f"there is no form 0x{form:x}")
 
 
 def sections_of(sections):

@@ -5,7 +5,9 @@ a program of its own, so that limits of time and memory hold for it, and several
 has such a program, which takes one step after another until it passes a limit.
 """
 import contextlib
+import functools
 import gc
+import importlib.util
 import json
 import os
 import pathlib
@@ -67,8 +69,19 @@ def found(path, original, out, use_debuginfod):
     return place, [f"its debug file {place}"] if place else []
 
 
-# For each rule the step that is taken if `dwv` refuses a file for it. No step is taken twice for one file.
+def source(path, at, number, use_debuginfod):
+    """The name of the source file with a number in the line table of the unit at an offset, or None."""
+    from dwv_tools import lines
+
+    return lines.source_of(path, int(at), int(number)), []
+
+
+# The interpreter for which the packages of the distribution install modules.
+SYSTEM = "/usr/bin/python3"
+# For each rule the step that is taken if `dwv` refuses a file for it. No step is taken twice for one file. And what is
+# read of a file of which nothing is known.
 STEPS = {"E7": decompressed, "E3": linked, "A7": joined, "E9": found}
+READERS = {"source": source}
 
 
 # What is said of a file that is none with bytes in a folder.
@@ -113,6 +126,15 @@ def blocks_of(file, seconds):
         yield block
 
 
+@functools.lru_cache(None)
+def interpreter():
+    """The interpreter that takes steps: that of the script, or that of the system if only that one has pyelftools."""
+    if importlib.util.find_spec("elftools") is None and os.path.exists(SYSTEM):
+        if subprocess.run([SYSTEM, "-c", "import elftools"], stderr=subprocess.DEVNULL).returncode == 0:
+            return SYSTEM
+    return sys.executable
+
+
 class Lost(Exception):
     """A step takes more than it may; the text says of what."""
 
@@ -125,7 +147,7 @@ class Helper:
         # A script ends when nobody reads what it writes into a pipe. Nothing happens to it by a socket.
         self.socket, other = socket.socketpair()
         with other:
-            self.process = subprocess.Popen(running.limited([sys.executable, __file__], limits), stdin=other,
+            self.process = subprocess.Popen(running.limited([interpreter(), __file__], limits), stdin=other,
                                             stdout=other, stderr=subprocess.PIPE)
 
     def ask(self, words):
@@ -153,20 +175,19 @@ class Helper:
         self.socket.close()
 
 
-# The helper of each thread, if it has one.
+# The helpers of each thread, by their limits.
 HELPERS = threading.local()
 
 
 def asked(code, path, original, out, use_debuginfod, limits):
     """What a step makes, in a program of its own: the path and the notes, or None and why there is none."""
-    helper = getattr(HELPERS, "helper", None)
-    if helper is None or helper.limits != limits:
-        helper = HELPERS.helper = Helper(limits)
+    helpers = HELPERS.__dict__.setdefault("helpers", {})
+    helper = helpers[limits] = helpers.get(limits) or Helper(limits)
     try:
         return helper.ask([code, *map(os.fspath, (path, original, out)), use_debuginfod])
     except Lost:
         helper.end()
-        HELPERS.helper = None
+        del helpers[limits]
         raise
 
 
@@ -201,7 +222,7 @@ def checked(dwv, path, use_debuginfod=False, limits=running.Limits(), is_prepare
 def taken(code, path, original, out, use_debuginfod):
     """What a step makes, or why it makes nothing."""
     try:
-        return STEPS[code](path, original, out, use_debuginfod)
+        return (STEPS | READERS)[code](path, original, out, use_debuginfod)
     except Refused as error:
         return None, [f"not prepared: {error}"]
     except MemoryError:

@@ -1,8 +1,9 @@
-"""Reads numbers, texts and the declarations of abbreviation tables (DWARF 5, 7.5.3 to 7.6).
+"""Reads numbers, texts, values and the declarations of abbreviation tables (DWARF 5, 7.5.3 to 7.6).
 
 It may read any bytes: what it can't read raises `Unreadable`.
 """
 import collections
+import itertools
 
 # The bytes that the values of forms take. Those of OFFSET take 4, in 64-bit DWARF 8; addr takes that of an address.
 FIXED = {
@@ -69,39 +70,73 @@ class Cursor:
         return text
 
 
+def read_value(cursor, form, number, offset_size, address_size):
+    """A value of a form: a number, a text or a block as bytes. `number` is that of implicit_const."""
+    if form in FIXED:
+        if form == IMPLICIT:
+            return number
+        return 1 if form == FLAG_PRESENT else cursor.number(FIXED[form])
+    if form in OFFSET:
+        return cursor.number(offset_size)
+    if form == ADDR:
+        return cursor.number(address_size)
+    if form in ULEB or form == SDATA:
+        return cursor.leb(form == SDATA)
+    if form == STRING:
+        return cursor.text()
+    if form in BLOCKS:
+        return cursor.bytes(cursor.number(BLOCKS[form]) if BLOCKS[form] else cursor.leb())
+    raise Unreadable(f"there is no form 0x{form:x}")
+
+
+def parts_of_declaration(cursor):
+    """The parts of a declaration: where each starts and ends, what it is, its number. After the code 0 there are none.
+    """
+
+    def part(what, read, *words):
+        start, number = cursor.at, read(*words)
+        return start, cursor.at, what, number
+
+    code = part("code", cursor.leb)
+    yield code
+    if code[3] == 0:
+        return
+    yield part("tag", cursor.leb)
+    yield part("children", cursor.number, 1)
+    while True:
+        attribute = part("attribute", cursor.leb)
+        yield attribute
+        form = part("form", cursor.leb)
+        yield form
+        if form[3] == IMPLICIT:
+            yield part("number", cursor.leb, True)
+        if attribute[3] == form[3] == 0:
+            return
+
+
 def read_declaration(cursor):
     """The code of a declaration, and the declaration; the code 0 ends a table."""
-    at, code = cursor.at, cursor.leb()
+    at = cursor.at
+    (*_, code), *parts = parts_of_declaration(cursor)
     if code == 0:
         return 0, None
-    tag, has_children, pairs = cursor.leb(), cursor.number(1) != 0, []
-    while True:
-        attribute, form = cursor.leb(), cursor.leb()
-        number = cursor.leb(True) if form == IMPLICIT else 0
-        if attribute == form == 0:
-            return code, Declaration(at, tag, has_children, pairs)
-        pairs.append((attribute, form, number))
+    (*_, tag), (*_, children), *parts = parts
+    pairs = []
+    for *_, what, number in parts[:-2]:
+        if what == "attribute":
+            attribute = number
+        elif what == "form":
+            pairs.append((attribute, number, 0))
+        else:
+            pairs[-1] = (*pairs[-1][:2], number)
+    return code, Declaration(at, tag, children != 0, pairs)
 
 
-def fields_of_declaration(cursor):
-    """The parts of a declaration as far as they can be read: where each starts and ends, what it is, its number."""
-    fields = []
-
-    def field(what, read):
-        start, number = cursor.at, read()
-        fields.append((start, cursor.at, what, number))
-        return number
-
+def readable_parts(cursor, most):
+    """The parts of a declaration as far as they can be read, and at most so many."""
+    found = []
     try:
-        if field("code", cursor.leb):
-            field("tag", cursor.leb)
-            field("children", lambda: cursor.number(1))
-            while len(fields) < 1000:
-                attribute, form = field("attribute", cursor.leb), field("form", cursor.leb)
-                if form == IMPLICIT:
-                    field("number", lambda: cursor.leb(True))
-                if attribute == form == 0:
-                    break
+        found.extend(itertools.islice(parts_of_declaration(cursor), most))
     except Unreadable:
         pass
-    return fields
+    return found

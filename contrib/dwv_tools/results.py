@@ -65,7 +65,7 @@ class Checker:
                     if words.every or words.allow:
                         made |= self.units(at)
                     if words.explain:
-                        made["explanation"] = explaining.lines(verdict, at)[len(verdict.lines) :]
+                        made["explanation"] = explaining.lines(verdict, at, self.limits)[len(verdict.lines) :]
                 return made | {"seconds": round(time.monotonic() - begin, 3)}
         except OSError as error:
             return unread(path, error.strerror or str(error))

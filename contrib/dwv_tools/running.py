@@ -45,7 +45,7 @@ def find_dwv(parser):
     beside = [str((here / place).resolve()) for place in BESIDE]
     found = next(filter(None, map(shutil.which, [named] if named else [*beside, "dwv"])), None)
     if found is None:
-        missing = "there is no program dwv, beside the script or on PATH: run make"
+        missing = "there is no program dwv, beside the script or on PATH: run make, or set DWV to its path"
         parser.error(f"DWV names no program: {named}" if named else missing)
     return found
 
