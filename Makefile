@@ -53,6 +53,7 @@ test:
 	tests/examples.py
 	tests/real-programs.py
 	tests/lines.py
+	tests/hostile_lines.py
 	tests/hostile_files.py
 	tests/sweep.py --part --jobs $(checks)
 	tests/refused-growths.py
@@ -218,6 +219,11 @@ compilers:
 bench-library:
 	bench/library.py
 
+# Measures how long make takes from nothing, alone on all processors and on two, and writes bench/out/times.md.
+.PHONY: times
+times:
+	bench/times.py
+
 # Runs the peers that are installed on the smallest file of each rule, and writes docs/COMPARISON.md.
 .PHONY: compare
 compare:
@@ -233,8 +239,9 @@ format-proofs:
 where:
 	@docs/where.py "$(NAME)"
 
-# Writes what pages and code say of each rule, from docs/rules.tsv, draws docs/verdict.svg, and writes tables of
-# definitions and proofs, from specs/, the code, the proofs and the edits, into out/docs.
+# Writes what pages and code say of each rule and each code, from docs/rules.tsv and docs/codes.tsv, draws
+# docs/verdict.svg, and writes tables of definitions and proofs, from specs/, the code, the proofs and the edits, into
+# out/docs.
 .PHONY: docs
 docs:
 	docs/make-rules.py

@@ -25,6 +25,7 @@ import generate
 
 HERE = pathlib.Path(__file__).resolve().parent
 DWV = HERE.parent / "crates/dwv/out/dwv"
+LINE_ROWS = HERE.parent / "crates/line_rows/out/line_rows"
 OUT = HERE / "out"
 LIBRARY = HERE.parent / "out/lib"
 PICTURE = HERE.parent / "docs/performance.svg"
@@ -184,6 +185,40 @@ def reading(tools, program):
     return min(int(run.stderr.split()[0]) for run in runs) / 1e3
 
 
+def lines(tools, names, programs):
+    """Prints how many rows of line programs dw_lines and gimli read in a second. Both have to have the same rows."""
+    print("| program | rows | dw_lines, million rows a second | gimli | dw_lines to gimli |")
+    print("|---|---|---|---|---|")
+    for name in names:
+        commands = {"dw_lines": [LINE_ROWS, "--count"], "gimli": [tools[WALK][0], "--lines"]}
+        commands = {tool: [*words, lines_alone(programs[name])] for tool, words in commands.items()}
+        count, other = (counted(words) for words in commands.values())
+        if count != other:
+            sys.exit(f"bench: {name}: dw_lines has {count} rows and sums of lines, and gimli {other}")
+        rates = [count[0] / best[0] / 1e6 for best in measure(commands).values()]
+        print(f"| {name} | {count[0]} | {rates[0]:.0f} | {rates[1]:.0f} | {rates[0] / rates[1]:.2f} |", flush=True)
+    print()
+
+
+def lines_alone(program):
+    """A copy of a program with the sections of lines alone, so that little of the time goes into reading the file. Of
+    .debug_info and .debug_str, which have to be there, it has a byte."""
+    copy, byte = program.with_name("lines"), program.with_name("byte")
+    byte.write_bytes(bytes(1))
+    kept = [word for name in (".debug_line", ".debug_line_str") for word in ("-j", name)]
+    added = [word for name in (".debug_info", ".debug_str") for word in ("--add-section", f"{name}={byte}")]
+    for words in ([*kept, program], [*added, copy]):
+        subprocess.run(["objcopy", *words, copy], check=True, stderr=subprocess.DEVNULL)
+    return copy
+
+
+def counted(words):
+    """The rows that a tool counts, and the sum of their lines."""
+    said = subprocess.run(words, capture_output=True, text=True, check=True).stdout
+    found = re.findall(r"(?m)^(\d+) rows, lines (\d+)$", said)
+    return sum(int(rows) for rows, _ in found), sum(int(lines) for _, lines in found)
+
+
 def machine():
     """One line on the processor and the compilers."""
     model = re.search(r"model name\s*: (.*)", pathlib.Path("/proc/cpuinfo").read_text())
@@ -282,6 +317,9 @@ def main():
             copy.unlink()
     for name, milliseconds in taken.items():
         print(f"{name}: of the walk by dwv::Table, reading all values takes {milliseconds:.1f} ms.")
+    if WALK in tools and LINE_ROWS.exists():
+        print("\nThe rows of the line programs:\n")
+        lines(tools, counts, programs)
     absent = [tool for tool in TOOLS if tool not in tools]
     absent += [PROGRAMS[name][2][0] for name, program in programs.items() if program is None]
     if absent:

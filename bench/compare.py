@@ -1,5 +1,7 @@
 #!/usr/bin/env python3
-"""Runs dwv and its peers on the smallest file of each rule, and writes what they report into docs/COMPARISON.md.
+"""Runs dwv and its peers on the smallest file of each rule, and writes which report it into docs/COMPARISON.md.
+
+What each prints first is written into bench/out/reports.md.
 
 A peer is left out if it is not installed. Eight nulls are added after the tree of each unit, because libdwarf passes
 over a unit that is shorter; if dwv would report another rule, the file stays as docs/RULES.md has it. What a peer also
@@ -18,7 +20,7 @@ import common
 import examples
 import rows
 
-PAGE = common.TOP / "docs/COMPARISON.md"
+PAGE, REPORTS = common.TOP / "docs/COMPARISON.md", common.TOP / "bench/out/reports.md"
 SECONDS = 60
 
 # A tool, the words for its version, and what is a report among the lines that it prints.
@@ -88,7 +90,7 @@ def plain(report):
 
 
 def compared(tools):
-    """The tables: which peer reports which rule, and the first report of each. Rules with one report share a row."""
+    """Two tables: which peer reports which rule, and the first report of each. Rules with one report share a row."""
     marks, said, counts = [], {}, dict.fromkeys(tools[1:], 0)
     usual_of = {tool: ({0}, set()) for tool in tools}
     with common.empty_folder() as folder:
@@ -121,9 +123,7 @@ def compared(tools):
         "|---|---|" + "---|" * len(tools[1:]),
         *marks,
         f"||yes, of {len(marks)} files|{'|'.join(map(str, counts.values()))}|",
-        "",
-        "The first report of each:",
-        "",
+    ], [
         "|Tool|What it prints|Rules|",
         "|---|---|---|",
         *(f"|`{tool}`|{text}|{', '.join(dict.fromkeys(rules))}|" for (tool, text), rules in said.items()),
@@ -137,7 +137,10 @@ def main():
     about = f"{datetime.date.today()}: {', '.join(version(tool) for tool in tools if tool != 'dwv check')}."
     if absent:
         about += f" Not installed: {', '.join(absent)}."
-    common.rewrite(PAGE, [about, "", *compared(tools)])
+    marks, said = compared(tools)
+    common.rewrite(PAGE, [about, "", *marks])
+    REPORTS.parent.mkdir(exist_ok=True)
+    REPORTS.write_text("".join(f"{line}\n" for line in [about, "", *said]))
 
 
 main()

@@ -43,7 +43,7 @@ static void print_time(double seconds) {
 /* The arrays of dwv_table, and how many rows each has. */
 struct table {
     struct dwv_unit *units;
-    struct dwv_table_entry *entries;
+    struct dwv_entry *entries;
     struct dwv_value *values;
     struct dwv_counts n;
 };

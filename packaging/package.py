@@ -102,7 +102,7 @@ LIBRARIES = "lib/x86_64-linux-gnu"
 # first has all files that no other one has.
 DEBS = {
     "dwv": ("devel", f"Recommends: libdwv{MAJOR} (= {VERSION}), python3, python3-pyelftools\n"
-            "Suggests: binutils, dwz, python3-zstandard\n"
+            "Suggests: binutils, dwz, python3-numpy, python3-zstandard\n"
             "Provides: dh-sequence-dwv\n", "verify DWARF debugging information",
             "the program, its scripts in Python, and an addon of debhelper"),
     f"libdwv{MAJOR}": ("libs", "", "verify DWARF debugging information, C library", "the shared library"),

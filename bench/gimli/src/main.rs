@@ -2,11 +2,13 @@
 //!
 //! With --resolve it also reads each string, and the tag of the entry that each reference names. With --table, a feature
 //! of this crate, it reads the same from the table of dwv, which checks the file, and says how long the reading took.
+//! `walk --lines FILE` counts the rows of all line programs.
 
 use std::collections::HashMap;
 use std::error::Error;
 
-use gimli::{AttributeValue, DebugTypeSignature, EndianSlice, LittleEndian, UnitOffset, UnitSectionOffset, UnitType};
+use gimli::{AttributeValue, DebugLineOffset, DebugTypeSignature, EndianSlice, LittleEndian, Section, UnitOffset};
+use gimli::{UnitSectionOffset, UnitType};
 use object::{Object, ObjectSection};
 
 type Bytes<'a> = EndianSlice<'a, LittleEndian>;
@@ -25,7 +27,27 @@ fn main() -> Result<(), Box<dyn Error>> {
         let section = file.section_by_name(id.name()).and_then(|section| section.data().ok());
         Ok::<_, gimli::Error>(EndianSlice::new(section.unwrap_or(&[]), LittleEndian))
     })?;
-    if words.is_empty() { walk(&dwarf) } else { resolve(&dwarf) }
+    match words.first().map(String::as_str) {
+        None => walk(&dwarf),
+        Some("--lines") => lines(&dwarf),
+        Some(_) => resolve(&dwarf),
+    }
+}
+
+/// Counts the rows of all line programs, and adds up their lines.
+fn lines(dwarf: &Dwarf) -> Result<(), Box<dyn Error>> {
+    let (mut count, mut sum, mut offset) = (0u64, 0u64, 0);
+    while offset < dwarf.debug_line.reader().len() {
+        let program = dwarf.debug_line.program(DebugLineOffset(offset), 8, None, None)?;
+        offset += program.header().unit_length() + 4;
+        let mut rows = program.rows();
+        while let Some((_, row)) = rows.next_row()? {
+            count += 1;
+            sum += row.line().map_or(0, |line| line.get());
+        }
+    }
+    println!("{count} rows, lines {sum}");
+    Ok(())
 }
 
 /// Reads all attributes.
