@@ -21,6 +21,8 @@ SAMPLE = CRATE / "data/X1"
 BROKEN = SAMPLE.read_bytes().replace(b"\x02int", b"\x03int")
 # The program: that of the variable DWV, or the one that `make` built.
 DWV = pathlib.Path(os.environ.get("DWV", CRATE / "out/dwv")).absolute()
+# The program that prints the rows of line programs: that of the variable LINE_ROWS, or the one that was built.
+LINE_ROWS = pathlib.Path(os.environ.get("LINE_ROWS", TOP / "crates/line_rows/out/line_rows")).absolute()
 # The library that `make lib` built.
 LIBRARY = TOP / "out/lib/libdwv.so.0"
 sys.path[:0] = [str(TOP / folder) for folder in ("contrib", "bench")]
@@ -40,6 +42,13 @@ def build():
     """Proves and builds the program, if there is none."""
     if not DWV.exists():
         subprocess.run(["rt", "run", "--", "check", "data/X1"], cwd=CRATE, check=True)
+
+
+def build_line_rows():
+    """Proves and builds the program that prints the rows of line programs, if there is none."""
+    if not LINE_ROWS.exists():
+        subprocess.run(["rt", "run", "--", "data/X1"], cwd=TOP / "crates/line_rows", check=True,
+                       stdout=subprocess.DEVNULL)
 
 
 def build_library():

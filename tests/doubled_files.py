@@ -221,6 +221,16 @@ def deep_codes(count):
     return sections(table, unit(b"\x01" + entries + b"\0")), f"sound: 1 units, {count + 1} entries, 0 types"
 
 
+def reordered_codes(count):
+    """Entries with codes of ten bytes. Their table has the codes of one that was read before it, in another order."""
+    codes, row = [code_of_ten(n + 1) for n in range(count)], b"\x34\0\0\0"
+    first, second = (b"".join(uleb(codes[n]) + row for n in order) + b"\x01\x11\1\0\0" + b"\0"
+                     for order in (range(count), mixed_order(count)))
+    entries = b"".join(uleb(codes[n * 7919 % count]) for n in range(count))
+    units = unit(b"\x01\0") + unit(b"\x01" + entries + b"\0", table=len(first))
+    return sections(first + second, units), f"sound: 2 units, {count + 2} entries, 0 types"
+
+
 def two_parities(count):
     """Tables that begin at the first and at the second byte of a declaration. The second reads each form as an
     attribute, and each attribute as a form."""
@@ -278,5 +288,6 @@ def files():
     yield Doubled("levels of refused typedefs", "types", chain(lambda count: list(range(count)), b"-"), 1_150_000)
     yield Doubled("a table with codes of ten bytes, and the first again", "check", twice, 578_000)
     yield Doubled("entries with codes of ten bytes, found last", "check", deep_codes, 400_000)
+    yield Doubled("entries with codes of ten bytes, in another order than before", "check", reordered_codes, 200_000)
     yield Doubled("lists of attributes that are read at two parities", "check", two_parities, 48_000)
     yield Doubled("lists of attributes in no order", "check", no_order, 30_000)

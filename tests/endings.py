@@ -9,6 +9,7 @@ import sys
 
 sys.dont_write_bytecode = True
 import common
+import quick
 
 SOUND = "sound: 1 units, 2 entries, 1 types"
 COUNTS = '{"entries":2,"sound":true,"types":1,"units":1}'
@@ -19,8 +20,9 @@ NOT_ELF = "fault E2 NotElf64 at section 0"
 # Words that are wrong: the file is not opened, and the words are read before the offset.
 BAD_USAGE = ["", "check \udcff", "check", "show", "types", "size", "x", "raw x x", "check x x", "show x x", "types x x",
              "check --json --json x", "check --jso x", "check --json=1 x", "show --json x", "types --json x", "size x",
-             "size x 0x0 x", "size --json x 0x0", "size x 10 --json", "help", "--help", "-V"]
-tally = common.Tally(56)
+             "size x 0x0 x", "size --json x 0x0", "size x 10 --json", "help", *quick.ASKED]
+IS_PROVED = not str(common.DWV).endswith("-unproved")
+tally = common.Tally(58)
 
 
 def ends(status, text, line, *words, how="plainly", program=common.DWV, out=subprocess.PIPE):
@@ -77,7 +79,9 @@ def main():
     with common.empty_folder() as folder:
         verdicts(folder)
     for words in BAD_USAGE:
-        ends(2, "", "dwv: bad usage", *words.split())
+        # The program of `make quick` says first that it is not proved.
+        note = "" if IS_PROVED or words not in quick.ASKED else f"{quick.NOTE}\n"
+        ends(2, "", f"{note}dwv: bad usage", *words.split())
     for offset in ("10", "0x", "0X10", "0x123456789", "0xg", "0x+1", ""):
         ends(2, "", "dwv: bad offset", "size", "x", offset)
     for words in (("size", "no-such-file", "0x10"), ("show", "no-such-file"), ("types", "no-such-file")):

@@ -21,15 +21,15 @@ RULES = common.TOP / "docs/RULES.md"
 FILE_LIMIT, FREE = 2**32, 5 * 10**9
 
 
-def read():
-    """The rows of the page, and their parts."""
+def read(has_lines=False):
+    """The rows of the page whose files `dwv` checks, or those of line programs, and their parts."""
     lines, is_inside = [], False
     for line in RULES.read_text().splitlines():
         if line.startswith("```"):
             is_inside, line = line == "```text", ""
         lines.append(line if is_inside else "")
     parts = {}
-    return rows.read(RULES, parts, lines), parts
+    return [row for row in rows.read(RULES, parts, lines) if rows.has_lines(row) == has_lines], parts
 
 
 def files():
@@ -42,15 +42,17 @@ def files():
 
 
 def rules():
-    """The codes and names of the rules in the tables of the page, in its order. No command checks line programs (L, M)."""
-    return list(dict.fromkeys(re.findall(r"(?m)^\| ([A-KN-Z]\d+) \| (\w+) \|", RULES.read_text())))
+    """The codes and names of the rules in the tables of the page, in its order, but those on ranges, which no program
+    prints: crates/dw_tests has their rows."""
+    return list(dict.fromkeys(re.findall(r"(?m)^\| ([A-WYZ]\d+) \| (\w+) \|", RULES.read_text())))
 
 
 def rule_of(row):
     """The code and the name of a row's rule, or None if it prints another rule or none."""
     rule = tuple(row.name.split(",")[0].split(" "))
-    lines = [lines for (command, *_), _, lines in row.asked if command == "check"]
-    return rule if lines and lines[0][0].startswith(f"fault {' '.join(rule)} at ") else None
+    lines = [lines for (command, *_), _, lines in row.asked if command in ("check", "lines")]
+    fault = f"fault {' '.join(rule)} at "
+    return rule if lines and any(line.startswith(fault) for line in lines[0]) else None
 
 
 def available():
@@ -86,11 +88,13 @@ def too_large(tally, row, parts):
 
 def main():
     table, parts = read()
-    tally = rows.tried((("RULES", row, parts) for row in table if not row.name.startswith("E1 ")), 106)
+    of_lines = read(has_lines=True)[0]
+    small = [row for row in table + of_lines if not row.name.startswith("E1 ")]
+    tally = rows.tried((("RULES", row, parts) for row in small), 126)
     for row in table:
         if row.name.startswith("E1 "):
             too_large(tally, row, parts)
-    shown = {rule_of(row) for row in table}
+    shown = {rule_of(row) for row in table + of_lines}
     for rule in rules():
         tally.add(f"RULES: {' '.join(rule)} has an example", None if rule in shown else "no row prints it")
     return tally.end()

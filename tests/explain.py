@@ -10,6 +10,7 @@ import re
 import shutil
 import subprocess
 import sys
+import time
 
 sys.dont_write_bytecode = True
 import common
@@ -17,6 +18,7 @@ import compilers
 import examples
 from common import DWV, TOP
 from dwv_tools import dwarf, explaining, finding, measured, names, running
+from dwv_tools import lines as line_tables
 
 CHANGES = 200
 KEYS = "at attribute cycle name rule section sound".split()
@@ -55,7 +57,7 @@ KINDS = [
 ]
 # Rules of which something is always found in their smallest files.
 MEASURED = "E2 E3 E4 E6 A8 U3 U5 U6 G1 R1 R2 R3 S2 Y2 Z1 Z3 Z4".split()
-tally = common.Tally(74)
+tally = common.Tally(75)
 
 
 def texts():
@@ -136,6 +138,12 @@ def found(folder):
         path.write_bytes(text)
         said = " ".join(run(path)[1].split())
         tally.add(f"found: {name}", None if f" {word}" in said else said)
+    # A line table of 2^56 folders without a name: their count follows that of the formats, at 30.
+    table = dwarf.File(program).section(".debug_line").start + 30
+    path.write_bytes(data[:table] + b"\0" + b"\xff" * 7 + b"\x7f" + data[table + 9 :])
+    begin, limits = time.monotonic(), running.Limits(seconds=1)
+    said = line_tables.place_of(str(path), 0, 1, 2, limits), time.monotonic() - begin < 5
+    tally.same("a line table without an end", said, ("line 2, of this file or of one that it includes", True))
     subprocess.run(["objcopy", "-R", ".debug_str", program, path])
     tally.add("found: no strings", None if "there is no section .debug_str." in run(path)[1] else run(path)[1])
     subprocess.run(["objcopy", "--strip-all", program, path])

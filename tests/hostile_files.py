@@ -89,7 +89,7 @@ TWICE_TIME = 1.5
 GROUPS = 11_400
 LOW_BITS = 14
 DEEP_ENTRIES = 400_000
-DEEP_TIME = 8
+DEEP_TIME = 2
 # Units before one with a fault, the typedefs in each of them, and the bytes of memory that such a file may take.
 BEFORE_FAULT = 500
 BEFORE_TYPEDEFS = 1_000
@@ -111,12 +111,12 @@ REFERRING_MEMORY = 60
 # grows four times), the least time that is compared, and how often one is measured.
 DOUBLED = doubled_files.Limits(seconds=3, memory=60, growth=2.7)
 LEAST_TIME, TRIES = 0.05, 5
-# Those that may take more: the loads of each code or type miss the caches, and a list has a node for each offset.
+# Those that may take more: the loads of each type (some of each code) miss the caches, and a list has a node for each
+# offset.
 DOUBLED_MORE = {
-    "a random chain of typedefs": DOUBLED._replace(seconds=18, growth=3.5),
-    "entries with codes of ten bytes, found last": DOUBLED._replace(seconds=18, growth=3.5),
-    "lists of attributes that are read at two parities": DOUBLED._replace(memory=105),
-    "lists of attributes in no order": DOUBLED._replace(memory=75),
+    "a random chain of typedefs": DOUBLED._replace(seconds=8, growth=3),
+    "entries with codes of ten bytes, found last": DOUBLED._replace(growth=3),
+    "lists of attributes that are read at two parities": DOUBLED._replace(memory=80),
 }
 
 
@@ -526,7 +526,7 @@ def twice():
 
 
 def deep_codes():
-    """Entries whose codes are found two bits at a time: in a group, each agrees with the next up to two bits more."""
+    """Entries whose codes agree in many of their lowest bits: in a group, each with the next in up to two more."""
     rows, codes = [], [mixed(n + 1) >> LOW_BITS << LOW_BITS | n for n in range(GROUPS)]
     for bit in range(LOW_BITS, 64, 2):
         rows += [uleb(codes[n * 7919 % GROUPS]) + b"\x34\0\0\0" for n in range(GROUPS)]
@@ -1023,7 +1023,7 @@ def kept_within(memory, seconds=LIMIT, command=(DWV, "check")):
 COUNT_ROWS = (sys.executable, "-c", """import sys
 sys.path.insert(0, sys.argv[1])
 import dwv
-print(dwv.table(sys.argv[2]))""", common.TOP / "python")
+print(dwv.table(sys.argv[2], limit=1 << 40))""", common.TOP / "python")
 # What prints how many units, entries and values the table of a file has, with room for nothing.
 COUNT_ALONE = (sys.executable, "-c", """import ctypes, sys
 sys.path.insert(0, sys.argv[1])

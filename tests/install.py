@@ -112,7 +112,7 @@ def test_default_prefix(tmp_path):
 def test_rules_of_the_manual_page():
     found = sorted(re.findall(r"(?m)^\.It Sy ([A-Z]\d*) (\w*)$", PAGE.read_text()))
     pages = "".join((TOP / f"docs/{name}.md").read_text() for name in ("RULES", "REPORTS"))
-    assert found == sorted(set(re.findall(r"(?m)^\| ([A-KN-Z]\d*) \| (\w*) \|", pages)))
+    assert found == sorted(set(re.findall(r"(?m)^\| ([A-KN-WYZ]\d*) \| (\w*) \|", pages)))
 
 
 def test_lines_of_the_manual_page():

@@ -5,17 +5,18 @@ A part gives bytes a name. A row has the sections of a file, and below them the 
 and, after a bar each, the lines of standard output. Standard error must be empty. docs/TESTING.md says how rows are
 written. It prints one line a row and ends with 'N passed, N failed, N skipped'.
 """
+import os
 import re
 import struct
 import sys
 
 sys.dont_write_bytecode = True
 import common
-from common import DWV
+from common import DWV, LINE_ROWS
 
 SECTIONS = ("abbrev", "info", "str", "line_str", "str_offsets", "addr")
-TOKEN = re.compile(r'\s*("[^"]*"|[0-9a-f]{2}\b|[A-Z]\w*|unit4?\(|type_unit\(|\(|\)|\[[^\]]*\]|\*\d+)')
-REQUEST = re.compile(r"(check --json|check|show|types|size 0x[0-9a-f]+) ([0-4])(?: \| (.*))?$")
+TOKEN = re.compile(r'\s*("[^"]*"|[0-9a-f]{2}\b|[A-Z]\w*|unit4?\(|type_unit\(|sized\(|\(|\)|\[[^\]]*\]|\*\d+)')
+REQUEST = re.compile(r"(check --json|check|show|types|size 0x[0-9a-f]+|lines) ([0-4])(?: \| (.*))?$")
 
 
 class Bytes:
@@ -72,7 +73,9 @@ class Bytes:
 
 
 def made(kind, items):
-    """Items as they are, or as a unit with addresses of 8 bytes and the first table."""
+    """Items as they are, after the count of their bytes, or as a unit with addresses of 8 bytes and the first table."""
+    if kind == "sized":
+        return struct.pack("<I", len(items)) + items
     if kind == "type_unit":
         return common.unit(items, 2, struct.pack("<QI", 1, 0x19))
     return common.unit(items, version=4 if kind == "unit4" else 5) if kind else items
@@ -163,11 +166,26 @@ def wrong(row, parts, path):
         path.write_bytes(file)
         for (command, *words), status, lines in row.asked:
             runs += 1
-            said = common.run(DWV, command, path, *words)
+            said = lines_of(path) if command == "lines" else common.run(DWV, command, path, *words)
             if said != (status, "".join(f"{filled(line, case)}\n" for line in lines).encode(), b""):
                 asked = " ".join([command, *words, *(f"({text})" for text in case)])
                 return runs, f"{asked}: {' '.join(map(str, said))}"
     return runs, None if runs else "nothing is asked"
+
+
+def lines_of(path):
+    """What line_rows prints of the first line program of a file, without the name of the file and the program's offset.
+    """
+    if "DWV" not in os.environ:
+        common.build_line_rows()
+    status, text, errors = common.run(LINE_ROWS, path)
+    text = text.partition(b"\n")[2].removeprefix(b"debug_line[0x00000000]\n")
+    return status, text.partition(b"debug_line[")[0], errors
+
+
+def has_lines(row):
+    """Whether a row is one of line programs."""
+    return any(command == "lines" for (command, *_), *_ in row.asked)
 
 
 def tried(rows, least=1):
@@ -176,6 +194,9 @@ def tried(rows, least=1):
     common.build()
     with common.empty_folder() as folder:
         for table, row, parts in rows:
+            if has_lines(row) and "DWV" in os.environ and not LINE_ROWS.exists():
+                tally.skip(f"{table}: {row.name}: line_rows is not built")
+                continue
             try:
                 runs, why = wrong(row, parts, folder / "file")
             except (ValueError, KeyError, IndexError) as error:

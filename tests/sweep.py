@@ -503,12 +503,6 @@ def calls(made):
             return took, needed.value, 0
         return ask
 
-    def entries(many):
-        count, verdict, took = size(), ctypes.create_string_buffer(128), 0.0
-        for length in (0, len(room) // 40):
-            took += timed(lib.dwv_entries, *of_file(many), room, size(length), ctypes.byref(count), verdict)
-        return took, 40 * count.value, 0
-
     def table(words, name):
         def ask(many):
             counts, verdict, took = (size * 3)(), ctypes.create_string_buffer(128), 0.0
@@ -524,7 +518,7 @@ def calls(made):
         return ask
 
     found = {"dwv_check": check(of_file, "dwv_check"), "dwv_check_sections": check(of_sections, "dwv_check_sections"),
-             "dwv_entries": entries, "dwv_table": table(of_file, "dwv_table"),
+             "dwv_table": table(of_file, "dwv_table"),
              "dwv_table_sections": table(of_sections, "dwv_table_sections")}
     names = ("check", "check --json", "show", "types", "size")
     return found | {f"dwv_report, {name}": report(number) for number, name in enumerate(names)}
