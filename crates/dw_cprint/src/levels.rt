@@ -6,17 +6,14 @@ ghost use Rattle.dw_cprint.specs.Judgements.{level_of};
 ghost use Rattle.dw_cprint.specs.Listings.{AreLevels, AreNamedTypes, AreRanked, StandsBefore};
 
 use dw_image::{EntryId, Image};
-use dw_types::{Numbers, clear_nodes, longest_at, longest_rows};
+use dw_types::{Numbers, longest_at, longest_rows};
 use std::alloc::{AllocError, Global};
 
 /// The level of each entry: how many steps by value the longest path from it has.
 fn levels_of(alloc: Global, image: &Image<'_>) -> Result<Numbers, AllocError>
     ensures { IfOk result (λ levels. AreLevels image.now (slice_index levels)) }
 {
-    let steps = image.by_value();
-    let clear = clear_nodes(alloc, steps)?;
-    let levels = longest_rows(alloc, steps, &clear)?;
-    Ok(levels)
+    longest_rows(alloc, image.by_value(), image.by_rank())
 }
 
 /// The level of the named type with a number; 0 where there is none.

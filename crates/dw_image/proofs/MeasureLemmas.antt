@@ -1,8 +1,9 @@
 -- Cycles of steps by value, and the rules on sizes by the one table: what is made of the types of entries, and how it
 -- fails.
 use Rattle.std.proofs.Common.{rules, ◌≡◌, ℕ, ◌+◌, ◌-◌, ◌<◌, ◌⊎◌, List, length, refl, sym, ap, ◌∙◌, subst, arith, inl, inr, Option, Some, None}
-use Rattle.std.specs.Prelude.{slice_index}
+use Rattle.std.specs.Prelude.{slice_index, Contains}
 use Rattle.std.proofs.lemmas.List.{get_or_past}
+use Rattle.std.proofs.lemmas.List.Elements.{Contains-get_or}
 use Rattle.std.proofs.lemmas.Option.{slice_get_within}
 use Rattle.dw_elf.specs.declared.sections.Sections.{Sections}
 use Rattle.dw_entries.specs.Entries.{entries_of}
@@ -15,8 +16,9 @@ use Rattle.dw_entries.specs.declared.fault.PlainFault.{PlainFault}
 use Rattle.dw_entries.specs.declared.fault.Fault.{Fault}
 use Rattle.dw_links.proofs.TableLemmas.{target_within}
 use Rattle.dw_types.proofs.SiblingLemmas.{parent-first}
-use Rattle.dw_types.specs.Graphs.{Graph, IsStep, IsCycle, HasNoCycle}
-use Rattle.dw_types.proofs.StepLemmas.{length-by_value, by_value-from_step, step-from_by_value}
+use Rattle.dw_types.specs.Cycles.{AreClear}
+use Rattle.dw_types.specs.Graphs.{Graph, IsStep, IsCycle, HasNoCycle, step_at}
+use Rattle.dw_types.proofs.StepLemmas.{length-by_value, by_value-from_step, by_value-leads, step-from_by_value}
 use Rattle.dw_types.specs.Shapes.{ShapeFailures}
 use Rattle.dw_types.specs.Steps.{by_value}
 use Rattle.dw_types.specs.Entries.{entry_in, type_target}
@@ -25,7 +27,7 @@ use Rattle.dw_types.specs.Sizes.{IsSizeTable, size_to}
 use Rattle.dw_types.specs.SizeFaults.{fails_size, SizeFailures, IsFirstSizeFault}
 use Rattle.dw_image.specs.FirstFault.{offset_at, ContainsItselfAt, FailsBySize, Group, shapes, cycles, sizes, turn_of, failures_of, NamesCycle}
 use Rattle.dw_image.specs.Headline.{HoldsNoneOfItself}
-use Rattle.dw_types.specs.Orders.{Ranking}
+use Rattle.dw_types.specs.Orders.{Ranking, IsOrderOf}
 use Rattle.dw_types.proofs.SizeFaultLemmas.{sizes_by_rank, is-size_table, exact-lines}
 use Rattle.dw_image.specs.StepsAndSizes.{AreOrdered, PassInTypes, FailsInTypes}
 
@@ -196,3 +198,28 @@ pass_ordered s us turn order is ordered =
             (exact-lines us order.ranks falls),
       );
     })
+
+-- ---- the nodes of an order by rising rank
+
+-- each node comes after those that its steps lead to
+pub clear_by_rank : (us : List DebugUnit) (order : Ranking) → IsOrderOf (by_value us) order
+    → AreClear (by_value us) order.by_rank
+clear_by_rank us order h =
+    record {
+      within = λ place w. (h.ranked place w).0;
+      once = λ i j before w same.
+          let first = (h.ranked i (omega (arith, before, w))).1 in
+          let last = (h.ranked j w).1 in
+          let equal : i ≡ j = sym first ∙ ap (slice_index order.ranks) same ∙ last in
+          omega arith;
+      ordered = λ place k w below.
+          let here = h.ranked place w in
+          let node = slice_index order.by_rank place in
+          let to = step_at (by_value us) node k in
+          let falls = h.falls node k below in
+          (slice_index order.ranks to, omega (arith, falls, here.1), (h.listed to (by_value-leads us node k below)).1);
+      others = λ node w missing.
+          let here = h.listed node w in
+          let has = Contains-get_or order.by_rank (slice_index order.ranks node) 0 here.0 in
+          absurd (missing (subst (Contains order.by_rank) here.1 has));
+    }

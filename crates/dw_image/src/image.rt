@@ -8,6 +8,8 @@ ghost use Rattle.dw_links.specs.Classes.{ClassFailures};
 ghost use Rattle.dw_links.specs.Strings.{StringFailures};
 ghost use Rattle.dw_links.specs.References.{ReferenceFailures};
 ghost use Rattle.dw_links.specs.Tables.{AreTables};
+ghost use Rattle.dw_types.specs.Orders.{IsOrderOf};
+ghost use Rattle.dw_types.specs.Steps.{by_value};
 ghost use Rattle.dw_image.specs.StepsAndSizes.{AreMeasures, AreSteps};
 ghost use Rattle.dw_forms.specs.Value.{view};
 ghost use Rattle.dw_entries.specs.Lookups.{nth_of, full_head, value_at_entry};
@@ -21,7 +23,7 @@ use dw_elf::Sections;
 use dw_entries::constants::DW_AT_name;
 use dw_entries::{Attribute, Entries, EntryId, Head, Tag, Value};
 use dw_links::{LinkTables, TextPlace};
-use dw_types::{ByValue, Children, SizeTable};
+use dw_types::{ByValue, Children, Order, SizeTable};
 
 /// The image of valid sections. Only `verify` and `verify_scanned` make one.
 #[derive(Drop)]
@@ -30,12 +32,15 @@ pub struct Image<'a> {
     pub(crate) tables: LinkTables,
     /// What each entry holds by value.
     pub(crate) steps: ByValue,
+    /// Each entry after those that it holds by value.
+    pub(crate) order: Order,
     pub(crate) sizes: SizeTable,
     ghost linked: { AreTables entries tables },
     ghost classes: { HasNone (ClassFailures (units_of entries)) },
     ghost strings: { HasNone (StringFailures (sections_of entries) (units_of entries)) },
     ghost references: { HasNone (ReferenceFailures (units_of entries)) },
     ghost stepped: { AreSteps (units_of entries) steps },
+    ghost ordered: { IsOrderOf (by_value (units_of entries)) order },
     ghost measured: { AreMeasures (units_of entries) sizes },
 }
 

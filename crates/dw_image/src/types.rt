@@ -4,6 +4,7 @@
 ghost use Rattle.std.specs.Prelude.{◌≡◌, ◌<◌, length, slice_get, IfSome};
 ghost use Rattle.dw_entries.specs.ByNumber.{entry_of};
 ghost use Rattle.dw_types.specs.Counts.{count_at};
+ghost use Rattle.dw_types.specs.Cycles.{AreClear};
 ghost use Rattle.dw_types.specs.Graphs.{steps_of};
 ghost use Rattle.dw_image.specs.Images.{units_in, entries_in, steps_in, size_table_in, type_in};
 ghost use Rattle.dw_image.specs.Lookups.{type_number};
@@ -11,7 +12,7 @@ ghost use Rattle.dw_image.specs.Lookups.{type_number};
 use crate::image::Image;
 use dw_entries::EntryId;
 use dw_entries::constants::DW_AT_type;
-use dw_types::{ByValue, StepGraph, count_at};
+use dw_types::{ByValue, Numbers, StepGraph, count_at};
 use std::marker::Model;
 
 /// The number of an entry with a type tag. The look-ups of an image make it.
@@ -96,6 +97,14 @@ impl Image<'_> {
         ensures { ⟦<ByValue as StepGraph>⟧.graph result.now ≡ steps_in self.now }
     {
         &self.steps
+    }
+
+    /// The nodes of all entries, by rising rank: each comes after those that its steps lead to.
+    #[tactic(auto, unfolding(crate::specs::Images::units_in, crate::specs::Images::steps_in), using(crate::proofs::MeasureLemmas::clear_by_rank))]
+    pub fn by_rank(&self) -> &Numbers
+        ensures { AreClear (steps_in self.now) result.now }
+    {
+        self.order.by_rank()
     }
 
     /// The k-th entry, from 0, that an entry holds by value: its type, the types of its plain members in their order,

@@ -10,13 +10,13 @@ ghost use Rattle.dw_types.specs.Steps.{by_value};
 ghost use Rattle.dw_image.specs.GroupsBefore.{PassBefore, FailsBefore, IsVerdictBefore};
 ghost use Rattle.dw_image.specs.FirstFault.{offset_at, NamesCycle};
 ghost use Rattle.dw_image.specs.Headline.{IsImageOf, IsFaultOf, IsVerdictOf};
-ghost use Rattle.dw_image.specs.StepsAndSizes.{AreMeasures, AreOrdered, AreSteps, FailsInTypes, PassInTypes};
+ghost use Rattle.dw_image.specs.StepsAndSizes.{AreOrdered, AreSteps, FailsInTypes, PassInTypes};
 
 use crate::image::Image;
 use dw_elf::Sections;
 use dw_entries::{Entries, Fault, Rule, Section, Stop, scan};
 use dw_links::{Links, check_classes, check_strings, link};
-use dw_types::{ByValue, NoMemory, Order, OrderFault, SizeTable, order, sizes};
+use dw_types::{ByValue, NoMemory, Order, OrderFault, order, sizes};
 use std::alloc::{AllocError, Global};
 
 /// What sections are found to be.
@@ -85,18 +85,6 @@ fn order_types(alloc: Global, links: &Links<'_, '_>) -> Result<(ByValue, Order),
         }
         Err(OrderFault::Memory) => Err(Stop::Memory),
     }
-}
-
-/// The steps by value of entries and their sizes, or the first fault of the rules on types.
-fn measure(alloc: Global, links: &Links<'_, '_>) -> Result<(ByValue, SizeTable), Stop<Fault>>
-    ensures steps { IfOk result (λ found. AreSteps (units_of links.now.entries.now) found.0) }
-    ensures sizes { IfOk result (λ found. AreMeasures (units_of links.now.entries.now) found.1) }
-    ensures fault { IfErr result
-        (IfFault (FailsInTypes (sections_of links.now.entries.now) (units_of links.now.entries.now) 8)) }
-{
-    let (steps, order) = order_types(alloc, links)?;
-    let sizes = sizes(alloc, links.entries, links, &order)?;
-    Ok((steps, sizes))
 }
 
 /// Checks the groups of rules before a group, which is the one on references or an earlier one.
@@ -169,12 +157,14 @@ fn image_of<'a>(alloc: Global, entries: Entries<'a>) -> Result<Image<'a>, Stop<F
     ensures fault { IfErr result (IfFault (IsFaultOf (sections_of entries.entry))) }
 {
     let links = link(alloc, &entries)?;
-    let (steps, sizes) = measure(alloc, &links)?;
+    let (steps, order) = order_types(alloc, &links)?;
+    let sizes = sizes(alloc, links.entries, &links, &order)?;
     let tables = links.into_tables();
     Ok(Image {
         entries,
         tables,
         steps,
+        order,
         sizes,
     })
 }

@@ -144,6 +144,13 @@ impl Order {
         rank
     }
 
+    /// The nodes by rising rank.
+    pub fn by_rank(&self) -> &Numbers
+        ensures { result.now ≡ self.now.by_rank }
+    {
+        &self.by_rank
+    }
+
     /// How many turns the walk took. A turn is one node taken up or one step looked at.
     pub fn turns(&self) -> u128
         ensures { result ≡ self.now.turns }
