@@ -120,8 +120,8 @@ fuzz: all
 	cd crates/slow_check && rt run
 	tests/fuzz.py $(SECONDS)
 
-# Runs the program and the calls of the library on files of many entries alike, of each tag, with each child in each use,
-# and writes a table of what took longest.
+# Runs the program and the calls of the library on files of many entries alike, of each tag, with each child in each
+# use, and writes a table of what took longest.
 .PHONY: sweep
 sweep:
 	mkdir -p tests/out

@@ -3,8 +3,8 @@
 
 usage: times.py [--processors N] [COMMAND ..]
 
-Each command is run in a clone of the last commit, which has nothing that was proved or built before. Nothing else should
-run on the machine: all takes several hours. It prints a table, and writes it into bench/out/times.md.
+Each command is run in a clone of the last commit, which has nothing that was proved or built before. Nothing else
+should run on the machine: all takes several hours. It prints a table, and writes it into bench/out/times.md.
 """
 import argparse
 import datetime

@@ -14,8 +14,8 @@
  * call, if the caller sees to this:
  *
  *   - No pointer is NULL, not even one to 0 bytes. Each is valid for its length, which is below 2^63.
- *   - During the call nothing else writes to the input, and nothing else reads or writes the verdict, the counts and the
- *     buffers. None of them overlaps another one or the input.
+ *   - During the call nothing else writes to the input, and nothing else reads or writes the verdict, the counts and
+ *     the buffers. None of them overlaps another one or the input.
  *   - So a file that is mapped must not be written or truncated during the call, by this or another process, even if it
  *     is mapped with MAP_PRIVATE. Read the file if it may change.
  *   - The verdict, the counts, and the buffer and length of a report have some value before the call, for example {0}.

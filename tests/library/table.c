@@ -88,7 +88,8 @@ static void print(const uint8_t *file, const struct table *t, const struct dwv_c
 static void sections(void) {
     static const uint8_t table[] = {1, 0x11, 1, 0x03, 0x08, 0, 0, 2, 0x24, 0, 0x03, 0x0e, 0x0b, 0x0b, 0x3e, 0x0b, 0, 0,
                                     3, 0x34, 0, 0x03, 0x08, 0x02, 0x18, 0x1c, 0x0a, 0, 0, 0};
-    static const uint8_t info[] = {0x17, 0, 0, 0, 5, 0, 1, 8, 0, 0, 0, 0, 1, 'a', 0, 2, 1, 0, 0, 0, 4, 5, 3, 0, 0, 0, 0};
+    static const uint8_t info[] = {0x17, 0, 0, 0, 5, 0, 1, 8, 0, 0, 0, 0,
+                                   1, 'a', 0, 2, 1, 0, 0, 0, 4, 5, 3, 0, 0, 0, 0};
     static const uint8_t str[] = {0, 'i', 'n', 't', 0}, none[1];
     struct dwv_unit units[1] = {{0}};
     struct dwv_entry entries[3] = {{0}};

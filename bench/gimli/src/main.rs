@@ -1,8 +1,8 @@
 //! Reads each entry and each attribute of a program with gimli, and checks nothing: `walk [--resolve | --table] FILE`.
 //!
-//! With --resolve it also reads each string, and the tag of the entry that each reference names. With --table, a feature
-//! of this crate, it reads the same from the table of dwv, which checks the file, and says how long the reading took.
-//! `walk --lines FILE` counts the rows of all line programs.
+//! With --resolve it also reads each string, and the tag of the entry that each reference names. With --table, a
+//! feature of this crate, it reads the same from the table of dwv, which checks the file, and says how long the reading
+//! took. `walk --lines FILE` counts the rows of all line programs.
 
 use std::collections::HashMap;
 use std::error::Error;

@@ -1,5 +1,5 @@
-//! The enumerators of an enumeration. What one pass over them finds is kept, and their text if it is short compared with
-//! the entries that it is made from. Otherwise they are read from the image each time that they are written.
+//! The enumerators of an enumeration. What one pass over them finds is kept, and their text if it is short compared
+//! with the entries that it is made from. Otherwise they are read from the image each time that they are written.
 
 ghost use Rattle.std.specs.Prelude.{◌≡◌, ◌<◌, ◌+◌, ◌&&◌, ◌||◌, Bool, List, [], ℕ, length, IfOk, OnOk};
 ghost use Rattle.std.specs.Prelude.{if◌then◌else◌, IfSome, nat_lt, option_map, is_some, not};

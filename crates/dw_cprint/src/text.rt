@@ -95,7 +95,8 @@ pub fn put_comma(out: &mut Vec<u8>, others: bool) -> Result<(), AllocError>
 
 /// A word before a tag, and the tag.
 pub fn put_tag(out: &mut Vec<u8>, tag: TagKeyword, name: Name<'_>) -> Result<(), AllocError>
-    ensures { OnOk result (Writes (TagWord tag ∷ Blank ∷ name_tokens (view_name name.entry)) out.old.items out.new.items) }
+    ensures { OnOk result (Writes (TagWord tag ∷ Blank ∷ name_tokens (view_name name.entry))
+        out.old.items out.new.items) }
 {
     put(out, tag.text())?;
     put(out, b" ")?;

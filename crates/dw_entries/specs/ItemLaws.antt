@@ -15,8 +15,8 @@ use Rattle.dw_entries.specs.declared.header.HeaderKind.{HeaderKind}
 use Rattle.dw_entries.specs.Grammar.{Context, declared_in, declared, Attribute, IsAttribute, AreAttributes}
 use Rattle.dw_entries.specs.Grammar.{attribute_bytes, Head, head_bytes, IsHead}
 use Rattle.dw_entries.specs.Header.{fits_tag}
-use Rattle.dw_entries.specs.ItemFormats.{failing_by, value_in, valued, attribute, attributes, code, as_head, head_by, item}
-use Rattle.dw_entries.specs.ItemFormats.{fitting_head, first_head}
+use Rattle.dw_entries.specs.ItemFormats.{failing_by, value_in, valued, attribute, attributes, code, as_head, head_by}
+use Rattle.dw_entries.specs.ItemFormats.{item, fitting_head, first_head}
 use Rattle.dw_entries.specs.Items.{Item, entry, null, item_bytes, IsItem}
 use Rattle.dw_forms.specs.WithBytes.{read_takes, read_fails, one_value}
 

@@ -66,8 +66,8 @@ run_from (suc run) code number = record { number = number; item = code } ∷ run
 abbrev pub IsRun : List (Numbered ℕ) → ℕ → ℕ → ℕ → Type 0
 IsRun chain run code number = take run chain ≡ run_from run code number
 
--- for each place, the branch is the chain's first link whose code has the same bits as this one below the place, but not
--- at it. There is none at the places that are left out
+-- for each place, the branch is the chain's first link whose code has the same bits as this one below the place, but
+-- not at it. There is none at the places that are left out
 pub record AreBranches (branches : List ℕ) (from count code : ℕ) (chain : List (Numbered ℕ)) : Type 0 where
   pub within : from + count ≤ length branches
   pub each : (place : ℕ) → place < count → get_or branches (from + place) 0 ≡ number_where (parts code place) chain

@@ -1,4 +1,5 @@
-//! What is known of the strings that the entries of an image share. A string is not read again for each of its suffixes.
+//! What is known of the strings that the entries of an image share. A string is not read again for each of its
+//! suffixes.
 
 ghost use Rattle.std.specs.Prelude.{◌≡◌, ◌≤◌, length, drop, IfOk};
 ghost use Rattle.std.specs.List.{list_all};

@@ -19,8 +19,8 @@ Passes view last (Ok rest) turn old new =
     turn ≡ Ok (record { row = None; registers = new; last = last; rest = view rest })
 Passes view last (Err rule) turn old new = (turn ≡ Err rule) × (new ≡ old)
 
--- the turn after which a machine goes on, where it says whether its registers are a row that was just appended. They are
--- cleared when the row is taken
+-- the turn after which a machine goes on, where it says whether its registers are a row that was just appended. They
+-- are cleared when the row is taken
 abbrev pub turn_to : Parameters → Bool → Machine → Turn
 turn_to p true m = record {
   row = Some m.registers;

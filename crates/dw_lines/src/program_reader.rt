@@ -127,8 +127,8 @@ fn program_alone<'a>(
     })
 }
 
-/// Reads the line program at an offset of `.debug_line`, up to its opcodes. The address size is that of the unit that names
-/// the program. A header may be as long as the section, so a program that many units name should be read once.
+/// Reads the line program at an offset of `.debug_line`, up to its opcodes. The address size is that of the unit that
+/// names the program. A header may be as long as the section, so a program that many units name should be read once.
 pub fn read_program<'a>(
     alloc: Global,
     sections: &LineSections<'a>,

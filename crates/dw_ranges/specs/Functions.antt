@@ -110,8 +110,8 @@ abbrev pub AreInside : UnitFunctions → Type 0
 AreInside f = All (IsInside f.areas.items) f.inside.items
 
 module _ (sections : RangeSections) (unit : UnitAddresses) (code : List Range) where
-  -- the first entry of a unit violates no rule, and this is known after it: the areas of the unit. The budget counts the
-  -- bytes of range lists
+  -- the first entry of a unit violates no rule, and this is known after it: the areas of the unit. The budget counts
+  -- the bytes of range lists
   pub record Starts (e : Entry) (budget : ℕ) (start : Known) : Type 0 where
     pub areas : List Range
     pub left : ℕ
