@@ -73,7 +73,7 @@ impl<'a> Entries<'a> {
         }
     }
 
-    /// The declarations of the units' abbreviation tables, each once.
+    /// The declarations of the units' abbreviation tables. Each is there once, for speed: no clause says so.
     pub fn decls(&self) -> &Decls
         ensures kept { (id : ℕ) (e : Entry) → slice_get (all_entries self.now) id ≡ Some e
             → IsKeptIn result.now e.head.decl }

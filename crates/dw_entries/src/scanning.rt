@@ -47,7 +47,7 @@ pub fn unit_table(
     }
 }
 
-/// Takes the unit at the front of the rest of .debug_info, which is at `at`, and says how long it is.
+/// Takes the unit at the front of the rest of `sections.info`, which is at `at`, and says how long it is.
 pub fn take_unit(
     alloc: Global,
     section: &[u8],

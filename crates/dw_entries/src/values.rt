@@ -36,7 +36,7 @@ fn is_cut(form: Form, bytes: &[u8]) -> bool
 #[derive(Drop)]
 pub struct Values<'e, 'a> {
     pub(crate) attributes: Attributes<'e>,
-    /// .debug_info.
+    /// `sections.info`.
     pub(crate) info: &'a [u8],
     /// The end of it, from the first value that is left.
     pub(crate) bytes: &'a [u8],

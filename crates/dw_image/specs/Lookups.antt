@@ -5,7 +5,7 @@ use Rattle.std.specs.Option.{option_and_then}
 use Rattle.dw_forms.specs.Codes.{is_type_tag}
 use Rattle.dw_entries.specs.Entries.{Entry}
 
--- the number of the entry that begins at an offset of .debug_info
+-- the number of the entry that begins at an offset of `sections.info`
 unfoldable pub entry_at : List Entry → ℕ → Option ℕ
 entry_at entries offset = position_from (λ (e : Entry). e.at == offset) 0 entries
 

@@ -91,7 +91,7 @@ impl<'a> Image<'a> {
         &self.entries
     }
 
-    /// The entry that starts at this offset of .debug_info.
+    /// The entry that starts at this offset of `sections.info`.
     #[tactic(auto, unfolding(crate::specs::Images::units_in))]
     pub fn entry(&self, offset: u32) -> Option<EntryId>
         ensures exact { result ≡ entry_at (entries_in self.now) offset }
@@ -118,7 +118,7 @@ impl<'a> Image<'a> {
         self.entries.head(id)
     }
 
-    /// The offset of an entry in .debug_info, in bytes.
+    /// The offset of an entry in `sections.info`, in bytes.
     #[tactic(auto, unfolding(crate::specs::Images::units_in))]
     pub fn offset(&self, id: EntryId) -> u32
         requires { id < length (entries_in self.now) }
