@@ -126,11 +126,19 @@ def first_paragraph(lines):
     return " ".join(line[3:] for line in lines[:count])
 
 
+def sentence_above(lines, number):
+    """The comment above a line, or else above the group of mutual definitions that the line is in."""
+    above = [it.strip() for it in lines[:number][::-1] if not it.startswith("infix")]
+    count = next(k for k, it in enumerate(above) if not it.startswith("-- "))
+    group = next((k for k in range(number)[::-1] if lines[k] and lines[k][0] != " "), 0)
+    if not count and lines[number].startswith(" ") and lines[group].endswith("mutual"):
+        return sentence_above(lines, group)
+    return first_paragraph(above[:count][::-1])
+
+
 def defined(crate, file):
     """The definitions of a chapter, each with the sentence above it."""
     lines = lines_of(crate, file)
     for number, line in enumerate(lines):
         if found := DEFINITION.match(line):
-            above = [it.strip() for it in lines[:number][::-1] if not it.startswith("infix")]
-            count = next(k for k, it in enumerate(above) if not it.startswith("-- "))
-            yield found[1], first_paragraph(above[:count][::-1]), number + 1
+            yield found[1], sentence_above(lines, number), number + 1

@@ -1,7 +1,8 @@
 #!/usr/bin/env python3
 """Tests that `make docs` would change nothing, that docs/rules.tsv has the rules of the code, that each rule has one
 wording, that docs/where.py finds its definition and its check, that a crate has the names in what PROOFS.md claims of
-it, that READING.md shows the code as it is, and that each link between pages has a place.
+it, that each definition in the tables has a sentence, that READING.md shows the code as it is, and that each link
+between pages has a place.
 
 It prints one line a test and ends with 'N passed, N failed, N skipped'.
 """
@@ -80,6 +81,9 @@ def main():
     for path, make in (it for script in scripts if "made" in script for it in script["made"]()):
         text = (TOP / path).read_text()
         tally.add(path, None if make(text) == text else "it is not as `make docs` writes it")
+    indexes = runpy.run_path(str(TOP / "docs/make-indexes.py"))
+    lines = [line for crate in indexes["crates"]() for line in indexes["definitions"](crate)]
+    tally.same("definitions in the tables without a sentence", [it for it in lines if it.endswith("`:")], [])
     tally.same("names in what PROOFS.md claims", list(unknown_names()), [])
     tally.same("code in READING.md", list(unlike_the_code()), [])
     for path in sorted(PAGES):

@@ -224,6 +224,7 @@ abbrev pub as_other : {A D E : Type 0} → (D → E) → Result A D → Result A
 as_other rename (Ok x) = Ok x
 as_other rename (Err d) = Err (rename d)
 
+-- what holds of a value, or of a fault, holds of it in other words, too
 pub as_other_says : {A D E : Type 0} (rename : D → E) (P : A → Type 0) (Q : D → Type 0) (r : Result A D)
     → MatchResult r P Q → MatchResult (as_other rename r) P (λ e. (d : D) × Q d × (e ≡ rename d))
 as_other_says rename P Q (Ok x) h = h
