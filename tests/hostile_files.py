@@ -1257,7 +1257,7 @@ def main():
         for name, _, ask, _ in runs():
             print(f"{name} (within {ask.limits}). {reason(name)}")
         return 0
-    # The rows of tables need the library. Beside a program of DWV none is proved for them.
+    # Rows and counts of tables need the library. Beside a program of DWV none is proved for them.
     if "DWV" not in os.environ and not given.only:
         common.build_library()
     has_library = common.LIBRARY.exists() or "DWV_LIBRARY" in os.environ
@@ -1269,7 +1269,7 @@ def main():
                 continue
             path.write_bytes(file)
             unsaid += [] if reason(name) else [name]
-            if name.startswith("rows of ") and not has_library:
+            if name.startswith(("rows of ", "table of ")) and not has_library:
                 tally.skip(f"{name}: the C library is not built")
                 continue
             before = time.monotonic()
