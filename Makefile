@@ -5,15 +5,20 @@ crates := $(shell sed -e 's/[ :].*//' -e '/^#/d' -e '/^$$/d' crates.txt)
 
 # Proves every crate and builds the program.
 .PHONY: all
-all:
+all: toolchain
 	cd crates/dwv && rt run -- check data/X1
 	@echo "The program is crates/dwv/out/dwv: copy it where you like."
+
+# What proves and builds needs the command of the toolchain.
+.PHONY: toolchain
+toolchain:
+	@command -v rt > /dev/null || { echo "There is no rt on PATH: see README.md, Install, From source." >&2; exit 1; }
 
 # Proves the C library and links it into out/, with its header and a file for pkg-config. Only the names dwv_* are
 # visible. The toolchain's own archive has its allocator, which calls malloc.
 kit = $(dir $(shell readlink -f "$$(command -v rt)"))..
 .PHONY: lib
-lib:
+lib: toolchain
 	cd crates/dwv_c && rt lib
 	install -d out/lib/pkgconfig out/include
 	$(CC) -O2 -fPIC -Iinclude -c include/version.c -o out/lib/version.o
@@ -36,7 +41,7 @@ checks = $(if $(filter-out 0,$(fits)),$(fits),1)
 # Proves everything from nothing, tries the edits of must-fail/ and a tenth of the others, and runs every test. The rows
 # and the examples are also run before the proofs, on the program that is not proved.
 .PHONY: test
-test:
+test: toolchain
 	tests/dead-names.py
 	tests/reading-order.py
 	tests/imports.py
@@ -80,7 +85,7 @@ pytest:
 
 # Proves what changed, in every crate, over what earlier runs kept.
 .PHONY: check
-check:
+check: toolchain
 	rt all check
 
 # Tries the edits of more-edits/, several in one check, and the controls: `make edits EDITS="--all dw_elf"`.
@@ -92,12 +97,12 @@ edits:
 # Builds the program without proving it, in about three minutes, for a look and for tests: out/quick/dwv-unproved.
 unproved = $(abspath out/quick/dwv-unproved)
 .PHONY: quick
-quick:
+quick: toolchain
 	tests/quick.py
 
 # The same for the C library: out/quick/lib-unproved has libdwv.a and libdwv.so.0.
 .PHONY: quick-lib
-quick-lib:
+quick-lib: toolchain
 	tests/quick.py --library
 
 # Runs the tests that need no proof on that program, in about two minutes, or some: `make quick-test QUICK=rows.py`.
