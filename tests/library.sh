@@ -209,7 +209,7 @@ if has pkg-config && has gcc; then
     if [ -e "$folder/program-gcc" ] && has nm; then
         # Functions of the program, as nm has them: where each starts and ends.
         is 'the C example with the table' \
-            "$(LD_LIBRARY_PATH="$installed/lib" "$folder/functions" < "$folder/program-gcc" | sort)" \
+            "$(LD_LIBRARY_PATH="$installed/lib" "$folder/functions" "$folder/program-gcc" | sort)" \
             "$(nm -S "$folder/program-gcc" | functions_of | sort)"
     fi
     if has g++; then

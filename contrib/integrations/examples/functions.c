@@ -1,4 +1,4 @@
-/* Prints where each function of a program starts and ends, and its name. Standard input is the program.
+/* functions PROGRAM prints where each function of a program starts and ends, and its name.
 
    By the table of the C library, without a reader of DWARF: a value is found by its attribute, and a reference is the
    row of an entry. Nothing can fail after the call. */
@@ -18,8 +18,12 @@ static const struct dwv_value *find(const struct dwv_entry *entry, uint32_t attr
     return NULL;
 }
 
-int main(void) {
-    size_t length = fread(file, 1, sizeof file, stdin);
+int main(int argc, char **argv) {
+    FILE *opened = argc == 2 ? fopen(argv[1], "rb") : NULL;
+    if (!opened)
+        return 3;
+    size_t length = fread(file, 1, sizeof file, opened);
+    fclose(opened);
     struct dwv_counts n = {1, 1, 1};
     struct dwv_verdict v = {0};
     enum dwv_status status;
