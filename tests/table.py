@@ -2,11 +2,14 @@
 """Compares the table of dwv with other readers, on programs of each compiler: `tests/table.py [FILE..]`.
 
 pyelftools reads each unit, entry and value of a program, and the value is resolved here by its form: each row of the
-table must be that. It does not read type units, so there readelf gives the entries, the names and the targets of
-references. With FILEs, these are compared in place of the programs. It prints a line a program, and ends with 'N
-passed, N failed, N skipped'.
+table must be that. The size of a type is computed from its values by the table of docs/RULES.md. pyelftools does not
+read type units, so there readelf gives the entries, the names and the targets of references. The table of six sections
+must be that of the file, but for where places are counted from. With FILEs, these are compared in place of the
+programs. It prints a line a program, and ends with 'N passed, N failed, N skipped'.
 """
+import functools
 import importlib.util
+import math
 import os
 import re
 import subprocess
@@ -32,7 +35,16 @@ NUMBERS = {f"DW_FORM_data{size}" for size in (1, 2, 4, 8)} | {"DW_FORM_udata"}
 BLOCKS = {"DW_FORM_block", "DW_FORM_block1", "DW_FORM_block2", "DW_FORM_block4"}
 OTHERS = {"DW_FORM_sec_offset": "section_offset", "DW_FORM_loclistx": "location_list", "DW_FORM_rnglistx": "range_list"}
 INSIDE = {f"DW_FORM_ref{size}" for size in (1, 2, 4, 8, "_udata")}
-tally = common.Tally(30)
+UNIT_TYPES = {"DW_UT_compile": 1, "DW_UT_type": 2, "DW_UT_partial": 3}
+# The types that have a size, by what says it (docs/RULES.md, Sizes of types).
+ALIASES = set("typedef const_type volatile_type restrict_type atomic_type".split())
+OWN_SIZED = set("""base_type structure_type union_type unspecified_type class_type reference_type string_type
+    ptr_to_member_type set_type subrange_type file_type packed_type interface_type shared_type rvalue_reference_type
+    template_alias coarray_type dynamic_type immutable_type""".split())
+# Languages whose arrays begin at 0: C89, C, C++, C99, C++11, Rust, C11, C++14.
+FROM_0 = (0x1, 0x2, 0x4, 0xc, 0x1a, 0x1c, 0x1d, 0x21)
+SIX = ("info", "abbrev", "str", "line_str", "str_offsets", "addr")
+tally = common.Tally(1 if sys.argv[1:] else 30)
 
 
 class Reader:
@@ -49,7 +61,7 @@ class Reader:
             found = elf.get_section_by_name(name)
             self.parts[number], self.starts[number] = section(name), found["sh_offset"] if found else None
         self.offsets, self.addresses = section(".debug_str_offsets"), section(".debug_addr")
-        self.rows, self.entries = {}, []
+        self.rows, self.entries, self.below = {}, [], {}
         for unit in self.dwarf.iter_CUs():
             above = []
             for entry in unit.iter_DIEs():
@@ -58,6 +70,7 @@ class Reader:
                     continue
                 self.rows[entry.offset] = len(self.entries)
                 self.entries.append((unit, entry, list(above)))
+                self.below.setdefault(above[-1] if above else None, []).append(self.rows[entry.offset])
                 if entry.has_children:
                     above.append(self.rows[entry.offset])
 
@@ -106,6 +119,74 @@ class Reader:
             return "reference", self.rows[value + unit.cu_offset * (form in INSIDE)]
         return OTHERS.get(form, form), value
 
+    def value(self, row, name):
+        """What a value of an entry means; None where the entry does not have it."""
+        unit, entry, _ = self.entries[row]
+        return self.meaning(unit, entry.attributes[name]) if name in entry.attributes else None
+
+    def number(self, row, name, absent=None):
+        """A number of 0 or more; None for any other value, and what is given for none."""
+        found = self.value(row, name)
+        return absent if found is None else found[1] if found[0] in ("unsigned", "signed") and found[1] >= 0 else None
+
+    def bound(self, row, name, absent=None):
+        """A bound, of which the greatest number of 64 bits is -1."""
+        kind, value = self.value(row, name) or ("signed", absent)
+        return None if kind not in ("unsigned", "signed") else -1 if value == (1 << 64) - 1 else value
+
+    @functools.lru_cache(maxsize=None)
+    def size(self, row):
+        """The size of a type; None where it has none."""
+        unit, entry, _ = self.entries[row]
+        tag, of = str(entry.tag).replace("DW_TAG_", ""), self.value(row, "DW_AT_type")
+        if tag in ("structure_type", "union_type", "enumeration_type") and self.value(row, "DW_AT_declaration"):
+            return None    # without type units
+        if tag == "pointer_type":
+            return self.number(row, "DW_AT_byte_size", unit["address_size"])
+        if tag in OWN_SIZED:
+            return self.number(row, "DW_AT_byte_size")
+        of_type = self.size(of[1]) if of and (tag in ALIASES or tag in ("enumeration_type", "array_type")) else None
+        if tag == "array_type":
+            return self.number(row, "DW_AT_byte_size", self.elements(row, of_type))
+        return self.number(row, "DW_AT_byte_size", of_type) if tag == "enumeration_type" else of_type
+
+    def elements(self, row, of_type):
+        """How many bytes the elements of an array have, by the size of its type."""
+        language = self.entries[row][0].get_top_DIE().attributes.get("DW_AT_language")
+        factors = []
+        for child in self.below.get(row, ()):
+            tag = str(self.entries[child][1].tag)
+            if tag == "DW_TAG_subrange_type":
+                count = self.number(child, "DW_AT_count")
+                upper, lower = self.bound(child, "DW_AT_upper_bound"), self.bound(child, "DW_AT_lower_bound", 0)
+                if not self.value(child, "DW_AT_count") and (not language or language.value in FROM_0):
+                    count = None if upper is None or lower is None else upper - lower + 1
+                has_stride = any(self.value(child, f"DW_AT_{it}_stride") for it in ("bit", "byte"))
+                factors.append(None if has_stride else count)
+            elif tag in ("DW_TAG_enumeration_type", "DW_TAG_generic_subrange"):
+                return None
+        stride = self.number(row, "DW_AT_byte_stride", of_type)
+        if self.value(row, "DW_AT_bit_stride") or not factors or None in factors or stride is None:
+            return None
+        return stride * math.prod(factors)
+
+
+def unlike_sections(path, table):
+    """What the table of the six sections of a file says otherwise than that of the file."""
+    from elftools.elf.elffile import ELFFile
+    with open(path, "rb") as file:
+        found = {it: ELFFile(file).get_section_by_name(f".debug_{it}") for it in SIX}
+        starts = [0, *(found[it]["sh_offset"] if found[it] else 0 for it in ("info", "str", "line_str"))]
+        other = dwv.table_sections(**{it: section.data() for it, section in found.items() if section})
+    for part, fields in table.columns.items():
+        place, section = {"entries": ("name", "name_section"), "values": ("number", "section")}.get(part, (None, None))
+        for field, column in fields.items():
+            wanted = list(column)
+            if field == place:
+                wanted = [number - starts[where] for number, where in zip(wanted, fields[section])]
+            if wanted != list(other.columns[part][field]):
+                yield f"by sections: {field} of {part}"
+
 
 def differences(path):
     """What pyelftools and the table say otherwise, and how many values were compared."""
@@ -127,6 +208,8 @@ def differences(path):
             if (number, parent) in last and entries["next_sibling"][last[number, parent]] != row:
                 wrong.append(f"entry {row}: it is not the next sibling")
             last[number, parent] = row
+            if table.size(row) != found.size(row):
+                wrong.append(f"entry {row}: its size, {table.size(row)}, wanted {found.size(row)}")
             for name, attribute in entry.attributes.items():
                 code = enums.ENUM_DW_AT.get(name, name)
                 place = found.place(unit, attribute)
@@ -153,11 +236,19 @@ def differences(path):
             said = tuple(units[it][number] for it in ("offset", "version", "address_size", "language"))
             if said != (unit.cu_offset, unit["version"], unit["address_size"], language.value if language else 0):
                 wrong.append(f"unit {number}: {said}")
+            top = unit.get_top_DIE()
+            bases = [getattr(top.attributes.get(f"DW_AT_{it}"), "value", 0) for it in ("rnglists_base", "loclists_base")]
+            kind = 3 if top.tag == "DW_TAG_partial_unit" else 1
+            code = unit["unit_type"] if unit["version"] == 5 else kind    # a number by an older pyelftools
+            wanted = [UNIT_TYPES.get(code, code), *bases]
+            said = [units[it][number] for it in ("unit_type", "rnglists_base", "loclists_base")]
+            if said != wanted:
+                wrong.append(f"unit {number}: its type and bases, {said}, wanted {wanted}")
             if {entries["unit"][row] for row in rows} != {number}:
                 wrong.append(f"unit {number}: its entries")
         if (len(found.entries), value, len(starts)) != (len(table), len(values["entry"]), len(units["offset"])):
             wrong.append(f"{len(found.entries)} entries, {value} values, and {table}")
-    return wrong, value
+    return [*wrong, *unlike_sections(path, table)], value
 
 
 def typed_differences(path):
@@ -193,7 +284,10 @@ def typed_differences(path):
             count += 1
             if said != wanted:
                 wrong.append(f"entry {row}, {name}: {said}, wanted {wanted}")
-    return wrong, count
+    kinds = [UNIT_TYPES[it] for it in re.findall(r"Unit Type: +(DW_UT_\w+)", header)]
+    if list(table.columns["units"]["unit_type"]) != kinds:
+        wrong.append(f"types of units: {list(table.columns['units']['unit_type'])}, wanted {kinds}")
+    return [*wrong, *unlike_sections(path, table)], count
 
 
 def programs(folder):
