@@ -247,6 +247,7 @@ def with_alternatives(text, after, names):
 def names_text(all_codes):
     """contrib/dwv_tools/names.txt: each code and its name."""
     yield "# Names by their codes: those of the standard (DWARF 5, 7.5 and 7.12), and some of GNU, LLVM and Apple."
+    yield "# Made by docs/make-rules.py."
     for it in all_codes:
         yield f"{it.code} {it.name}"
 

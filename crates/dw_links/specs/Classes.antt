@@ -1,4 +1,5 @@
 -- Chapter: the rule on classes: a value has one of the classes that its attribute may have (DWARF 5, 7.5.4 and 7.5.5).
+-- The sentences that name a rule are made by docs/make-rules.py from docs/rules.tsv.
 use Rattle.std.specs.Prelude.{◌≡◌, ℕ, false, List, slice_get, Some}
 pub use Rattle.dw_forms.specs.Classes.{class_of, allows_in, is_one_of}
 use Rattle.dw_forms.specs.Value.{Datum}

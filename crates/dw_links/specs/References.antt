@@ -1,4 +1,5 @@
 -- Chapter: the rules on references (DWARF 5, 2.3 and 7.5.5).
+-- The sentences that name a rule are made by docs/make-rules.py from docs/rules.tsv.
 use Rattle.std.specs.Prelude.{◌≡◌, ◌≢◌, ℕ, ◌+◌, ◌<◌, ◌⊎◌, Bool, true, false, not, ◌&&◌, ◌==◌, List, [], ◌∷◌, Option}
 use Rattle.std.specs.Prelude.{None, Some, slice_get, if◌then◌else◌}
 use Rattle.dw_forms.specs.Value.{Datum, flag, ref_info, ref_unit, ref_sig}

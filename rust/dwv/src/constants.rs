@@ -1,4 +1,5 @@
-//! The codes of tags and attributes (DWARF 5, 7.5.3 and 7.5.4), and some of GNU and LLVM.
+//! The codes of tags and attributes (DWARF 5, 7.5.3 and 7.5.4), and some of GNU and LLVM. They are made by
+//! docs/make-rules.py from docs/codes.tsv.
 #![allow(missing_docs, non_upper_case_globals)]
 
 pub const DW_TAG_array_type: u32 = 0x1;

@@ -30,6 +30,7 @@ macro_rules! rules {
     };
 }
 
+// The rules are made by docs/make-rules.py from docs/rules.tsv.
 rules! {
     E1 TooLarge "the file has more than 4,294,967,296 bytes, or one of the six sections has more than \
         1,073,741,824."
