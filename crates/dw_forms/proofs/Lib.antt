@@ -19,6 +19,7 @@ pub mod NodeSteps
 pub mod NodeLaws
 pub mod PartLaws
 pub mod ListLaws
+pub mod EndLaws
 pub mod ListStarts
 pub mod FrontLaws
 pub mod LabelLaws

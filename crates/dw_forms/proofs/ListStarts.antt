@@ -1,8 +1,8 @@
 -- Lists of attributes that begin at offsets of a section, as more attributes are kept.
-use Rattle.std.proofs.Common.{◌≡◌, ℕ, suc, ◌<◌, ◌≤◌, List, [], ◌∷◌, ◌++◌, ◌-◌, length, drop, Option, Some, None, Ok, Err, sym, ap, subst, ◌∙◌, append_assoc, append-nil, rules, arith}
+use Rattle.std.proofs.Common.{◌≡◌, ℕ, suc, ◌<◌, ◌≤◌, ◌+◌, List, [], ◌∷◌, ◌++◌, ◌-◌, length, drop, Option, Some, None, Ok, Err, refl, sym, ap, subst, ◌∙◌, append_assoc, append-nil, inl, inr, rules, arith}
 use Rattle.std.specs.Prelude.{get_or}
 use Rattle.std.proofs.lemmas.Bool.{cases_eq}
-use Rattle.std.proofs.lemmas.List.{length-append, get_or_append_left, get_or_at}
+use Rattle.std.proofs.lemmas.List.{length-append, get_or_append_left, get_or_at, get_or_default}
 use Rattle.dw_forms.specs.declared.abbrev.AttributeSpec.{AttributeSpec}
 use Rattle.dw_forms.specs.declared.attribute_lists.Node.{Node}
 use Rattle.dw_forms.specs.declared.offsets.Placed.{Placed}
@@ -13,6 +13,8 @@ use Rattle.dw_forms.specs.AbbrevReading.{pair_at}
 use Rattle.dw_forms.specs.Chains.{Numbered, items_of}
 use Rattle.dw_forms.specs.AttributeLists.{numbered_in, list_in, IsLast, AddedSpec}
 use Rattle.dw_forms.specs.Offsets.{BeginsAt, NothingAt, AreAlong, AreNew, Stay}
+use Rattle.dw_forms.specs.declared.shared_ends.SharedEnd.{SharedEnd}
+use Rattle.dw_forms.specs.SharedEnds.{AreUpTo, FromFirst, IsEndAdded}
 use Rattle.dw_forms.specs.ListOffsets.{IsListAt, ArePlaced, NoListAt, IsPairAt, LeadsToList}
 use Rattle.dw_forms.specs.ListFormats.{ReadsNext, reads_next}
 use Rattle.dw_forms.specs.Elements.{SpellsElement, SpellsEnd, NextFails}
@@ -22,6 +24,7 @@ use Rattle.dw_forms.proofs.ListLaws.{rest_of}
 use Rattle.dw_forms.proofs.DeclLaws.{attribute_good}
 use Rattle.dw_forms.proofs.SpelledLists.{taken, list_more, list_end, none_before, none_twice, none_broken}
 use Rattle.dw_forms.proofs.NodeLaws.{old_list, new_list}
+use Rattle.dw_forms.proofs.EndLaws.{ends_rise, ends_first, ends_below, new_end, old_end, first_stays}
 use Rattle.dw_forms.proofs.OffsetLaws.{begins_within, apart_push, along_pop, along_back, new_pop, new_stay}
 
 reads_attributes : ReadsNext attribute_of (SpellsElement specifications) (SpellsEnd specifications)
@@ -45,16 +48,43 @@ list_stays section old new offset number end stay is = search (rules, length-app
 -- ---- one attribute more
 
 -- the lists stay where they are, and so does one more
-pub placed_more : (section : List ℕ) (nodes : List Node) (n : Node) (starts ends : List ℕ) (at end : ℕ)
-    → ArePlaced section nodes starts ends → NothingAt starts at → at < length section
-    → IsListAt section (nodes ++ n ∷ []) at (suc (length nodes)) end
-    → ArePlaced section (nodes ++ n ∷ []) (starts ++ at ∷ []) (ends ++ end ∷ [])
-placed_more section nodes n starts ends at end placed nothing less_at is = record {
+pub placed_more : (section : List ℕ) (nodes : List Node) (n : Node) (starts : List ℕ) (ends more : List SharedEnd)
+    (at end : ℕ) → ArePlaced section nodes starts ends → NothingAt starts at → at < length section
+    → IsListAt section (nodes ++ n ∷ []) at (suc (length nodes)) end → IsEndAdded (length nodes) end ends more
+    → ArePlaced section (nodes ++ n ∷ []) (starts ++ at ∷ []) more
+placed_more section nodes n starts ends more at end placed nothing less_at is added = record {
   apart = apart_push (length section) starts at placed.apart nothing less_at;
-  starts_long = omega (arith, placed.starts_long, length-append starts (at ∷ []), length-append nodes (n ∷ []));
-  ends_long = omega (arith, placed.ends_long, length-append ends (end ∷ []), length-append nodes (n ∷ []));
-  lists = search (rules, cases_eq, get_or_at, length-append, get_or_append_left, list_stays);
+  starts_long = omega (arith, placed.starts_long, long_starts, long_nodes);
+  rise = ends_rise (length nodes) end ends more added placed.below placed.rise;
+  first = λ some. first_is;
+  below =
+      ends_below (length nodes) end ends more added placed.below (length (nodes ++ n ∷ [])) (omega (arith, long_nodes));
+  lists = λ k count e less up_to read. elim (cases_eq k (length nodes)) [
+    | inl same ↦
+        let ends_here = new_end (length nodes) end ends more added placed.below count e
+        (subst (λ (m : ℕ). AreUpTo m more count) same up_to) read in
+        let begins : get_or (starts ++ at ∷ []) k 0
+        ≡ at = get_or_at starts at [] 0 k (omega (arith, same, placed.starts_long)) in
+        rw (same, ends_here) (rw (ap (λ (m : ℕ). get_or (starts ++ at ∷ []) m 0) (sym same) ∙ begins) is)
+    | inr other ↦
+        let before : k < length nodes = omega (arith, other, less, long_nodes) in
+        let begins : get_or (starts ++ at ∷ []) k 0
+        ≡ get_or starts k 0 = get_or_append_left starts (at ∷ []) 0 k (omega (arith, before, placed.starts_long)) in
+        let some = first_stays k more count first_is up_to in
+        let old = old_end (length nodes) end ends more added placed.below k before count e up_to some read in
+        rw begins (list_stays section nodes (nodes ++ n ∷ []) (get_or starts k 0) (suc k) e.end (n ∷ [], refl)
+        (placed.lists k count e before old.0 old.1))
+  ];
 }
+  where
+    long_nodes : length (nodes ++ n ∷ []) ≡ length nodes + 1
+    long_nodes = length-append nodes (n ∷ [])
+
+    long_starts : length (starts ++ at ∷ []) ≡ length starts + 1
+    long_starts = length-append starts (at ∷ [])
+
+    first_is : FromFirst more
+    first_is = ends_first (length nodes) end ends more added placed.below placed.first
 
 -- where no list begins after attributes, none begins with them
 none_along : (section : List ℕ) (pairs : List (Placed AttributeSpec)) (offset end : ℕ)
@@ -126,11 +156,13 @@ module _ {section : List ℕ} {old : List Node} {starts : List ℕ} {offset firs
           (subst (λ (ns : List Node). IsListAt section ns p.at (suc (length old)) end) (sym last.nodes) here);
     }
 
-    pub next_placed : (ends : List ℕ) → ArePlaced section old starts ends
-        → ArePlaced section new (starts ++ p.at ∷ []) (ends ++ end ∷ [])
-    next_placed ends placed =
-        subst (λ (ns : List Node). ArePlaced section ns (starts ++ p.at ∷ []) (ends ++ end ∷ [])) (sym last.nodes)
-        (placed_more section old last.node starts ends p.at end placed next_new.0 pair_less here)
+    pub next_placed : (ends more : List SharedEnd) → ArePlaced section old starts ends
+        → IsEndAdded (number - 1) end ends more → ArePlaced section new (starts ++ p.at ∷ []) more
+    next_placed ends more placed end_added =
+        let before : number - 1 ≡ length old = omega (arith, added.1) in
+        subst (λ (ns : List Node). ArePlaced section ns (starts ++ p.at ∷ []) more) (sym last.nodes)
+        (placed_more section old last.node starts ends more p.at end placed next_new.0 pair_less here
+        (subst (λ (m : ℕ). IsEndAdded m end ends more) before end_added))
 
     pub next_stay : Stay old new
     next_stay = (last.node ∷ [], last.nodes)
@@ -156,9 +188,25 @@ pub pairs_break : (section : List ℕ) (pairs : List (Placed AttributeSpec)) (of
 pairs_break section pairs offset at after fault e =
     none_along section pairs offset at after (none_broken pair_at _ (drop at section) fault e)
 
--- a list that is kept begins at its offset
-pub kept_list : (section : List ℕ) (nodes : List Node) (starts ends : List ℕ) (offset number end : ℕ)
-    → ArePlaced section nodes starts ends → BeginsAt starts number offset → 0 < number
-    → end ≡ get_or ends (number - 1) 0
-    → IsListAt section nodes offset number end
-kept_list section nodes starts ends offset number end placed begins some read = search (rules, begins_within)
+-- a list that is kept has an end
+pub some_end : (section : List ℕ) (nodes : List Node) (starts : List ℕ) (ends : List SharedEnd)
+    (offset number count : ℕ) → ArePlaced section nodes starts ends → BeginsAt starts number offset
+    → AreUpTo (number - 1) ends count → 0 < count
+some_end section nodes starts ends offset number count placed begins up_to =
+    let at = begins_within starts number offset begins in
+    first_stays (number - 1) ends count (placed.first (omega (arith, at.0, placed.starts_long))) up_to
+
+-- and begins at its offset
+pub kept_list : (section : List ℕ) (nodes : List Node) (starts : List ℕ) (ends : List SharedEnd)
+    (offset number count : ℕ) → ArePlaced section nodes starts ends → BeginsAt starts number offset → 0 < number
+    → AreUpTo (number - 1) ends count → (d : SharedEnd)
+    → IsListAt section nodes offset number (get_or ends (count - 1) d).end
+kept_list section nodes starts ends offset number count placed begins some up_to d =
+    let at = begins_within starts number offset begins in
+    let less : number - 1 < length nodes = omega (arith, at.0, placed.starts_long) in
+    let e = get_or ends (count - 1) d in
+    let there = some_end section nodes starts ends offset number count placed begins up_to in
+    let within : count - 1 < length ends = omega (arith, there, up_to.within) in
+    let is = placed.lists (number - 1) count e less up_to (get_or_default ends (count - 1) d e within) in
+    subst (λ (m : ℕ). IsListAt section nodes m number e.end) at.1
+    (subst (λ (m : ℕ). IsListAt section nodes (get_or starts (number - 1) 0) m e.end) (omega (arith, some)) is)

@@ -50,6 +50,7 @@ pub mod Offsets
 pub mod AttributeLists
 pub mod DeclaredLists
 pub mod Suffixes
+pub mod SharedEnds
 pub mod ListOffsets
 pub mod KeptDecls
 pub mod TableStarts

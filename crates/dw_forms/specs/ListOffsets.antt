@@ -1,9 +1,12 @@
 -- State: the lists of attributes that begin at offsets of a section.
-use Rattle.std.specs.Prelude.{◌≡◌, ℕ, suc, ◌<◌, ◌≤◌, List, [], length, drop, get_or, Some, Ok}
+use Rattle.std.specs.Prelude.{◌≡◌, ℕ, suc, ◌-◌, ◌<◌, ◌≤◌, List, [], length, drop, get_or, Some, Ok, All}
+use Rattle.std.specs.List.Sorted.{IsNonDecreasingBy}
 use Rattle.dw_forms.specs.declared.abbrev.AttributeSpec.{AttributeSpec}
 use Rattle.dw_forms.specs.declared.attribute_lists.Node.{Node}
 use Rattle.dw_forms.specs.declared.list_reader.KeptLists.{KeptLists}
 use Rattle.dw_forms.specs.declared.offsets.Placed.{Placed}
+use Rattle.dw_forms.specs.declared.shared_ends.SharedEnd.{SharedEnd}
+use Rattle.dw_forms.specs.SharedEnds.{AreUpTo, FromFirst}
 use Rattle.dw_forms.specs.AbbrevReading.{pair_at, attributes_of}
 use Rattle.dw_forms.specs.AttributeLists.{list_in}
 use Rattle.dw_forms.specs.Offsets.{AreAlong, AreApart, AreNew, Stay}
@@ -16,10 +19,13 @@ pub record IsListAt (section : List ℕ) (nodes : List Node) (offset number end 
   pub fits : end ≤ length section
 
 -- each list has an offset of its own at which it begins, and one at which it ends
-pub record ArePlaced (section : List ℕ) (nodes : List Node) (starts ends : List ℕ) : Type 0 where
+pub record ArePlaced (section : List ℕ) (nodes : List Node) (starts : List ℕ) (ends : List SharedEnd) : Type 0 where
   pub starts_long : length starts ≡ length nodes
-  pub ends_long : length ends ≡ length nodes
-  pub lists : (k : ℕ) → k < length nodes → IsListAt section nodes (get_or starts k 0) (suc k) (get_or ends k 0)
+  pub rise : IsNonDecreasingBy (λ e. e.before) ends
+  pub first : 0 < length nodes → FromFirst ends
+  pub below : All (λ e. e.before < length nodes) ends
+  pub lists : (k count : ℕ) (e : SharedEnd) → k < length nodes → AreUpTo k ends count → e ≡ get_or ends (count - 1) e
+      → IsListAt section nodes (get_or starts k 0) (suc k) e.end
   pub apart : AreApart (length section) starts
 
 -- no list begins at this offset of the section

@@ -24,6 +24,7 @@ mod leb;
 mod list_reader;
 mod offsets;
 mod rule;
+mod shared_ends;
 mod value;
 mod value_reader;
 

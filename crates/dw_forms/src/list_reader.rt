@@ -14,6 +14,7 @@ use crate::constants::Attribute;
 use crate::fault::{DeclFault, Stop};
 use crate::offsets::{Offsets, Placed};
 use crate::rule::Rule;
+use crate::shared_ends::{SharedEnd, ends_up_to, push_end};
 use std::alloc::Global;
 
 /// The lists of attributes that are kept, and where they are in the section.
@@ -22,8 +23,8 @@ pub struct KeptLists {
     pub(crate) lists: AttributeLists,
     /// The offsets at which they begin.
     pub(crate) starts: Offsets,
-    /// The offset after each list.
-    pub(crate) ends: Vec<u32>,
+    /// The offsets after them.
+    pub(crate) ends: Vec<SharedEnd>,
     /// The attributes of the list that is read.
     pairs: Vec<Placed<AttributeSpec>>,
 }
@@ -60,7 +61,7 @@ fn read_pairs(
     pairs: &mut Vec<Placed<AttributeSpec>>,
     lists: &AttributeLists,
     starts: &Offsets,
-    ends: &[u32],
+    ends: &[SharedEnd],
     section: &[u8],
     offset: usize,
 ) -> Result<(u32, usize), Stop<DeclFault>>
@@ -76,7 +77,7 @@ fn read_pairs(
     loop {
         let first = starts.find(at);
         if first != 0 {
-            let end = ends[(first - 1) as usize] as usize;
+            let end = ends[ends_up_to(ends, first - 1) - 1].end as usize;
             return Ok((first, end));
         }
         let (next, after) = match next_pair(section, at) {
@@ -136,7 +137,7 @@ impl KeptLists {
                 return Err(Stop::Fault(twice(&spec)));
             };
             self.starts.push(at as u32)?;
-            self.ends.push(end as u32)?;
+            push_end(&mut self.ends, longer - 1, end as u32)?;
             first = longer;
         }
         Ok(first)

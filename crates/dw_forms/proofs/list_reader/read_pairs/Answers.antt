@@ -1,6 +1,6 @@
 use Rattle.std.proofs.Common.{rules, refl, arith}
 use Rattle.dw_forms.specs.ListOffsets.{IsPairAt}
-use Rattle.dw_forms.proofs.ListStarts.{end_list, kept_list, pairs_break}
+use Rattle.dw_forms.proofs.ListStarts.{end_list, kept_list, some_end, pairs_break}
 use Rattle.dw_forms.proofs.OffsetLaws.{along_push, new_push}
 use Rattle.dw_forms.proofs.list_reader.read_pairs.Goals as goal
 
@@ -13,6 +13,13 @@ loop-end-init c =
       new = rw c.requires.none tt;
     }
 
+pub overflow_sub-end : goal.overflow_sub-end
+overflow_sub-end c =
+    let some = c.if-first-ne0.true in
+    let begins = c.find-first.ensures.begins (omega (arith, some)) in
+    some_end c.args.section.now c.args.lists.now.nodes.items c.args.starts.now.starts.items c.args.ends.now
+    c.loop-end.at c.find-first.result c.ends_up_to.result c.requires.placed begins c.ends_up_to.ensures
+
 pub returns-then-first-ne0-clause-leads : goal.returns-then-first-ne0-clause-leads
 returns-then-first-ne0-clause-leads c =
     let some = c.if-first-ne0.true in
@@ -23,7 +30,8 @@ returns-then-first-ne0-clause-leads c =
       new = c.loop-end.invariant.new;
       list =
           kept_list c.args.section.now c.args.lists.now.nodes.items c.args.starts.now.starts.items c.args.ends.now
-          c.loop-end.at c.find-first.result _ c.requires.placed begins (omega (arith, some)) refl;
+          c.loop-end.at c.find-first.result c.ends_up_to.result c.requires.placed begins (omega (arith, some))
+          c.ends_up_to.ensures (record { before = 0; end = 0 });
     }
 
 pub returns-in-Err-clause-fault : goal.returns-in-Err-clause-fault

@@ -32,8 +32,8 @@ loop-at-preserved c =
     record {
       leads = rw c.in_ok-push.ensures (next_leads left p parts i.leads new c.in-Some-2.longer added);
       placed =
-          rw (c.in_ok-push.ensures, c.in_ok-push-2.ensures.items)
-          (next_placed left p parts i.leads new c.in-Some-2.longer added c.loop-at.self.ends.items i.placed);
+          rw c.in_ok-push.ensures (next_placed left p parts i.leads new c.in-Some-2.longer added
+          c.loop-at.self.ends.items c.push_end.new.ends.items i.placed c.in_ok-push_end.ensures);
       stay = stay_on _ _ _ i.stay (next_stay left p parts i.leads new c.in-Some-2.longer added);
     }
 
