@@ -155,14 +155,6 @@ fn is_elf64(file: &[u8]) -> bool {
     file.len() >= 64 && file.starts_with(b"\x7fELF\x02\x01\x01")
 }
 
-/// The bytes of a section of any name. None where the file is not read, or does not have them uncompressed.
-pub fn find_section<'a>(file: &'a [u8], name: &[u8]) -> Option<&'a [u8]> {
-    if !is_elf64(file) {
-        return None;
-    }
-    table_of(file)?.section(name)
-}
-
 /// The sections of a file, or the first rule of the file that it breaks.
 pub fn find_sections(file: &[u8]) -> Result<Sections<'_>, Fault> {
     let fails = |rule| Fault::File { rule, header: 0 };

@@ -11,7 +11,7 @@ mod leb;
 mod rest;
 mod value;
 
-pub use elf::{Sections, find_section, find_sections};
+pub use elf::{Sections, find_sections};
 pub use fault::Fault;
 pub use info::check_sections;
 
