@@ -4,3 +4,8 @@ pub mod StringLaws
 mod OpcodeSteps
 mod RunSteps
 mod RowLaws
+mod AddressLemmas
+mod CutLemmas
+mod OrderLemmas
+mod RisingLemmas
+mod IndexLemmas

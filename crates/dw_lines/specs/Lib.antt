@@ -8,6 +8,8 @@ pub mod Opcodes
 pub mod Machine
 pub mod Rows
 pub mod Sequences
+pub mod Addresses
 -- State.
 pub mod Turns
 pub mod RowsLeft
+pub mod Index
