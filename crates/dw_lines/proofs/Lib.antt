@@ -9,3 +9,4 @@ mod CutLemmas
 mod OrderLemmas
 mod RisingLemmas
 mod IndexLemmas
+mod PathLemmas

@@ -4,6 +4,7 @@ pub mod Repeats
 pub mod Header
 pub mod Files
 pub mod Programs
+pub mod Paths
 pub mod Opcodes
 pub mod Machine
 pub mod Rows

@@ -4,6 +4,7 @@
 mod content;
 mod fault;
 mod fields;
+mod file_path;
 mod files;
 mod header;
 mod item;
