@@ -1,7 +1,7 @@
 -- What is known of the entries of a unit: the scopes of those so far, when the areas of one more are appended.
 use Rattle.std.proofs.Common.{◌≡◌, ℕ, suc, ◌+◌, ◌-◌, ◌<◌, ◌≤◌, List, [], ◌∷◌, ◌++◌, length, get_or, take, drop, map}
-use Rattle.std.proofs.Common.{refl, sym, ap, ◌∙◌, subst, arith, Option, Some, inr}
-use Rattle.std.specs.Prelude.{All, IfSome, IsSome, slice_range}
+use Rattle.std.proofs.Common.{refl, sym, ap, ◌∙◌, subst, arith, Option, Some, inr, Result, Ok, Err}
+use Rattle.std.specs.Prelude.{All, IfErr, IfSome, IsSome, slice_range}
 use Rattle.std.proofs.lemmas.List.{drop_at, drop_more, length-append, take-append-le, take_all}
 use Rattle.std.proofs.lemmas.List.Elements.{All-head, All-tail, All-push, All-weaker}
 use Rattle.std.proofs.lemmas.Slice.{between_is}
@@ -13,12 +13,15 @@ use Rattle.dw_ranges.specs.Areas.{AreAreas}
 use Rattle.dw_ranges.specs.Functions.{ArePart, IsInside, Known, Refuses, Scope, Takes, group_at, group_with, home}
 use Rattle.dw_ranges.specs.Functions.{home_of, known_with, outer, outer_of, outside, scope_at, scope_of, span_in}
 use Rattle.dw_ranges.specs.Live.{AreCodeOf}
+use Rattle.dw_ranges.specs.Totals.{counted}
 use Rattle.dw_ranges.specs.declared.addresses.UnitAddresses.{UnitAddresses}
 use Rattle.dw_ranges.specs.declared.bounds.RangeSections.{RangeSections}
 use Rattle.dw_ranges.specs.declared.functions.Inside.{Inside}
 use Rattle.dw_ranges.specs.declared.range.Range.{Range}
 use Rattle.dw_ranges.specs.declared.rule.RangeRule.{RangeRule}
 use Rattle.dw_ranges.specs.declared.spans.Span.{Span}
+use Rattle.dw_ranges.specs.declared.totals.RangeCounts.{RangeCounts}
+use Rattle.dw_ranges.specs.declared.totals.Totals.{Totals}
 
 -- a part of a list, when more is appended
 slice_more : (xs ys : List Range) (a b : ℕ) → b ≤ length xs → slice_range (xs ++ ys) a b ≡ slice_range xs a b
@@ -92,7 +95,8 @@ module _ (areas areas2 more : List Range) (inside inside2 : List Inside) (group 
 
 module _ (sections : RangeSections) (unit : UnitAddresses) (code : List Range) (first number : ℕ) (k : Known)
     (e : Entry)
-    (areas : List Range) (left dead : ℕ) (are : AreCodeOf sections unit code e k.left areas left dead) where
+    (areas : List Range) (left : ℕ) (counts : RangeCounts)
+    (are : AreCodeOf sections unit code e k.totals.left areas left counts) where
   abbrev Group : Option ℕ
   Group = group_at sections unit code first k e areas
 
@@ -112,21 +116,23 @@ module _ (sections : RangeSections) (unit : UnitAddresses) (code : List Range) (
       → h ≡ home_of tag (scope_at k.scopes 0) o → h ≡ Home
   is_home tag o h p q is = is ∙ (λ t. home_of (p t) (scope_at k.scopes 0) (q t))
 
-  pub takes_some : (scopes : List Scope) (spans : List Span) (group : ℕ) → Group ≡ Some group → ArePart areas Home
+  pub takes_some : (scopes : List Scope) (spans : List Span) (totals : Totals) (group : ℕ) → Group ≡ Some group
+      → totals ≡ counted k.totals left counts (Some group) → ArePart areas Home
       → scopes ≡ k.scopes ++ record { group = number + 1; areas = areas } ∷ []
       → spans ≡ k.spans ++ map (span_in group number) areas
-      → Takes sections unit code first k number e (record { scopes = scopes; spans = spans; left = left })
-  takes_some scopes spans group some part p q =
-      let after : Known = record { scopes = scopes; spans = spans; left = left } in
-      let same : after ≡ known_with k number Outer areas left (Some group) =
-      λ t. record { scopes = p t; spans = q t; left = left } in
+      → Takes sections unit code first k number e (record { scopes = scopes; spans = spans; totals = totals })
+  takes_some scopes spans totals group some counting part p q =
+      let after : Known = record { scopes = scopes; spans = spans; totals = totals } in
+      let same : after ≡ known_with k number Outer areas (counted k.totals left counts (Some group)) (Some group) =
+      λ t. record { scopes = p t; spans = q t; totals = counting t } in
       record {
         areas = areas;
         left = left;
-        dead = dead;
+        counts = counts;
         are = are;
         part = subst (λ (g : Option ℕ). IfSome g (λ _. ArePart areas Home)) (sym some) part;
-        is = same ∙ ap (known_with k number Outer areas left) (sym some);
+        is =
+            same ∙ ap (λ (g : Option ℕ). known_with k number Outer areas (counted k.totals left counts g) g) (sym some);
       }
 
   pub refuses_outside : (rule : RangeRule) (at group : ℕ) → Group ≡ Some group → (ArePart areas Home → ⊥)
@@ -136,7 +142,7 @@ module _ (sections : RangeSections) (unit : UnitAddresses) (code : List Range) (
       inr (record {
         areas = areas;
         left = left;
-        dead = dead;
+        counts = counts;
         are = are;
         some = subst IsSome (sym some) refl;
         not_part = out;
@@ -155,3 +161,8 @@ pub fault_then : {F : Type 0} {P Q : F → Type 0} (stop : Stop F) → IfFault P
     → IfFault Q stop
 fault_then Memory p then = tt
 fault_then (Fault f) p then = then f p
+
+pub err_then : {A F : Type 0} {P Q : F → Type 0} (r : Result A (Stop F)) → IfErr r (IfFault P)
+    → ((f : F) → P f → Q f) → IfErr r (IfFault Q)
+err_then (Ok a) p then = tt
+err_then (Err stop) p then = fault_then stop p then

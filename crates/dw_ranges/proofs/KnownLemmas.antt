@@ -18,6 +18,8 @@ use Rattle.dw_ranges.specs.declared.addresses.UnitAddresses.{UnitAddresses}
 use Rattle.dw_ranges.specs.declared.bounds.RangeSections.{RangeSections}
 use Rattle.dw_ranges.specs.declared.range.Range.{Range}
 use Rattle.dw_ranges.specs.declared.spans.Span.{Span}
+use Rattle.dw_ranges.specs.declared.totals.RangeCounts.{RangeCounts}
+use Rattle.dw_ranges.specs.declared.totals.Totals.{Totals}
 
 abbrev IsGroup : ℕ → Scope → Type 0
 IsGroup n s = s.group ≤ n
@@ -48,17 +50,17 @@ outer_le k n first (Some p) known = elim (cases_lt (p - first) (length k.scopes)
 ]
 
 module _ (sections : RangeSections) (unit : UnitAddresses) (code : List Range) (first : ℕ) where
-  known_more : (k : Known) (n : ℕ) (e : Entry) (areas : List Range) (left dead : ℕ) → AreKnown k n
-      → AreCodeOf sections unit code e k.left areas left dead → (g : Option ℕ)
+  known_more : (k : Known) (n : ℕ) (e : Entry) (areas : List Range) (left : ℕ) (counts : RangeCounts) → AreKnown k n
+      → AreCodeOf sections unit code e k.totals.left areas left counts → (totals : Totals) (g : Option ℕ)
       → group_at sections unit code first k e areas ≡ g
-      → AreKnown (known_with k n (outer sections unit code first k e) areas left g) (n + 1)
-  known_more k n e areas left dead known are None same = record {
+      → AreKnown (known_with k n (outer sections unit code first k e) areas totals g) (n + 1)
+  known_more k n e areas left counts known are totals None same = record {
     scopes = All-push (IsGroup (n + 1)) k.scopes (outer sections unit code first k e)
         (All-weaker (IsGroup n) (IsGroup (n + 1)) (λ s le. omega arith) k.scopes known.scopes)
         (omega (arith, outer_le k n first e.parent known));
     spans = All-weaker (IsSpanBelow n) (IsSpanBelow (n + 1)) (λ s p. (p.0, omega (arith, p.1))) k.spans known.spans;
   }
-  known_more k n e areas left dead known are (Some g) same =
+  known_more k n e areas left counts known are totals (Some g) same =
       let le = group_le e.head.decl.tag (outer sections unit code first k e) areas g same in
       let up = outer_le k n first e.parent known in
       record {
@@ -75,7 +77,7 @@ module _ (sections : RangeSections) (unit : UnitAddresses) (code : List Range) (
       → AreKnown after (n + 1)
   takes_known k n e after known takes =
       subst (λ (x : Known). AreKnown x (n + 1)) (sym takes.is)
-      (known_more k n e takes.areas takes.left takes.dead known takes.are _ refl)
+      (known_more k n e takes.areas takes.left takes.counts known takes.are _ _ refl)
 
   reads_known : (es : List Entry) (k : Known) (n : ℕ) (after : Known) → AreKnown k n
       → Reads sections unit code first k n es (Ok after) → AreKnown after (n + length es)
@@ -89,24 +91,25 @@ module _ (sections : RangeSections) (unit : UnitAddresses) (code : List Range) (
       let same : (n + 1) + length es ≡ n + length (e ∷ es) = omega arith in
       subst (AreKnown after) same all
 
-  start_known : (e : Entry) (budget : ℕ) (start : Known) → Starts sections unit code e budget start
+  start_known : (e : Entry) (before : Totals) (start : Known) → Starts sections unit code e before start
       → AreKnown start (first + 1)
-  start_known e budget start starts =
+  start_known e before start starts =
       subst (λ (x : Known). AreKnown x (first + 1)) (sym starts.is) (record {
         scopes = All-push (IsGroup (first + 1)) [] (record { group = 0; areas = starts.areas })
             (All-nil (IsGroup (first + 1))) (omega arith);
         spans = All-nil (IsSpanBelow (first + 1));
       })
 
-  module _ (entries : List Entry) (end budget : ℕ) (known : Known) (some : first < end) (within : end ≤ length entries)
-      (are : AreFunctions sections unit code first entries end budget known) where
+  module _ (entries : List Entry) (end : ℕ) (before : Totals) (known : Known) (some : first < end)
+      (within : end ≤ length entries)
+      (are : AreFunctions sections unit code first entries end before known) where
     all_known : AreKnown known end
     all_known =
         let long = length-between entries (first + 1) end within in
         let e : (first + 1) + length (slice_range entries (first + 1) end) ≡ end = omega (arith, long) in
         subst (AreKnown known) e
         (reads_known (slice_range entries (first + 1) end) are.start (first + 1) known
-        (start_known _ budget are.start are.starts) are.reads)
+        (start_known _ before are.start are.starts) are.reads)
 
     pub spans_each : All IsSpan known.spans
     spans_each = All-weaker (IsSpanBelow end) IsSpan (λ s p. p.0) known.spans all_known.spans

@@ -8,5 +8,8 @@ pub mod Bounds
 pub mod EntryRanges
 pub mod Areas
 pub mod Spans
+pub mod Totals
 pub mod Live
 pub mod Functions
+pub mod UnitRanges
+pub mod Files

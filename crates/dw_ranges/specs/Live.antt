@@ -1,6 +1,6 @@
 -- Chapter: which ranges are of the program's code. A linker that drops a function leaves its entry, with addresses such
 -- as 0 (this project's choice: the addresses of such a range are no code, and violate no rule).
-use Rattle.std.specs.Prelude.{◌≡◌, ℕ, List, Bool, not, ◌&&◌, nat_lt, nat_le, AllPairs, filter, count_by}
+use Rattle.std.specs.Prelude.{◌≡◌, ℕ, List, Bool, not, ◌&&◌, nat_lt, nat_le, AllPairs, filter, count_by, length}
 use Rattle.std.specs.Prelude.{◌↔◌, ◌⊎◌, ◌+◌, ◌<◌, ◌≤◌, Ok, Err}
 use Rattle.std.specs.List.{list_any}
 use Rattle.dw_entries.specs.Entries.{Entry}
@@ -11,6 +11,7 @@ use Rattle.dw_ranges.specs.declared.bounds.RangeSections.{RangeSections}
 use Rattle.dw_ranges.specs.declared.fault.RangeFault.{RangeFault}
 use Rattle.dw_ranges.specs.declared.range.Range.{Range}
 use Rattle.dw_ranges.specs.declared.rule.RangeRule.TheVariants.{RangesMeet, ListBudget}
+use Rattle.dw_ranges.specs.declared.totals.RangeCounts.{RangeCounts}
 
 -- whether a range has an address
 abbrev pub has_some : Range → Bool
@@ -38,13 +39,13 @@ AreApart ranges = AllPairs (λ r s. (a : ℕ) → IsIn a r → IsIn a s → (r.l
 
 module _ (sections : RangeSections) (unit : UnitAddresses) (code : List Range) (e : Entry) (budget : ℕ) where
   -- the live ranges of an entry are apart, these areas have their addresses and no others, so many bytes of the budget
-  -- are left after the entry's range list, and so many ranges are dead
-  pub record AreCodeOf (areas : List Range) (left dead : ℕ) : Type 0 where
+  -- are left after the entry's range list, and it has so many ranges and dead ones
+  pub record AreCodeOf (areas : List Range) (left : ℕ) (counts : RangeCounts) : Type 0 where
     pub ranges : List Range
     pub bytes : ℕ
     pub are : entry_ranges sections unit e ≡ Ok (ranges, bytes)
     pub budgeted : budget ≡ bytes + left
-    pub count : dead ≡ count_by (is_dead code) ranges
+    pub count : counts ≡ record { ranges = length ranges; dead = count_by (is_dead code) ranges }
     pub apart : AreApart (live_ranges code ranges)
     pub are_areas : AreAreas areas
     pub same : (a : ℕ) → Has areas a ↔ Has (live_ranges code ranges) a

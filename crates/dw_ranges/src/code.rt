@@ -13,6 +13,7 @@ use crate::live::keep_live;
 use crate::range::Range;
 use crate::rule::RangeRule;
 use crate::spans::{Span, order};
+use crate::totals::RangeCounts;
 use crate::unit::ranges_of_entry;
 use dw_entries::{EntryAt, Stop};
 use std::alloc::AllocFailed;
@@ -34,9 +35,10 @@ fn are_apart(ranges: &[Range], spans: &mut Vec<Span>) -> Result<bool, AllocFaile
     Ok(order(spans.as_mut_slice()).is_none())
 }
 
-/// Makes `ranges` the areas of an entry's live ranges, and returns how many of its ranges are dead. `unit` is that of
-/// its unit. The range list that an entry names takes its bytes from `budget`, so that calls with one budget read no
-/// more bytes of lists than it has before the first fault, however many entries name a list. Overwrites `spans`.
+/// Makes `ranges` the areas of an entry's live ranges, and returns how many ranges it has, and how many of them are
+/// dead. `unit` is that of its unit. The range list that an entry names takes its bytes from `budget`, so that calls
+/// with one budget read no more bytes of lists than it has before the first fault, however many entries name a list.
+/// Overwrites `spans`.
 pub fn code_of_entry(
     sections: &RangeSections<'_>,
     unit: &UnitAddresses<'_>,
@@ -45,7 +47,7 @@ pub fn code_of_entry(
     budget: &mut usize,
     ranges: &mut Vec<Range>,
     spans: &mut Vec<Span>,
-) -> Result<usize, Stop<RangeFault>>
+) -> Result<RangeCounts, Stop<RangeFault>>
     requires { AreAreas code.now }
     ensures found { IfOk result
         (AreCodeOf sections.now unit.now code.now entry.now budget.old ranges.new.items budget.new) }
@@ -61,6 +63,7 @@ pub fn code_of_entry(
         }));
     }
     *budget -= bytes;
+    let count = ranges.len();
     let dead = keep_live(code, ranges);
     if !are_apart(ranges, spans)? {
         return Err(Stop::Fault(RangeFault {
@@ -69,7 +72,10 @@ pub fn code_of_entry(
         }));
     }
     join(ranges);
-    Ok(dead)
+    Ok(RangeCounts {
+        ranges: count,
+        dead,
+    })
 }
 
 /// Whether areas have every address that some ranges have.

@@ -1,18 +1,10 @@
-//! The functions of a unit with the addresses of their code (DWARF 5, 3.3), and the rules on these.
+//! The functions of a unit with the addresses of their code (DWARF 5, 3.3), one entry after another.
 
-ghost use Rattle.std.specs.Prelude.{◌≡◌, ◌++◌, ◌+◌, ◌-◌, ◌^◌, ◌<◌, ◌≤◌, ◌∷◌, [], List, ℕ, Ok, Err, Some, IfErr};
-ghost use Rattle.std.specs.Prelude.{OnOk};
-ghost use Rattle.std.specs.Prelude.{All, AllPairs, IsPermutation, length, map, slice_range};
-ghost use Rattle.dw_entries.specs.Views.{all_entries};
+ghost use Rattle.std.specs.Prelude.{◌≡◌, ◌++◌, ◌+◌, ◌-◌, ◌^◌, ◌<◌, ◌≤◌, ◌∷◌, [], List, IfErr, OnOk, map};
 ghost use Rattle.dw_forms.specs.Stops.{IfFault};
 ghost use Rattle.dw_ranges.specs.Areas.{AreAreas};
-ghost use Rattle.dw_ranges.specs.Functions.{AreInside, HasFunctions, IsInside, IsMeeting, Reads, Refuses, Starts};
-ghost use Rattle.dw_ranges.specs.Functions.{Takes};
-ghost use Rattle.dw_ranges.specs.Functions.{Violates, group_with, home_of, known_of, meeting, outer_of, scope_at};
-ghost use Rattle.dw_ranges.specs.Functions.{scope_of, scopes_of};
-ghost use Rattle.dw_ranges.specs.Functions.{span_in, outside as outside_rule};
-ghost use Rattle.dw_ranges.specs.Live.{CodeFails};
-ghost use Rattle.dw_ranges.specs.Spans.{Agree, AreOrdered, IsSpan};
+ghost use Rattle.dw_ranges.specs.Functions.{AreInside, IsInside, Refuses, Takes, group_with, home_of, known_of};
+ghost use Rattle.dw_ranges.specs.Functions.{outer_of, outside as outside_rule, scope_at, scope_of, scopes_of, span_in};
 ghost use Rattle.dw_ranges.specs.declared.range.Range.{Range as AnyRange};
 
 use crate::addresses::UnitAddresses;
@@ -21,8 +13,9 @@ use crate::code::{code_of_entry, contain};
 use crate::fault::RangeFault;
 use crate::range::Range;
 use crate::rule::RangeRule;
-use crate::spans::{Span, order};
-use dw_entries::{Entries, EntryAt, EntryId, Stop, Tag};
+use crate::spans::Span;
+use crate::totals::{Totals, with_entry};
+use dw_entries::{EntryAt, EntryId, Stop, Tag};
 use std::alloc::{AllocError, AllocFailed};
 
 /// DW_TAG_subprogram
@@ -52,7 +45,7 @@ pub struct UnitFunctions {
 }
 
 /// The function that an entry of the unit is or is in, by how many entries of the unit are before it.
-fn inside_at(known: &UnitFunctions, k: usize) -> Inside
+pub(crate) fn inside_at(known: &UnitFunctions, k: usize) -> Inside
     requires { AreInside known.now }
     ensures scope { scope_of known.now.areas.items result ≡ scope_at (scopes_of known.now) k }
     ensures is { IsInside known.now.areas.items result }
@@ -131,7 +124,11 @@ fn push_spans(
 }
 
 /// Appends the areas of the unit or of a function, as the function that the next entry is.
-fn push_inside(known: &mut UnitFunctions, group: usize, areas: &[Range]) -> Result<(), AllocError>
+pub(crate) fn push_inside(
+    known: &mut UnitFunctions,
+    group: usize,
+    areas: &[Range],
+) -> Result<(), AllocError>
     requires inside { AreInside known.old }
     requires areas { AreAreas areas.now }
     ensures inside { OnOk result (AreInside known.new) }
@@ -175,14 +172,14 @@ fn push_outer(known: &mut UnitFunctions, outer: Inside) -> Result<(), AllocError
 
 /// Reads the entry with a number, which is not the first one of its unit, that of number `first`. Overwrites `ranges`
 /// and `spans`.
-fn read_entry(
+pub(crate) fn read_entry(
     sections: &RangeSections<'_>,
     unit: &UnitAddresses<'_>,
     code: &[Range],
     first: usize,
     number: usize,
     entry: &EntryAt<'_, '_>,
-    budget: &mut usize,
+    totals: &mut Totals,
     known: &mut UnitFunctions,
     ranges: &mut Vec<Range>,
     spans: &mut Vec<Span>,
@@ -191,17 +188,18 @@ fn read_entry(
     requires number { number < 2 ^ 64 - 1 }
     requires inside { AreInside known.old }
     ensures inside { OnOk result (AreInside known.new) }
-    ensures found { OnOk result (Takes sections.now unit.now code.now first (known_of known.old budget.old) number
-        entry.now (known_of known.new budget.new)) }
+    ensures found { OnOk result (Takes sections.now unit.now code.now first (known_of known.old totals.old) number
+        entry.now (known_of known.new totals.new)) }
     ensures fault { IfErr result (IfFault
-        (Refuses sections.now unit.now code.now first (known_of known.old budget.old) entry.now)) }
-    ensures less { budget.new ≤ budget.old }
+        (Refuses sections.now unit.now code.now first (known_of known.old totals.old) entry.now)) }
+    ensures less { totals.new.left ≤ totals.old.left }
 {
-    code_of_entry(sections, unit, code, entry, budget, ranges, spans)?;
+    let counts = code_of_entry(sections, unit, code, entry, &mut totals.left, ranges, spans)?;
     let outer = outer_of_entry(known, first, entry.parent());
     let tag = entry.tag();
     let Some(group) = group_of_entry(tag, outer.group, ranges) else {
         push_outer(known, outer)?;
+        *totals = with_entry(*totals, counts, None);
         return Ok(());
     };
     let home = home_of_entry(known, tag, outer);
@@ -213,145 +211,7 @@ fn read_entry(
     }
     push_inside(known, number + 1, ranges)?;
     push_spans(&mut known.spans, ranges, group, number)?;
+    let after = with_entry(*totals, counts, Some(group));
+    *totals = after;
     Ok(())
-}
-
-/// Reads the entries of a unit after its first one, that of number `first`, up to the one before the number `end`.
-/// Overwrites `ranges` and `spans`.
-fn read_entries(
-    sections: &RangeSections<'_>,
-    unit: &UnitAddresses<'_>,
-    code: &[Range],
-    entries: &Entries<'_>,
-    first: usize,
-    end: usize,
-    budget: &mut usize,
-    known: &mut UnitFunctions,
-    ranges: &mut Vec<Range>,
-    spans: &mut Vec<Span>,
-) -> Result<(), Stop<RangeFault>>
-    requires code { AreAreas code.now }
-    requires some { first < end }
-    requires within { end ≤ length (all_entries entries.now) }
-    requires inside { AreInside known.old }
-    ensures found { OnOk result (Reads sections.now unit.now code.now first (known_of known.old budget.old) (first + 1)
-        (slice_range (all_entries entries.now) (first + 1) end) (Ok (known_of known.new budget.new))) }
-    ensures fault { IfErr result (IfFault (λ fault. Reads sections.now unit.now code.now first
-        (known_of known.old budget.old) (first + 1) (slice_range (all_entries entries.now) (first + 1) end)
-        (Err fault))) }
-    ensures less { budget.new ≤ budget.old }
-{
-    for number in first + 1..end {
-        let entry = entries.at(entries.id(number));
-        match read_entry(
-            sections, unit, code, first, number, &entry, budget, known, ranges, spans,
-        ) {
-            Ok(()) => {}
-            Err(stop) => return Err(stop),
-        }
-    }
-    Ok(())
-}
-
-/// Reads the first entry of a unit: its areas are those of the unit. Overwrites `ranges` and `spans`.
-fn read_first(
-    sections: &RangeSections<'_>,
-    unit: &UnitAddresses<'_>,
-    code: &[Range],
-    entry: &EntryAt<'_, '_>,
-    budget: &mut usize,
-    known: &mut UnitFunctions,
-    ranges: &mut Vec<Range>,
-    spans: &mut Vec<Span>,
-) -> Result<(), Stop<RangeFault>>
-    requires { AreAreas code.now }
-    ensures inside { OnOk result (AreInside known.new) }
-    ensures found { OnOk result
-        (Starts sections.now unit.now code.now entry.now budget.old (known_of known.new budget.new)) }
-    ensures fault { IfErr result (IfFault (CodeFails sections.now unit.now code.now entry.now budget.old)) }
-    ensures less { budget.new ≤ budget.old }
-{
-    known.inside.clear();
-    known.areas.clear();
-    known.spans.clear();
-    code_of_entry(sections, unit, code, entry, budget, ranges, spans)?;
-    push_inside(known, 0, ranges)?;
-    Ok(())
-}
-
-/// The rule that two spans of a group violate if they do not agree.
-fn meeting_rule(group: usize) -> RangeRule
-    ensures { result ≡ meeting group }
-{
-    if group == 0 {
-        RangeRule::FunctionsMeet
-    } else {
-        RangeRule::InlinedMeet
-    }
-}
-
-/// Puts the spans of a unit in order, unless two do not agree.
-fn order_spans(entries: &Entries<'_>, spans: &mut [Span]) -> Result<(), RangeFault>
-    requires each { All IsSpan spans.old }
-    requires within { All (λ s. s.function < length (all_entries entries.now)) spans.old }
-    ensures permutation { IsPermutation spans.old spans.new }
-    ensures ordered { OnOk result (AreOrdered spans.new) }
-    ensures agree { OnOk result (AllPairs Agree spans.old) }
-    ensures fault { IfErr result (IsMeeting (all_entries entries.now) spans.old spans.new) }
-{
-    match order(spans) {
-        None => Ok(()),
-        Some(number) => {
-            let span = spans[number];
-            Err(RangeFault {
-                rule: meeting_rule(span.group),
-                at: entries.offset(entries.id(span.function)),
-            })
-        }
-    }
-}
-
-/// Reads the functions of a unit, of which the first entry has the number `first`, and the last one is that before the
-/// number `end`; `unit` is what its addresses are read by, and `code` are the areas of the program's code. A range list
-/// takes its bytes from `budget` each time that an entry names it: apart from sorting and binary searches, the time of
-/// all units with one budget is linear in it and in the entries. Afterwards the spans are in order, for `functions_at`.
-/// Of the rules that are violated the first one is returned: of X1 to X10 and X13 by the order of the entries, then of
-/// X11 and X12 by addresses. Overwrites `known`, `ranges` and `spans`.
-pub fn functions_of_unit(
-    sections: &RangeSections<'_>,
-    unit: &UnitAddresses<'_>,
-    code: &[Range],
-    entries: &Entries<'_>,
-    first: usize,
-    end: usize,
-    budget: &mut usize,
-    known: &mut UnitFunctions,
-    ranges: &mut Vec<Range>,
-    spans: &mut Vec<Span>,
-) -> Result<(), Stop<RangeFault>>
-    requires code { AreAreas code.now }
-    requires some { first < end }
-    requires within { end ≤ length (all_entries entries.now) }
-    ensures found { OnOk result (HasFunctions sections.now unit.now code.now first (all_entries entries.now) end
-        budget.old (known_of known.new budget.new)) }
-    ensures fault { IfErr result (IfFault
-        (Violates sections.now unit.now code.now first (all_entries entries.now) end budget.old)) }
-    ensures few { OnOk result (All (λ s. s.function < 2 ^ 64 - 1) known.new.spans.items) }
-    ensures less { budget.new ≤ budget.old }
-{
-    let entry = entries.at(entries.id(first));
-    match read_first(sections, unit, code, &entry, budget, known, ranges, spans) {
-        Ok(()) => {}
-        Err(stop) => return Err(stop),
-    }
-    match read_entries(
-        sections, unit, code, entries, first, end, budget, known, ranges, spans,
-    ) {
-        Ok(()) => {}
-        Err(stop) => return Err(stop),
-    }
-    match order_spans(entries, known.spans.as_mut_slice()) {
-        Ok(()) => Ok(()),
-        Err(fault) => Err(Stop::Fault(fault)),
-    }
 }

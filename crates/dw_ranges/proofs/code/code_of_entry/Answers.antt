@@ -1,4 +1,4 @@
-use Rattle.std.proofs.Common.{ℕ, ◌<◌, ◌↔◌, List, inr, sym, ap, ◌∙◌, subst, arith}
+use Rattle.std.proofs.Common.{◌≡◌, ℕ, length, ◌<◌, ◌↔◌, List, inr, sym, ap, ◌∙◌, subst, arith}
 use Rattle.std.specs.Prelude.{All}
 use Rattle.std.proofs.lemmas.Bool.{iff_false}
 use Rattle.dw_ranges.specs.Areas.{Has}
@@ -37,6 +37,7 @@ returns-then-not-branch-clause-fault c =
 pub returns-clause-found : goal.returns-clause-found
 returns-clause-found c =
     let all = c.ranges_of_entry.new.ranges.items in
+    let long : c.len-count.result ≡ length all = omega (arith, c.ranges_of_entry.new.ranges.ok.0) in
     let bytes = c.in_ok-bytes.bytes in
     let same = c.deref.ensures.value ∙ c.keep_live-dead.ensures.kept in
     record {
@@ -46,7 +47,7 @@ returns-clause-found c =
           (entry_ranges c.args.sections.now c.args.unit.now c.args.entry.now) all bytes
           c.in_ok-bytes.ensures.exact;
       budgeted = omega arith;
-      count = c.keep_live-dead.ensures.dead;
+      count = λ t. record { ranges = long t; dead = c.keep_live-dead.ensures.dead t };
       apart = subst AreApart same (c.in_ok-are_apart.ensures.0 c.if-not-branch.false);
       are_areas = c.join.ensures.areas;
       same = subst (λ (l : List Range). (a : ℕ) → Has c.join.new.ranges.items a ↔ Has l a) c.keep_live-dead.ensures.kept

@@ -10,23 +10,23 @@ use Rattle.dw_ranges.proofs.functions.read_entry.Goals as goal
 pub returns-then-not-contain-clause-fault : goal.returns-then-not-contain-clause-fault
 returns-then-not-contain-clause-fault c =
     let a = c.args in
-    let k = known_of a.known.now a.budget.now in
+    let k = known_of a.known.now a.totals.now in
     let all = a.known.now.areas.items in
     let areas = c.code_of_entry.new.ranges.items in
     let left = c.code_of_entry.new.budget in
-    let dead = c.in_ok-code_of_entry.field-0 in
-    let are = c.in_ok-code_of_entry.ensures.found in
+    let counts = c.in_ok-counts.counts in
+    let are = c.in_ok-counts.ensures.found in
     let o = c.outer_of_entry-outer.result in
     let h = c.home_of_entry-home.result in
     let is_outer = c.outer_of_entry-outer.ensures.scope ∙ ap (outer_of k.scopes a.first) c.parent.ensures in
     let group =
-    is_group a.sections.now a.unit.now a.code.now a.first a.number k a.entry.now areas left dead are c.tag-tag.result
+    is_group a.sections.now a.unit.now a.code.now a.first a.number k a.entry.now areas left counts are c.tag-tag.result
     (scope_of all o) c.deref.result.now c.group_of_entry.result c.tag-tag.ensures is_outer c.deref.ensures.value
     (c.group_of_entry.ensures (slice_range all o.first o.end)) in
     let home =
-    is_home a.sections.now a.unit.now a.code.now a.first a.number k a.entry.now areas left dead are c.tag-tag.result
+    is_home a.sections.now a.unit.now a.code.now a.first a.number k a.entry.now areas left counts are c.tag-tag.result
     (scope_of all o) (scope_of all h) c.tag-tag.ensures is_outer c.home_of_entry-home.ensures.scope in
-    refuses_outside a.sections.now a.unit.now a.code.now a.first a.number k a.entry.now areas left dead are
+    refuses_outside a.sections.now a.unit.now a.code.now a.first a.number k a.entry.now areas left counts are
     c.outside.result c.offset.result c.in-Some.group (sym group ∙ c.in-Some.is)
     (λ part.
     let here : ArePart areas (scope_of all h) = subst (ArePart areas) (sym home) part in
@@ -40,22 +40,22 @@ returns-then-not-contain-clause-fault c =
 pub returns-clause-found : goal.returns-clause-found
 returns-clause-found c =
     let a = c.args in
-    let k = known_of a.known.now a.budget.now in
+    let k = known_of a.known.now a.totals.now in
     let all = a.known.now.areas.items in
     let areas = c.code_of_entry.new.ranges.items in
     let left = c.code_of_entry.new.budget in
-    let dead = c.in_ok-code_of_entry.field-0 in
-    let are = c.in_ok-code_of_entry.ensures.found in
+    let counts = c.in_ok-counts.counts in
+    let are = c.in_ok-counts.ensures.found in
     let o = c.outer_of_entry-outer.result in
     let h = c.home_of_entry-home.result in
     let g = c.in-Some.group in
     let is_outer = c.outer_of_entry-outer.ensures.scope ∙ ap (outer_of k.scopes a.first) c.parent.ensures in
     let group =
-    is_group a.sections.now a.unit.now a.code.now a.first a.number k a.entry.now areas left dead are c.tag-tag.result
+    is_group a.sections.now a.unit.now a.code.now a.first a.number k a.entry.now areas left counts are c.tag-tag.result
     (scope_of all o) c.deref.result.now c.group_of_entry.result c.tag-tag.ensures is_outer c.deref.ensures.value
     (c.group_of_entry.ensures (slice_range all o.first o.end)) in
     let home =
-    is_home a.sections.now a.unit.now a.code.now a.first a.number k a.entry.now areas left dead are c.tag-tag.result
+    is_home a.sections.now a.unit.now a.code.now a.first a.number k a.entry.now areas left counts are c.tag-tag.result
     (scope_of all o) (scope_of all h) c.tag-tag.ensures is_outer c.home_of_entry-home.ensures.scope in
     let said = c.if-not-contain.ensures.0 refl in
     let there = subst (λ (l : List Range). (x : ℕ) → Has c.deref-3.result.now x → Has (slice_range l h.first h.end) x)
@@ -63,8 +63,9 @@ returns-clause-found c =
     let here : ArePart areas (scope_of all h) =
     subst (λ (l : List Range). (x : ℕ) → Has l x → Has (slice_range all h.first h.end) x) c.deref-3.ensures.value there
     in
-    takes_some a.sections.now a.unit.now a.code.now a.first a.number k a.entry.now areas left dead are
-    (scopes_of c.push_inside.new.known) c.push_spans.new.spans.items g (sym group ∙ c.in-Some.is)
+    takes_some a.sections.now a.unit.now a.code.now a.first a.number k a.entry.now areas left counts are
+    (scopes_of c.push_inside.new.known) c.push_spans.new.spans.items c.with_entry-after.result g
+    (sym group ∙ c.in-Some.is) c.with_entry-after.ensures
     (subst (ArePart areas) home here)
     (c.in_ok-push_inside.ensures.scopes
     ∙ ap (λ (l : List Range). k.scopes ++ (let s : Scope = record { group = a.number + 1; areas = l } in s) ∷ [])

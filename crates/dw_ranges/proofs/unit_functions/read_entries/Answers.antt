@@ -4,14 +4,14 @@ use Rattle.dw_entries.specs.Entries.{Entry}
 use Rattle.dw_entries.specs.Views.{all_entries}
 use Rattle.dw_ranges.specs.Functions.{Reads, Refuses, Takes, known_of}
 use Rattle.dw_ranges.proofs.FunctionLemmas.{fault_then, slice_step}
-use Rattle.dw_ranges.proofs.functions.read_entries.Goals as goal
+use Rattle.dw_ranges.proofs.unit_functions.read_entries.Goals as goal
 
 pub returns-in-Err-clause-fault : goal.returns-in-Err-clause-fault
 returns-in-Err-clause-fault c =
     let a = c.args in
     let all = all_entries a.entries.now in
     let n = c.loop-number.number in
-    let k = known_of c.loop-number.known c.loop-number.budget in
+    let k = known_of c.loop-number.known c.loop-number.totals in
     let e : c.at-entry.result ≡ entry_of all n = c.at-entry.ensures ∙ ap (entry_of all) c.id.ensures in
     let step = slice_step all n a.end no_entry (omega arith) c.requires.within in
     fault_then c.in-Err.stop c.in-Err.ensures.fault (λ f refuses.
@@ -24,8 +24,8 @@ loop-number-preserved c =
     let a = c.args in
     let all = all_entries a.entries.now in
     let n = c.loop-number.number in
-    let k = known_of c.loop-number.known c.loop-number.budget in
-    let after = known_of c.read_entry.new.known c.read_entry.new.budget in
+    let k = known_of c.loop-number.known c.loop-number.totals in
+    let after = known_of c.read_entry.new.known c.read_entry.new.totals in
     let e : c.at-entry.result ≡ entry_of all n = c.at-entry.ensures ∙ ap (entry_of all) c.id.ensures in
     let step = slice_step all n a.end no_entry (omega arith) c.requires.within in (
       c.in-Ok.ensures.inside,

@@ -3,12 +3,12 @@ use Rattle.std.specs.Prelude.{slice_range}
 use Rattle.dw_entries.specs.Views.{all_entries}
 use Rattle.dw_ranges.specs.Functions.{AreInside, Known, Reads, known_of}
 use Rattle.dw_ranges.specs.declared.fault.RangeFault.{RangeFault}
-use Rattle.dw_ranges.proofs.functions.read_entries.Given as goal
+use Rattle.dw_ranges.proofs.unit_functions.read_entries.Given as goal
 
 abbrev pub invariant-loop-number : goal.invariant-loop-number
 invariant-loop-number l =
-    AreInside l.known × (l.budget ≤ l.initial.budget) × ((r : Result Known RangeFault)
-    → Reads l.sections l.unit l.code l.first (known_of l.known l.budget) l.number
+    AreInside l.known × (l.totals.left ≤ l.initial.totals.left) × ((r : Result Known RangeFault)
+    → Reads l.sections l.unit l.code l.first (known_of l.known l.totals) l.number
     (slice_range (all_entries l.entries) l.number l.end) r
-    → Reads l.sections l.unit l.code l.first (known_of l.initial.known l.initial.budget) (l.first + 1)
+    → Reads l.sections l.unit l.code l.first (known_of l.initial.known l.initial.totals) (l.first + 1)
     (slice_range (all_entries l.entries) (l.first + 1) l.end) r)

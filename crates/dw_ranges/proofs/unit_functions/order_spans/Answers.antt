@@ -3,7 +3,7 @@ use Rattle.std.proofs.lemmas.List.Sorted.{All-permutation}
 use Rattle.dw_entries.specs.Views.{all_entries}
 use Rattle.dw_ranges.specs.declared.spans.Span.{Span}
 use Rattle.dw_ranges.proofs.SpanLemmas.{no_span}
-use Rattle.dw_ranges.proofs.functions.order_spans.Goals as goal
+use Rattle.dw_ranges.proofs.unit_functions.order_spans.Goals as goal
 
 pub id-requires : goal.id-requires
 id-requires c =

@@ -1,0 +1,411 @@
+//! Which functions have an address, as `dw_ranges` returns them, and a smallest unit that violates each rule.
+
+ghost use Rattle.std.specs.Prelude.{◌-◌, ◌^◌, ◌<◌, All, IsTrue};
+ghost use Rattle.dw_ranges.specs.Spans.{IsSpan};
+
+use dw_entries::{Entries, Sections, Stop, scan};
+use dw_ranges::{
+    Range, RangeSections, Span, Totals, UnitFunctions, UnitRange, first_units, functions_at,
+    functions_of_file, functions_of_unit, join, order, unit_at,
+};
+use std::alloc::{AllocError, Global};
+use std::test::Fail;
+
+/// A span: its group, its addresses, its function.
+fn span(group: usize, low: u64, high: u64, function: usize) -> Span {
+    Span {
+        group,
+        low,
+        high,
+        function,
+    }
+}
+
+/// Whether a span has an address, and its function comes after the one that it is inlined in.
+fn is_span(span: &Span) -> bool
+    ensures { IsTrue result → IsSpan span.now × (span.now.function < 2 ^ 64 - 1) }
+{
+    span.low < span.high && span.group <= span.function && span.function < usize::MAX
+}
+
+/// Whether all are spans.
+fn are_spans(spans: &[Span]) -> bool
+    ensures each { IsTrue result → All IsSpan spans.now }
+    ensures few { IsTrue result → All (λ s. s.function < 2 ^ 64 - 1) spans.now }
+{
+    for span in spans {
+        if !is_span(span) {
+            return false;
+        }
+    }
+    true
+}
+
+/// A copy of spans.
+fn copied(alloc: Global, spans: &[Span]) -> Result<Vec<Span>, AllocError> {
+    let mut all = Vec::new(alloc);
+    all.extend_from_slice(spans)?;
+    Ok(all)
+}
+
+/// Puts spans in order, and returns the number of the first one that does not agree with the one before it.
+fn order_of(spans: &mut [Span]) -> Result<Option<usize>, Fail> {
+    if !are_spans(spans) {
+        return Err("a span without address".into());
+    }
+    Ok(order(spans))
+}
+
+/// The functions that have an address.
+fn chain_at(alloc: Global, spans: &mut [Span], address: u64) -> Result<Vec<usize>, Fail> {
+    if !are_spans(spans) {
+        return Err("a span without address".into());
+    }
+    if let Some(_) = order(spans) {
+        return Err("functions that meet".into());
+    }
+    if !are_spans(spans) {
+        return Err("a span without address".into());
+    }
+    let mut functions = Vec::new(alloc);
+    functions_at(spans, address, &mut functions)?;
+    Ok(functions)
+}
+
+// Functions of one group share no address, but two that are not inlined may have one range.
+#[test]
+fn functions_that_meet(rt: HostRuntime) -> Result<(), Fail> {
+    let rows: [(&[Span], Option<usize>); 7] = [
+        (
+            &[span(0, 5, 9, 2), span(0, 1, 5, 0), span(1, 2, 4, 1)],
+            None,
+        ),
+        (
+            &[span(0, 1, 5, 0), span(0, 1, 5, 1), span(0, 5, 6, 2)],
+            None,
+        ),
+        (
+            &[span(0, 1, 5, 0), span(0, 1, 6, 1), span(0, 7, 8, 2)],
+            Some(1),
+        ),
+        (
+            &[span(0, 1, 5, 0), span(0, 4, 6, 1), span(0, 7, 8, 2)],
+            Some(1),
+        ),
+        (
+            &[span(0, 1, 9, 0), span(1, 2, 4, 1), span(1, 3, 5, 2)],
+            Some(2),
+        ),
+        (
+            &[span(0, 1, 9, 0), span(1, 2, 4, 1), span(1, 2, 4, 2)],
+            Some(2),
+        ),
+        (
+            &[span(0, 1, 9, 0), span(1, 2, 4, 1), span(2, 2, 4, 2)],
+            None,
+        ),
+    ];
+    for (spans, want) in rows {
+        let mut all = copied(rt.alloc(), spans)?;
+        assert_eq!(rt; order_of(all.as_mut_slice())?, want, "{spans:?}");
+    }
+    Ok(())
+}
+
+// The functions at an address, each inlined in the one before it.
+#[test]
+fn functions_by_address(rt: HostRuntime) -> Result<(), Fail> {
+    let alloc = rt.alloc();
+    let spans = [
+        span(0, 10, 20, 0),
+        span(1, 12, 18, 1),
+        span(2, 12, 14, 2),
+        span(2, 15, 16, 3),
+        span(0, 20, 30, 4),
+        span(0, 20, 30, 5),
+        span(6, 25, 26, 6),
+    ];
+    let rows: [(u64, &[usize]); 10] = [
+        (9, &[]),
+        (10, &[0]),
+        (12, &[0, 1, 2]),
+        (14, &[0, 1]),
+        (15, &[0, 1, 3]),
+        (18, &[0]),
+        (20, &[5]),
+        (25, &[5, 6]),
+        (29, &[5]),
+        (30, &[]),
+    ];
+    for (address, want) in rows {
+        let mut all = copied(alloc, &spans)?;
+        let functions = chain_at(alloc, all.as_mut_slice(), address)?;
+        assert_eq!(rt; functions.as_slice(), want, "{address}");
+    }
+    Ok(())
+}
+
+/// A unit, a function and an inlined function, each with children, with DW_AT_low_pc of 4 bytes and DW_AT_high_pc of 1.
+/// And a function with DW_AT_ranges.
+const TABLE: [u8; 36] = [
+    1, 0x11, 1, 0x11, 1, 0x12, 0x0b, 0, 0, //
+    2, 0x2e, 1, 0x11, 1, 0x12, 0x0b, 0, 0, //
+    3, 0x1d, 1, 0x11, 1, 0x12, 0x0b, 0, 0, //
+    4, 0x2e, 1, 0x55, 0x17, 0, 0, 0, 0,
+];
+
+/// Two ranges of version 4: 2 up to 5 and 4 up to 6, from the base address 0x10. At the offset 16 is a list of no
+/// ranges.
+const MEETING: [u8; 24] = [
+    2, 0, 0, 0, 5, 0, 0, 0, 4, 0, 0, 0, 6, 0, 0, 0, 0, 0, 0, 0, 0, 0, 0, 0,
+];
+
+/// A unit from 0x10 up to 0x30 with these entries.
+fn push_unit(info: &mut Vec<u8>, items: &[u8]) -> Result<(), Fail> {
+    let length = u8::try_from(items.len() + 14).ok().ok_or("too long")?;
+    info.extend_from_slice(&[length, 0, 0, 0, 4, 0, 0, 0, 0, 0, 4, 1, 0x10, 0, 0, 0, 0x20])?;
+    info.extend_from_slice(items)?;
+    info.push(0)?;
+    Ok(())
+}
+
+/// The range lists of the units.
+const LISTS: RangeSections<'static> = RangeSections {
+    rnglists: &[],
+    ranges: &MEETING,
+};
+
+/// The areas of the program's code.
+fn code_areas(alloc: Global) -> Result<Vec<Range>, AllocError> {
+    let mut code = Vec::new(alloc);
+    code.push(Range {
+        low: 0x10,
+        high: 0x40,
+    })?;
+    join(&mut code);
+    Ok(code)
+}
+
+/// The functions that have the address 0x13 in a unit from 0x10 up to 0x30 with these entries, where the code is from
+/// 0x10 up to 0x40, and 24 bytes of range lists may be read, and how many ranges are dead; or the code of the rule, and
+/// the offset of the entry.
+fn functions_of(
+    alloc: Global,
+    items: &[u8],
+) -> Result<Result<(Vec<usize>, usize), (&'static str, u32)>, Fail> {
+    let mut info: Vec<u8> = Vec::new(alloc);
+    push_unit(&mut info, items)?;
+    let sections = Sections::new(&TABLE, &info, &[], &[], &[], &[])
+        .ok()
+        .ok_or("too large")?;
+    let entries = scan(alloc, &sections).ok().ok_or("a fault")?;
+    if entries.unit_count() == 0 {
+        return Err("no unit".into());
+    }
+    let code = code_areas(alloc)?;
+    let mut known = UnitFunctions {
+        inside: Vec::new(alloc),
+        areas: Vec::new(alloc),
+        spans: Vec::new(alloc),
+    };
+    let mut ranges: Vec<Range> = Vec::new(alloc);
+    let mut spans: Vec<Span> = Vec::new(alloc);
+    let mut totals = Totals {
+        left: 24,
+        ranges: 0,
+        functions: 0,
+        inlined: 0,
+        dead: 0,
+    };
+    match functions_of_unit(
+        &LISTS,
+        &code,
+        &entries,
+        0,
+        &mut totals,
+        &mut known,
+        &mut ranges,
+        &mut spans,
+    ) {
+        Ok(()) => {
+            let mut functions = Vec::new(alloc);
+            functions_at(&known.spans, 0x13, &mut functions)?;
+            Ok(Ok((functions, totals.dead)))
+        }
+        Err(Stop::Memory) => Err("out of memory".into()),
+        Err(Stop::Fault(fault)) => Ok(Err((fault.rule.code(), fault.at))),
+    }
+}
+
+// A chain of functions, dead ones, and a unit for each of the rules X8 to X13. A list of 8 bytes counts each time that
+// an entry names it.
+#[test]
+fn functions(rt: HostRuntime) -> Result<(), Fail> {
+    let rows: [(&[u8], Result<(&[usize], usize), (&str, u32)>); 11] = [
+        (&[], Ok((&[], 0))),
+        (
+            &[2, 0x10, 0, 0, 0, 8, 3, 0x12, 0, 0, 0, 4, 0, 0],
+            Ok((&[1, 2], 0)),
+        ),
+        (&[3, 0x12, 0, 0, 0, 4, 0], Ok((&[], 0))),
+        (&[2, 0, 0, 0, 0, 8, 3, 2, 0, 0, 0, 4, 0, 0], Ok((&[], 2))),
+        (
+            &[2, 0x12, 0, 0, 0, 4, 0, 2, 0x12, 0, 0, 0, 4, 0],
+            Ok((&[2], 0)),
+        ),
+        (&[4, 0, 0, 0, 0, 0], Err(("X8", 17))),
+        (&[2, 0x2e, 0, 0, 0, 4, 0], Err(("X9", 17))),
+        (
+            &[2, 0x10, 0, 0, 0, 8, 3, 0x16, 0, 0, 0, 4, 0, 0],
+            Err(("X10", 23)),
+        ),
+        (
+            &[2, 0x10, 0, 0, 0, 4, 0, 2, 0x12, 0, 0, 0, 4, 0],
+            Err(("X12", 24)),
+        ),
+        (
+            &[4, 16, 0, 0, 0, 0, 4, 16, 0, 0, 0, 0, 4, 16, 0, 0, 0, 0],
+            Ok((&[], 0)),
+        ),
+        (
+            &[
+                4, 16, 0, 0, 0, 0, 4, 16, 0, 0, 0, 0, 4, 16, 0, 0, 0, 0, 4, 16, 0, 0, 0, 0,
+            ],
+            Err(("X13", 35)),
+        ),
+    ];
+    for (items, want) in rows {
+        let got = functions_of(rt.alloc(), items)?;
+        match (&got, want) {
+            (Ok((functions, dead)), Ok(wanted)) => assert_eq!(rt;
+                (functions.as_slice(), *dead),
+                wanted,
+                "{items:?}"
+            ),
+            (Err(fault), Err(wanted)) => assert_eq!(rt; *fault, wanted, "{items:?}"),
+            _ => assert_eq!(rt; got.is_ok(), want.is_ok(), "{items:?}"),
+        }
+    }
+    let twice: &[u8] = &[
+        2, 0x10, 0, 0, 0, 8, 3, 0x11, 0, 0, 0, 4, 0, 3, 0x14, 0, 0, 0, 2, 0, 0,
+    ];
+    assert_eq!(rt; functions_of(rt.alloc(), twice)?.err(), Some(("X11", 30)));
+    Ok(())
+}
+
+/// A range of a unit.
+fn unit_range(low: u64, high: u64, unit: usize) -> UnitRange {
+    UnitRange { low, high, unit }
+}
+
+/// The unit of an address, of units with these ranges.
+fn unit_of(alloc: Global, ranges: &[UnitRange], address: u64) -> Result<Option<usize>, AllocError> {
+    let mut all = Vec::new(alloc);
+    all.extend_from_slice(ranges)?;
+    let mut firsts = Vec::new(alloc);
+    first_units(alloc, all.as_mut_slice(), &mut firsts)?;
+    Ok(unit_at(&firsts, address))
+}
+
+// The first unit that has an address. Units may share addresses, and be in any order.
+#[test]
+fn units_by_address(rt: HostRuntime) -> Result<(), Fail> {
+    let ranges = [
+        unit_range(20, 30, 0),
+        unit_range(5, 25, 2),
+        unit_range(10, 12, 3),
+        unit_range(8, 22, 1),
+        unit_range(40, 40, 4),
+        unit_range(50, u64::MAX, 5),
+    ];
+    let rows: [(u64, Option<usize>); 13] = [
+        (4, None),
+        (5, Some(2)),
+        (8, Some(1)),
+        (11, Some(1)),
+        (19, Some(1)),
+        (20, Some(0)),
+        (25, Some(0)),
+        (29, Some(0)),
+        (30, None),
+        (40, None),
+        (50, Some(5)),
+        (u64::MAX - 1, Some(5)),
+        (u64::MAX, None),
+    ];
+    for (address, want) in rows {
+        assert_eq!(rt; unit_of(rt.alloc(), &ranges, address)?, want, "{address}");
+    }
+    Ok(())
+}
+
+/// The unit and the functions at an address of a file with units of these entries, and what is counted: ranges,
+/// functions, inlined ones and dead ranges; or the code of the rule, and the offset of the entry.
+fn file_functions(
+    alloc: Global,
+    units: &[&[u8]],
+    address: u64,
+) -> Result<Result<(Option<usize>, Vec<usize>, [usize; 4]), (&'static str, u32)>, Fail> {
+    let mut info: Vec<u8> = Vec::new(alloc);
+    for items in units {
+        push_unit(&mut info, items)?;
+    }
+    let sections = Sections::new(&TABLE, &info, &[], &[], &[], &[])
+        .ok()
+        .ok_or("too large")?;
+    let entries: Entries<'_> = scan(alloc, &sections).ok().ok_or("a fault")?;
+    let code = code_areas(alloc)?;
+    match functions_of_file(alloc, &LISTS, &code, &entries, 24) {
+        Ok(file) => {
+            let mut functions = Vec::new(alloc);
+            let unit = file.functions_at(address, &mut functions)?;
+            let counts = [
+                file.totals.ranges,
+                file.totals.functions,
+                file.totals.inlined,
+                file.totals.dead,
+            ];
+            Ok(Ok((unit, functions, counts)))
+        }
+        Err(Stop::Memory) => Err("out of memory".into()),
+        Err(Stop::Fault(fault)) => Ok(Err((fault.rule.code(), fault.at))),
+    }
+}
+
+// The functions of the first unit that has the address; the budget is that of the whole file, and the first unit that
+// violates a rule is named.
+#[test]
+fn functions_of_files(rt: HostRuntime) -> Result<(), Fail> {
+    let chain: &[u8] = &[2, 0x10, 0, 0, 0, 8, 3, 0x12, 0, 0, 0, 4, 0, 0];
+    let dead: &[u8] = &[2, 0, 0, 0, 0, 8, 0];
+    let outside: &[u8] = &[2, 0x2e, 0, 0, 0, 4, 0];
+    let lists: &[u8] = &[4, 16, 0, 0, 0, 0, 4, 16, 0, 0, 0, 0];
+    let rows: [(&[&[u8]], u64, Option<usize>, &[usize], [usize; 4]); 6] = [
+        (&[], 0x13, None, &[], [0, 0, 0, 0]),
+        (&[chain], 0x13, Some(0), &[1, 2], [3, 1, 1, 0]),
+        (&[chain], 0x30, None, &[], [3, 1, 1, 0]),
+        (&[dead, chain], 0x13, Some(0), &[], [5, 1, 1, 1]),
+        (&[chain, chain], 0x13, Some(0), &[1, 2], [6, 2, 2, 0]),
+        (&[lists], 0x13, Some(0), &[], [1, 0, 0, 0]),
+    ];
+    for (units, address, unit, functions, counts) in rows {
+        match file_functions(rt.alloc(), units, address)? {
+            Ok((at, numbers, counted)) => assert_eq!(rt;
+                (at, numbers.as_slice(), counted),
+                (unit, functions, counts),
+                "{units:?}"
+            ),
+            Err(fault) => assert_eq!(rt; fault, ("", 0), "{units:?}"),
+        }
+    }
+    let faults: [(&[&[u8]], (&str, u32)); 3] = [
+        (&[outside, outside], ("X9", 17)),
+        (&[dead, outside], ("X9", 42)),
+        (&[lists, lists], ("X13", 53)),
+    ];
+    for (units, want) in faults {
+        let got = file_functions(rt.alloc(), units, 0x13)?.err();
+        assert_eq!(rt; got, Some(want), "{units:?}");
+    }
+    Ok(())
+}
