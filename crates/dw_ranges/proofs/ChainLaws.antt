@@ -1,6 +1,6 @@
 -- The functions that have an address are one chain.
 use Rattle.std.proofs.Common.{◌≡◌, ℕ, zero, suc, ◌+◌, ◌<◌, ◌≤◌, List, [], ◌∷◌, length, get_or}
-use Rattle.std.proofs.Common.{sym, ap, ◌∙◌, subst, arith, inl, inr, ◌⊎◌}
+use Rattle.std.proofs.Common.{refl, sym, ap, ◌∙◌, subst, arith, inl, inr, ◌⊎◌}
 use Rattle.std.specs.Prelude.{Any, Contains}
 use Rattle.std.proofs.lemmas.Bool.{cases_eq, cases_order}
 use Rattle.std.proofs.lemmas.List.{get_or_default}
@@ -81,6 +81,24 @@ module _ (spans : List Span) (a : ℕ) (ordered : AreOrdered spans) (one : HasOn
   first_on g (f ∷ fs) chain s there of =
       let u = chain.0 in
       inl (sym u.4.1 ∙ one_of g u.1 s (u.0, u.2, u.3) there u.4.0 of)
+
+  -- a group has one chain
+  one_chain : (g : ℕ) (fs gs : List ℕ) → IsChain spans g a fs → IsChain spans g a gs → fs ≡ gs
+  one_chain g [] [] p q = refl
+  one_chain g [] (h ∷ gs) p q =
+      let t = q.0 in absurd (All-contains (λ x. ¬ (IsOf g a x)) spans t.1 p (t.0, t.2, t.3) t.4.0)
+  one_chain g (f ∷ fs) [] p q =
+      let s = p.0 in absurd (All-contains (λ x. ¬ (IsOf g a x)) spans s.1 q (s.0, s.2, s.3) s.4.0)
+  one_chain g (f ∷ fs) (h ∷ gs) p q =
+      let s = p.0 in
+      let t = q.0 in
+      let same : f ≡ h =
+      sym s.4.1 ∙ one_of g s.1 t.1 (s.0, s.2, s.3) (t.0, t.2, t.3) s.4.0 t.4.0 ∙ t.4.1 in
+      let rest = one_chain (h + 1) fs gs (subst (λ n. IsChain spans (n + 1) a fs) same p.1) q.1 in
+      λ i. same i ∷ rest i
+
+  pub one_at : (fs gs : List ℕ) → IsChain spans 0 a fs → IsChain spans 0 a gs → fs ≡ gs
+  one_at fs gs p q = one_chain 0 fs gs p q
 
   all_on : AreNested spans → (n : ℕ) (fs : List ℕ) → IsChain spans 0 a fs → (s : Span) → Contains spans s → IsInSpan a s
       → s.group ≤ n → IsOn s.function fs

@@ -169,6 +169,15 @@ module _ (sections : RangeSections) (u v : UnitAddresses) (code : List Range)
         (reads_same _ p.start (first + 1) (Ok k) (Err f) p.reads
         (subst (λ (m : Known). Reads sections v code first m (first + 1) _ (Err f)) (sym start) q.reads))
 
+    pub broken_same : (f g : RangeFault) → IsBroken sections u code first entries end before f
+        → IsBroken sections v code first entries end before g → f ≡ g
+    broken_same f g p q =
+        let start = starts_same sections u v code same (entry_of entries first) before p.start q.start p.starts q.starts
+        in
+        err_is {A = Known} f g
+        (reads_same _ p.start (first + 1) (Err f) (Err g) p.reads
+        (subst (λ (m : Known). Reads sections v code first m (first + 1) _ (Err g)) (sym start) q.reads))
+
     pub started_or_fails : (s : Known) (f : RangeFault) → Starts sections u code (entry_of entries first) before s
         → CodeFails sections v code (entry_of entries first) before.left f → ⊥
     started_or_fails s f p q =

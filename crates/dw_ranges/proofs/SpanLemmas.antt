@@ -1,7 +1,8 @@
 -- Spans: which agree, and which is the one that has an address.
-use Rattle.std.proofs.Common.{◌≡◌, ℕ, ◌+◌, ◌-◌, ◌<◌, ◌≤◌, List, length, get_or}
+use Rattle.std.proofs.Common.{◌≡◌, ℕ, zero, suc, ◌+◌, ◌-◌, ◌<◌, ◌≤◌, List, length, get_or}
 use Rattle.std.proofs.Common.{refl, sym, subst, ap, ◌∙◌, arith, inl, inr, ◌⊎◌, Bool, true, false, ltb, leb, eqb, ◌&&◌}
 use Rattle.std.specs.Prelude.{All, AllPairs, IsPermutation, swap, Option, Some, None, IfNone, IfSome, is_some, not}
+use Rattle.std.specs.List.{AllAdjacentBelow}
 use Rattle.std.specs.List.Sorted.{IsPartitionPoint, IsPartitionedBy}
 use Rattle.std.proofs.lemmas.Bool.{cases_lt, cases_order, cases_eq, and_from, and_parts, or_cases, or_left, or_right}
 use Rattle.std.specs.Ordering.{MatchOrdering, is_lt, nat_cmp, ordering_then}
@@ -49,27 +50,72 @@ agree_sym s t agree same x p q =
     let e = agree (sym same) x q p in (same ∙ e.0, sym e.1, sym e.2)
 
 -- the order of keys
-pub up_to : (a b c : Ordering) (s t : Span)
+pub up_to : (a b c d : Ordering) (s t : Span)
     → MatchOrdering a (t.group < s.group) (t.group ≡ s.group) (s.group < t.group)
     → MatchOrdering b (t.low < s.low) (t.low ≡ s.low) (s.low < t.low)
     → MatchOrdering c (t.function < s.function) (t.function ≡ s.function) (s.function < t.function)
-    → is_lt (ordering_then (ordering_then a b) c) ≡ false → IsUpTo s t
-up_to Less b c s t p q r e = absurd (true≢false e)
-up_to Greater b c s t p q r e = inl p
-up_to Equal Less c s t p q r e = absurd (true≢false e)
-up_to Equal Greater c s t p q r e = inr (sym p, inl q)
-up_to Equal Equal Less s t p q r e = absurd (true≢false e)
-up_to Equal Equal Equal s t p q r e = inr (sym p, inr (sym q, omega (arith, r)))
-up_to Equal Equal Greater s t p q r e = inr (sym p, inr (sym q, omega (arith, r)))
+    → MatchOrdering d (t.high < s.high) (t.high ≡ s.high) (s.high < t.high)
+    → is_lt (ordering_then (ordering_then (ordering_then a b) c) d) ≡ false → IsUpTo s t
+up_to Less b c d s t p q r h e = absurd (true≢false e)
+up_to Greater b c d s t p q r h e = inl p
+up_to Equal Less c d s t p q r h e = absurd (true≢false e)
+up_to Equal Greater c d s t p q r h e = inr (sym p, inl q)
+up_to Equal Equal Less d s t p q r h e = absurd (true≢false e)
+up_to Equal Equal Greater d s t p q r h e = inr (sym p, inr (sym q, inl r))
+up_to Equal Equal Equal Less s t p q r h e = absurd (true≢false e)
+up_to Equal Equal Equal Equal s t p q r h e = inr (sym p, inr (sym q, inr (sym r, omega (arith, h))))
+up_to Equal Equal Equal Greater s t p q r h e = inr (sym p, inr (sym q, inr (sym r, omega (arith, h))))
 
 pub key_up_to : (s t : Span)
-    → is_lt (ordering_then (ordering_then (nat_cmp t.group s.group) (nat_cmp t.low s.low))
-    (nat_cmp t.function s.function))
+    → is_lt (ordering_then (ordering_then (ordering_then (nat_cmp t.group s.group) (nat_cmp t.low s.low))
+    (nat_cmp t.function s.function)) (nat_cmp t.high s.high))
     ≡ false → IsUpTo s t
 key_up_to s t e =
-    up_to (nat_cmp t.group s.group) (nat_cmp t.low s.low) (nat_cmp t.function s.function) s t
+    up_to (nat_cmp t.group s.group) (nat_cmp t.low s.low) (nat_cmp t.function s.function) (nat_cmp t.high s.high) s t
     (ranked t.group s.group (nat_cmp t.group s.group) refl) (ranked t.low s.low (nat_cmp t.low s.low) refl)
-    (ranked t.function s.function (nat_cmp t.function s.function) refl) e
+    (ranked t.function s.function (nat_cmp t.function s.function) refl)
+    (ranked t.high s.high (nat_cmp t.high s.high) refl) e
+
+-- the order goes on from one to the next
+abbrev IsLast : Span → Span → Type 0
+IsLast s t = (s.function < t.function) ⊎ ((s.function ≡ t.function) × (s.high ≤ t.high))
+
+last_trans : (s t u : Span) → IsLast s t → IsLast t u → IsLast s u
+last_trans s t u (inl p) (inl q) = inl (omega arith)
+last_trans s t u (inl p) (inr q) = inl (omega (arith, q.0))
+last_trans s t u (inr p) (inl q) = inl (omega (arith, p.0))
+last_trans s t u (inr p) (inr q) = inr (p.0 ∙ q.0, omega (arith, p.1, q.1))
+
+abbrev IsLow : Span → Span → Type 0
+IsLow s t = (s.low < t.low) ⊎ ((s.low ≡ t.low) × IsLast s t)
+
+low_trans : (s t u : Span) → IsLow s t → IsLow t u → IsLow s u
+low_trans s t u (inl p) (inl q) = inl (omega arith)
+low_trans s t u (inl p) (inr q) = inl (omega (arith, q.0))
+low_trans s t u (inr p) (inl q) = inl (omega (arith, p.0))
+low_trans s t u (inr p) (inr q) = inr (p.0 ∙ q.0, last_trans s t u p.1 q.1)
+
+up_to_trans : (s t u : Span) → IsUpTo s t → IsUpTo t u → IsUpTo s u
+up_to_trans s t u (inl p) (inl q) = inl (omega arith)
+up_to_trans s t u (inl p) (inr q) = inl (omega (arith, q.0))
+up_to_trans s t u (inr p) (inl q) = inl (omega (arith, p.0))
+up_to_trans s t u (inr p) (inr q) = inr (p.0 ∙ q.0, low_trans s t u p.1 q.1)
+
+pub pairs_up_to : (xs : List Span) → AllAdjacentBelow IsUpTo xs (length xs) → AllPairs IsUpTo xs
+pairs_up_to xs next i zero d lt in' = absurd (omega (arith, lt))
+pairs_up_to xs next i (suc j) d lt in' = elim (cases_lt i j) [
+  | inl less ↦
+      up_to_trans (get_or xs i d) (get_or xs j d) (get_or xs (suc j) d)
+      (pairs_up_to xs next i j d less (omega arith)) here
+  | inr more ↦
+      let same : j ≡ i = omega arith in
+      subst (λ (n : ℕ). IsUpTo (get_or xs n d) (get_or xs (suc j) d)) same here
+]
+  where
+    here : IsUpTo (get_or xs j d) (get_or xs (suc j) d)
+    here =
+        let e : j + 1 ≡ suc j = omega arith in
+        subst (λ (n : ℕ). IsUpTo (get_or xs j d) (get_or xs n d)) e (next j d (omega arith))
 
 -- ---- spans in order
 

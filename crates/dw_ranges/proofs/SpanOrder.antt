@@ -1,13 +1,14 @@
 -- Spans have one order.
-use Rattle.std.proofs.Common.{◌≡◌, ℕ, zero, suc, ◌<◌, ◌≤◌, List, [], ◌∷◌, length, get_or, Bool, true, false, cond}
+use Rattle.std.proofs.Common.{◌≡◌, ℕ, zero, suc, ◌-◌, ◌<◌, ◌≤◌, List, [], ◌∷◌, length, get_or, Bool, true, false, cond}
 use Rattle.std.proofs.Common.{refl, sym, ap, ◌∙◌, subst, arith, inl, inr, ◌⊎◌, eqb, ◌&&◌, eq-eqb, eqb-true}
-use Rattle.std.specs.Prelude.{Any, Contains, IsPermutation}
+use Rattle.std.specs.Prelude.{AllPairs, Any, Contains, IsPermutation}
 use Rattle.std.specs.List.{sum_by}
-use Rattle.std.proofs.lemmas.Bool.{and_from, and_parts, cases_lt}
+use Rattle.std.proofs.lemmas.Bool.{and_from, and_parts, cases_lt, cases_order}
 use Rattle.std.proofs.lemmas.List.Sorted.{sum_by-IsPermutation}
 use Rattle.std.proofs.lemmas.List.Sums.{sum_by-cons}
-use Rattle.dw_ranges.specs.Spans.{AreOrdered, IsBefore}
+use Rattle.dw_ranges.specs.Spans.{AreOrdered, IsBefore, IsFirstMeeting, IsUpTo}
 use Rattle.dw_ranges.specs.declared.spans.Span.{Span}
+use Rattle.dw_ranges.proofs.SpanLemmas.{before_agrees, no_span}
 
 -- whether two spans are the same, as a number
 is_one : Bool → ℕ
@@ -120,3 +121,44 @@ pub ordered_same : (spans xs ys : List Span) → IsPermutation spans xs → IsPe
 ordered_same spans xs ys to_xs to_ys p q =
     one_order Comes comes_anti xs ys (comes xs p) (comes ys q)
     (λ f. sum_by-IsPermutation f spans xs to_xs ∙ sym (sum_by-IsPermutation f spans ys to_ys))
+
+last_anti : (s t : Span) → (s.function < t.function) ⊎ ((s.function ≡ t.function) × (s.high ≤ t.high))
+    → (t.function < s.function) ⊎ ((t.function ≡ s.function) × (t.high ≤ s.high))
+    → (s.function ≡ t.function) × (s.high ≡ t.high)
+last_anti s t (inl p) (inl q) = absurd (omega arith)
+last_anti s t (inl p) (inr q) = absurd (omega (arith, p, q.0))
+last_anti s t (inr p) (inl q) = absurd (omega (arith, q, p.0))
+last_anti s t (inr p) (inr q) = (p.0, omega (arith, p.1, q.1))
+
+up_to_anti : (s t : Span) → IsUpTo s t → IsUpTo t s → s ≡ t
+up_to_anti s t (inl p) (inl q) = absurd (omega arith)
+up_to_anti s t (inl p) (inr q) = absurd (omega (arith, p, q.0))
+up_to_anti s t (inr p) (inl q) = absurd (omega (arith, q, p.0))
+up_to_anti s t (inr (group, inl p)) (inr (group2, inl q)) = absurd (omega arith)
+up_to_anti s t (inr (group, inl p)) (inr (group2, inr q)) = absurd (omega (arith, p, q.0))
+up_to_anti s t (inr (group, inr p)) (inr (group2, inl q)) = absurd (omega (arith, q, p.0))
+up_to_anti s t (inr (group, inr p)) (inr (group2, inr q)) =
+    let (function, high) = last_anti s t p.1 q.1 in
+    λ i. record { group = group i; low = p.0 i; high = high i; function = function i }
+
+pub sorted_same : (spans xs ys : List Span) → IsPermutation spans xs → IsPermutation spans ys → AllPairs IsUpTo xs
+    → AllPairs IsUpTo ys → xs ≡ ys
+sorted_same spans xs ys to_xs to_ys p q =
+    one_order IsUpTo up_to_anti xs ys p q
+    (λ f. sum_by-IsPermutation f spans xs to_xs ∙ sym (sum_by-IsPermutation f spans ys to_ys))
+
+-- there is one first span that does not agree with the one before it
+not_later : (xs : List Span) (j k : ℕ) → IsFirstMeeting xs j → IsFirstMeeting xs k → j < k → ⊥
+not_later xs j k p q lt =
+    let after = p.after in
+    p.meets no_span
+    (before_agrees (get_or xs (j - 1) no_span) (get_or xs j no_span) (q.before (j - 1) j no_span (omega arith) lt))
+
+pub first_same : (xs : List Span) (j k : ℕ) → IsFirstMeeting xs j → IsFirstMeeting xs k → j ≡ k
+first_same xs j k p q = elim (cases_order j k) [
+  | inl same ↦ same
+  | inr other ↦ elim other [
+    | inl lt ↦ absurd (not_later xs j k p q lt)
+    | inr gt ↦ absurd (not_later xs k j q p gt)
+  ]
+]

@@ -9,7 +9,7 @@ use Rattle.dw_entries.specs.declared.entries.Entries.{Entries}
 use Rattle.dw_ranges.specs.Areas.{AreAreas, Has}
 use Rattle.dw_ranges.specs.EntryRanges.{AreAddressesOf, head_in}
 use Rattle.dw_ranges.specs.Live.{AreCodeOf, CodeFails}
-use Rattle.dw_ranges.specs.Spans.{Agree, AreOrdered, IsFirstMeeting}
+use Rattle.dw_ranges.specs.Spans.{Agree, AreOrdered, IsFirstMeeting, IsUpTo}
 use Rattle.dw_ranges.specs.Totals.{counted}
 use Rattle.dw_ranges.specs.declared.addresses.UnitAddresses.{UnitAddresses}
 use Rattle.dw_ranges.specs.declared.bounds.RangeSections.{RangeSections}
@@ -188,11 +188,11 @@ module _ (sections : RangeSections) (unit : UnitAddresses) (code : List Range) (
 abbrev pub meeting : ℕ → RangeRule
 meeting group = if group == 0 then FunctionsMeet else InlinedMeet
 
--- spans do not agree. The fault names the first one by group, by address and by entry that does not agree with the one
--- before it
+-- spans do not agree. The fault names the first one, in their order, that does not agree with the one before it
 pub record IsMeeting (entries : List Entry) (spans ordered : List Span) (fault : RangeFault) : Type 0 where
   pub disagree : ¬ (AllPairs Agree spans)
   pub number : ℕ
+  pub sorted : AllPairs IsUpTo ordered
   pub first : IsFirstMeeting ordered number
   pub is : (d : Span) → fault ≡ record {
     rule = meeting (slice_index_or ordered number d).group;

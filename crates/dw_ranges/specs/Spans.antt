@@ -14,10 +14,10 @@ abbrev pub Agree : Span → Span → Type 0
 Agree s t = s.group ≡ t.group → (a : ℕ) → IsInSpan a s → IsInSpan a t
     → (s.group ≡ 0) × (s.low ≡ t.low) × (s.high ≡ t.high)
 
--- the order of spans: by group, then by low address, then by function
+-- the order of spans: by group, then by low address, then by function, then by high address
 abbrev pub IsUpTo : Span → Span → Type 0
-IsUpTo s t = (s.group < t.group) ⊎ ((s.group ≡ t.group)
-    × ((s.low < t.low) ⊎ ((s.low ≡ t.low) × (s.function ≤ t.function))))
+IsUpTo s t = (s.group < t.group) ⊎ ((s.group ≡ t.group) × ((s.low < t.low) ⊎ ((s.low ≡ t.low)
+    × ((s.function < t.function) ⊎ ((s.function ≡ t.function) × (s.high ≤ t.high))))))
 
 -- a span is before another one that it agrees with
 abbrev pub IsBefore : Span → Span → Type 0

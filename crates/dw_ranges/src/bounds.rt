@@ -1,4 +1,4 @@
-//! The ranges of an entry (DWARF 5, 2.17).
+//! The ranges between the addresses that an entry's attributes give (DWARF 5, 2.17).
 
 ghost use Rattle.std.specs.Prelude.{◌≡◌, ◌+◌, ◌≤◌, option_map, OnErr};
 ghost use Rattle.dw_forms.specs.Stops.{GivesOrMemory};

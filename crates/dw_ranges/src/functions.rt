@@ -1,4 +1,4 @@
-//! The functions of a unit with the addresses of their code (DWARF 5, 3.3), one entry after another.
+//! One entry of a unit: the function that it is or is in (DWARF 5, 3.3), and the rules on its addresses.
 
 ghost use Rattle.std.specs.Prelude.{◌≡◌, ◌++◌, ◌+◌, ◌-◌, ◌^◌, ◌<◌, ◌≤◌, ◌∷◌, [], List, IfErr, OnOk, map};
 ghost use Rattle.dw_forms.specs.Stops.{IfFault};

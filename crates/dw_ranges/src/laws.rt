@@ -1,10 +1,10 @@
 //! Laws of the definitions, which callers may cite: each is proved as the contract of an empty function.
 
-ghost use Rattle.std.specs.Prelude.{◌≡◌, ◌++◌, ◌↔◌, ℕ, List, All, Any, Contains};
+ghost use Rattle.std.specs.Prelude.{◌≡◌, ◌++◌, ◌↔◌, ℕ, List, All, Any, Contains, Option};
 ghost use Rattle.dw_entries.specs.declared.entries.Entries.{Entries as AnyEntries};
 ghost use Rattle.dw_ranges.specs.Addresses.{IsBounded};
 ghost use Rattle.dw_ranges.specs.Areas.{AreAreas, Has};
-ghost use Rattle.dw_ranges.specs.Files.{FileViolates, HasFile};
+ghost use Rattle.dw_ranges.specs.Files.{AreFunctionsAt, FileViolates, HasFile};
 ghost use Rattle.dw_ranges.specs.Functions.{HasFunctions, Known as AnyKnown, Violates};
 ghost use Rattle.dw_ranges.specs.RangeLists.{SpellsList, ListFails};
 ghost use Rattle.dw_ranges.specs.Spans.{AreNested, AreOrdered, HasOne, IsChain, IsInSpan};
@@ -38,6 +38,8 @@ pub fn functions_are_one_chain()
         → Any (λ s. (s.function ≡ f) × IsInSpan a s) spans }
     ensures every { (spans : List AnySpan) (a : ℕ) (fs : List ℕ) → AreOrdered spans → AreNested spans → HasOne spans a
         → IsChain spans 0 a fs → (s : AnySpan) → Contains spans s → IsInSpan a s → Contains fs s.function }
+    ensures one { (spans : List AnySpan) (a : ℕ) (fs gs : List ℕ) → AreOrdered spans → HasOne spans a
+        → IsChain spans 0 a fs → IsChain spans 0 a gs → fs ≡ gs }
 {}
 
 /// Areas that have the same addresses are the same.
@@ -57,7 +59,7 @@ pub fn functions_of_a_unit_are_one_chain()
         → (s : AnySpan) → Contains known.spans s → IsInSpan a s → Contains fs s.function }
 {}
 
-/// A unit has one list of functions, and no rule that it violates is returned beside it.
+/// A unit has one list of functions, or one rule that it violates first.
 pub fn functions_are_unique()
     ensures one { (sections : AnySections) (code : List AnyRange) (entries : AnyEntries) (number : ℕ)
         (before : AnyTotals) (known other : AnyKnown) → HasFunctions sections code entries number before known
@@ -66,14 +68,26 @@ pub fn functions_are_unique()
         (before : AnyTotals) (known : AnyKnown) (fault : AnyRangeFault)
         → HasFunctions sections code entries number before known
         → Violates sections code entries number before fault → ⊥ }
+    ensures one_fault { (sections : AnySections) (code : List AnyRange) (entries : AnyEntries) (number : ℕ)
+        (before : AnyTotals) (fault other : AnyRangeFault) → Violates sections code entries number before fault
+        → Violates sections code entries number before other → fault ≡ other }
 {}
 
-/// A file has one count of its functions, and no rule that it violates is returned beside it.
+/// A file has one list of the functions of its units, one count of them, and one unit for each address, or one rule that
+/// it violates first.
 pub fn functions_of_a_file_are_unique()
+    ensures units { (sections : AnySections) (code : List AnyRange) (entries : AnyEntries) (budget : ℕ)
+        (file other : AnyFile) (one : HasFile sections code entries budget file)
+        (two : HasFile sections code entries budget other) → one.units ≡ two.units }
     ensures totals { (sections : AnySections) (code : List AnyRange) (entries : AnyEntries) (budget : ℕ)
         (file other : AnyFile) → HasFile sections code entries budget file
         → HasFile sections code entries budget other → file.totals ≡ other.totals }
+    ensures unit { (units : List AnyKnown) (a : ℕ) (unit other : Option ℕ) (fs gs : List ℕ)
+        → AreFunctionsAt units a unit fs → AreFunctionsAt units a other gs → unit ≡ other }
     ensures no_fault { (sections : AnySections) (code : List AnyRange) (entries : AnyEntries) (budget : ℕ)
         (file : AnyFile) (fault : AnyRangeFault) → HasFile sections code entries budget file
         → FileViolates sections code entries budget fault → ⊥ }
+    ensures one_fault { (sections : AnySections) (code : List AnyRange) (entries : AnyEntries) (budget : ℕ)
+        (fault other : AnyRangeFault) → FileViolates sections code entries budget fault
+        → FileViolates sections code entries budget other → fault ≡ other }
 {}

@@ -23,12 +23,12 @@ pub struct Span {
     pub function: usize,
 }
 
-/// Puts spans in order: by group, then by low address, then by function.
+/// Puts spans in order: by group, then by low address, then by function, then by high address.
 fn sort(spans: &mut [Span])
     ensures permutation { IsPermutation spans.old spans.new }
     ensures sorted { AllAdjacentBelow IsUpTo spans.new (length spans.new) }
 {
-    spans.sort_unstable_by_key(|span| (span.group, span.low, span.function));
+    spans.sort_unstable_by_key(|span| (span.group, span.low, span.function, span.high));
 }
 
 /// Whether a span agrees with the one before it.
@@ -67,6 +67,7 @@ pub fn order(spans: &mut [Span]) -> Option<usize>
     ensures agree { IfNone result (AllPairs Agree spans.old) }
     ensures disagree { IfSome result (λ _. ¬ (AllPairs Agree spans.old)) }
     ensures first { IfSome result (IsFirstMeeting spans.new) }
+    ensures sorted { AllPairs IsUpTo spans.new }
 {
     sort(spans);
     first_meeting(spans)

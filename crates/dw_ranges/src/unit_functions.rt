@@ -1,4 +1,4 @@
-//! The functions of a unit by address, and the rules on these.
+//! Reads the functions of a unit, and puts their ranges in order.
 
 ghost use Rattle.std.specs.Prelude.{◌≡◌, ◌+◌, ◌-◌, ◌^◌, ◌<◌, ◌≤◌, Ok, Err, IfErr, OnOk};
 ghost use Rattle.std.specs.Prelude.{All, AllPairs, IsPermutation, length, slice_range};

@@ -7,7 +7,7 @@ use Rattle.dw_ranges.proofs.spans.sort.Goals as goal
 pub returns-clause-sorted : goal.returns-clause-sorted
 returns-clause-sorted c k d in' =
     let xs = c.sort_unstable_by_key.new.self in
-    let key : Span → ℕ × ℕ × ℕ = λ s. (s.group, s.low, s.function) in
+    let key : Span → ℕ × ℕ × ℕ × ℕ = λ s. (s.group, s.low, s.function, s.high) in
     key_up_to (get_or xs k d) (get_or xs (k + 1) d)
     (c.sort_unstable_by_key.ensures.sorted key (always_returns_same _ _ _ (λ a r q p. search rules)) k d (omega arith)
     in')
