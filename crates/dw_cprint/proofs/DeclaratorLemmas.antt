@@ -56,7 +56,7 @@ parts-many front core d = rw (spaced-gap d) (simp (append_assoc, append-nil))
 
 parts-body : (front begin core close d : List Token)
     → front ++ (begin ++ (core ++ (close ++ spaced d)))
-    ≡ (front ++ (begin ++ (core ++ (close ++ gap (has_elements d))))) ++ (d ++ [])
+    ≡ (front ++ ((begin ++ (core ++ close)) ++ gap (has_elements d))) ++ (d ++ [])
 parts-body front begin core close d = rw (spaced-gap d) (simp (append_assoc, append-nil))
 
 pointed : (t : Term) (qs : List Qualifier) (d : List Token) (b : Bool → List Token) (a : List Token)

@@ -65,7 +65,7 @@ module _ (shapes : ℕ → ShapeOf) (at : TypeAt) (k : TypeKind) (known : IsBase
 -- ---- what summaries tell
 
 -- the types that cannot be void are among those that a shape names
-objects-of : (P : TypeAt → Type 0) (shape : ShapeOf) → All P (types_reached shape) → All P (object_types shape)
+pub objects-of : (P : TypeAt → Type 0) (shape : ShapeOf) → All P (types_reached shape) → All P (object_types shape)
 objects-of P (array counts strange at) all = all
 objects-of P (function at (Some ps)) all = others-of P at (parameter_types ps) all
 objects-of P (body word odd ms) all = all

@@ -1,15 +1,16 @@
 -- An entry that is not wrong has a term.
 use Rattle.std.proofs.Common.{rules, ◌≡◌, ℕ, zero, suc, ℤ, ◌<◌, Bool, true, false, List, [], ◌∷◌, Option, Some, None, refl, subst, length, arith}
-use Rattle.std.specs.Prelude.{IsSome, ◌==◌, option_map, option_and_then, Any, Contains, if◌then◌else◌}
+use Rattle.std.specs.Prelude.{IsSome, ◌==◌, option_map, option_and_then, All, Any, Contains, if◌then◌else◌}
 use Rattle.std.specs.List.{list_any}
 use Rattle.std.proofs.lemmas.List.Splits.{length-slice_split}
 use Rattle.dw_types.specs.Paths.{Leads}
 use Rattle.dw_cprint.specs.Declarations.{words_of, parts_of, is_miscounted, is_misplaced, base_term, nested_arrays, constants_of, has_more, parameters_by, members_by, term_by, term_at}
 use Rattle.dw_cprint.specs.Legible.{is_identifier, IsIdentifier, IsQualifiable, IsPresent, IsLegible}
 use Rattle.dw_cprint.specs.Shapes.{Parameter, Typed, More, Name, TypeAt, MemberOf, EnumeratorOf, ShapeOf, base, typedef, qualified, pointer, array, function, tagged, nameless, body, enumeration, foreign, other}
-use Rattle.dw_cprint.specs.Steps.{entries_among, parameter_types, member_types, types_reached, steps_reached, StepsTo}
+use Rattle.dw_cprint.specs.Steps.{parameter_types, member_types, types_reached, steps_reached, StepsTo}
 use Rattle.dw_cprint.specs.Terms.{TypeWord, Constant, Valued, Term, Named, Basic, Body, Enumeration, Qualified, Pointer, Function, Unprototyped, Prototyped, Parameters}
 use Rattle.dw_cprint.specs.Wrong.{lacks_name, lacks_base_name, HasBadName, is_foreign, lacks_value, is_wrong_enumeration, IsUnspeakable, wrong}
+use Rattle.dw_cprint.proofs.KindLemmas.{all-types, first-of, others-of}
 use Rattle.dw_cprint.proofs.NameLemmas.{words-length}
 use Rattle.dw_cprint.proofs.OptionLemmas.{map_some, then_some, unless_some, not_refuted, or_left, or_right}
 
@@ -17,28 +18,6 @@ use Rattle.dw_cprint.proofs.OptionLemmas.{map_some, then_some, unless_some, not_
 
 pub any_here : {X : Type 0} (P : X → Type 0) (x : X) (xs : List X) → P x → Any P (x ∷ xs)
 any_here P x xs p = (0, x, omega arith, refl, p)
-
-pub any_there : {X : Type 0} (P : X → Type 0) (x : X) (xs : List X) → Any P xs → Any P (x ∷ xs)
-any_there P x xs (k, y, w, e, p) = (suc k, y, omega arith, e, p)
-
-pub among_here : (n : ℕ) (ns : List ℕ) → Contains (n ∷ ns) n
-among_here n ns = (0, omega arith, refl)
-
-pub among_there : (m n : ℕ) (ns : List ℕ) → Contains ns n → Contains (m ∷ ns) n
-among_there m n ns (k, w, e) = (suc k, omega arith, e)
-
--- ---- what holds of each entry among types, and of void
-
-module _ (P : TypeAt → Type 0) (void : P None) where
-  pub head_of : (at : TypeAt) (ats : List TypeAt) → ((n : ℕ) → Contains (entries_among (at ∷ ats)) n → P (Some n))
-      → P at
-  head_of None ats h = void
-  head_of (Some n) ats h = h n (among_here n (entries_among ats))
-
-  pub rest_of : (at : TypeAt) (ats : List TypeAt) → ((n : ℕ) → Contains (entries_among (at ∷ ats)) n → P (Some n))
-      → (n : ℕ) → Contains (entries_among ats) n → P (Some n)
-  rest_of None ats h = h
-  rest_of (Some m) ats h = λ n c. h n (among_there m n (entries_among ats) c)
 
 -- ---- names
 
@@ -112,58 +91,43 @@ constants_some (e ∷ es) named valued =
     (value_some e (λ w. valued (or_left (lacks_value e) (list_any lacks_value es) w)))
     (λ value. map_some (λ (cs : List Constant). Valued name value ∷ cs) (constants_of es) rest))
 
-module _ (term : TypeAt → Option Term) (void : IsSome (term None)) where
+module _ (term : TypeAt → Option Term) where
   abbrev pub HasTerm : TypeAt → Type 0
   HasTerm at = IsSome (term at)
 
-  parameters_some : (ps : List Parameter)
-      → ((n : ℕ) → Contains (entries_among (parameter_types ps)) n → HasTerm (Some n))
-      → IsSome (parameters_by term ps)
+  parameters_some : (ps : List Parameter) → All HasTerm (parameter_types ps) → IsSome (parameters_by term ps)
   parameters_some [] h = refl
   parameters_some (Typed at ∷ ps) h =
-      search (
-        rules,
-        then_some,
-        head_of,
-        map_some,
-        rest_of,
-        (parameters_some ps (rest_of HasTerm void at (parameter_types ps) h)),
-      )
+      search
+      (rules, then_some, first-of, map_some, (parameters_some ps (others-of HasTerm at (parameter_types ps) h)))
   parameters_some (More ∷ ps) h = parameters_some ps h
 
-  pub members_some : (ms : List MemberOf) → ((n : ℕ) → Contains (entries_among (member_types ms)) n → HasTerm (Some n))
-      → IsSome (members_by term ms)
+  pub members_some : (ms : List MemberOf) → All HasTerm (member_types ms) → IsSome (members_by term ms)
   members_some [] h = refl
   members_some (m ∷ ms) h =
-      search (
-        rules,
-        then_some,
-        head_of,
-        map_some,
-        rest_of,
-        (members_some ms (rest_of HasTerm void m.type_at (member_types ms) h)),
-      )
+      search
+      (rules, then_some, first-of, map_some, (members_some ms (others-of HasTerm m.type_at (member_types ms) h)))
 
   shape_some : (shapes : ℕ → ShapeOf) (s : ShapeOf) → IsFine shapes s
-      → ((n : ℕ) → Contains (entries_among (types_reached s)) n → HasTerm (Some n)) → IsSome (term_by term s)
+      → All HasTerm (types_reached s) → IsSome (term_by term s)
   shape_some shapes (base name) fine h = base_some name term fine.named
   shape_some shapes (typedef None) fine h = absurd (fine.named refl)
   shape_some shapes (typedef (Some n)) fine h = refl
-  shape_some shapes (qualified q at) fine h = map_some (Qualified q) (term at) (head_of HasTerm void at [] h)
-  shape_some shapes (pointer at) fine h = map_some Pointer (term at) (head_of HasTerm void at [] h)
+  shape_some shapes (qualified q at) fine h = map_some (Qualified q) (term at) (first-of HasTerm at [] h)
+  shape_some shapes (pointer at) fine h = map_some Pointer (term at) (first-of HasTerm at [] h)
   shape_some shapes (array counts strange at) fine h =
       unless_some (is_miscounted counts) (option_map (nested_arrays counts) (term at))
       (λ w. fine.speakable (wrong (or_right strange _ (or_left (is_miscounted counts) _ w))))
-      (map_some (nested_arrays counts) (term at) (head_of HasTerm void at [] h))
+      (map_some (nested_arrays counts) (term at) (first-of HasTerm at [] h))
   shape_some shapes (function at None) fine h =
-      map_some (λ (t : Term). Function t Unprototyped) (term at) (head_of HasTerm void at [] h)
+      map_some (λ (t : Term). Function t Unprototyped) (term at) (first-of HasTerm at [] h)
   shape_some shapes (function at (Some ps)) fine h =
       let called : Term → Option Term = λ (t : Term). option_map
       (λ (us : Parameters). Function t (Prototyped us (has_more ps))) (parameters_by term ps) in
       unless_some (is_misplaced ps) (option_and_then called (term at)) (λ w. fine.speakable (wrong (or_right _ _ w)))
-      (then_some called (term at) (head_of HasTerm void at (parameter_types ps) h)
+      (then_some called (term at) (first-of HasTerm at (parameter_types ps) h)
       (λ t. map_some (λ (us : Parameters). Function t (Prototyped us (has_more ps))) (parameters_by term ps)
-      (parameters_some ps (rest_of HasTerm void at (parameter_types ps) h))))
+      (parameters_some ps (others-of HasTerm at (parameter_types ps) h))))
   shape_some shapes (tagged word name) fine h = refl
   shape_some shapes (nameless word) fine h = absurd (fine.named refl)
   shape_some shapes (body word odd ms) fine h = map_some (Body word) (members_by term ms) (members_some ms h)
@@ -182,5 +146,6 @@ pub entry_some : (shapes : ℕ → ShapeOf) (Good : ℕ → Type 0) → AreKept 
     → ((to : ℕ) → Leads (StepsTo shapes) k n to → ⊥) → IsSome (term_at (suc k) shapes (Some n))
 entry_some shapes Good kept zero n good none = absurd (none n refl)
 entry_some shapes Good kept (suc k) n good none =
-    shape_some (term_at (suc k) shapes) refl shapes (shapes n) (kept.fine n good)
-    (λ m leads. entry_some shapes Good kept k m (kept.on n m good leads) (λ to path. none to (m, leads, path)))
+    let term = term_at (suc k) shapes in
+    shape_some term shapes (shapes n) (kept.fine n good) (all-types (HasTerm term) refl (types_reached (shapes n))
+    (λ m leads. entry_some shapes Good kept k m (kept.on n m good leads) (λ to path. none to (m, leads, path))))

@@ -1,10 +1,10 @@
 -- Tests of a shape by the kinds of the types that it names: they are the same where these kinds are.
-use Rattle.std.proofs.Common.{◌≡◌, suc, Bool, List, [], ◌∷◌, Some, None, refl, ap, arith}
-use Rattle.std.specs.Prelude.{All, ◌||◌}
+use Rattle.std.proofs.Common.{◌≡◌, ℕ, zero, suc, Bool, List, [], ◌∷◌, Some, None, refl, ap, arith}
+use Rattle.std.specs.Prelude.{All, Contains, ◌||◌}
 use Rattle.std.specs.List.{list_any}
 use Rattle.dw_cprint.specs.Declarations.{is_miscounted, is_misplaced}
 use Rattle.dw_cprint.specs.Shapes.{TypeAt, MemberOf, ShapeOf, array, function, body, SubjectOf, aggregate_subject}
-use Rattle.dw_cprint.specs.Steps.{member_types, parameter_types, types_declared, types_reached}
+use Rattle.dw_cprint.specs.Steps.{entries_among, member_types, parameter_types, types_declared, types_reached}
 use Rattle.dw_cprint.specs.Wrong.{TypeKind, has_bad_name, has_own_bad_name, is_bracketed, is_function, is_open_array, is_wrong, is_wrong_bits, lacks_member_name, lacks_name}
 
 pub first-of : (P : TypeAt → Type 0) (at : TypeAt) (ats : List TypeAt) → All P (at ∷ ats) → P at
@@ -12,6 +12,16 @@ first-of P at ats all = all 0 at (omega arith)
 
 pub others-of : (P : TypeAt → Type 0) (at : TypeAt) (ats : List TypeAt) → All P (at ∷ ats) → All P ats
 others-of P at ats all = λ k d within. all (suc k) d (omega arith)
+
+-- a fact of types holds of void, and of each entry among them
+pub all-types : (P : TypeAt → Type 0) → P None → (types : List TypeAt)
+    → ((to : ℕ) → Contains (entries_among types) to → P (Some to)) → All P types
+all-types P void [] each k d w = absurd (omega arith)
+all-types P void (None ∷ types) each zero d w = void
+all-types P void (None ∷ types) each (suc k) d w = all-types P void types each k d (omega arith)
+all-types P void (Some to ∷ types) each zero d w = each to (0, omega arith, refl)
+all-types P void (Some to ∷ types) each (suc k) d w =
+    all-types P void types (λ x c. each x (suc c.0, omega (arith, c.1), c.2)) k d (omega arith)
 
 module _ (f g : TypeAt → TypeKind) where
   abbrev Same : TypeAt → Type 0

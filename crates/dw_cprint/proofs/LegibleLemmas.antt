@@ -1,19 +1,20 @@
 -- The term of an entry that is not wrong can be read back from its text.
 use Rattle.std.proofs.Common.{rules, ◌≡◌, ℕ, zero, suc, Bool, true, false, List, [], ◌∷◌, Option, Some, None, refl, sym, ◌∙◌, ap, subst, arith}
-use Rattle.std.specs.Prelude.{option_map, option_and_then, Any, Contains, IsSome, not}
+use Rattle.std.specs.Prelude.{option_map, option_and_then, All, Any, IsSome, not}
 use Rattle.std.specs.List.{list_any}
 use Rattle.std.proofs.lemmas.Option.{same_Some}
 use Rattle.dw_cprint.specs.Declarations.{is_miscounted, is_misplaced, nested_arrays, constants_of, has_more, parameters_by, members_by, term_by, term_at, declaration_by}
 use Rattle.dw_cprint.specs.Legible.{is_identifier, IsIdentifier, IsName, AreConstants, IsQualifiable, IsPresent, IsLegible, IsSignature, AreParameters, AreMembers, IsLegibleDeclaration}
 use Rattle.dw_cprint.specs.Shapes.{Parameter, Typed, More, Name, TypeAt, MemberOf, EnumeratorOf, ShapeOf, base, typedef, Qualifier, Restrict, qualified, pointer, array, function, tagged, body, enumeration, SubjectOf, typedef_subject, variable_subject, aggregate_subject, enumeration_subject, declared_subject, other_subject}
-use Rattle.dw_cprint.specs.Steps.{entries_among, parameter_types, member_types, types_reached, first_steps, root, further, IsReached, HasPath}
+use Rattle.dw_cprint.specs.Steps.{parameter_types, member_types, types_declared, types_reached, root, further, IsReached, HasPath}
 use Rattle.dw_cprint.specs.Terms.{Constant, Term, Void, Named, Tagged, Body, Enumeration, Qualified, Pointer, Function, Unprototyped, Prototyped, Parameters, NoParameter, Parameter as ParameterTerm, Members, NoMember, Member as MemberTerm, CDeclaration, Typedef, Variable, Aggregate, Constants, Declared}
 use Rattle.dw_cprint.specs.Wrong.{TypeKind, StandsUnder, nothing, itself, IsVoidLike, is_bracketed, is_wrong_row, kind_at, kind_in, lacks_member_name, row, void_object, has_own_bad_name, wrong_enumeration}
 use Rattle.dw_cprint.specs.Refusals.{other_kind, own_name, own_shape, name_reached, foreign_reached, shape_reached, HoldsNoneBelow, NotPrintable, BadName, Foreign, Unspeakable}
 use Rattle.dw_cprint.specs.declared.shape.TypeKind.TheVariants as kind
+use Rattle.dw_cprint.proofs.KindLemmas.{all-types, first-of, others-of}
 use Rattle.dw_cprint.proofs.OptionLemmas.{both_hold, map_holds, map_inverted, then_inverted, unless_holds, unless_inverted, not_refuted, or_left, or_right, map_some}
 use Rattle.dw_cprint.proofs.ItemWriterLemmas.{more-constants}
-use Rattle.dw_cprint.proofs.HasTermLemmas.{AreKept, IsBaseTerm, IsFine, among_here, among_there, any_here, base_is, head_of, name_there, nameless_at, rest_of, HasTerm, constants_some, entry_some, members_some, unvalued}
+use Rattle.dw_cprint.proofs.HasTermLemmas.{AreKept, IsBaseTerm, IsFine, any_here, base_is, name_there, nameless_at, HasTerm, constants_some, entry_some, members_some, unvalued}
 
 -- ---- an entry that is not wrong is legible
 
@@ -42,58 +43,50 @@ module _ (term : TypeAt → Option Term) where
   abbrev pub ReadsAt : TypeAt → Type 0
   ReadsAt at = (t : Term) → term at ≡ Some t → IsLegible t
 
-  module _ (void : ReadsAt None) where
-    parameters_legible : (ps : List Parameter)
-        → ((n : ℕ) → Contains (entries_among (parameter_types ps)) n → ReadsAt (Some n)) → (us : Parameters)
-        → parameters_by term ps ≡ Some us → AreParameters us
-    parameters_legible [] h us e = let same : NoParameter ≡ us = cc in subst AreParameters same tt
-    parameters_legible (Typed at ∷ ps) h us e =
-        both_hold AreParameters ParameterTerm (term at) (parameters_by term ps)
-        (λ t is vs are. (
-          head_of ReadsAt void at (parameter_types ps) h t is,
-          parameters_legible ps
-              (rest_of ReadsAt void at (parameter_types ps) h) vs are,
-        )) us e
-    parameters_legible (More ∷ ps) h us e = parameters_legible ps h us e
+  parameters_legible : (ps : List Parameter) → All ReadsAt (parameter_types ps) → (us : Parameters)
+      → parameters_by term ps ≡ Some us → AreParameters us
+  parameters_legible [] h us e = let same : NoParameter ≡ us = cc in subst AreParameters same tt
+  parameters_legible (Typed at ∷ ps) h us e =
+      both_hold AreParameters ParameterTerm (term at) (parameters_by term ps)
+      (λ t is vs are. (
+        first-of ReadsAt at (parameter_types ps) h t is,
+        parameters_legible ps (others-of ReadsAt at (parameter_types ps) h) vs are,
+      )) us e
+  parameters_legible (More ∷ ps) h us e = parameters_legible ps h us e
 
-    signature_legible : (shapes : ℕ → ShapeOf) (ps : List Parameter)
-        → (Any (IsVoidLike shapes) (parameter_types ps) → ⊥) → is_misplaced ps ≡ false
-        → ((n : ℕ) → Contains (entries_among (parameter_types ps)) n → (t : Term) → term (Some n) ≡ Some t
-        → IsPresent t)
-        → ((n : ℕ) → Contains (entries_among (parameter_types ps)) n → ReadsAt (Some n)) → (us : Parameters)
-        → parameters_by term ps ≡ Some us → IsSignature (Prototyped us (has_more ps))
-    signature_legible shapes [] voids placed there h us e =
-        let same : NoParameter ≡ us = cc in
-        let P : Parameters → Type 0 = λ ps. IsSignature (Prototyped ps false) in subst P same refl
-    signature_legible shapes (More ∷ ps) voids placed there h us e = absurd (cc)
-    signature_legible shapes (Typed None ∷ ps) voids placed there h us e =
-        absurd (voids (any_here (IsVoidLike shapes) None (parameter_types ps) nothing))
-    signature_legible shapes (Typed (Some n) ∷ ps) voids placed there h us e =
-        let here = among_here n (entries_among (parameter_types ps)) in
-        both_hold (λ (vs : Parameters). IsSignature (Prototyped vs (has_more ps))) ParameterTerm (term (Some n))
-        (parameters_by term ps)
-        (λ t is vs are. (
-          there n here t is,
-          h n here t is,
-          parameters_legible ps
-              (rest_of ReadsAt void (Some n) (parameter_types ps) h) vs are,
-        )) us e
+  signature_legible : (shapes : ℕ → ShapeOf) (ps : List Parameter)
+      → (Any (IsVoidLike shapes) (parameter_types ps) → ⊥) → is_misplaced ps ≡ false
+      → ((n : ℕ) (t : Term) → term (Some n) ≡ Some t → IsPresent t) → All ReadsAt (parameter_types ps)
+      → (us : Parameters) → parameters_by term ps ≡ Some us → IsSignature (Prototyped us (has_more ps))
+  signature_legible shapes [] voids placed there h us e =
+      let same : NoParameter ≡ us = cc in
+      let P : Parameters → Type 0 = λ ps. IsSignature (Prototyped ps false) in subst P same refl
+  signature_legible shapes (More ∷ ps) voids placed there h us e = absurd (cc)
+  signature_legible shapes (Typed None ∷ ps) voids placed there h us e =
+      absurd (voids (any_here (IsVoidLike shapes) None (parameter_types ps) nothing))
+  signature_legible shapes (Typed (Some n) ∷ ps) voids placed there h us e =
+      both_hold (λ (vs : Parameters). IsSignature (Prototyped vs (has_more ps))) ParameterTerm (term (Some n))
+      (parameters_by term ps)
+      (λ t is vs are. (
+        there n t is,
+        first-of ReadsAt (Some n) (parameter_types ps) h t is,
+        parameters_legible ps (others-of ReadsAt (Some n) (parameter_types ps) h) vs are,
+      )) us e
 
-    pub members_legible : (shapes : ℕ → ShapeOf) (ms : List MemberOf)
-        → (list_any (nameless_member shapes) ms ≡ true → ⊥)
-        → ((n : ℕ) → Contains (entries_among (member_types ms)) n → ReadsAt (Some n)) → (us : Members)
-        → members_by term ms ≡ Some us → AreMembers us
-    members_legible shapes [] named h us e = let same : NoMember ≡ us = cc in subst AreMembers same tt
-    members_legible shapes (m ∷ ms) named h us e =
-        both_hold AreMembers (λ (t : Term). MemberTerm m.name t m.bits) (term m.type_at) (members_by term ms)
-        (λ t is vs are. (
-          member_legible (kind_at shapes m.type_at) m.bits m.name
-              (λ w. named (or_left (nameless_member shapes m) (list_any (nameless_member shapes) ms) w)),
-          head_of ReadsAt void m.type_at (member_types ms) h t is,
-          members_legible shapes ms (λ w. named
-              (or_right (nameless_member shapes m) (list_any (nameless_member shapes) ms) w))
-              (rest_of ReadsAt void m.type_at (member_types ms) h) vs are,
-        )) us e
+  pub members_legible : (shapes : ℕ → ShapeOf) (ms : List MemberOf)
+      → (list_any (nameless_member shapes) ms ≡ true → ⊥) → All ReadsAt (member_types ms) → (us : Members)
+      → members_by term ms ≡ Some us → AreMembers us
+  members_legible shapes [] named h us e = let same : NoMember ≡ us = cc in subst AreMembers same tt
+  members_legible shapes (m ∷ ms) named h us e =
+      both_hold AreMembers (λ (t : Term). MemberTerm m.name t m.bits) (term m.type_at) (members_by term ms)
+      (λ t is vs are. (
+        member_legible (kind_at shapes m.type_at) m.bits m.name
+            (λ w. named (or_left (nameless_member shapes m) (list_any (nameless_member shapes) ms) w)),
+        first-of ReadsAt m.type_at (member_types ms) h t is,
+        members_legible shapes ms (λ w. named
+            (or_right (nameless_member shapes m) (list_any (nameless_member shapes) ms) w))
+            (others-of ReadsAt m.type_at (member_types ms) h) vs are,
+      )) us e
 
 arrays_legible : (counts : List (Option ℕ)) (t : Term) → IsLegible t → IsLegible (nested_arrays counts t)
 arrays_legible [] t h = h
@@ -152,9 +145,8 @@ void_legible (suc k) shapes t e = let same : Void ≡ t = cc in subst IsLegible 
 
 module _ (shapes : ℕ → ShapeOf) (k : ℕ) where
   shape_legible : (s : ShapeOf) → IsFine shapes s
-      → ((n : ℕ) → Contains (entries_among (types_reached s)) n → (t : Term) → term_at k shapes (Some n) ≡ Some t
-      → IsPresent t)
-      → ((n : ℕ) → Contains (entries_among (types_reached s)) n → ReadsAt (term_at k shapes) (Some n)) → (t : Term)
+      → ((n : ℕ) (t : Term) → term_at k shapes (Some n) ≡ Some t → IsPresent t)
+      → All (ReadsAt (term_at k shapes)) (types_reached s) → (t : Term)
       → term_by (term_at k shapes) s ≡ Some t → IsLegible t
   shape_legible (base (Some n)) fine there h t e = IsBaseTerm.legible (base_is n t e)
   shape_legible (typedef (Some n)) fine there h t e =
@@ -163,39 +155,33 @@ module _ (shapes : ℕ → ShapeOf) (k : ℕ) where
       map_holds IsLegible (Qualified q) (term_at k shapes at) (λ u is. (
         qualifiable shapes k at (λ under stands w. fine.speakable
             (row under stands (bracketed_row q (kind_at shapes under) w))) u is,
-        head_of (ReadsAt (term_at k shapes)) (void_legible k shapes) at [] h u is,
+        first-of (ReadsAt (term_at k shapes)) at [] h u is,
       )) t e
   shape_legible (pointer at) fine there h t e =
       map_holds IsLegible Pointer (term_at k shapes at)
-      (λ u is. head_of (ReadsAt (term_at k shapes)) (void_legible k shapes) at [] h u is) t e
+      (λ u is. first-of (ReadsAt (term_at k shapes)) at [] h u is) t e
   shape_legible (array counts strange at) fine there h t e =
       unless_holds IsLegible (is_miscounted counts) (option_map (nested_arrays counts) (term_at k shapes at))
       (λ placed. map_holds IsLegible (nested_arrays counts) (term_at k shapes at)
-      (λ u is. arrays_legible counts u (head_of (ReadsAt (term_at k shapes)) (void_legible k shapes) at [] h u is))) t e
+      (λ u is. arrays_legible counts u (first-of (ReadsAt (term_at k shapes)) at [] h u is))) t e
   shape_legible (function at None) fine there h t e =
       map_holds IsLegible (λ (t : Term). Function t Unprototyped) (term_at k shapes at)
-      (λ u is. (head_of (ReadsAt (term_at k shapes)) (void_legible k shapes) at [] h u is, tt)) t e
+      (λ u is. (first-of (ReadsAt (term_at k shapes)) at [] h u is, tt)) t e
   shape_legible (function at (Some ps)) fine there h t e =
       let term = term_at k shapes in
       let called : Term → Parameters → Term = λ t us. Function t (Prototyped us (has_more ps)) in
       unless_holds IsLegible (is_misplaced ps)
       (option_and_then (λ (t : Term). option_map (called t) (parameters_by term ps)) (term at))
       (λ placed. both_hold IsLegible called (term at) (parameters_by term ps) (λ r is us are. (
-        head_of (ReadsAt term) (void_legible k shapes) at (parameter_types ps) h r is,
-        signature_legible term (void_legible k shapes) shapes ps (λ w. fine.speakable (void_object w)) placed
-            (λ n among. there n (further_in at (parameter_types ps) n among))
-            (rest_of (ReadsAt term) (void_legible k shapes) at (parameter_types ps) h) us are,
+        first-of (ReadsAt term) at (parameter_types ps) h r is,
+        signature_legible term shapes ps (λ w. fine.speakable (void_object w)) placed there
+            (others-of (ReadsAt term) at (parameter_types ps) h) us are,
       ))) t e
-    where
-      further_in : (at : TypeAt) (ats : List TypeAt) (n : ℕ) → Contains (entries_among ats) n
-          → Contains (entries_among (at ∷ ats)) n
-      further_in None ats n c = c
-      further_in (Some m) ats n c = among_there m n (entries_among ats) c
   shape_legible (tagged word name) fine there h t e =
       let same : Tagged word name ≡ t = cc in subst IsLegible same (not_refuted (is_identifier name) fine.named)
   shape_legible (body word odd ms) fine there h t e =
       map_holds IsLegible (Body word) (members_by (term_at k shapes) ms)
-      (λ us are. members_legible (term_at k shapes) (void_legible k shapes) shapes ms fine.named h us are) t e
+      (λ us are. members_legible (term_at k shapes) shapes ms fine.named h us are) t e
   shape_legible (enumeration odd es) fine there h t e =
       map_holds IsLegible Enumeration (constants_of es) (λ cs are. constants_legible es fine.named cs are) t e
   shape_legible _ fine there h t e = absurd (cc)
@@ -208,9 +194,10 @@ pub entry_legible : (shapes : ℕ → ShapeOf) (Good : ℕ → Type 0) → AreKe
     → (k n : ℕ) → Good n → (t : Term) → term_at k shapes (Some n) ≡ Some t → IsLegible t
 entry_legible shapes Good kept zero n good t e = absurd (cc)
 entry_legible shapes Good kept (suc k) n good t e =
-    shape_legible shapes k (shapes n) (kept.fine n good)
-    (λ m leads. entry_present shapes k m)
-    (λ m leads. entry_legible shapes Good kept k m (kept.on n m good leads)) t e
+    let P = ReadsAt (term_at k shapes) in
+    shape_legible shapes k (shapes n) (kept.fine n good) (entry_present shapes k)
+    (all-types P (void_legible k shapes) (types_reached (shapes n))
+    (λ m leads. entry_legible shapes Good kept k m (kept.on n m good leads))) t e
 
 -- ---- where an entry has a declaration, and where that can be read back
 
@@ -229,22 +216,23 @@ module _ (shapes : ℕ → ShapeOf) (subject : SubjectOf) where
 pub subject_some : (k : ℕ) (shapes : ℕ → ShapeOf) (subject : SubjectOf) → HoldsNoneBelow 5 shapes subject
     → (HasPath shapes subject (suc k) → ⊥) → IsSome (declaration_by (term_at (suc k) shapes) subject)
 subject_some k shapes subject none short =
-    by_subject subject none (λ n leads. entry_some shapes (IsReached shapes subject) (kept_reached shapes subject none)
-    k n (root leads) (λ to path. short (n, to, leads, path)))
+    by_subject subject none (all-types (HasTerm (term_at (suc k) shapes)) refl (types_declared subject)
+    (λ n leads. entry_some shapes (IsReached shapes subject) (kept_reached shapes subject none) k n (root leads)
+    (λ to path. short (n, to, leads, path))))
   where
     by_subject : (s : SubjectOf) → HoldsNoneBelow 5 shapes s
-        → ((n : ℕ) → Contains (first_steps s) n → IsSome (term_at (suc k) shapes (Some n)))
+        → All (HasTerm (term_at (suc k) shapes)) (types_declared s)
         → IsSome (declaration_by (term_at (suc k) shapes) s)
     by_subject (typedef_subject None at) none h = absurd (none BadName (omega arith) (own_name refl))
     by_subject (typedef_subject (Some n) at) none h =
-        map_some (Typedef n) (term_at (suc k) shapes at) (head_of (HasTerm (term_at (suc k) shapes) refl) refl at [] h)
+        map_some (Typedef n) (term_at (suc k) shapes at) (first-of (HasTerm (term_at (suc k) shapes)) at [] h)
     by_subject (variable_subject None at) none h = absurd (none BadName (omega arith) (own_name refl))
     by_subject (variable_subject (Some n) at) none h =
-        map_some (Variable n) (term_at (suc k) shapes at) (head_of (HasTerm (term_at (suc k) shapes) refl) refl at [] h)
+        map_some (Variable n) (term_at (suc k) shapes at) (first-of (HasTerm (term_at (suc k) shapes)) at [] h)
     by_subject (aggregate_subject word None odd ms) none h = absurd (none BadName (omega arith) (own_name refl))
     by_subject (aggregate_subject word (Some n) odd ms) none h =
         map_some (Aggregate word n) (members_by (term_at (suc k) shapes) ms)
-        (members_some (term_at (suc k) shapes) refl ms h)
+        (members_some (term_at (suc k) shapes) ms h)
     by_subject (enumeration_subject None odd es) none h = absurd (none BadName (omega arith) (own_name refl))
     by_subject (enumeration_subject (Some n) odd es) none h =
         map_some (Constants n) (constants_of es)
@@ -258,34 +246,32 @@ subject_some k shapes subject none short =
 pub subject_legible : (k : ℕ) (shapes : ℕ → ShapeOf) (subject : SubjectOf) → HoldsNoneBelow 5 shapes subject
     → (d : CDeclaration) → declaration_by (term_at k shapes) subject ≡ Some d → IsLegibleDeclaration d
 subject_legible k shapes subject none d e =
-    by_subject subject none (λ n leads. entry_legible shapes (IsReached shapes subject)
-    (kept_reached shapes subject none) k n (root leads)) e
+    by_subject subject none (all-types (ReadsAt (term_at k shapes)) (void_legible k shapes) (types_declared subject)
+    (λ n leads. entry_legible shapes (IsReached shapes subject) (kept_reached shapes subject none) k n (root leads))) e
   where
     identifier : (s : SubjectOf) (n : List ℕ) → HoldsNoneBelow 5 shapes s
         → (not (is_identifier n) ≡ true → has_own_bad_name (kind_at shapes) s ≡ true) → IsIdentifier n
     identifier s n none bad = not_refuted (is_identifier n) (λ w. none BadName (omega arith) (own_name (bad w)))
 
     by_subject : (s : SubjectOf) → HoldsNoneBelow 5 shapes s
-        → ((n : ℕ) → Contains (first_steps s) n → ReadsAt (term_at k shapes) (Some n))
+        → All (ReadsAt (term_at k shapes)) (types_declared s)
         → declaration_by (term_at k shapes) s ≡ Some d → IsLegibleDeclaration d
     by_subject (typedef_subject (Some n) at) none h e =
         map_holds IsLegibleDeclaration (Typedef n) (term_at k shapes at)
         (λ u is. (
           identifier (typedef_subject (Some n) at) n none (λ w. w),
-          head_of (ReadsAt (term_at k shapes))
-              (void_legible k shapes) at [] h u is,
+          first-of (ReadsAt (term_at k shapes)) at [] h u is,
         )) d e
     by_subject (variable_subject (Some n) at) none h e =
         map_holds IsLegibleDeclaration (Variable n) (term_at k shapes at)
         (λ u is. (
           identifier (variable_subject (Some n) at) n none (λ w. w),
-          head_of (ReadsAt (term_at k shapes))
-              (void_legible k shapes) at [] h u is,
+          first-of (ReadsAt (term_at k shapes)) at [] h u is,
         )) d e
     by_subject (aggregate_subject word (Some n) odd ms) none h e =
         map_holds IsLegibleDeclaration (Aggregate word n) (members_by (term_at k shapes) ms) (λ us are. (
           identifier (aggregate_subject word (Some n) odd ms) n none (λ w. or_left _ _ w),
-          members_legible (term_at k shapes) (void_legible k shapes) shapes ms
+          members_legible (term_at k shapes) shapes ms
               (λ w. none BadName (omega arith) (own_name (or_right _ _ w))) h us are,
         )) d e
     by_subject (enumeration_subject (Some n) odd es) none h e =

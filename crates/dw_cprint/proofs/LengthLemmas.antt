@@ -5,18 +5,18 @@ use Rattle.std.proofs.lemmas.List.Sums.{sum_by-cons}
 use Rattle.dw_types.specs.Sizes.{has_elements}
 use Rattle.dw_cprint.specs.Declarations.{nested_arrays, constants_of, declaration_by, has_more, is_miscounted, members_by, term_by}
 use Rattle.dw_cprint.specs.Declarators.{gap, opening, closing, pointer_row, before, after, core}
-use Rattle.dw_cprint.specs.Lengths.{byte_count, capped, type_bytes, space, has_gap, qualifier_bytes, IsLength, tag_bytes, bytes_around, named_bytes, member_bytes, parameters_bytes, shape_bytes, base_kind, declared_bytes}
+use Rattle.dw_cprint.specs.Lengths.{byte_count, capped, type_bytes, space, has_gap, qualifier_bytes, IsLength, tag_bytes, bytes_around, named_bytes, members_bytes, parameters_bytes, shape_bytes, base_kind, declared_bytes}
 use Rattle.dw_cprint.specs.Shapes.{Qualifier, OfAggregate, Enum, TypeAt, ShapeOf, base, typedef, qualified, pointer, array, function, tagged, body, enumeration, SubjectOf, typedef_subject, variable_subject, aggregate_subject, enumeration_subject, declared_subject}
 use Rattle.dw_cprint.specs.Steps.{parameter_types, types_declared, types_reached}
 use Rattle.dw_cprint.specs.Summaries.{Summary}
 use Rattle.dw_cprint.specs.Terms.{Term, Void, Body, Enumeration, Qualified, Pointer, Function, Unprototyped, Prototyped, CDeclaration, Typedef, Variable, Aggregate, Constants}
-use Rattle.dw_cprint.specs.Tokens.{Token, Blank, Star, Open, Close, LeftBrace, RightBrace, Semicolon, TypedefWord, TagWord, QualifierWord, Identifier, qualifier_spelling}
-use Rattle.dw_cprint.specs.Writing.{spell, qualifying, constants, count_tokens, members_tokens, signature_tokens, written}
+use Rattle.dw_cprint.specs.Tokens.{Token, Blank, Star, Open, Close, Semicolon, TypedefWord, TagWord, QualifierWord, Identifier, qualifier_spelling}
+use Rattle.dw_cprint.specs.Writing.{body_tokens, enumeration_tokens, spell, qualifying, count_tokens, signature_tokens, written}
 use Rattle.dw_cprint.specs.Wrong.{TypeKind, is_bracketed, is_pointer, kind_in}
 use Rattle.dw_cprint.specs.declared.shape.TypeKind.TheVariants as kind
 use Rattle.dw_cprint.proofs.KindLemmas.{first-of, others-of}
 use Rattle.dw_cprint.proofs.OptionLemmas.{map_holds, map_inverted, unless_holds}
-use Rattle.dw_cprint.proofs.PartLengthLemmas.{count-append, count-cons, capped-plus, capped-twice, Tells, bare-length, bare-known, around-length, named-length, members-length, signature-length, enumerators-length}
+use Rattle.dw_cprint.proofs.PartLengthLemmas.{count-append, count-cons, capped-plus, capped-twice, Tells, bare-length, bare-known, body-length, around-length, defined-length, named-length, signature-length, enumerators-length}
 use Rattle.dw_cprint.proofs.WriterLemmas.{IsSpecifier, specifier-of, base-core, before-arrays, after-arrays, function-parts}
 
 -- a specifier
@@ -269,26 +269,30 @@ module _ (term : TypeAt → Option Term) (known : TypeAt → Summary) where
       let f = map_inverted (Body word) (members_by term ms) t e in
       let own = byte_count (core t) in
       let long = ap (λ (u : Term). byte_count (core u)) f.2 in
-      let inner = members-length term known ms f.0 all f.1 in
       let tag = OfAggregate word in
-      let a = count-cons (TagWord tag) (Blank ∷ LeftBrace ∷ Blank ∷ (members_tokens f.0 ++ RightBrace ∷ [])) in
-      let b = count-append (Blank ∷ LeftBrace ∷ Blank ∷ []) (members_tokens f.0 ++ RightBrace ∷ []) in
-      let c = count-append (members_tokens f.0) (RightBrace ∷ []) in
-      let counted = capped-plus (tag_bytes tag None + 3) (sum_by (member_bytes known) ms) (tag_bytes tag None + 3)
-      (byte_count (members_tokens f.0)) refl inner in
       let same : capped (shape_bytes known (body word odd ms)) ≡ capped own =
-      ap (λ (n : ℕ). capped n) (omega arith) ∙ counted ∙ ap (λ (n : ℕ). capped n) (omega (arith, a, b, c, long)) in
+      capped-plus (tag_bytes tag None) (members_bytes known ms) (tag_bytes tag None) (byte_count (body_tokens f.0)) refl
+      (body-length term known ms f.0 all f.1)
+      ∙ ap (λ (n : ℕ). capped n) (omega (
+        arith,
+        count-cons (TagWord tag) (Blank ∷ body_tokens f.0),
+        count-cons Blank (body_tokens f.0),
+        long,
+      )) in
       subst (λ (n : ℕ). IsLength t kind.UnnamedAggregate kind.UnnamedAggregate n) (sym same)
       (core-length t kind.UnnamedAggregate own (specifier-of term (body word odd ms) t refl e) refl refl refl)
   shape-length (enumeration odd es) t all e =
       let f = map_inverted Enumeration (constants_of es) t e in
       let long = ap (λ (u : Term). byte_count (core u)) f.2 in
-      let inner = enumerators-length es f.0 f.1 in
-      let front = TagWord Enum ∷ Blank ∷ LeftBrace ∷ Blank ∷ [] in
-      let a = count-append front (constants f.0 ++ Blank ∷ RightBrace ∷ []) in
       core-length t kind.Other (shape_bytes known (enumeration odd es))
       (specifier-of term (enumeration odd es) t refl e)
-      (omega (arith, a, long, inner, count-append (constants f.0) (Blank ∷ RightBrace ∷ []))) refl refl
+      (omega (
+        arith,
+        count-cons (TagWord Enum) (Blank ∷ enumeration_tokens f.0),
+        count-cons Blank (enumeration_tokens f.0),
+        long,
+        enumerators-length es f.0 f.1,
+      )) refl refl
   shape-length _ t all e = absurd (cc)
 
   -- and for a declaration
@@ -311,41 +315,17 @@ module _ (term : TypeAt → Option Term) (known : TypeAt → Summary) where
       capped-plus (named_bytes known at (Some name)) 1 (byte_count text) 1 own refl
       ∙ ap (λ (n : ℕ). capped n) (omega (arith, count-append text (Semicolon ∷ [])))) d e
   declared-length (aggregate_subject word (Some name) odd ms) d all e =
-      let tag = OfAggregate word in
+      let front = tag_bytes (OfAggregate word) (Some name) + 2 in
       map_holds (λ (d : CDeclaration). capped (declared_bytes known (aggregate_subject word (Some name) odd ms))
       ≡ capped (length (written d))) (Aggregate word name) (members_by term ms) (λ us are.
-      let rest = Blank ∷ LeftBrace ∷ Blank ∷ (members_tokens us ++ RightBrace ∷ Semicolon ∷ []) in
-      let a = count-cons (TagWord tag) (Blank ∷ Identifier name ∷ rest) in
-      let b = count-append (Blank ∷ LeftBrace ∷ Blank ∷ []) (members_tokens us ++ RightBrace ∷ Semicolon ∷ []) in
-      let counted = capped-plus (tag_bytes tag (Some name) + 5) (sum_by (member_bytes known) ms)
-      (tag_bytes tag (Some name) + 5) (byte_count (members_tokens us)) refl
-      (members-length term known ms us all are) in
-      ap (λ (n : ℕ). capped n) (omega arith) ∙ counted
-      ∙ ap (λ (n : ℕ). capped n) (omega (
-        arith,
-        a,
-        b,
-        count-cons Blank (Identifier name ∷ rest),
-        count-cons (Identifier name) rest,
-        count-append
-            (members_tokens us) (RightBrace ∷ Semicolon ∷ []),
-      ))) d e
+      capped-plus front (members_bytes known ms) front (byte_count (body_tokens us)) refl
+      (body-length term known ms us all are)
+      ∙ ap (λ (n : ℕ). capped n) (sym (defined-length (OfAggregate word) name (body_tokens us)))) d e
   declared-length (enumeration_subject (Some name) odd es) d all e =
       map_holds (λ (d : CDeclaration). capped (declared_bytes known (enumeration_subject (Some name) odd es))
       ≡ capped (length (written d))) (Constants name) (constants_of es) (λ cs are.
-      let rest = Blank ∷ LeftBrace ∷ Blank ∷ (constants cs ++ Blank ∷ RightBrace ∷ Semicolon ∷ []) in
-      let a = count-cons (TagWord Enum) (Blank ∷ Identifier name ∷ rest) in
-      let b = count-append (Blank ∷ LeftBrace ∷ Blank ∷ []) (constants cs ++ Blank ∷ RightBrace ∷ Semicolon ∷ []) in
-      ap (λ (n : ℕ). capped n) (omega (
-        arith,
-        enumerators-length es cs are,
-        a,
-        b,
-        count-cons Blank (Identifier name ∷ rest),
-        count-cons
-            (Identifier name) rest,
-        count-append (constants cs) (Blank ∷ RightBrace ∷ Semicolon ∷ []),
-      ))) d e
+      ap (λ (n : ℕ). capped n)
+      (omega (arith, enumerators-length es cs are, defined-length Enum name (enumeration_tokens cs)))) d e
   declared-length (declared_subject word (Some name)) d all e =
       let a = count-cons (TagWord word) (Blank ∷ Identifier name ∷ Semicolon ∷ []) in
       ap (λ (n : ℕ). capped n) (omega

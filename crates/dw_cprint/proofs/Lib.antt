@@ -21,7 +21,7 @@ pub mod SurveyLemmas
 pub mod NumberLemmas
 pub mod ListingLemmas
 pub mod JudgementLemmas
-pub mod RowLemmas
+pub mod NamedLemmas
 pub mod RefusalLemmas
 pub mod KindLemmas
 pub mod FaultLemmas

@@ -12,7 +12,8 @@ use Rattle.dw_image.specs.declared.image.Image.{Image}
 use Rattle.dw_image.specs.Images.{entries_in}
 use Rattle.dw_cprint.specs.EntryShapes.{subject_in}
 use Rattle.dw_cprint.specs.Listings.{IsNamedType, AreNamedTypes, is_named_type, named_number}
-use Rattle.dw_cprint.specs.Rows.{AreRows, Row, Tells}
+use Rattle.dw_cprint.specs.Judgements.{AreNames, IsNameOf}
+use Rattle.dw_cprint.specs.declared.words.Text.{Text}
 use Rattle.dw_cprint.proofs.LevelLemmas.{few-entries}
 use Rattle.dw_cprint.proofs.NumberLemmas.{kept-there}
 
@@ -57,9 +58,9 @@ kept-numbers : (p : ℕ → Bool) (xs : List ℕ) → filter_map (λ k. if p k t
 kept-numbers p [] = refl
 kept-numbers p (x ∷ xs) = search (rules, (kept-numbers p xs))
 
-pub named-done : (image : Image) (named : List ℕ)
+pub named_done : (image : Image) (named : List ℕ)
     → named ≡ filter_map (named_number image) (range_with_len 0 (length (entries_in image))) → AreNamedTypes image named
-named-done image named is = rw (is, kept-numbers p range) (record {
+named_done image named is = rw (is, kept-numbers p range) (record {
   all =
       λ entry. (
         λ has. passed entry (All-contains (λ x. p x ≡ true) (filter p range) entry (filter_passes p range) has),
@@ -97,13 +98,14 @@ named-done image named is = rw (is, kept-numbers p range) (record {
 -- ---- a named type by its number
 
 pub entry-there : (image : Image) (named : List ℕ) (k id : ℕ) → AreNamedTypes image named → k < length named
-    → id ≡ get_or named k id → id < length (entries_in image)
+    → id ≡ get_or named k id → IsNamedType image id
 entry-there image named k id names inside at =
-    rw (get_or_read named k id inside at 0) (named-within image named names k 0 inside)
+    rw (get_or_read named k id inside at 0) ((names.all (get_or named k 0)).0 (Contains-get_or named k 0 inside))
 
--- and its row
-pub row-there : (image : Image) (named : List ℕ) (rows : List Row) (k id : ℕ) (row : Row) → AreRows image named rows
-    → k < length named → id ≡ get_or named k id → row ≡ get_or rows k row → Tells image id row
-row-there image named rows k id row are inside at told =
-    let there : k < length rows = omega (arith, are.long, inside) in
-    rw (get_or_read named k id inside at 0, get_or_read rows k row there told row) (are.each k row there)
+-- and its name
+pub name-there : (image : Image) (named : List ℕ) (names : List Text) (k id : ℕ) (name : Text)
+    → AreNames image named names → k < length named → id ≡ get_or named k id → name ≡ get_or names k name
+    → IsNameOf image id name
+name-there image named names k id name are inside at told =
+    let there : k < length names = omega (arith, are.long, inside) in
+    rw (get_or_read named k id inside at 0, get_or_read names k name there told name) (are.each k name there)

@@ -2,7 +2,7 @@
 use Rattle.std.proofs.Common.{[], ◌∷◌, ◌≡◌, ℕ, ◌<◌, List, Option, Some, None, refl, ap, length, ◌++◌, sym, subst, append-nil, map}
 use Rattle.std.specs.List.{filter_map}
 use Rattle.std.specs.Prelude.{option_map, All}
-use Rattle.std.proofs.lemmas.List.Elements.{All-head, All-tail}
+use Rattle.std.proofs.lemmas.List.Elements.{All-head, All-rest, All-tail}
 use Rattle.dw_entries.specs.Entries.{Entry}
 use Rattle.dw_cprint.specs.Children.{AreKept}
 use Rattle.dw_types.specs.Children.{children_of}
@@ -11,6 +11,17 @@ use Rattle.dw_types.proofs.SiblingLemmas.{children-all}
 -- the children of an entry are entries
 pub children_within : (es : List Entry) (id : ℕ) → All (λ child. child < length es) (children_of es id)
 children_within es id = λ k d below. (children-all es id k d below).0
+
+-- so is the first of those that are left, and so are the others
+pub child_within : (es : List Entry) {left rest : List ℕ} {child : ℕ} → left ≡ child ∷ rest
+    → All (λ child. child < length es) left → child < length es
+child_within es {rest = rest} {child = child} is all =
+    All-head (λ child. child < length es) child rest (subst (All (λ child. child < length es)) is all)
+
+pub children_rest : (es : List Entry) {left rest : List ℕ} {child : ℕ} → left ≡ child ∷ rest
+    → All (λ child. child < length es) left → All (λ child. child < length es) rest
+children_rest es {left = left} {rest = rest} {child = child} is all =
+    All-rest (λ child. child < length es) child rest left is all
 
 -- ---- reading children from the first on
 

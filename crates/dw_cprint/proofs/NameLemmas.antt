@@ -1,7 +1,7 @@
 -- The words of a base type's name, and its text.
 use Rattle.std.proofs.Common.{rules, ◌≡◌, ℕ, zero, suc, ◌+◌, ◌*◌, ◌<◌, ◌≤◌, Bool, true, false, List, [], ◌∷◌, ◌++◌, Option, Some, None, refl, sym, ◌∙◌, ap, length, take, drop, append-nil, arith, ◌-◌}
 use Rattle.std.specs.Prelude.{◌==◌, ◌&&◌, ◌||◌, ◌-◌, count_by, position, bytes_eq, is_some, if◌then◌else◌, cond, filter}
-use Rattle.std.specs.List.{list_any, slice_split, position_or_len, join_with_byte}
+use Rattle.std.specs.List.{find, list_any, slice_split, position_or_len, join_with_byte}
 use Rattle.std.proofs.lemmas.Bool.Decides.{nat_tests}
 use Rattle.std.proofs.lemmas.Option.{cond_some}
 use Rattle.std.proofs.lemmas.List.{length-append}
@@ -9,7 +9,7 @@ use Rattle.std.proofs.lemmas.Slice.Eq.{bytes_eq-Decides}
 use Rattle.std.proofs.lemmas.List.Splits.{slice_split_first, slice_split-cons_no, length-slice_split, join_with_byte-slice_split}
 use Rattle.dw_cprint.specs.Declarations.{parts_of, word_of, words_of}
 use Rattle.dw_cprint.specs.Terms.{TypeWord}
-use Rattle.dw_cprint.specs.Tokens.{type_word_spelling, text_of}
+use Rattle.dw_cprint.specs.Tokens.{type_word_spelling, type_words, text_of}
 use Rattle.dw_cprint.specs.Writing.{basic}
 use Rattle.dw_cprint.proofs.OptionLemmas.{both_hold}
 
@@ -77,8 +77,21 @@ one-word : (part name : List ℕ) (word w : TypeWord) (others : Option TypeWord)
     → (if bytes_eq part name then Some word else others) ≡ Some w → type_word_spelling w ≡ part
 one-word part name word w others is otherwise e = search (rules, bytes_eq-Decides)
 
-spelled : (part : List ℕ) (w : TypeWord) → word_of part ≡ Some w → type_word_spelling w ≡ part
-spelled part w e = search (rules, one-word)
+spelled : (part : List ℕ) (words : List TypeWord) (w : TypeWord)
+    → find (λ (word : TypeWord). bytes_eq part (type_word_spelling word)) words ≡ Some w → type_word_spelling w ≡ part
+spelled part [] w e = absurd (cc)
+spelled part (x ∷ words) w e =
+    one-word part (type_word_spelling x) x w _ refl (λ others. spelled part words w others) e
+
+-- one is found, if one passes the test
+pub some-found : {X : Type 0} (p : X → Bool) (xs : List X) → is_some (find p xs) ≡ list_any p xs
+some-found p [] = refl
+some-found p (x ∷ xs) = by_test (p x) (some-found p xs)
+  where
+    by_test : (passes : Bool) → is_some (find p xs) ≡ list_any p xs
+        → is_some (if passes then Some x else find p xs) ≡ (passes || list_any p xs)
+    by_test true same = refl
+    by_test false same = same
 
 pub words-length : (most : ℕ) (parts : List (List ℕ)) (ws : List TypeWord) → words_of most parts ≡ Some ws
     → length ws ≡ length parts
@@ -107,7 +120,7 @@ words-joined zero (part ∷ parts) ws e = absurd (cc)
 words-joined (suc most) (part ∷ parts) ws e =
     both_hold (λ (vs : List TypeWord). text_of (basic vs) ≡ join_with_byte 32 (part ∷ parts))
     (λ (w : TypeWord) (us : List TypeWord). w ∷ us) (word_of part) (words_of most parts)
-    (λ w is us are. word-before w us part parts (spelled part w is) (words-length most parts us are)
+    (λ w is us are. word-before w us part parts (spelled part type_words w is) (words-length most parts us are)
     (words-joined most parts us are)) ws e
 
 -- the text of a name of type words is the name

@@ -6,13 +6,13 @@ use Rattle.std.specs.Prelude.{All, sum_by}
 use Rattle.std.proofs.lemmas.List.Sums.{sum_by-cons}
 use Rattle.dw_cprint.specs.Declarations.{constants_of, has_more, is_misplaced, is_cut_short, members_by, parameters_by}
 use Rattle.dw_cprint.specs.Declarators.{before, after}
-use Rattle.dw_cprint.specs.Lengths.{byte_count, capped, type_bytes, space, has_gap, IsLength, name_bytes, value_bytes, enumerator_bytes, enumerators_bytes, named_bytes, member_bytes, parameter_bytes, parameters_bytes}
-use Rattle.dw_cprint.specs.Shapes.{Parameter, Typed, More, Name, TypeAt, MemberOf, EnumeratorOf}
+use Rattle.dw_cprint.specs.Lengths.{byte_count, capped, type_bytes, space, has_gap, IsLength, name_bytes, value_bytes, enumerator_bytes, enumerators_bytes, named_bytes, member_bytes, members_bytes, parameter_bytes, parameters_bytes, tag_bytes}
+use Rattle.dw_cprint.specs.Shapes.{Parameter, Typed, More, Name, TagKeyword, TypeAt, MemberOf, EnumeratorOf}
 use Rattle.dw_cprint.specs.Steps.{member_types, parameter_types}
 use Rattle.dw_cprint.specs.Summaries.{Summary}
 use Rattle.dw_cprint.specs.Terms.{Constant, Valued, Term, Prototyped, Parameters, NoParameter, Parameter as ParameterTerm, Members, NoMember, Member as MemberTerm}
-use Rattle.dw_cprint.specs.Tokens.{Token, Blank, Semicolon, Comma, Equals, Identifier, spelling, text_of}
-use Rattle.dw_cprint.specs.Writing.{spell, bits_tokens, constant_tokens, constants, ellipsis, members_tokens, more_constants, more_parameters, name_tokens, signature_tokens, value_tokens}
+use Rattle.dw_cprint.specs.Tokens.{Token, Blank, LeftBrace, RightBrace, Semicolon, Comma, Equals, TagWord, Identifier, spelling, text_of}
+use Rattle.dw_cprint.specs.Writing.{body_tokens, enumeration_tokens, spell, bits_tokens, constant_tokens, constants, ellipsis, members_tokens, more_constants, more_parameters, name_tokens, signature_tokens, value_tokens}
 use Rattle.dw_cprint.specs.Wrong.{TypeKind}
 use Rattle.dw_cprint.proofs.DeclaratorLemmas.{in_parts}
 use Rattle.dw_cprint.proofs.ItemWriterLemmas.{more-constants}
@@ -74,7 +74,7 @@ module _ (term : TypeAt → Option Term) (known : TypeAt → Summary) where
         is.around,
       )
 
-  pub members-length : (ms : List MemberOf) (us : Members) → All (Tells term known) (member_types ms)
+  members-length : (ms : List MemberOf) (us : Members) → All (Tells term known) (member_types ms)
       → members_by term ms ≡ Some us
       → capped (sum_by (member_bytes known) ms) ≡ capped (byte_count (members_tokens us))
   members-length [] us all e =
@@ -99,6 +99,18 @@ module _ (term : TypeAt → Option Term) (known : TypeAt → Summary) where
       ≡ byte_count (members_tokens (MemberTerm m.name t m.bits vs)) =
       omega (arith, a, b, count-cons Semicolon (Blank ∷ members_tokens vs), count-cons Blank (members_tokens vs)) in
       ap (λ (n : ℕ). capped n) left ∙ both ∙ ap (λ (n : ℕ). capped n) right) us e
+
+  -- the same in braces
+  pub body-length : (ms : List MemberOf) (us : Members) → All (Tells term known) (member_types ms)
+      → members_by term ms ≡ Some us → capped (members_bytes known ms) ≡ capped (byte_count (body_tokens us))
+  body-length ms us all e =
+      capped-plus 3 (sum_by (member_bytes known) ms) 3 (byte_count (members_tokens us)) refl
+      (members-length ms us all e)
+      ∙ ap (λ (n : ℕ). capped n) (omega (
+        arith,
+        count-append (LeftBrace ∷ Blank ∷ []) (members_tokens us ++ RightBrace ∷ []),
+        count-append (members_tokens us) (RightBrace ∷ []),
+      ))
 
   -- those after the first, and the dots
   parameters-length : (ps : List Parameter) (us : Parameters) → is_cut_short ps ≡ false
@@ -199,15 +211,33 @@ more-length c cs =
     )
 
 pub enumerators-length : (es : List EnumeratorOf) (cs : List Constant) → constants_of es ≡ Some cs
-    → enumerators_bytes es ≡ byte_count (constants cs) + 4
-enumerators-length [] cs e = (let same : [] ≡ cs = cc in ap (λ (u : List Constant). byte_count (constants u) + 4) same)
+    → enumerators_bytes es ≡ byte_count (enumeration_tokens cs)
+enumerators-length [] cs e =
+    (let same : [] ≡ cs = cc in ap (λ (u : List Constant). byte_count (enumeration_tokens u)) same)
 enumerators-length (x ∷ es) cs e =
     let m = more-constants x es cs e in
     let P : List Constant → Type 0 = λ u. sum_by enumerator_bytes (x ∷ es) ≡ byte_count (more_constants u) in
-    let Q : List Constant → Type 0 = λ u. enumerators_bytes (x ∷ es) ≡ byte_count (constants u) + 4 in
+    let Q : List Constant → Type 0 = λ u. enumerators_bytes (x ∷ es) ≡ byte_count (enumeration_tokens u) in
+    let all = constants (Valued m.name m.value ∷ m.others) in
     subst Q m.is (omega (
       arith,
       subst P (sym m.is) (constants-length (x ∷ es) cs e),
-      more-length (Valued m.name m.value)
-          m.others,
+      more-length (Valued m.name m.value) m.others,
+      count-append (LeftBrace ∷ Blank ∷ []) (all ++ Blank ∷ RightBrace ∷ []),
+      count-append all (Blank ∷ RightBrace ∷ []),
     ))
+
+-- what is declared with a name and a body
+pub defined-length : (tag : TagKeyword) (name : List ℕ) (body : List Token)
+    → byte_count (TagWord tag ∷ Blank ∷ Identifier name ∷ Blank ∷ (body ++ Semicolon ∷ []))
+    ≡ tag_bytes tag (Some name) + 2 + byte_count body
+defined-length tag name body =
+    let rest = Blank ∷ (body ++ Semicolon ∷ []) in
+    omega (
+      arith,
+      count-cons (TagWord tag) (Blank ∷ Identifier name ∷ rest),
+      count-cons Blank (Identifier name ∷ rest),
+      count-cons (Identifier name) rest,
+      count-cons Blank (body ++ Semicolon ∷ []),
+      count-append body (Semicolon ∷ []),
+    )

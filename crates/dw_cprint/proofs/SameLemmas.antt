@@ -1,20 +1,19 @@
 -- Shapes that are the same at each entry that is reached: the same declaration, and the same refusals.
 use Rattle.std.proofs.Common.{◌≡◌, ℕ, zero, suc, List, [], ◌∷◌, Option, Some, None, refl, sym, ◌∙◌, ap, subst, arith}
-use Rattle.std.specs.Prelude.{option_map, All, Any, Contains, if◌then◌else◌}
-use Rattle.std.proofs.lemmas.List.Elements.{All-nil, All-cons}
+use Rattle.std.specs.Prelude.{option_map, All, Any, if◌then◌else◌}
+use Rattle.std.proofs.lemmas.List.Elements.{All-weaker}
 use Rattle.dw_types.specs.Paths.{Leads}
 use Rattle.dw_cprint.specs.Declarations.{nested_arrays, is_miscounted, parameters_by, members_by, term_by, declaration_by, term_at, declaration_of}
 use Rattle.dw_cprint.specs.Refusals.{PrintFault, Holds, other_kind, cycle, own_name, name_reached, own_child, foreign_reached, own_shape, shape_reached, deep, long, number_of, HoldsNoneBelow, Refuses, HasOneReading, IsPrinted}
-use Rattle.dw_cprint.specs.SameShapes.{AreSameFor}
 use Rattle.dw_cprint.specs.Shapes.{Parameter, Typed, More, TypeAt, MemberOf, ShapeOf, base, typedef, qualified, pointer, array, function, body, SubjectOf, typedef_subject, variable_subject, aggregate_subject, enumeration_subject, declared_subject, other_subject}
-use Rattle.dw_cprint.specs.Steps.{entries_among, parameter_types, member_types, types_reached, types_declared, first_steps, root, further, IsReached, StepsTo}
+use Rattle.dw_cprint.specs.Steps.{AreSameFor, parameter_types, member_types, types_reached, types_declared, first_steps, root, further, IsReached, StepsTo}
 use Rattle.dw_cprint.specs.Terms.{Term, Qualified, Pointer, Function, Unprototyped, Body, Typedef, Variable, Aggregate}
 use Rattle.dw_cprint.specs.Wrong.{shape_of, StandsUnder, nothing, itself, below, HasBadName, is_wrong_row, kind_at, kind_in, object_types, IsVoidLike, IsUnspeakable, wrong, void_object, row, IsOwnUnspeakable, void_variable, unspeakable, wrong_enumeration, declared_enumeration}
 use Rattle.dw_cprint.specs.Kept.{kept}
 use Rattle.dw_cprint.specs.Surveys.{AreAmong, IsSurveyOf}
 use Rattle.dw_cprint.specs.declared.survey.Survey.{Survey}
-use Rattle.dw_cprint.proofs.KindLemmas.{names-alike, own-names-alike, wrong-alike}
-use Rattle.dw_cprint.proofs.HasTermLemmas.{any_here, any_there, head_of, rest_of}
+use Rattle.dw_cprint.proofs.KindLemmas.{all-types, first-of, others-of, names-alike, own-names-alike, wrong-alike}
+use Rattle.dw_cprint.proofs.FaultLemmas.{objects-of}
 use Rattle.dw_cprint.proofs.LegibleLemmas.{subject_legible}
 use Rattle.dw_cprint.proofs.FoundLemmas.{reached-wider}
 use Rattle.dw_cprint.proofs.TextLaws.{one_text}
@@ -27,15 +26,12 @@ module _ (shapes others : ℕ → ShapeOf) (subject : SubjectOf) (same : AreSame
   GoodAt None = Unit {0}
   GoodAt (Some entry) = Good entry
 
-  -- each entry among the types of a shape is reached
-  abbrev GoodAmong : List TypeAt → Type 0
-  GoodAmong ats = (n : ℕ) → Contains (entries_among ats) n → Good n
+  -- the types of an entry that is reached, and of the declared one, are reached
+  goods-of : (entry : ℕ) → Good entry → All GoodAt (types_reached (shapes entry))
+  goods-of entry good = all-types GoodAt tt (types_reached (shapes entry)) (λ n c. further good c)
 
-  good-first : (at : TypeAt) (ats : List TypeAt) → GoodAmong (at ∷ ats) → GoodAt at
-  good-first at ats h = head_of GoodAt tt at ats h
-
-  good-rest : (at : TypeAt) (ats : List TypeAt) → GoodAmong (at ∷ ats) → GoodAmong ats
-  good-rest at ats h = rest_of GoodAt tt at ats h
+  goods-declared : All GoodAt (types_declared subject)
+  goods-declared = all-types GoodAt tt (types_declared subject) (λ n c. root c)
 
   leads-same : (k from to : ℕ) → Good from → Leads (StepsTo shapes) k from to → Leads (StepsTo others) k from to
   leads-same zero from to good e = e
@@ -51,98 +47,83 @@ module _ (shapes others : ℕ → ShapeOf) (subject : SubjectOf) (same : AreSame
   stands-same nothing good = (nothing, tt)
   stands-same (itself {entry} free) good = (itself (λ q at e. free q at (same entry good ∙ e)), good)
   stands-same (below {entry} q at e rest) good =
-      let P : ShapeOf → Type 0 = λ shape. GoodAmong (types_reached shape) in
-      let goods : GoodAmong (at ∷ []) = subst P e (λ n c. further good c) in
-      let inner = stands-same rest (good-first at [] goods) in
+      let P : ShapeOf → Type 0 = λ shape. All GoodAt (types_reached shape) in
+      let inner = stands-same rest (first-of GoodAt at [] (subst P e (goods-of entry good))) in
       (below q at (sym (same entry good) ∙ e) inner.0, inner.1)
 
-  any-types : (P Q : TypeAt → Type 0) (ats : List TypeAt) → GoodAmong ats → ((at : TypeAt) → GoodAt at → P at → Q at)
+  any-types : (P Q : TypeAt → Type 0) (ats : List TypeAt) → All GoodAt ats → ((at : TypeAt) → GoodAt at → P at → Q at)
       → Any P ats → Any Q ats
-  any-types P Q [] goods f (k, x, w, e, p) = absurd (omega arith)
-  any-types P Q (at ∷ ats) goods f (zero, x, w, e, p) =
-      any_here Q at ats (f at (good-first at ats goods) (subst P (sym e) p))
-  any-types P Q (at ∷ ats) goods f (suc k, x, w, e, p) =
-      any_there Q at ats (any-types P Q ats (good-rest at ats goods) f (k, x, omega arith, e, p))
+  any-types P Q ats goods f (k, at, w, e, p) = (k, at, w, e, f at (subst GoodAt e (goods k at w)) p)
 
   -- ---- what is wrong
 
-  kinds-same : (ats : List TypeAt) → GoodAmong ats → All (λ at. kind_at shapes at ≡ kind_at others at) ats
-  kinds-same [] goods = All-nil (λ at. kind_at shapes at ≡ kind_at others at)
-  kinds-same (at ∷ ats) goods =
-      All-cons (λ at. kind_at shapes at ≡ kind_at others at) at ats
-      (ap kind_in (shape-same at (good-first at ats goods))) (kinds-same ats (good-rest at ats goods))
+  kinds-same : (ats : List TypeAt) → All GoodAt ats → All (λ at. kind_at shapes at ≡ kind_at others at) ats
+  kinds-same ats goods =
+      All-weaker GoodAt (λ at. kind_at shapes at ≡ kind_at others at) (λ at good. ap kind_in (shape-same at good)) ats
+      goods
 
-  bad-same : (shape : ShapeOf) → GoodAmong (types_reached shape) → HasBadName shapes shape → HasBadName others shape
+  bad-same : (shape : ShapeOf) → All GoodAt (types_reached shape) → HasBadName shapes shape → HasBadName others shape
   bad-same shape goods h =
       sym (names-alike (kind_at shapes) (kind_at others) shape (kinds-same (types_reached shape) goods)) ∙ h
 
   void-same : (at : TypeAt) → GoodAt at → IsVoidLike shapes at → IsVoidLike others at
   void-same at good h = (stands-same h good).0
 
-  objects-good : (shape : ShapeOf) → GoodAmong (types_reached shape) → GoodAmong (object_types shape)
-  objects-good (array counts strange at) goods = goods
-  objects-good (function at (Some ps)) goods = good-rest at (parameter_types ps) goods
-  objects-good (body word odd ms) goods = goods
-  objects-good _ goods = λ n c. absurd (omega (arith, c.1))
-
-  unspeakable-same : (shape : ShapeOf) → GoodAmong (types_reached shape) → IsUnspeakable shapes shape
+  unspeakable-same : (shape : ShapeOf) → All GoodAt (types_reached shape) → IsUnspeakable shapes shape
       → IsUnspeakable others shape
   unspeakable-same shape goods (wrong h) =
       wrong (sym (wrong-alike (kind_at shapes) (kind_at others) shape (kinds-same (types_reached shape) goods)) ∙ h)
   unspeakable-same shape goods (void_object some) =
-      void_object (any-types (IsVoidLike shapes) (IsVoidLike others) (object_types shape) (objects-good shape goods)
-      void-same some)
+      void_object (any-types (IsVoidLike shapes) (IsVoidLike others) (object_types shape)
+      (objects-of GoodAt shape goods) void-same some)
   unspeakable-same (qualified q at) goods (row under stands h) =
-      let u = stands-same stands (good-first at [] goods) in
+      let u = stands-same stands (first-of GoodAt at [] goods) in
       row under u.0 (ap (λ (o : Option ShapeOf). is_wrong_row q (kind_in o)) (sym (shape-same under u.1)) ∙ h)
 
   -- ---- terms
 
-  module _ (one two : TypeAt → Option Term) (void : one None ≡ two None) where
+  module _ (one two : TypeAt → Option Term) where
     abbrev SameTerm : TypeAt → Type 0
     SameTerm at = one at ≡ two at
 
-    parameters-same : (ps : List Parameter)
-        → ((n : ℕ) → Contains (entries_among (parameter_types ps)) n → SameTerm (Some n))
+    parameters-same : (ps : List Parameter) → All SameTerm (parameter_types ps)
         → parameters_by one ps ≡ parameters_by two ps
     parameters-same [] h = refl
     parameters-same (Typed at ∷ ps) h =
-        let first = head_of SameTerm void at (parameter_types ps) h in
-        let rest = parameters-same ps (rest_of SameTerm void at (parameter_types ps) h) in
+        let first = first-of SameTerm at (parameter_types ps) h in
+        let rest = parameters-same ps (others-of SameTerm at (parameter_types ps) h) in
         rw (first, rest) refl
     parameters-same (More ∷ ps) h = parameters-same ps h
 
-    members-same : (ms : List MemberOf) → ((n : ℕ) → Contains (entries_among (member_types ms)) n → SameTerm (Some n))
-        → members_by one ms ≡ members_by two ms
+    members-same : (ms : List MemberOf) → All SameTerm (member_types ms) → members_by one ms ≡ members_by two ms
     members-same [] h = refl
     members-same (m ∷ ms) h =
-        let first = head_of SameTerm void m.type_at (member_types ms) h in
-        let rest = members-same ms (rest_of SameTerm void m.type_at (member_types ms) h) in
+        let first = first-of SameTerm m.type_at (member_types ms) h in
+        let rest = members-same ms (others-of SameTerm m.type_at (member_types ms) h) in
         rw (first, rest) refl
 
-    by-shape-same : (shape : ShapeOf) → ((n : ℕ) → Contains (entries_among (types_reached shape)) n → SameTerm (Some n))
-        → term_by one shape ≡ term_by two shape
+    by-shape-same : (shape : ShapeOf) → All SameTerm (types_reached shape) → term_by one shape ≡ term_by two shape
     by-shape-same (base None) h = refl
     by-shape-same (typedef None) h = refl
-    by-shape-same (qualified q at) h = ap (option_map (Qualified q)) (head_of SameTerm void at [] h)
-    by-shape-same (pointer at) h = ap (option_map Pointer) (head_of SameTerm void at [] h)
+    by-shape-same (qualified q at) h = ap (option_map (Qualified q)) (first-of SameTerm at [] h)
+    by-shape-same (pointer at) h = ap (option_map Pointer) (first-of SameTerm at [] h)
     by-shape-same (array counts strange at) h =
         ap (λ (o : Option Term). if is_miscounted counts then None else option_map (nested_arrays counts) o)
-        (head_of SameTerm void at [] h)
+        (first-of SameTerm at [] h)
     by-shape-same (function at None) h =
-        ap (option_map (λ (t : Term). Function t Unprototyped)) (head_of SameTerm void at [] h)
+        ap (option_map (λ (t : Term). Function t Unprototyped)) (first-of SameTerm at [] h)
     by-shape-same (function at (Some ps)) h =
-        let first = head_of SameTerm void at (parameter_types ps) h in
-        let rest = parameters-same ps (rest_of SameTerm void at (parameter_types ps) h) in
+        let first = first-of SameTerm at (parameter_types ps) h in
+        let rest = parameters-same ps (others-of SameTerm at (parameter_types ps) h) in
         rw (first, rest) refl
     by-shape-same (body word odd ms) h = ap (option_map (Body word)) (members-same ms h)
     by-shape-same _ h = refl
 
-    by-subject-same : (subject : SubjectOf) → ((n : ℕ) → Contains (first_steps subject) n → SameTerm (Some n))
+    by-subject-same : (subject : SubjectOf) → All SameTerm (types_declared subject)
         → declaration_by one subject ≡ declaration_by two subject
-    by-subject-same (typedef_subject (Some name) at) h = ap (option_map (Typedef name)) (head_of SameTerm void at [] h)
+    by-subject-same (typedef_subject (Some name) at) h = ap (option_map (Typedef name)) (first-of SameTerm at [] h)
     by-subject-same (variable_subject (Some name) at) h =
-        ap (option_map (Variable name)) (head_of SameTerm void at [] h)
+        ap (option_map (Variable name)) (first-of SameTerm at [] h)
     by-subject-same (aggregate_subject word (Some name) odd ms) h =
         ap (option_map (Aggregate word name)) (members-same ms h)
     by-subject-same _ h = refl
@@ -154,8 +135,9 @@ module _ (shapes others : ℕ → ShapeOf) (subject : SubjectOf) (same : AreSame
   entry-same : (k entry : ℕ) → Good entry → term_at k shapes (Some entry) ≡ term_at k others (Some entry)
   entry-same zero entry good = refl
   entry-same (suc k) entry good =
-      by-shape-same (term_at k shapes) (term_at k others) (void-term k) (shapes entry)
-      (λ n leads. entry-same k n (further good leads))
+      by-shape-same (term_at k shapes) (term_at k others) (shapes entry)
+      (all-types (λ at. term_at k shapes at ≡ term_at k others at) (void-term k) (types_reached (shapes entry))
+      (λ n leads. entry-same k n (further good leads)))
       ∙ ap (term_by (term_at k others)) (same entry good)
 
   -- ---- the declared entry
@@ -174,13 +156,15 @@ module _ (shapes others : ℕ → ShapeOf) (subject : SubjectOf) (same : AreSame
   pub declaration-same : declaration_of shapes subject ≡ declaration_of others subject
   unfolding declaration_of
   declaration-same =
-      by-subject-same (term_at 65 shapes) (term_at 65 others) refl subject (λ n leads. entry-same 65 n (root leads))
+      by-subject-same (term_at 65 shapes) (term_at 65 others) subject
+      (all-types (λ at. term_at 65 shapes at ≡ term_at 65 others at) refl (types_declared subject)
+      (λ n leads. entry-same 65 n (root leads)))
 
-  own-unspeakable-same : (s : SubjectOf) → GoodAmong (types_declared s) → IsOwnUnspeakable shapes s
+  own-unspeakable-same : (s : SubjectOf) → All GoodAt (types_declared s) → IsOwnUnspeakable shapes s
       → IsOwnUnspeakable others s
   own-unspeakable-same (typedef_subject name at) goods h = elim h [ ]
   own-unspeakable-same (variable_subject name at) goods (void_variable h) =
-      void_variable (void-same at (good-first at [] goods) h)
+      void_variable (void-same at (first-of GoodAt at [] goods) h)
   own-unspeakable-same (aggregate_subject word name odd ms) goods (unspeakable h) =
       unspeakable (unspeakable-same (body word odd ms) goods h)
   own-unspeakable-same (enumeration_subject name odd es) goods (wrong_enumeration h) = wrong_enumeration h
@@ -192,17 +176,17 @@ module _ (shapes others : ℕ → ShapeOf) (subject : SubjectOf) (same : AreSame
   holds-same rule (cycle entry r (k, path)) = cycle entry (reached-there r) (k, leads-same (suc k) entry entry r path)
   holds-same rule (own_name h) =
       own_name (sym (own-names-alike (kind_at shapes) (kind_at others) subject
-      (kinds-same (types_declared subject) (λ n c. root c))) ∙ h)
+      (kinds-same (types_declared subject) goods-declared)) ∙ h)
   holds-same rule (name_reached entry r h) =
       name_reached entry (reached-there r)
-      (subst (HasBadName others) (same entry r) (bad-same (shapes entry) (λ n c. further r c) h))
+      (subst (HasBadName others) (same entry r) (bad-same (shapes entry) (goods-of entry r) h))
   holds-same rule (own_child h) = own_child h
   holds-same rule (foreign_reached entry r h) =
       foreign_reached entry (reached-there r) (rw (same entry r) at h)
-  holds-same rule (own_shape h) = own_shape (own-unspeakable-same subject (λ n c. root c) h)
+  holds-same rule (own_shape h) = own_shape (own-unspeakable-same subject goods-declared h)
   holds-same rule (shape_reached entry r h) =
       shape_reached entry (reached-there r)
-      (subst (IsUnspeakable others) (same entry r) (unspeakable-same (shapes entry) (λ n c. further r c) h))
+      (subst (IsUnspeakable others) (same entry r) (unspeakable-same (shapes entry) (goods-of entry r) h))
   holds-same rule (deep (next, to, c, path)) = deep (next, to, c, leads-same 64 next to (root c) path)
   holds-same rule (long (d, e, more)) = long (d, sym declaration-same ∙ e, more)
 

@@ -17,6 +17,7 @@ use Rattle.dw_cprint.specs.declared.shape.Shape.{Shape}
 use Rattle.dw_cprint.specs.declared.shape.Shape.TheVariants as shape
 use Rattle.dw_cprint.specs.declared.survey.TheConstants.{UNKNOWN, VOID}
 use Rattle.dw_cprint.proofs.FoundLemmas.{found-none}
+use Rattle.dw_cprint.proofs.KindLemmas.{all-types}
 use Rattle.dw_cprint.proofs.LengthLemmas.{void-length}
 use Rattle.dw_cprint.proofs.PartLengthLemmas.{Tells}
 
@@ -44,16 +45,6 @@ void_summary shapes =
         let same : Void ≡ t = cc in
         let P : Term → Type 0 = λ u. IsLength u VOID.kind VOID.base VOID.length in
         subst P same void-length
-
--- a fact of types holds of void, and of each entry among them
-pub all-types : (P : TypeAt → Type 0) → P None → (types : List TypeAt)
-    → ((to : ℕ) → Contains (entries_among types) to → P (Some to)) → All P types
-all-types P void [] each k d w = absurd (omega arith)
-all-types P void (None ∷ types) each zero d w = void
-all-types P void (None ∷ types) each (suc k) d w = all-types P void types each k d (omega arith)
-all-types P void (Some to ∷ types) each zero d w = each to (0, omega arith, refl)
-all-types P void (Some to ∷ types) each (suc k) d w =
-    all-types P void types (λ x c. each x (suc c.0, omega (arith, c.1), c.2)) k d (omega arith)
 
 -- ---- what stands under a row
 

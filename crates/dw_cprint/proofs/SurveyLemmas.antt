@@ -20,7 +20,8 @@ use Rattle.dw_cprint.specs.declared.shape.Shape.{Shape}
 use Rattle.dw_cprint.specs.declared.survey.Survey.{Survey}
 use Rattle.dw_cprint.specs.declared.survey.Summary.{Summary}
 use Rattle.dw_cprint.proofs.ReachLemmas.{entry-among, from-map, into-map}
-use Rattle.dw_cprint.proofs.SummaryLemmas.{all-types, void_summary}
+use Rattle.dw_cprint.proofs.KindLemmas.{all-types}
+use Rattle.dw_cprint.proofs.SummaryLemmas.{void_summary}
 use Rattle.dw_types.proofs.LongestLemmas.{clear-free}
 use Rattle.std.proofs.lemmas.Bool.{true_from_ne_false, false_from_ne_true}
 

@@ -9,7 +9,7 @@ use Rattle.dw_image.specs.declared.image.Image.{Image}
 use Rattle.dw_image.specs.Images.{entries_in, type_in}
 use Rattle.dw_image.specs.Lookups.{type_number}
 use Rattle.dw_forms.specs.Codes.{DW_AT_prototyped, DW_TAG_array_type, DW_TAG_atomic_type, DW_TAG_base_type, DW_TAG_const_type, DW_TAG_enumeration_type, DW_TAG_pointer_type, DW_TAG_restrict_type, DW_TAG_structure_type, DW_TAG_subroutine_type, DW_TAG_typedef, DW_TAG_union_type, DW_TAG_variable, DW_TAG_volatile_type, is_type_tag}
-use Rattle.dw_cprint.specs.EntryShapes.{member_at, parameter_at, parameters_in, shape_in, subject_in, body_in, defined_in, tag_in, tag_shape, dimension_counts, is_strange}
+use Rattle.dw_cprint.specs.EntryShapes.{member_at, parameter_at, parameters_in, shape_in, subject_in, body_in, defined_in, tag_in, tag_word, tag_shape, dimension_counts, is_strange}
 use Rattle.dw_cprint.specs.LookUps.{tag_at, type_at, name_at, flag_at, is_declared_at, children_at}
 use Rattle.dw_cprint.specs.Shapes.{Parameter, Typed, More, TagKeyword, OfAggregate, Struct, Union, Enum, Const, Volatile, Restrict, Atomic, base, typedef, qualified, pointer, array, function, foreign, other, Name, TypeAt, MemberOf, ShapeOf, nameless, SubjectOf, typedef_subject, variable_subject, declared_subject, other_subject}
 use Rattle.dw_cprint.specs.Steps.{entries_among, parameter_types, member_types, types_reached, types_declared, first_steps}
@@ -159,9 +159,7 @@ unfolding subject_in
 subject_within image id =
     test DW_TAG_typedef (typedef_subject name at) _ one
     (test DW_TAG_variable (variable_subject name at) _ one
-    (test DW_TAG_structure_type (tag_in image id (OfAggregate Struct)) _ (tag (OfAggregate Struct))
-    (test DW_TAG_union_type (tag_in image id (OfAggregate Union)) _ (tag (OfAggregate Union))
-    (test DW_TAG_enumeration_type (tag_in image id Enum) other_subject (tag Enum) (none_within n)))))
+    (tag (tag_word (tag_at image id))))
   where
     n : ℕ
     n = length (entries_in image)
@@ -179,8 +177,9 @@ subject_within image id =
     one : AreWithin n (at ∷ [])
     one = search (rules, type_more, none_within)
 
-    tag : (word : TagKeyword) → DeclaresWithin n (tag_in image id word)
-    tag word =
+    tag : (o : Option TagKeyword) → DeclaresWithin n (tag_in image id o)
+    tag None = none_within n
+    tag (Some word) =
         either (DeclaresWithin n) (is_declared_at image id) (declared_subject word name) (defined_in image id word name)
         (none_within n) (defined_within image id word name)
 

@@ -5,12 +5,12 @@ use Rattle.std.specs.Global.{Global}
 use Rattle.std.specs.Prelude.{is_some, Vec, flat_map, option_map}
 use Rattle.dw_types.specs.Sizes.{has_elements}
 use Rattle.dw_cprint.specs.Declarations.{base_term, nested_arrays, is_miscounted, is_misplaced, has_more, constants_of, parameters_by, members_by, term_by, declaration_by, term_at}
-use Rattle.dw_cprint.specs.Declarators.{gap, pointer_row, opening, closing, before, after, core, body_tokens, enumeration_tokens}
+use Rattle.dw_cprint.specs.Declarators.{gap, pointer_row, opening, closing, before, after, core}
 use Rattle.dw_cprint.specs.Kept.{Writes}
 use Rattle.dw_cprint.specs.Shapes.{Qualifier, AggregateKeyword, OfAggregate, Parameter, Name, TypeAt, MemberOf, EnumeratorOf, ShapeOf, base, typedef, qualified, pointer, array, function, tagged, body, enumeration, typedef_subject, variable_subject, aggregate_subject, enumeration_subject, view_shape}
 use Rattle.dw_cprint.specs.Terms.{Enum, Term, Void, Named, Tagged, Body, Function, Prototyped, Parameters, Members, Constant, CDeclaration, Aggregate}
-use Rattle.dw_cprint.specs.Tokens.{Token, Blank, Star, Open, Close, LeftBrace, RightBrace, Semicolon, TypedefWord, TagWord, Identifier, spelling, text_of}
-use Rattle.dw_cprint.specs.Writing.{spell, qualifying, count_tokens, name_tokens, signature_tokens, members_tokens, declaration_tokens, written}
+use Rattle.dw_cprint.specs.Tokens.{Token, Blank, Star, Open, Close, Semicolon, TypedefWord, TagWord, Identifier, spelling, text_of}
+use Rattle.dw_cprint.specs.Writing.{body_tokens, enumeration_tokens, spell, qualifying, count_tokens, name_tokens, signature_tokens, written}
 use Rattle.dw_cprint.specs.declared.shape.Shape.{Shape}
 use Rattle.dw_cprint.specs.declared.shape.Shape.TheVariants as shape
 use Rattle.dw_cprint.proofs.DeclaratorLemmas.{in_parts}
@@ -68,8 +68,8 @@ specifier-of term (typedef (Some name)) t is e =
 specifier-of term (tagged word name) t is e =
     let same : Tagged word name ≡ t = cc in
     subst IsSpecifier same (record { front = λ qs inside. refl; back = refl; not_opened = refl; not_closed = refl })
-specifier-of term (body word odd ms) t is e = search (rules, map_inverted, append_assoc)
-specifier-of term (enumeration odd es) t is e = search (rules, map_inverted, append_assoc)
+specifier-of term (body word odd ms) t is e = search (rules, map_inverted)
+specifier-of term (enumeration odd es) t is e = search (rules, map_inverted)
 specifier-of term _ t is e = absurd (cc)
 
 pub before-arrays : (counts : List (Option ℕ)) (u : Term) → before [] (nested_arrays counts u) true ≡ before [] u true
@@ -235,14 +235,9 @@ module _ (term : TypeAt → Option Term) (old mid mid2 new : List ℕ) where
       map_holds (λ (d : CDeclaration). new ≡ old ++ written d) (Aggregate word name) (members_by term ms)
       (λ us are.
       let body = body_tokens us in
-      let same : body ++ Semicolon ∷ [] ≡ LeftBrace ∷ Blank ∷ (members_tokens us ++ RightBrace ∷ Semicolon ∷ []) =
-      ap (λ (u : List Token). LeftBrace ∷ Blank ∷ u)
-      (append_assoc (members_tokens us) (RightBrace ∷ []) (Semicolon ∷ [])) in
-      as_tokens (tag ++ Blank ∷ (body ++ Semicolon ∷ [])) (declaration_tokens (Aggregate word name us)) old new
-      (ap (λ (u : List Token). tag ++ Blank ∷ u) same)
-      (both tag (Blank ∷ (body ++ Semicolon ∷ [])) old mid new first
+      both tag (Blank ∷ (body ++ Semicolon ∷ [])) old mid new first
       (both (Blank ∷ []) (body ++ Semicolon ∷ []) mid mid2 new gap
-      (both body (Semicolon ∷ []) mid2 mid3 new (inner us are) last)))) d e
+      (both body (Semicolon ∷ []) mid2 mid3 new (inner us are) last))) d e
 
   pub constants_done : (mid3 : List ℕ) (name : Name) (odd : Bool) (es : List EnumeratorOf)
       → Writes (TagWord Enum ∷ Blank ∷ name_tokens name) old mid → Writes (Blank ∷ []) mid mid2
@@ -252,7 +247,7 @@ module _ (term : TypeAt → Option Term) (old mid mid2 new : List ℕ) where
       → new ≡ old ++ written d
   constants_done mid3 None odd es first gap inner last d e = absurd (cc)
   constants_done mid3 (Some name) odd es first gap inner last d e =
-      grind (arith, common_steps, map_inverted, append_assoc, as_tokens, both)
+      grind (arith, common_steps, map_inverted, both)
 
 -- ---- shapes as the code has them
 

@@ -1,13 +1,13 @@
 -- Chapter: the declaration of an entry as a term, by the shapes of the entries that it reaches.
 use Rattle.std.specs.Prelude.{ℕ, ℤ, zero, suc, ◌==◌, Bool, true, false, not, List, [], ◌∷◌, Option, Some, None, is_some}
-use Rattle.std.specs.Prelude.{option_map, option_and_then, codes, bytes_eq, if◌then◌else◌}
-use Rattle.std.specs.List.{list_any, slice_split}
+use Rattle.std.specs.Prelude.{option_map, option_and_then, bytes_eq, if◌then◌else◌}
+use Rattle.std.specs.List.{find, list_any, slice_split}
 use Rattle.dw_cprint.specs.Legible.{is_identifier}
-use Rattle.dw_cprint.specs.Terms.{TypeWord, Char, Short, Int, Long, Signed, Unsigned, Float, Double, BoolWord, Complex}
-use Rattle.dw_cprint.specs.Terms.{Constant, Valued, Term, Void, Named, Basic, Tagged, Body, Enumeration, Qualified}
+use Rattle.dw_cprint.specs.Terms.{TypeWord, Constant, Valued, Term, Void, Named, Basic, Tagged, Body, Enumeration, Qualified}
 use Rattle.dw_cprint.specs.Terms.{Pointer, Array as ArrayTerm, Function, Unprototyped, Prototyped, Parameters}
 use Rattle.dw_cprint.specs.Terms.{NoParameter, Parameter as ParameterTerm, Members, NoMember, Member as MemberTerm}
 use Rattle.dw_cprint.specs.Terms.{CDeclaration, Typedef, Variable, Aggregate, Constants, Declared}
+use Rattle.dw_cprint.specs.Tokens.{type_word_spelling, type_words}
 use Rattle.dw_cprint.specs.Shapes.{Parameter, Typed, More, TypeAt, MemberOf, EnumeratorOf, ShapeOf, base}
 use Rattle.dw_cprint.specs.Shapes.{typedef, qualified, pointer, array, function, tagged, body, enumeration, SubjectOf}
 use Rattle.dw_cprint.specs.Shapes.{typedef_subject, variable_subject, aggregate_subject, enumeration_subject}
@@ -17,18 +17,7 @@ use Rattle.dw_cprint.specs.Shapes.{declared_subject}
 
 -- the type word that a part of a name is
 abbrev pub word_of : List ℕ → Option TypeWord
-word_of name =
-    if bytes_eq name (codes "char") then Some Char
-    else if bytes_eq name (codes "short") then Some Short
-    else if bytes_eq name (codes "int") then Some Int
-    else if bytes_eq name (codes "long") then Some Long
-    else if bytes_eq name (codes "signed") then Some Signed
-    else if bytes_eq name (codes "unsigned") then Some Unsigned
-    else if bytes_eq name (codes "float") then Some Float
-    else if bytes_eq name (codes "double") then Some Double
-    else if bytes_eq name (codes "_Bool") then Some BoolWord
-    else if bytes_eq name (codes "_Complex") then Some Complex
-    else None
+word_of part = find (λ (word : TypeWord). bytes_eq part (type_word_spelling word)) type_words
 
 -- the parts between spaces
 abbrev pub parts_of : List ℕ → List (List ℕ)

@@ -1,11 +1,10 @@
 -- State: the text of a type in two parts: before its declarator, and after it.
 use Rattle.std.specs.Prelude.{Bool, true, false, ◌||◌, List, [], ◌∷◌, ◌++◌}
 use Rattle.dw_types.specs.Sizes.{has_elements}
-use Rattle.dw_cprint.specs.Terms.{Qualifier, OfAggregate, Enum, Constant, Members, Term, Void, Named, Basic, Tagged}
-use Rattle.dw_cprint.specs.Terms.{Body, Enumeration, Qualified, Pointer, Array, Function}
-use Rattle.dw_cprint.specs.Tokens.{Token, Blank, Star, Open, Close, LeftBrace, RightBrace, VoidWord, TagWord}
-use Rattle.dw_cprint.specs.Tokens.{QualifierWord, Identifier, Comma}
-use Rattle.dw_cprint.specs.Writing.{qualifying, basic, count_tokens, constants, signature_tokens, members_tokens}
+use Rattle.dw_cprint.specs.Terms.{Qualifier, OfAggregate, Enum, Term, Void, Named, Basic, Tagged, Body, Enumeration}
+use Rattle.dw_cprint.specs.Terms.{Qualified, Pointer, Array, Function}
+use Rattle.dw_cprint.specs.Tokens.{Token, Blank, Star, Open, Close, VoidWord, TagWord, QualifierWord, Identifier, Comma}
+use Rattle.dw_cprint.specs.Writing.{basic, body_tokens, count_tokens, enumeration_tokens, qualifying, signature_tokens}
 
 -- a space, where a declarator that is not empty comes inside
 abbrev pub gap : Bool → List Token
@@ -34,14 +33,6 @@ closing (Array n t) = Close ∷ []
 closing (Function t signature) = Close ∷ []
 closing _ = []
 
--- the members of a structure or a union, in braces
-abbrev pub body_tokens : Members → List Token
-body_tokens members = LeftBrace ∷ Blank ∷ (members_tokens members ++ RightBrace ∷ [])
-
--- the enumerators of an enumeration, in braces
-abbrev pub enumeration_tokens : List Constant → List Token
-enumeration_tokens cs = LeftBrace ∷ Blank ∷ (constants cs ++ Blank ∷ RightBrace ∷ [])
-
 -- the specifier that a type is without its qualifiers; nothing, where a declarator belongs to the type
 abbrev pub core : Term → List Token
 core Void = VoidWord ∷ []
@@ -54,19 +45,11 @@ core _ = []
 
 -- what comes before the declarator of the type t under the qualifiers
 abbrev pub before : List Qualifier → Term → Bool → List Token
-before qs Void inside = qualifying qs ++ VoidWord ∷ gap inside
-before qs (Named name) inside = qualifying qs ++ Identifier name ∷ gap inside
-before qs (Basic words) inside = qualifying qs ++ (basic words ++ gap inside)
-before qs (Tagged tag name) inside = qualifying qs ++ TagWord tag ∷ Blank ∷ Identifier name ∷ gap inside
-before qs (Body word members) inside =
-    qualifying qs
-    ++ TagWord (OfAggregate word) ∷ Blank ∷ LeftBrace ∷ Blank ∷ (members_tokens members ++ RightBrace ∷ gap inside)
-before qs (Enumeration cs) inside =
-    qualifying qs ++ TagWord Enum ∷ Blank ∷ LeftBrace ∷ Blank ∷ (constants cs ++ Blank ∷ RightBrace ∷ gap inside)
 before qs (Qualified q t) inside = before (qs ++ q ∷ []) t inside
 before qs (Pointer t) inside = before [] t true ++ (opening t ++ Star ∷ pointer_row qs inside)
 before qs (Array n t) inside = before [] t true
 before qs (Function t signature) inside = before [] t true
+before qs t inside = qualifying qs ++ (core t ++ gap inside)
 
 -- what comes after it
 abbrev pub after : Term → List Token

@@ -152,9 +152,18 @@ abbrev pub defined_in : Image → ℕ → TagKeyword → Name → SubjectOf
 defined_in image id (OfAggregate word) name = aggregate_subject word name (is_odd image id) (members_in image id)
 defined_in image id Enum name = enumeration_subject name (is_odd image id) (enumerators_in image id)
 
--- the same, or only by its name, if that is all that DWARF declares
-abbrev pub tag_in : Image → ℕ → TagKeyword → SubjectOf
-tag_in image id word =
+-- the word of a structure, union or enumeration, by the tag
+abbrev pub tag_word : (tag : ℕ) → Option TagKeyword
+tag_word tag =
+    if tag == DW_TAG_structure_type then Some (OfAggregate Struct)
+    else if tag == DW_TAG_union_type then Some (OfAggregate Union)
+    else if tag == DW_TAG_enumeration_type then Some Enum
+    else None
+
+-- the same, or only by its name, if that is all that DWARF declares; no word is an entry of another kind
+abbrev pub tag_in : Image → ℕ → Option TagKeyword → SubjectOf
+tag_in image id None = other_subject
+tag_in image id (Some word) =
     if is_declared_at image id then declared_subject word (name_at image id)
     else defined_in image id word (name_at image id)
 
@@ -163,10 +172,7 @@ abbrev pub subject_by : Image → ℕ → (tag : ℕ) → SubjectOf
 subject_by image id tag =
     if tag == DW_TAG_typedef then typedef_subject (name_at image id) (type_at image id)
     else if tag == DW_TAG_variable then variable_subject (name_at image id) (type_at image id)
-    else if tag == DW_TAG_structure_type then tag_in image id (OfAggregate Struct)
-    else if tag == DW_TAG_union_type then tag_in image id (OfAggregate Union)
-    else if tag == DW_TAG_enumeration_type then tag_in image id Enum
-    else other_subject
+    else tag_in image id (tag_word tag)
 
 -- the subject that an entry of an image is
 unfoldable pub subject_in : Image → ℕ → SubjectOf

@@ -4,8 +4,10 @@ use Rattle.std.specs.Prelude.{slice_get, slice_index, slice_index_or}
 use Rattle.std.specs.Option.{option_map_or}
 use Rattle.dw_image.specs.declared.image.Image.{Image}
 use Rattle.dw_cprint.specs.EntryShapes.{shape_in, subject_in}
+use Rattle.dw_cprint.specs.LookUps.{name_at}
 use Rattle.dw_cprint.specs.Refusals.{PrintFault, HoldsNoneBelow, Refuses, IsPrinted}
 use Rattle.dw_cprint.specs.Shapes.{ShapeOf, SubjectOf}
+use Rattle.dw_cprint.specs.declared.words.Text.{Text}
 
 -- why a declaration is refused; none if no rule with a smaller number holds
 abbrev pub IsRefusalBelow : ℕ → (ℕ → ShapeOf) → SubjectOf → Option PrintFault → Type 0
@@ -21,6 +23,16 @@ IsRefusal = IsRefusalBelow 7
 -- the level of the one with a number, by the levels of all entries; 0 where there is none
 abbrev pub level_of : (levels named : List ℕ) → (number : ℕ) → ℕ
 level_of levels named number = option_map_or (slice_index levels) (slice_get named number) 0
+
+-- a text is the name of an entry
+abbrev pub IsNameOf : Image → ℕ → Text → Type 0
+IsNameOf image id text = Some text.bytes.now ≡ name_at image id
+
+-- their names
+pub record AreNames (image : Image) (named : List ℕ) (names : List Text) : Type 0 where
+  pub long : length names ≡ length named
+  pub each : (k : ℕ) (d : Text) → k < length names
+      → IsNameOf image (slice_index named k) (slice_index_or names k d)
 
 -- why each of the first so many is refused; none if it is printed
 pub record AreFirstRefusals (image : Image) (named : List ℕ) (count : ℕ) (refusals : List (Option PrintFault))

@@ -4,13 +4,13 @@ use Rattle.std.specs.Prelude.{option_and_then}
 use Rattle.std.specs.Option.{option_map_or}
 use Rattle.dw_cprint.specs.Declarations.{term_at, members_by, parameters_by, term_by, has_more, is_misplaced}
 use Rattle.dw_cprint.specs.Declarations.{constants_of, declaration_of}
-use Rattle.dw_cprint.specs.Declarators.{before, after, core, opening, closing, body_tokens, enumeration_tokens}
+use Rattle.dw_cprint.specs.Declarators.{before, after, core, opening, closing}
 use Rattle.dw_cprint.specs.Shapes.{Qualifier, Parameter, Typed, More, Name, TypeAt, MemberOf, EnumeratorOf, ShapeOf}
 use Rattle.dw_cprint.specs.Shapes.{other, SubjectOf, view_shape}
 use Rattle.dw_cprint.specs.Terms.{Term, Members, Parameters, Prototyped, Constant, Valued, CDeclaration}
 use Rattle.dw_cprint.specs.Tokens.{Token, Semicolon, Blank, Dot, text_of}
-use Rattle.dw_cprint.specs.Writing.{spell, name_tokens, bits_tokens, constant_tokens, constants, more_constants}
-use Rattle.dw_cprint.specs.Writing.{signature_tokens, written}
+use Rattle.dw_cprint.specs.Writing.{body_tokens, enumeration_tokens, spell, name_tokens, bits_tokens}
+use Rattle.dw_cprint.specs.Writing.{constant_tokens, constants, more_constants, signature_tokens, written}
 use Rattle.dw_cprint.specs.declared.survey.Survey.{Survey}
 
 -- the shape that is kept of an entry; other where none is

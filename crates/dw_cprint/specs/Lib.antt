@@ -6,9 +6,9 @@ pub mod EntryShapes
 pub mod Steps
 pub mod Terms
 pub mod Legible
-pub mod Declarations
 pub mod Digits
 pub mod Tokens
+pub mod Declarations
 pub mod Writing
 pub mod Wrong
 pub mod Refusals
@@ -18,9 +18,7 @@ pub mod Listings
 -- State.
 pub mod Children
 pub mod Declarators
-pub mod SameShapes
 pub mod Reach
-pub mod Rows
 pub mod Lengths
 pub mod Counted
 pub mod Summaries

@@ -16,6 +16,7 @@ use Rattle.dw_cprint.specs.LookUps.{entry_offset}
 use Rattle.dw_cprint.specs.Refusals.{PrintFault}
 use Rattle.dw_cprint.specs.Refusals.{Refuses, IsPrinted}
 use Rattle.dw_cprint.specs.Shapes.{SubjectOf, typedef_subject, aggregate_subject, enumeration_subject}
+use Rattle.dw_cprint.specs.Steps.{first_steps}
 use Rattle.dw_cprint.specs.Terms.{CDeclaration}
 use Rattle.dw_cprint.specs.Writing.{written}
 
@@ -39,6 +40,10 @@ named_number image k =
 pub record AreNamedTypes (image : Image) (named : List ℕ) : Type 0 where
   pub all : (entry : ℕ) → Contains named entry ↔ IsNamedType image entry
   pub rising : AllPairs (λ a b. a < b) named
+
+-- the spelling steps of some named types
+abbrev pub named_steps : Image → List ℕ → List ℕ
+named_steps image named = flat_map (λ id. first_steps (subject_in image id)) named
 
 -- the level of each entry: how many steps by value the longest row of them has that starts there
 abbrev pub AreLevels : Image → (ℕ → ℕ) → Type 0

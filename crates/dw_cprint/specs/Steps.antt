@@ -1,6 +1,6 @@
 -- Chapter: spelling steps from an entry that is reached, and from the one that is declared. The latter are not the
 -- steps of the same entry where it is reached.
-use Rattle.std.specs.Prelude.{ℕ, zero, suc, List, [], ◌∷◌, Option, Some, None, Contains, map}
+use Rattle.std.specs.Prelude.{◌≡◌, ℕ, zero, suc, List, [], ◌∷◌, Option, Some, None, Contains, map}
 use Rattle.dw_types.specs.Paths.{Leads, IsOnCycle}
 use Rattle.dw_cprint.specs.Shapes.{Parameter, Typed, More, MemberOf}
 use Rattle.dw_cprint.specs.Shapes.{ShapeOf, qualified, pointer, array, function, body}
@@ -60,6 +60,10 @@ pub data IsReachedFrom (shapes : ℕ → ShapeOf) (roots : List ℕ) : ℕ → T
 -- an entry is reached from the declared one
 abbrev pub IsReached : (ℕ → ShapeOf) → SubjectOf → ℕ → Type 0
 IsReached shapes subject entry = IsReachedFrom shapes (first_steps subject) entry
+
+-- the same shape at each entry that is reached
+abbrev pub AreSameFor : (ℕ → ShapeOf) → (ℕ → ShapeOf) → SubjectOf → Type 0
+AreSameFor shapes others subject = (entry : ℕ) → IsReached shapes subject entry → shapes entry ≡ others entry
 
 -- an entry on a cycle is reached from some others
 abbrev pub ReachACycle : (ℕ → ShapeOf) → List ℕ → Type 0

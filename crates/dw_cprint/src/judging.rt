@@ -8,7 +8,7 @@ ghost use Rattle.dw_cprint.specs.Surveys.{BySurvey};
 
 use crate::fault::PrintFault;
 use crate::lengths::length_declared;
-use crate::reaching::put_member_types;
+use crate::reaching::put_declared_types;
 use crate::shape::Subject;
 use crate::source::TypeAt;
 use crate::summary::findings_of;
@@ -32,29 +32,6 @@ impl<'a> Survey<'a> {
         findings_of(self, subject, types).first()
     }
 
-    /// The same, by the types that are read of the declared entry.
-    fn refusal_without_length(
-        &self,
-        alloc: Global,
-        subject: &Subject<'a>,
-    ) -> Result<Option<PrintFault>, AllocError>
-        ensures { IfOk result (λ r. BySurvey self.now (first_steps (view_subject subject.now)) (λ shapes.
-            IsRefusalBelow 6 shapes (view_subject subject.now) r)) }
-    {
-        match subject {
-            Subject::Typedef(_, at) => Ok(self.refusal_by_types(subject, &[*at])),
-            Subject::Variable(_, at) => Ok(self.refusal_by_types(subject, &[*at])),
-            Subject::Aggregate { members, .. } => {
-                let mut types = Vec::new(alloc);
-                put_member_types(&mut types, members)?;
-                Ok(self.refusal_by_types(subject, &types))
-            }
-            Subject::Enumeration { .. } | Subject::Declared(_, _) | Subject::Other => {
-                Ok(self.refusal_by_types(subject, &[]))
-            }
-        }
-    }
-
     /// Why a declaration is refused, if it is. No text is written for that.
     pub fn refusal(
         &self,
@@ -64,7 +41,9 @@ impl<'a> Survey<'a> {
         ensures { IfOk result (λ r. BySurvey self.now (first_steps (view_subject subject.now)) (λ shapes.
             IsRefusal shapes (view_subject subject.now) r)) }
     {
-        if let Some(fault) = self.refusal_without_length(alloc, subject)? {
+        let mut types = Vec::new(alloc);
+        put_declared_types(&mut types, subject)?;
+        if let Some(fault) = self.refusal_by_types(subject, &types) {
             return Ok(Some(fault));
         }
         let length = length_declared(self, subject);

@@ -5,15 +5,14 @@ ghost use Rattle.std.specs.Prelude.{All, AllPairs, IfOk, OnOk, OnErr, Err};
 ghost use Rattle.std.specs.List.{filter_map, range_with_len};
 ghost use Rattle.dw_image.specs.Images.{entries_in};
 ghost use Rattle.dw_cprint.specs.EntryShapes.{shape_in, subject_in};
-ghost use Rattle.dw_cprint.specs.Judgements.{AreRefusals, IsPrintedNumber, IsRefusal, is_printed};
+ghost use Rattle.dw_cprint.specs.Judgements.{AreNames, AreRefusals, IsNameOf, IsPrintedNumber, is_printed};
 ghost use Rattle.dw_cprint.specs.Judgements.{refused_number};
 ghost use Rattle.dw_cprint.specs.Kept.{WritesDeclaration};
-ghost use Rattle.dw_cprint.specs.Listings.{AreNamedTypes, IsListing, declared_line};
-ghost use Rattle.dw_cprint.specs.Listings.{listing_text, refused_line, refused_line_in};
+ghost use Rattle.dw_cprint.specs.Listings.{AreNamedTypes, IsListing, IsNamedType, declared_line, listing_text};
+ghost use Rattle.dw_cprint.specs.Listings.{named_steps, refused_line, refused_line_in};
 ghost use Rattle.dw_cprint.specs.Refusals.{AppendsDeclaration, HasOneReading, IsPrinted, Refuses};
-ghost use Rattle.dw_cprint.specs.Rows.{AreRows, Tells, named_steps};
-ghost use Rattle.dw_cprint.specs.Steps.{first_steps};
-ghost use Rattle.dw_cprint.specs.Surveys.{BySurvey, IsSurveyOf};
+ghost use Rattle.dw_cprint.specs.Shapes.{view_subject};
+ghost use Rattle.dw_cprint.specs.Surveys.{IsSurveyOf};
 ghost use Rattle.dw_cprint.specs.declared.fault.PrintFault.{PrintFault as PrintFaultOf};
 ghost use Rattle.dw_cprint.specs.declared.fault.PrintFault.TheVariants.{Memory};
 
@@ -21,14 +20,14 @@ use crate::digits::put_hex;
 use crate::enumerators::put_enumeration;
 use crate::fault::PrintFault;
 use crate::levels::numbers_in_order;
+use crate::named::{Named, all_types, named_types};
 use crate::reaching::put_declared_types;
-use crate::rows::{Named, Row, RowKind, all_types, name_of, named_types, subject_at};
 use crate::shape::Subject;
-use crate::shape_reader::{members_at, subject_of};
-use crate::source::Source;
+use crate::shape_reader::{defined_at, members_at, subject_of, tag_word};
+use crate::source::{Source, tag_at, type_at};
 use crate::survey::Survey;
-use crate::words::TagKeyword;
 use crate::words::TagKeyword::OfAggregate;
+use crate::words::{TagKeyword, Text};
 use dw_image::{EntryId, Image, NoMemory};
 use indexmap::IndexSet;
 use std::alloc::{AllocError, Global};
@@ -80,21 +79,21 @@ pub struct Listing {
     pub refused: Vec<(EntryId, PrintFault)>,
 }
 
-/// Why a named type is refused, if it is.
-fn refusal_at<'a>(
+/// What is declared at a named type.
+fn subject_at<'a>(
     alloc: Global,
     source: &'a Source<'a>,
-    survey: &Survey<'a>,
     id: EntryId,
-    row: Row,
-) -> Result<Option<PrintFault>, AllocError>
-    requires within { id < length (entries_in source.now.image.now) }
-    requires row { Tells source.now.image.now id row }
-    ensures { IfOk result (λ r. BySurvey survey.now (first_steps (subject_in source.now.image.now id)) (λ shapes.
-        IsRefusal shapes (subject_in source.now.image.now id) r)) }
+    name: Text<'a>,
+) -> Result<Subject<'a>, AllocError>
+    requires named { IsNamedType source.now.image.now id }
+    requires name { IsNameOf source.now.image.now id name }
+    ensures { IfOk result (λ subject. view_subject subject ≡ subject_in source.now.image.now id) }
 {
-    let subject = subject_at(alloc, source, id, row)?;
-    survey.refusal(alloc, &subject)
+    match tag_word(tag_at(source.image, id)) {
+        None => Ok(Subject::Typedef(Some(name), type_at(source.image, id))),
+        Some(word) => defined_at(alloc, source, id, word, Some(name)),
+    }
 }
 
 /// Why each named type is refused, if it is, in rising offset. No text is written for that.
@@ -102,10 +101,10 @@ fn refusals_of<'a>(
     alloc: Global,
     source: &'a Source<'a>,
     survey: &Survey<'a>,
-    named: &Named,
+    named: &Named<'a>,
 ) -> Result<Vec<Option<PrintFault>>, AllocError>
     requires named { AreNamedTypes source.now.image.now named.now.ids.items }
-    requires rows { AreRows source.now.image.now named.now.ids.items named.now.rows.items }
+    requires names { AreNames source.now.image.now named.now.ids.items named.now.names.items }
     requires survey { IsSurveyOf (shape_in source.now.image.now)
         (named_steps source.now.image.now named.now.ids.items) survey.now }
     ensures { IfOk result (λ refusals. AreRefusals source.now.image.now named.now.ids.items refusals.items) }
@@ -113,8 +112,9 @@ fn refusals_of<'a>(
     let mut refusals = Vec::with_capacity(alloc, named.ids.len())?;
     for k in 0..named.ids.len() {
         let id = named.ids[k];
-        let row = named.rows[k];
-        let refusal = refusal_at(alloc, source, survey, id, row)?;
+        let name = named.names[k];
+        let subject = subject_at(alloc, source, id, name)?;
+        let refusal = survey.refusal(alloc, &subject)?;
         refusals.push(refusal)?;
     }
     Ok(refusals)
@@ -147,29 +147,30 @@ fn printed_of(
     Ok(printed)
 }
 
-/// Writes the declaration of a named type.
+/// Writes the declaration of a named type. Only what is written is read.
 fn put_named_type<'a>(
     alloc: Global,
     out: &mut Vec<u8>,
     source: &'a Source<'a>,
     survey: &Survey<'a>,
     id: EntryId,
-    row: Row,
+    name: Text<'a>,
 ) -> Result<(), AllocError>
-    requires within { id < length (entries_in source.now.image.now) }
-    requires row { Tells source.now.image.now id row }
+    requires named { IsNamedType source.now.image.now id }
+    requires name { IsNameOf source.now.image.now id name }
     ensures { OnOk result
         (WritesDeclaration survey.now (subject_in source.now.image.now id) out.old.items out.new.items) }
 {
-    let (kind, to) = (row.kind, row.to);
-    let name = Some(name_of(source, row));
-    match kind {
-        RowKind::Typedef => survey.put_declaration(alloc, out, &Subject::Typedef(name, to)),
-        RowKind::Tag(OfAggregate(word)) => {
-            let members = members_at(alloc, source, id)?;
-            survey.put_aggregate(alloc, out, word, name, &members)
+    match tag_word(tag_at(source.image, id)) {
+        None => {
+            let at = type_at(source.image, id);
+            survey.put_declaration(alloc, out, &Subject::Typedef(Some(name), at))
         }
-        RowKind::Tag(TagKeyword::Enum) => put_enumeration(out, source, id, name),
+        Some(OfAggregate(word)) => {
+            let members = members_at(alloc, source, id)?;
+            survey.put_aggregate(alloc, out, word, Some(name), &members)
+        }
+        Some(TagKeyword::Enum) => put_enumeration(out, source, id, Some(name)),
     }
 }
 
@@ -179,11 +180,11 @@ fn put_lines<'a>(
     out: &mut Vec<u8>,
     source: &'a Source<'a>,
     survey: &Survey<'a>,
-    named: &Named,
+    named: &Named<'a>,
     printed: &IndexSet<u32>,
 ) -> Result<(), AllocError>
     requires named { AreNamedTypes source.now.image.now named.now.ids.items }
-    requires rows { AreRows source.now.image.now named.now.ids.items named.now.rows.items }
+    requires names { AreNames source.now.image.now named.now.ids.items named.now.names.items }
     requires survey { IsSurveyOf (shape_in source.now.image.now)
         (named_steps source.now.image.now named.now.ids.items) survey.now }
     requires printed { All (IsPrintedNumber source.now.image.now named.now.ids.items) printed.now.keys }
@@ -192,8 +193,8 @@ fn put_lines<'a>(
 {
     for number in printed {
         let id = named.ids[*number as usize];
-        let row = named.rows[*number as usize];
-        put_named_type(alloc, out, source, survey, id, row)?;
+        let name = named.names[*number as usize];
+        put_named_type(alloc, out, source, survey, id, name)?;
         out.push(b'\n')?;
     }
     Ok(())
@@ -282,6 +283,33 @@ fn put_all_refused(
     Ok(())
 }
 
+/// Lists all named types of the image.
+fn listing_of<'a>(alloc: Global, source: &'a Source<'a>) -> Result<Listing, AllocError>
+    ensures listing { IfOk result (λ it. IsListing source.now.image.now it.order.items it.refused.items) }
+    ensures text { IfOk result (λ it.
+        it.text.items ≡ listing_text source.now.image.now it.order.items it.refused.items) }
+{
+    let mut named = named_types(alloc, source)?;
+    let numbers = numbers_in_order(alloc, source.image, &named.ids)?;
+    let types = all_types(alloc, source.image, &named.ids)?;
+    let survey = Survey::new(alloc, source, types)?;
+    let refusals = refusals_of(alloc, source, &survey, &named)?;
+    let printed = printed_of(alloc, &numbers, &refusals)?;
+    drop(numbers);
+    let mut text = Vec::new(alloc);
+    put_lines(alloc, &mut text, source, &survey, &named, &printed)?;
+    drop(survey);
+    named.names = Vec::new(alloc);
+    let order = order_of(alloc, &named.ids, &printed)?;
+    let refused = refused_of(alloc, &named.ids, &refusals)?;
+    put_all_refused(&mut text, source.image, &refused)?;
+    Ok(Listing {
+        order,
+        text,
+        refused,
+    })
+}
+
 /// Lists all named types of an image, each printed or refused: typedefs with a name, and structures, unions and
 /// enumerations that have a name and are not only declared (DWARF 5, 2.15 and chapter 5).
 ///
@@ -290,24 +318,7 @@ pub fn declare_all(alloc: Global, image: &Image<'_>) -> Result<Listing, NoMemory
     ensures listing { IfOk result (λ it. IsListing image.now it.order.items it.refused.items) }
     ensures text { IfOk result (λ it. it.text.items ≡ listing_text image.now it.order.items it.refused.items) }
 {
-    let mut named = named_types(alloc, image)?;
-    let numbers = numbers_in_order(alloc, image, &named.ids)?;
     let source = Source::read(alloc, image)?;
-    let types = all_types(alloc, image, &named)?;
-    let survey = Survey::new(alloc, &source, types)?;
-    let refusals = refusals_of(alloc, &source, &survey, &named)?;
-    let printed = printed_of(alloc, &numbers, &refusals)?;
-    drop(numbers);
-    let mut text = Vec::new(alloc);
-    put_lines(alloc, &mut text, &source, &survey, &named, &printed)?;
-    drop(survey);
-    named.rows = Vec::new(alloc);
-    let order = order_of(alloc, &named.ids, &printed)?;
-    let refused = refused_of(alloc, &named.ids, &refusals)?;
-    put_all_refused(&mut text, image, &refused)?;
-    Ok(Listing {
-        order,
-        text,
-        refused,
-    })
+    let listing = listing_of(alloc, &source)?;
+    Ok(listing)
 }

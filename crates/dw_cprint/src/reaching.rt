@@ -109,7 +109,7 @@ fn push_row(
 }
 
 /// Appends the type of each member.
-pub fn put_member_types(types: &mut Vec<TypeAt>, members: &[Member<'_>]) -> Result<(), AllocError>
+fn put_member_types(types: &mut Vec<TypeAt>, members: &[Member<'_>]) -> Result<(), AllocError>
     ensures { OnOk result (types.new.items ≡ types.old.items ++ member_types (map view_member members.now)) }
 {
     for member in members {

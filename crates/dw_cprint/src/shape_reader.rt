@@ -1,12 +1,12 @@
 //! The shapes of entries, and the entry that is declared, read from an image.
 
-ghost use Rattle.std.specs.Prelude.{◌≡◌, ◌<◌, ℕ, length, map, IfOk, option_map};
+ghost use Rattle.std.specs.Prelude.{◌≡◌, ◌<◌, ℕ, length, map, IfOk, Some, option_map};
 ghost use Rattle.dw_image.specs.Images.{entries_in};
 ghost use Rattle.dw_cprint.specs.Children.{AreKept, TellsAny};
 ghost use Rattle.dw_cprint.specs.EntryShapes.{dimension_counts, defined_in, has_stride_at, is_odd, is_strange};
 ghost use Rattle.dw_cprint.specs.EntryShapes.{member_at};
 ghost use Rattle.dw_cprint.specs.EntryShapes.{members_in, parameter_at, parameters_in, shape_in, subject_in, tag_in};
-ghost use Rattle.dw_cprint.specs.EntryShapes.{tag_shape};
+ghost use Rattle.dw_cprint.specs.EntryShapes.{tag_shape, tag_word};
 ghost use Rattle.dw_cprint.specs.LookUps.{children_at, name_at, type_at};
 ghost use Rattle.dw_cprint.specs.Shapes.{array, function, view_member, view_name, view_shape, view_subject};
 
@@ -17,6 +17,7 @@ use crate::source::{Source, bits_at, flag_at, tag_at, type_at, value_at};
 use crate::words::AggregateKeyword::{Struct, Union};
 use crate::words::TagKeyword::OfAggregate;
 use crate::words::{Name, Qualifier, TagKeyword};
+use dw_entries::Tag;
 use dw_entries::constants::*;
 use dw_image::{EntryId, Image};
 use std::alloc::{AllocError, Global};
@@ -260,13 +261,26 @@ fn tag_subject<'a>(
     word: TagKeyword,
 ) -> Result<Subject<'a>, AllocError>
     requires { id < length (entries_in source.now.image.now) }
-    ensures { IfOk result (λ subject. view_subject subject ≡ tag_in source.now.image.now id word) }
+    ensures { IfOk result (λ subject. view_subject subject ≡ tag_in source.now.image.now id (Some word)) }
 {
     let name = source.name(id);
     if flag_at(source.image, id, DW_AT_declaration) {
         return Ok(Subject::Declared(word, name));
     }
     defined_at(alloc, source, id, word, name)
+}
+
+/// The word of a structure, union or enumeration, by the tag.
+#[inline(always)]
+pub fn tag_word(tag: Tag) -> Option<TagKeyword>
+    ensures { result ≡ tag_word tag }
+{
+    match tag {
+        DW_TAG_structure_type => Some(OfAggregate(Struct)),
+        DW_TAG_union_type => Some(OfAggregate(Union)),
+        DW_TAG_enumeration_type => Some(TagKeyword::Enum),
+        _ => None,
+    }
 }
 
 /// What is declared at an entry.
@@ -282,9 +296,9 @@ pub fn subject_of<'a>(
     match tag_at(source.image, id) {
         DW_TAG_typedef => Ok(Subject::Typedef(source.name(id), type_at(source.image, id))),
         DW_TAG_variable => Ok(Subject::Variable(source.name(id), type_at(source.image, id))),
-        DW_TAG_structure_type => tag_subject(alloc, source, id, OfAggregate(Struct)),
-        DW_TAG_union_type => tag_subject(alloc, source, id, OfAggregate(Union)),
-        DW_TAG_enumeration_type => tag_subject(alloc, source, id, TagKeyword::Enum),
-        _ => Ok(Subject::Other),
+        tag => match tag_word(tag) {
+            Some(word) => tag_subject(alloc, source, id, word),
+            None => Ok(Subject::Other),
+        },
     }
 }

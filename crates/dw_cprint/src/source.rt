@@ -78,6 +78,7 @@ impl<'a> Source<'a> {
 pub type TypeAt = OptionalId;
 
 /// The tag of an entry.
+#[inline(always)]
 #[tactic(auto, unfolding(crate::specs::LookUps::tag_at))]
 pub fn tag_at(image: &Image<'_>, id: EntryId) -> Tag
     requires { id < length (entries_in image.now) }

@@ -1,13 +1,11 @@
-use Rattle.std.proofs.Common.{rules, ◌≡◌, ◌<◌, ◌++◌, ℕ, List, [], Option, Some, None, length, refl, sym, ap, ◌∙◌, append-nil}
+use Rattle.std.proofs.Common.{rules, ◌≡◌, ◌++◌, ℕ, List, [], Option, Some, None, refl, sym, ap, ◌∙◌, append-nil}
 use Rattle.std.specs.List.{cons_option, filter_map}
 use Rattle.std.specs.Prelude.{flat_map}
-use Rattle.std.proofs.lemmas.List.Elements.{All-head, All-rest}
 use Rattle.dw_types.specs.ChildrenLeft.{children_left}
-use Rattle.dw_image.specs.Images.{entries_in}
 use Rattle.dw_cprint.specs.EntryShapes.{dimension_counts, dimension_at}
 use Rattle.dw_cprint.specs.Tokens.{Token, text_of}
 use Rattle.dw_cprint.specs.Writing.{count_tokens}
-use Rattle.dw_cprint.proofs.LookUpLemmas.{children_within}
+use Rattle.dw_cprint.proofs.LookUpLemmas.{child_within, children_rest, children_within}
 use Rattle.dw_cprint.proofs.ItemWriterLemmas.{moved}
 use Rattle.dw_cprint.proofs.dimensions.put_all.Goals as goal
 
@@ -24,8 +22,7 @@ loop-child-init c = search (rules, children_within)
 
 pub dimension_at-requires : goal.dimension_at-requires
 dimension_at-requires c =
-    All-head (λ child. child < length (entries_in c.args.image.now)) _ _
-    (rw c.in-Some.ensures.steps at c.loop-child.invariant.within)
+    child_within _ c.in-Some.ensures.steps c.loop-child.invariant.within
 
 pub loop-child-preserved : goal.loop-child-preserved
 loop-child-preserved c =
@@ -34,8 +31,7 @@ loop-child-preserved c =
     let left = filter_map (dimension_at image) (children_left c.next.new.self) in
     record {
       within =
-          All-rest (λ child. child < length (entries_in image)) _ _ _ c.in-Some.ensures.steps
-          c.loop-child.invariant.within;
+          children_rest _ c.in-Some.ensures.steps c.loop-child.invariant.within;
       so_far =
           moved (flat_map count_tokens (cons_option next [])) (flat_map count_tokens left)
           (flat_map count_tokens (cons_option next left)) c.args.out.now.items c.loop-child.out.items

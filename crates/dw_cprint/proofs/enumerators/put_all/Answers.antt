@@ -1,10 +1,8 @@
-use Rattle.std.proofs.Common.{rules, ◌<◌, [], ◌∷◌, length}
-use Rattle.std.proofs.lemmas.List.Elements.{All-head, All-rest}
-use Rattle.dw_image.specs.Images.{entries_in}
+use Rattle.std.proofs.Common.{rules, [], ◌∷◌}
 use Rattle.dw_cprint.specs.EntryShapes.{enumerators_in}
 use Rattle.dw_cprint.specs.Kept.{Writes, WritesEnumerators}
 use Rattle.dw_cprint.specs.Tokens.{Blank, RightBrace}
-use Rattle.dw_cprint.proofs.LookUpLemmas.{children_within}
+use Rattle.dw_cprint.proofs.LookUpLemmas.{child_within, children_rest, children_within}
 use Rattle.dw_cprint.proofs.ItemWriterLemmas.{enumerators_begin, enumerators_done}
 use Rattle.dw_cprint.proofs.OptionLemmas.{ok_then}
 use Rattle.dw_cprint.proofs.enumerators.put_all.Goals as goal
@@ -14,14 +12,12 @@ loop-child-init c = search (rules, children_within, enumerators_begin)
 
 pub enumerator_at-requires : goal.enumerator_at-requires
 enumerator_at-requires c =
-    All-head (λ child. child < length (entries_in c.args.source.now.image.now)) _ _
-    (rw c.in-Some.ensures.steps at c.loop-child.invariant.within)
+    child_within _ c.in-Some.ensures.steps c.loop-child.invariant.within
 
 pub loop-child-preserved : goal.loop-child-preserved
 loop-child-preserved c = record {
   within =
-      All-rest (λ child. child < length (entries_in c.args.source.now.image.now)) _ _ _ c.in-Some.ensures.steps
-      c.loop-child.invariant.within;
+      children_rest _ c.in-Some.ensures.steps c.loop-child.invariant.within;
   so_far =
       c.in_ok-some.ensures _ _ _
       (rw (c.in-Some.ensures.steps, ← c.enumerator_at.ensures) at c.loop-child.invariant.so_far);

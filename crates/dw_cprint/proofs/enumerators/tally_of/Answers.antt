@@ -1,7 +1,5 @@
-use Rattle.std.proofs.Common.{rules, ◌<◌, length}
-use Rattle.std.proofs.lemmas.List.Elements.{All-head, All-rest}
-use Rattle.dw_image.specs.Images.{entries_in}
-use Rattle.dw_cprint.proofs.LookUpLemmas.{children_within}
+use Rattle.std.proofs.Common.{rules}
+use Rattle.dw_cprint.proofs.LookUpLemmas.{child_within, children_rest, children_within}
 use Rattle.dw_cprint.proofs.CountLemmas.{enumerators_start, enumerators_all}
 use Rattle.dw_cprint.proofs.enumerators.tally_of.Goals as goal
 
@@ -10,14 +8,12 @@ loop-child-init c = search (rules, children_within, enumerators_start)
 
 pub enumerator_at-requires : goal.enumerator_at-requires
 enumerator_at-requires c =
-    All-head (λ child. child < length (entries_in c.args.source.now.image.now)) _ _
-    (rw c.in-Some.ensures.steps at c.loop-child.invariant.within)
+    child_within _ c.in-Some.ensures.steps c.loop-child.invariant.within
 
 pub loop-child-preserved : goal.loop-child-preserved
 loop-child-preserved c = record {
   within =
-      All-rest (λ child. child < length (entries_in c.args.source.now.image.now)) _ _ _ c.in-Some.ensures.steps
-      c.loop-child.invariant.within;
+      children_rest _ c.in-Some.ensures.steps c.loop-child.invariant.within;
   so_far =
       c.with-tally.ensures _ _
       (rw (c.in-Some.ensures.steps, ← c.enumerator_at.ensures) at c.loop-child.invariant.so_far);

@@ -26,37 +26,25 @@ returns-in-Some-clause-refused c = λ rule other same.
     let fault : c.in-Some.fault ≡ rule = cc in
     subst (Refuses (shape_in image) (subject_in image c.args.id)) fault (subst R c.in-Some.is known)
 
-pub returns-clause-printed : goal.returns-clause-printed
-returns-clause-printed c =
+pub returns : goal.returns
+returns c =
     let image = c.args.image.now in
+    let x = view_subject c.in_ok-subject.subject in
+    let types = c.put_declared_types.new.types.items in
     let is = rw c.in_ok-source.ensures at c.in_ok-subject.ensures in
     let surveyed = rw c.in_ok-source.ensures at c.in_ok-survey.ensures in
     let R : Option PrintFault → Type 0 = λ r. IsRefusal (shape_in image) (subject_in image c.args.id) r in
-    subst R c.in_default.is (judged-entry image c.args.id c.in_ok-survey.survey (view_subject c.in_ok-subject.subject)
-    c.put_declared_types.new.types.items is (search rules) surveyed _ c.in_ok-fault.ensures)
-
-pub returns-clause-text : goal.returns-clause-text
-returns-clause-text c =
-    let image = c.args.image.now in
-    let is = rw c.in_ok-source.ensures at c.in_ok-subject.ensures in
-    let surveyed = rw c.in_ok-source.ensures at c.in_ok-survey.ensures in
-    let R : Option PrintFault → Type 0 = λ r. IsRefusal (shape_in image) (subject_in image c.args.id) r in
-    let printed = subst R c.in_default.is (judged-entry image c.args.id c.in_ok-survey.survey
-    (view_subject c.in_ok-subject.subject) c.put_declared_types.new.types.items is (search rules) surveyed _
-    c.in_ok-fault.ensures) in
-    let written = written-entry image c.args.id c.in_ok-survey.survey (view_subject c.in_ok-subject.subject)
-    c.put_declared_types.new.types.items is (search rules) surveyed [] c.put_declaration.new.out.items printed
-    (rw c.new-text.ensures.items at c.in_ok-put_declaration.ensures) in
-    appended (shape_in image) (subject_in image c.args.id) c.args.out.now.items c.put_declaration.new.out.items
-    c.deref.result.now c.extend_from_slice.new.self.items written c.deref.ensures.value
-    c.in_ok-extend_from_slice.ensures.items
-
-pub returns-clause-one : goal.returns-clause-one
-returns-clause-one c =
-    let image = c.args.image.now in
-    let is = rw c.in_ok-source.ensures at c.in_ok-subject.ensures in
-    let surveyed = rw c.in_ok-source.ensures at c.in_ok-survey.ensures in
-    let R : Option PrintFault → Type 0 = λ r. IsRefusal (shape_in image) (subject_in image c.args.id) r in
-    printed-one (shape_in image) (subject_in image c.args.id)
-    (subst R c.in_default.is (judged-entry image c.args.id c.in_ok-survey.survey (view_subject c.in_ok-subject.subject)
-    c.put_declared_types.new.types.items is (search rules) surveyed _ c.in_ok-fault.ensures))
+    let printed = subst R c.in_default.is (judged-entry image c.args.id c.in_ok-survey.survey x types is (search rules)
+    surveyed _ c.in_ok-fault.ensures) in
+    let written = written-entry image c.args.id c.in_ok-survey.survey x types is (search rules) surveyed []
+    c.put_declaration.new.out.items printed (rw c.new-text.ensures.items at c.in_ok-put_declaration.ensures) in
+    record {
+      printed = printed;
+      text =
+          appended (shape_in image) (subject_in image c.args.id) c.args.out.now.items c.put_declaration.new.out.items
+          c.deref.result.now c.extend_from_slice.new.self.items written c.deref.ensures.value
+          c.in_ok-extend_from_slice.ensures.items;
+      one = printed-one (shape_in image) (subject_in image c.args.id) printed;
+      err = tt;
+      refused = λ rule other same. absurd (cc);
+    }

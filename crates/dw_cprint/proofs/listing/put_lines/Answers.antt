@@ -4,13 +4,12 @@ use Rattle.std.proofs.lemmas.List.{get_or_read}
 use Rattle.std.proofs.lemmas.List.Elements.{All-head, All-rest}
 use Rattle.dw_cprint.specs.EntryShapes.{shape_in, subject_in}
 use Rattle.dw_cprint.specs.Judgements.{IsPrintedNumber}
-use Rattle.dw_cprint.specs.Listings.{declared_line}
+use Rattle.dw_cprint.specs.Listings.{declared_line, named_steps}
 use Rattle.dw_cprint.specs.Refusals.{IsPrinted}
-use Rattle.dw_cprint.specs.Rows.{named_steps}
 use Rattle.dw_cprint.specs.Steps.{first_steps}
 use Rattle.dw_cprint.specs.Surveys.{AreAmong}
 use Rattle.dw_cprint.proofs.JudgementLemmas.{steps-among}
-use Rattle.dw_cprint.proofs.ListingLemmas.{entry-there, row-there}
+use Rattle.dw_cprint.proofs.ListingLemmas.{entry-there, name-there}
 use Rattle.dw_cprint.proofs.RefusalLemmas.{writes-line}
 use Rattle.dw_cprint.proofs.listing.put_lines.Goals as goal
 
@@ -20,25 +19,26 @@ index-id-requires c =
     (rw c.in-Some.ensures.steps at c.loop-number.invariant.printed) in
     omega (arith, known.0)
 
-pub index-row-requires : goal.index-row-requires
-index-row-requires c =
+pub index-name-requires : goal.index-name-requires
+index-name-requires c =
     let known = All-head (IsPrintedNumber c.args.source.now.image.now c.args.named.now.ids.items) _ _
     (rw c.in-Some.ensures.steps at c.loop-number.invariant.printed) in
-    omega (arith, known.0, c.requires.rows.long)
+    omega (arith, known.0, c.requires.names.long)
 
-pub put_named_type-requires-clause-within : goal.put_named_type-requires-clause-within
-put_named_type-requires-clause-within c =
+pub put_named_type-requires-clause-named : goal.put_named_type-requires-clause-named
+put_named_type-requires-clause-named c =
     let known = All-head (IsPrintedNumber c.args.source.now.image.now c.args.named.now.ids.items) _ _
     (rw c.in-Some.ensures.steps at c.loop-number.invariant.printed) in
     entry-there c.args.source.now.image.now c.args.named.now.ids.items _ c.index-id.result.now c.requires.named known.0
     c.index-id.ensures
 
-pub put_named_type-requires-clause-row : goal.put_named_type-requires-clause-row
-put_named_type-requires-clause-row c =
+pub put_named_type-requires-clause-name : goal.put_named_type-requires-clause-name
+put_named_type-requires-clause-name c =
     let known = All-head (IsPrintedNumber c.args.source.now.image.now c.args.named.now.ids.items) _ _
     (rw c.in-Some.ensures.steps at c.loop-number.invariant.printed) in
-    row-there c.args.source.now.image.now c.args.named.now.ids.items c.args.named.now.rows.items _
-    c.index-id.result.now c.index-row.result.now c.requires.rows known.0 c.index-id.ensures c.index-row.ensures
+    name-there c.args.source.now.image.now c.args.named.now.ids.items c.args.named.now.names.items _
+    c.index-id.result.now
+    c.index-name.result.now c.requires.names known.0 c.index-id.ensures c.index-name.ensures
 
 pub loop-number-preserved : goal.loop-number-preserved
 loop-number-preserved c =

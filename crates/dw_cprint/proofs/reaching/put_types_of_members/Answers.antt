@@ -1,10 +1,8 @@
-use Rattle.std.proofs.Common.{rules, ◌<◌, length, sym, ◌∙◌, append_assoc}
+use Rattle.std.proofs.Common.{rules, sym, ◌∙◌, append_assoc}
 use Rattle.std.specs.List.{filter_map}
-use Rattle.std.proofs.lemmas.List.Elements.{All-head, All-rest}
 use Rattle.dw_types.specs.ChildrenLeft.{children_left}
-use Rattle.dw_image.specs.Images.{entries_in}
 use Rattle.dw_cprint.specs.EntryShapes.{member_at}
-use Rattle.dw_cprint.proofs.LookUpLemmas.{children_within}
+use Rattle.dw_cprint.proofs.LookUpLemmas.{child_within, children_rest, children_within}
 use Rattle.dw_cprint.proofs.ReachLemmas.{types-here, types-none}
 use Rattle.dw_cprint.proofs.reaching.put_types_of_members.Goals as goal
 
@@ -13,8 +11,7 @@ loop-child-init c = search (rules, children_within)
 
 pub member_type_at-requires : goal.member_type_at-requires
 member_type_at-requires c =
-    All-head (λ child. child < length (entries_in c.args.image.now)) _ _
-    (rw c.in-Some.ensures.steps at c.loop-child.invariant.within)
+    child_within _ c.in-Some.ensures.steps c.loop-child.invariant.within
 
 pub loop-child-preserved-in-Continue-1 : goal.loop-child-preserved-in-Continue-1
 loop-child-preserved-in-Continue-1 c =
@@ -23,8 +20,7 @@ loop-child-preserved-in-Continue-1 c =
     (sym c.in-Some-member_type_at.is ∙ c.member_type_at.ensures) in
     record {
       within =
-          All-rest (λ child. child < length (entries_in c.args.image.now)) _ _ _ c.in-Some.ensures.steps
-          c.loop-child.invariant.within;
+          children_rest _ c.in-Some.ensures.steps c.loop-child.invariant.within;
       so_far =
           rw (c.in_ok-push.ensures.items, append_assoc)
           (rw (c.in-Some.ensures.steps, here) at c.loop-child.invariant.so_far);
@@ -37,7 +33,6 @@ loop-child-preserved c =
     (sym c.in_default.is ∙ c.member_type_at.ensures) in
     record {
       within =
-          All-rest (λ child. child < length (entries_in c.args.image.now)) _ _ _ c.in-Some.ensures.steps
-          c.loop-child.invariant.within;
+          children_rest _ c.in-Some.ensures.steps c.loop-child.invariant.within;
       so_far = rw (c.in-Some.ensures.steps, here) at c.loop-child.invariant.so_far;
     }

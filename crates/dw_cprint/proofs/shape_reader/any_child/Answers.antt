@@ -1,8 +1,8 @@
-use Rattle.std.proofs.Common.{◌<◌, ℕ, length, true, false, ap, refl, sym, ◌∙◌}
-use Rattle.std.proofs.lemmas.List.Elements.{All-head, All-rest, All-same}
+use Rattle.std.proofs.Common.{◌<◌, length, true, false, ap, refl, sym, ◌∙◌}
+use Rattle.std.proofs.lemmas.List.Elements.{All-same}
 use Rattle.dw_types.specs.ChildrenLeft.{children_left}
 use Rattle.dw_image.specs.Images.{entries_in}
-use Rattle.dw_cprint.proofs.LookUpLemmas.{children_within}
+use Rattle.dw_cprint.proofs.LookUpLemmas.{child_within, children_rest, children_within}
 use Rattle.dw_cprint.proofs.shape_reader.any_child.Goals as goal
 
 pub loop-child-init : goal.loop-child-init
@@ -17,22 +17,19 @@ loop-child-init g c =
 pub test-requires : goal.test-requires
 test-requires g c =
     c.requires.callable c.in-Some.child
-    (All-head (λ child. child < length (entries_in c.args.image.now)) _ _
-    (rw c.in-Some.ensures.steps at c.loop-child.invariant.within))
+    (child_within _ c.in-Some.ensures.steps c.loop-child.invariant.within)
 
 pub returns-then-test : goal.returns-then-test
 returns-then-test g c =
-    let below = All-head (λ child. child < length (entries_in c.args.image.now)) _ _
-    (rw c.in-Some.ensures.steps at c.loop-child.invariant.within) in
+    let below = child_within _ c.in-Some.ensures.steps c.loop-child.invariant.within in
     c.loop-child.invariant.so_far true
     (λ passes says. rw (c.in-Some.ensures.steps, sym (says c.in-Some.child true below c.if-test.ensures)) refl)
 
 pub loop-child-preserved : goal.loop-child-preserved
 loop-child-preserved g c =
-    let within = λ (child : ℕ). child < length (entries_in c.args.image.now) in
-    let below = All-head within _ _ (rw c.in-Some.ensures.steps at c.loop-child.invariant.within) in
+    let below = child_within _ c.in-Some.ensures.steps c.loop-child.invariant.within in
     record {
-      within = All-rest within _ _ _ c.in-Some.ensures.steps c.loop-child.invariant.within;
+      within = children_rest _ c.in-Some.ensures.steps c.loop-child.invariant.within;
       so_far =
           λ found has. c.loop-child.invariant.so_far found
           (λ passes says. rw (c.in-Some.ensures.steps, sym (says c.in-Some.child false below c.if-test.ensures))

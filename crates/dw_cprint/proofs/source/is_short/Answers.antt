@@ -1,11 +1,9 @@
-use Rattle.std.proofs.Common.{rules, arith, ◌<◌, length, sym}
+use Rattle.std.proofs.Common.{rules, arith, sym}
 use Rattle.std.proofs.lemmas.Bool.{lt-ltb}
-use Rattle.std.proofs.lemmas.List.Elements.{All-head, All-rest}
 use Rattle.std.proofs.lemmas.List.Sums.{sum_by-cons}
 use Rattle.dw_types.specs.ChildrenLeft.{children_left}
-use Rattle.dw_image.specs.Images.{entries_in}
 use Rattle.dw_cprint.specs.LookUps.{bytes_at}
-use Rattle.dw_cprint.proofs.LookUpLemmas.{children_within}
+use Rattle.dw_cprint.proofs.LookUpLemmas.{child_within, children_rest, children_within}
 use Rattle.dw_cprint.proofs.source.is_short.Goals as goal
 
 pub loop-child-init : goal.loop-child-init
@@ -13,8 +11,7 @@ loop-child-init c = search (rules, children_within)
 
 pub bytes_at-bytes-requires : goal.bytes_at-bytes-requires
 bytes_at-bytes-requires c =
-    All-head (λ child. child < length (entries_in c.args.image.now)) _ _
-    (rw c.in-Some.ensures.steps at c.loop-child.invariant.within)
+    child_within _ c.in-Some.ensures.steps c.loop-child.invariant.within
 
 pub returns-then-bytes-most : goal.returns-then-bytes-most
 returns-then-bytes-most c =
@@ -30,8 +27,7 @@ loop-child-preserved c =
     let before = rw c.in-Some.ensures.steps at c.loop-child.invariant.so_far in
     record {
       within =
-          All-rest (λ child. child < length (entries_in c.args.image.now)) _ _ _ c.in-Some.ensures.steps
-          c.loop-child.invariant.within;
+          children_rest _ c.in-Some.ensures.steps c.loop-child.invariant.within;
       so_far = omega (arith, before, sum_by-cons f c.in-Some.child left, c.bytes_at-bytes.ensures.exact);
       few = search rules;
     }

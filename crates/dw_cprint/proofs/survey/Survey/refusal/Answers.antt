@@ -10,12 +10,13 @@ use Rattle.dw_cprint.proofs.survey.Survey.refusal.Goals as goal
 pub returns-in-Some : goal.returns-in-Some
 returns-in-Some c = λ shapes roots survey among.
     subst (IsRefusalBelow 6 shapes (view_subject c.args.subject.now)) c.in-Some.is
-    (c.in_ok-fault.ensures shapes roots survey among)
+    (c.refusal_by_types.ensures shapes roots survey among)
 
 pub returns-then-length-gt-LIMIT : goal.returns-then-length-gt-LIMIT
 returns-then-length-gt-LIMIT c = λ shapes roots survey among.
     let x = view_subject c.args.subject.now in
-    let none = subst (IsRefusalBelow 6 shapes x) c.in_default.is (c.in_ok-fault.ensures shapes roots survey among) in
+    let none = subst (IsRefusalBelow 6 shapes x) c.in_default.is (c.refusal_by_types.ensures shapes roots survey among)
+    in
     let known = types-known shapes roots c.args.self.now survey (types_declared x) among
     (λ r. none NotPrintable (omega arith) (cycle r.0 r.1 r.2)) in
     too-long shapes x c.args.self.now c.length_declared-length.result known c.length_declared-length.ensures
@@ -24,7 +25,8 @@ returns-then-length-gt-LIMIT c = λ shapes roots survey among.
 pub returns : goal.returns
 returns c = λ shapes roots survey among.
     let x = view_subject c.args.subject.now in
-    let none = subst (IsRefusalBelow 6 shapes x) c.in_default.is (c.in_ok-fault.ensures shapes roots survey among) in
+    let none = subst (IsRefusalBelow 6 shapes x) c.in_default.is (c.refusal_by_types.ensures shapes roots survey among)
+    in
     let known = types-known shapes roots c.args.self.now survey (types_declared x) among
     (λ r. none NotPrintable (omega arith) (cycle r.0 r.1 r.2)) in
     not-too-long shapes x c.args.self.now c.length_declared-length.result known c.length_declared-length.ensures
