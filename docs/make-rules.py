@@ -32,7 +32,7 @@ GROUPS = ["A U G", "K", "S", "R", "Y", "C", "Z"]
 ENUMS = {
     "ElfRule": ("crates/dw_elf/src/rule.rt", "E", "crates/dw_elf/specs/RuleTexts.antt"),
     "Rule": ("crates/dw_forms/src/rule.rt", "A U G K S R Y C Z", "crates/dw_forms/specs/Rules.antt"),
-    "LineRule": ("crates/dw_lines/src/rule.rt", "L M", "crates/dw_lines/specs/LineRules.antt"),
+    "LineRule": ("crates/dw_lines/src/rule.rt", "L M F", "crates/dw_lines/specs/LineRules.antt"),
     "RangeRule": ("crates/dw_ranges/src/rule.rt", "X", "crates/dw_ranges/specs/RangeRules.antt"),
     "PrintFault": ("crates/dw_cprint/src/fault.rt", "P", "crates/dw_cprint/specs/FaultTexts.antt"),
 }

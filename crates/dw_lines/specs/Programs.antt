@@ -1,5 +1,5 @@
 -- Chapter: line programs: a header, and the bytes of the opcodes (DWARF 5, 6.2.4; DWARF 4, 6.2.4).
-use Rattle.std.specs.Prelude.{ℕ, List, length, map, drop, Result, Ok, ◌==◌, if◌then◌else◌}
+use Rattle.std.specs.Prelude.{ℕ, ◌+◌, List, length, map, drop, Result, Ok, Err, ◌==◌, if◌then◌else◌}
 use Rattle.dw_forms.specs.Formats.{Format, and_then, mapped, inside, tested, renamed}
 use Rattle.dw_forms.specs.Steps.{◌>>=◌}
 use Rattle.dw_lines.specs.declared.fault.LineFault.{LineFault}
@@ -80,3 +80,12 @@ program_from sections size offset =
 abbrev pub program_alone : LineSections → ℕ → ℕ → Result (HeaderFields × List ℕ) LineRule
 program_alone sections size offset =
     (line_program sections size).read (drop offset sections.line.now) >>= λ x. Ok x.0
+
+-- the offset after a program at this offset, by the bytes that unit_length counts and by those after them
+abbrev pub after_content : ℕ → Result (List ℕ × List ℕ) LineRule → ℕ
+after_content offset (Ok x) = offset + 4 + length x.0
+after_content offset (Err rule) = offset
+
+-- the offset after the program at an offset. Without a length that the section has, it is the offset itself
+abbrev pub program_end : LineSections → ℕ → ℕ
+program_end sections offset = after_content offset (content.read (drop offset sections.line.now))

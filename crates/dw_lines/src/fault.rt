@@ -12,7 +12,8 @@ use dw_forms::{NumberFault, Stop, ValueFault};
 #[derive(Clone, Copy, Debug, PartialEq, Eq)]
 pub struct LineFault {
     pub rule: LineRule,
-    /// The offset in `.debug_line` of the program's first byte for the rules L, of the opcode's for the rules M.
+    /// The offset in `.debug_line` of the program's first byte for the rules L, of the opcode's for the rules M, and in
+    /// `.debug_info` of the entry for the rule F1.
     pub at: usize,
 }
 

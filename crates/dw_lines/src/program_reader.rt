@@ -6,7 +6,8 @@ ghost use Rattle.dw_forms.specs.Stops.{IfFault, GivesOrMemory};
 ghost use Rattle.dw_lines.specs.Files.{tables as tables_format, path_view, file_view};
 ghost use Rattle.dw_lines.specs.Header.{length_end};
 ghost use Rattle.dw_lines.specs.Programs.{fields_of, program_view, after_length as after_format};
-ghost use Rattle.dw_lines.specs.Programs.{header as header_format, program_alone as alone, program_from};
+ghost use Rattle.dw_lines.specs.Programs.{header as header_format, program_alone as alone, program_end};
+ghost use Rattle.dw_lines.specs.Programs.{program_from};
 ghost use Rattle.dw_lines.specs.Programs.{SpellsProgram, ProgramFails};
 
 use crate::fault::LineFault;
@@ -113,6 +114,7 @@ fn program_alone<'a>(
         take (length p.opcodes.now) (drop p.opcodes_at sections.now.line.now) ≡ p.opcodes.now) }
     ensures exact { GivesOrMemory program_view result
         (alone sections.now size offset) }
+    ensures end { IfOk result (λ p. p.opcodes_at + length p.opcodes.now ≡ program_end sections.now offset) }
 {
     if sections.line.len() <= offset {
         return Err(Stop::Fault(LineRule::LineOffset));
@@ -144,6 +146,8 @@ pub fn read_program<'a>(
     ensures fault { IfErr result (IfFault (ProgramFails sections.now address_size offset)) }
     ensures place { IfOk result (λ p.
         take (length p.opcodes.now) (drop p.opcodes_at sections.now.line.now) ≡ p.opcodes.now) }
+    // The opcodes end where the program does.
+    ensures end { IfOk result (λ p. p.opcodes_at + length p.opcodes.now ≡ program_end sections.now offset) }
     // For callers that reason by steps.
     ensures exact { GivesOrMemory program_view result (program_from sections.now address_size offset) }
 {

@@ -31,6 +31,8 @@ pub enum LineRule {
     LineDirectory,
     /// L12: a number has more than 10 bytes or more than 64 bits.
     LineNumber,
+    /// L13: the program starts inside another one that a unit names.
+    ProgramsMeet,
     /// M1: an opcode passes the program's end.
     OpcodeCut,
     /// M2: an operand has more than 10 bytes or more than 64 bits.
@@ -47,6 +49,8 @@ pub enum LineRule {
     RowLine,
     /// M8: the last sequence has no end.
     NotEnded,
+    /// F1: an attribute that names a file has a value that is no file of the unit's program.
+    NoFile,
 }
 
 impl LineRule {
@@ -68,6 +72,7 @@ impl LineRule {
             LineRule::LineString => "L10",
             LineRule::LineDirectory => "L11",
             LineRule::LineNumber => "L12",
+            LineRule::ProgramsMeet => "L13",
             LineRule::OpcodeCut => "M1",
             LineRule::OpcodeNumber => "M2",
             LineRule::ExtendedLength => "M3",
@@ -76,6 +81,7 @@ impl LineRule {
             LineRule::RowAddress => "M6",
             LineRule::RowLine => "M7",
             LineRule::NotEnded => "M8",
+            LineRule::NoFile => "F1",
         }
     }
 
@@ -97,6 +103,7 @@ impl LineRule {
             LineRule::LineString => "LineString",
             LineRule::LineDirectory => "LineDirectory",
             LineRule::LineNumber => "LineNumber",
+            LineRule::ProgramsMeet => "ProgramsMeet",
             LineRule::OpcodeCut => "OpcodeCut",
             LineRule::OpcodeNumber => "OpcodeNumber",
             LineRule::ExtendedLength => "ExtendedLength",
@@ -105,6 +112,7 @@ impl LineRule {
             LineRule::RowAddress => "RowAddress",
             LineRule::RowLine => "RowLine",
             LineRule::NotEnded => "NotEnded",
+            LineRule::NoFile => "NoFile",
         }
     }
 }

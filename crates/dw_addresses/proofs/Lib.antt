@@ -1,0 +1,4 @@
+mod UnitLemmas
+mod NamedLemmas
+mod ReadingLemmas
+mod NextLemmas

@@ -1,0 +1,5 @@
+-- Chapters, in reading order.
+pub mod LinePrograms
+pub mod Lines
+-- State.
+pub mod Reading
