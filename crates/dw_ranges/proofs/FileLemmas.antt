@@ -10,7 +10,8 @@ use Rattle.dw_entries.specs.Views.{units_of}
 use Rattle.dw_entries.specs.declared.entries.Entries.{Entries}
 use Rattle.dw_ranges.specs.Areas.{Has, IsIn}
 use Rattle.dw_ranges.specs.Files.{AreParts, AreRead, FileViolates, HasAt, HasFile, IsPart, IsUnitAt, known_at, no_known}
-use Rattle.dw_ranges.specs.Files.{no_part, no_totals, totals_before, unit_areas}
+use Rattle.dw_ranges.specs.Files.{no_part, totals_before, unit_areas}
+use Rattle.dw_ranges.specs.Totals.{no_totals}
 use Rattle.dw_ranges.specs.Functions.{HasFunctions, Known, Violates}
 use Rattle.dw_ranges.specs.Spans.{AreOrdered}
 use Rattle.dw_ranges.specs.UnitRanges.{AreUnitRanges, IsFirstUnit, IsInUnit, UnitHas, range_of}

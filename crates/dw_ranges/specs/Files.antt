@@ -6,6 +6,7 @@ use Rattle.dw_entries.specs.Views.{units_of}
 use Rattle.dw_entries.specs.declared.entries.Entries.{Entries}
 use Rattle.dw_ranges.specs.Functions.{HasFunctions, Known, Violates, scope_at}
 use Rattle.dw_ranges.specs.Spans.{AreOrdered, IsChain}
+use Rattle.dw_ranges.specs.Totals.{no_totals}
 use Rattle.dw_ranges.specs.UnitRanges.{AreUnitRanges, UnitHas}
 use Rattle.dw_ranges.specs.declared.bounds.RangeSections.{RangeSections}
 use Rattle.dw_ranges.specs.declared.fault.RangeFault.{RangeFault}
@@ -21,7 +22,7 @@ abbrev pub no_known : Known
 no_known = record {
   scopes = [];
   spans = [];
-  totals = record { left = 0; ranges = 0; functions = 0; inlined = 0; dead = 0 };
+  totals = no_totals 0;
 }
 
 -- what is known of the unit with a number
@@ -72,10 +73,6 @@ pub record IsIndexOf (units : List Known) (file : FileFunctions) : Type 0 where
 -- they are tables of some units
 abbrev pub IsIndex : FileFunctions → Type 0
 IsIndex file = (units : List Known) × IsIndexOf units file
-
--- nothing is counted yet, and so many bytes of range lists may be read
-abbrev pub no_totals : (budget : ℕ) → Totals
-no_totals budget = record { left = budget; ranges = 0; functions = 0; inlined = 0; dead = 0 }
 
 module _ (sections : RangeSections) (code : List Range) (entries : Entries) (budget : ℕ) where
   -- what is counted before the unit with a number

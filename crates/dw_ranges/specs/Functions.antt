@@ -102,8 +102,8 @@ abbrev pub scopes_of : UnitFunctions → List Scope
 scopes_of f = map (scope_of f.areas.items) f.inside.items
 
 -- the same with the spans of their functions, and the totals
-abbrev pub known_of : UnitFunctions → Totals → Known
-known_of f totals = record { scopes = scopes_of f; spans = f.spans.items; totals = totals }
+abbrev pub known_of : UnitFunctions → Known
+known_of f = record { scopes = scopes_of f; spans = f.spans.items; totals = f.totals }
 
 -- its areas are among these
 pub record IsInside (areas : List Range) (i : Inside) : Type 0 where

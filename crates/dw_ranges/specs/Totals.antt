@@ -3,6 +3,10 @@ use Rattle.std.specs.Prelude.{ℕ, ◌+◌, ◌-◌, ◌^◌, min, Option, Some,
 use Rattle.dw_ranges.specs.declared.totals.RangeCounts.{RangeCounts}
 use Rattle.dw_ranges.specs.declared.totals.Totals.{Totals}
 
+-- nothing is counted yet, and so many bytes of range lists may be read
+abbrev pub no_totals : (budget : ℕ) → Totals
+no_totals budget = record { left = budget; ranges = 0; functions = 0; inlined = 0; dead = 0 }
+
 -- a count and more. One that passes the greatest number of 64 bits stays there
 abbrev pub plus : ℕ → ℕ → ℕ
 plus count more = min (count + more) (2 ^ 64 - 1)

@@ -4,14 +4,14 @@ ghost use Rattle.std.specs.Prelude.{◌≡◌, ◌++◌, ◌<◌, ◌∷◌, [],
 ghost use Rattle.dw_entries.specs.Views.{units_of};
 ghost use Rattle.dw_forms.specs.Stops.{IfFault};
 ghost use Rattle.dw_ranges.specs.Areas.{AreAreas};
-ghost use Rattle.dw_ranges.specs.Files.{AreRead, FileViolates, HasFile, IsIndex, no_totals};
+ghost use Rattle.dw_ranges.specs.Files.{AreRead, FileViolates, HasFile, IsIndex};
 ghost use Rattle.dw_ranges.specs.Functions.{AreInside, scope_at, scopes_of};
 ghost use Rattle.dw_ranges.specs.UnitRanges.{range_of};
 
 use crate::bounds::RangeSections;
 use crate::fault::RangeFault;
 use crate::file::{FileFunctions, UnitSpans, push_areas};
-use crate::functions::{UnitFunctions, inside_at};
+use crate::functions::{Buffers, UnitFunctions, inside_at};
 use crate::range::Range;
 use crate::spans::Span;
 use crate::totals::Totals;
@@ -62,42 +62,26 @@ fn read_units(
     sections: &RangeSections<'_>,
     code: &[Range],
     entries: &Entries<'_>,
-    totals: &mut Totals,
+    budget: usize,
     tables: &mut UnitTables,
-) -> Result<(), Stop<RangeFault>>
+) -> Result<Totals, Stop<RangeFault>>
     requires code { AreAreas code.now }
-    requires totals { totals.old ≡ no_totals totals.old.left }
     requires all { tables.old.all.items ≡ [] }
     requires parts { tables.old.parts.items ≡ [] }
-    ensures found { OnOk result (AreRead sections.now code.now entries.now totals.old.left
-        (length (units_of entries.now)) totals.new tables.new.all.items tables.new.spans.items
-        tables.new.parts.items) }
-    ensures fault { IfErr result (IfFault (FileViolates sections.now code.now entries.now totals.old.left)) }
+    ensures found { IfOk result (λ totals. AreRead sections.now code.now entries.now budget
+        (length (units_of entries.now)) totals tables.new.all.items tables.new.spans.items tables.new.parts.items) }
+    ensures fault { IfErr result (IfFault (FileViolates sections.now code.now entries.now budget)) }
 {
-    let mut known = UnitFunctions {
-        inside: Vec::new(alloc),
-        areas: Vec::new(alloc),
-        spans: Vec::new(alloc),
-    };
-    let mut ranges = Vec::new(alloc);
-    let mut spans = Vec::new(alloc);
+    let mut known = UnitFunctions::new(alloc, budget);
+    let mut buffers = Buffers::new(alloc);
     for number in 0..entries.unit_count() {
-        match functions_of_unit(
-            sections,
-            code,
-            entries,
-            number,
-            totals,
-            &mut known,
-            &mut ranges,
-            &mut spans,
-        ) {
+        match functions_of_unit(sections, code, entries, number, &mut known, &mut buffers) {
             Ok(()) => {}
             Err(stop) => return Err(stop),
         }
         add_unit(tables, &known, number)?;
     }
-    Ok(())
+    Ok(known.totals)
 }
 
 /// Reads the functions of a file, one unit after another, where `code` are the areas of the program's code. A range
@@ -115,22 +99,15 @@ pub fn functions_of_file(
     ensures index { IfOk result IsIndex }
     ensures fault { IfErr result (IfFault (FileViolates sections.now code.now entries.now budget)) }
 {
-    let mut totals = Totals {
-        left: budget,
-        ranges: 0,
-        functions: 0,
-        inlined: 0,
-        dead: 0,
-    };
     let mut tables = UnitTables {
         all: Vec::new(alloc),
         spans: Vec::new(alloc),
         parts: Vec::new(alloc),
     };
-    match read_units(alloc, sections, code, entries, &mut totals, &mut tables) {
-        Ok(()) => {}
+    let totals = match read_units(alloc, sections, code, entries, budget, &mut tables) {
+        Ok(totals) => totals,
         Err(stop) => return Err(stop),
-    }
+    };
     let UnitTables {
         mut all,
         spans,

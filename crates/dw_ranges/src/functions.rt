@@ -5,6 +5,7 @@ ghost use Rattle.dw_forms.specs.Stops.{IfFault};
 ghost use Rattle.dw_ranges.specs.Areas.{AreAreas};
 ghost use Rattle.dw_ranges.specs.Functions.{AreInside, IsInside, Refuses, Takes, group_with, home_of, known_of};
 ghost use Rattle.dw_ranges.specs.Functions.{outer_of, outside as outside_rule, scope_at, scope_of, scopes_of, span_in};
+ghost use Rattle.dw_ranges.specs.Totals.{no_totals};
 ghost use Rattle.dw_ranges.specs.declared.range.Range.{Range as AnyRange};
 
 use crate::addresses::UnitAddresses;
@@ -14,9 +15,9 @@ use crate::fault::RangeFault;
 use crate::range::Range;
 use crate::rule::RangeRule;
 use crate::spans::Span;
-use crate::totals::{Totals, with_entry};
+use crate::totals::{Totals, no_counts, with_entry};
 use dw_entries::{EntryAt, EntryId, Stop, Tag};
-use std::alloc::{AllocError, AllocFailed};
+use std::alloc::{AllocError, AllocFailed, Global};
 
 /// DW_TAG_subprogram
 const DW_TAG_SUBPROGRAM: Tag = Tag(0x2e);
@@ -42,6 +43,44 @@ pub struct UnitFunctions {
     pub areas: Vec<Range>,
     /// The ranges of the functions.
     pub spans: Vec<Span>,
+    /// What is counted so far, also over the units that were read before.
+    pub totals: Totals,
+}
+
+impl UnitFunctions {
+    /// Nothing is known yet, and so many bytes of range lists may be read.
+    pub fn new(alloc: Global, budget: usize) -> UnitFunctions
+        ensures entries { result.inside.items ≡ [] }
+        ensures spans { result.spans.items ≡ [] }
+        ensures totals { result.totals ≡ no_totals budget }
+    {
+        UnitFunctions {
+            inside: Vec::new(alloc),
+            areas: Vec::new(alloc),
+            spans: Vec::new(alloc),
+            totals: no_counts(budget),
+        }
+    }
+}
+
+/// Vectors that a call overwrites. Calls that are given the same ones allocate less memory.
+#[derive(Drop)]
+pub struct Buffers {
+    pub ranges: Vec<Range>,
+    pub spans: Vec<Span>,
+}
+
+impl Buffers {
+    /// Empty ones.
+    pub fn new(alloc: Global) -> Buffers
+        ensures ranges { result.ranges.items ≡ [] }
+        ensures spans { result.spans.items ≡ [] }
+    {
+        Buffers {
+            ranges: Vec::new(alloc),
+            spans: Vec::new(alloc),
+        }
+    }
 }
 
 /// The function that an entry of the unit is or is in, by how many entries of the unit are before it.
@@ -135,6 +174,7 @@ pub(crate) fn push_inside(
     ensures scopes { OnOk result (scopes_of known.new
         ≡ scopes_of known.old ++ record { group = group; areas = areas.now } ∷ []) }
     ensures spans { known.new.spans.items ≡ known.old.spans.items }
+    ensures totals { known.new.totals ≡ known.old.totals }
 {
     let first = known.areas.len();
     known.areas.extend_from_slice(areas)?;
@@ -165,13 +205,13 @@ fn push_outer(known: &mut UnitFunctions, outer: Inside) -> Result<(), AllocError
     ensures scopes { OnOk result (scopes_of known.new
         ≡ scopes_of known.old ++ scope_of known.old.areas.items outer ∷ []) }
     ensures spans { known.new.spans.items ≡ known.old.spans.items }
+    ensures totals { known.new.totals ≡ known.old.totals }
 {
     known.inside.push(outer)?;
     Ok(())
 }
 
-/// Reads the entry with a number, which is not the first one of its unit, that of number `first`. Overwrites `ranges`
-/// and `spans`.
+/// Reads the entry with a number, which is not the first one of its unit, that of number `first`.
 pub(crate) fn read_entry(
     sections: &RangeSections<'_>,
     unit: &UnitAddresses<'_>,
@@ -179,27 +219,34 @@ pub(crate) fn read_entry(
     first: usize,
     number: usize,
     entry: &EntryAt<'_, '_>,
-    totals: &mut Totals,
     known: &mut UnitFunctions,
-    ranges: &mut Vec<Range>,
-    spans: &mut Vec<Span>,
+    buffers: &mut Buffers,
 ) -> Result<(), Stop<RangeFault>>
     requires code { AreAreas code.now }
     requires number { number < 2 ^ 64 - 1 }
     requires inside { AreInside known.old }
     ensures inside { OnOk result (AreInside known.new) }
-    ensures found { OnOk result (Takes sections.now unit.now code.now first (known_of known.old totals.old) number
-        entry.now (known_of known.new totals.new)) }
+    ensures found { OnOk result (Takes sections.now unit.now code.now first (known_of known.old) number entry.now
+        (known_of known.new)) }
     ensures fault { IfErr result (IfFault
-        (Refuses sections.now unit.now code.now first (known_of known.old totals.old) entry.now)) }
-    ensures less { totals.new.left ≤ totals.old.left }
+        (Refuses sections.now unit.now code.now first (known_of known.old) entry.now)) }
+    ensures less { known.new.totals.left ≤ known.old.totals.left }
 {
-    let counts = code_of_entry(sections, unit, code, entry, &mut totals.left, ranges, spans)?;
+    let Buffers { ranges, spans } = buffers;
+    let counts = code_of_entry(
+        sections,
+        unit,
+        code,
+        entry,
+        &mut known.totals.left,
+        ranges,
+        spans,
+    )?;
     let outer = outer_of_entry(known, first, entry.parent());
     let tag = entry.tag();
     let Some(group) = group_of_entry(tag, outer.group, ranges) else {
         push_outer(known, outer)?;
-        *totals = with_entry(*totals, counts, None);
+        known.totals = with_entry(known.totals, counts, None);
         return Ok(());
     };
     let home = home_of_entry(known, tag, outer);
@@ -211,7 +258,7 @@ pub(crate) fn read_entry(
     }
     push_inside(known, number + 1, ranges)?;
     push_spans(&mut known.spans, ranges, group, number)?;
-    let after = with_entry(*totals, counts, Some(group));
-    *totals = after;
+    let after = with_entry(known.totals, counts, Some(group));
+    known.totals = after;
     Ok(())
 }

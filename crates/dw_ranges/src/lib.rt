@@ -31,7 +31,7 @@ pub use code::{code_of_entry, contain};
 pub use fault::{ListFault, RangeFault};
 pub use file::{FileFunctions, UnitSpans};
 pub use file_reader::functions_of_file;
-pub use functions::{Inside, UnitFunctions};
+pub use functions::{Buffers, Inside, UnitFunctions};
 pub use laws::{
     areas_are_unique, functions_are_one_chain, functions_are_unique,
     functions_of_a_file_are_unique, functions_of_a_unit_are_one_chain, range_lists_are_apart,

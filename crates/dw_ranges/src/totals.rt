@@ -1,7 +1,7 @@
 //! What is counted over the units of a file.
 
 ghost use Rattle.std.specs.Prelude.{◌≡◌};
-ghost use Rattle.dw_ranges.specs.Totals.{counted, one_function as function_in, one_inlined as inlined_in};
+ghost use Rattle.dw_ranges.specs.Totals.{counted, one_function as function_in, one_inlined as inlined_in, no_totals};
 
 /// How many ranges an entry has.
 #[derive(Clone, Copy, Debug, PartialEq, Eq)]
@@ -25,6 +25,19 @@ pub struct Totals {
     pub inlined: usize,
     /// The dead ranges of entries, as in `RangeCounts`.
     pub dead: usize,
+}
+
+/// Nothing is counted yet, and so many bytes of range lists may be read.
+pub(crate) fn no_counts(budget: usize) -> Totals
+    ensures { result ≡ no_totals budget }
+{
+    Totals {
+        left: budget,
+        ranges: 0,
+        functions: 0,
+        inlined: 0,
+        dead: 0,
+    }
 }
 
 /// One if this is the group of a function that is not inlined.

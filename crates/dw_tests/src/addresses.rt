@@ -1,11 +1,12 @@
 //! Which functions have an address, as `dw_ranges` returns them, and a smallest unit that violates each rule.
 
-ghost use Rattle.std.specs.Prelude.{◌-◌, ◌^◌, ◌<◌, All, IsTrue};
+ghost use Rattle.std.specs.Prelude.{◌-◌, ◌^◌, ◌<◌, All, IfOk, IsTrue};
+ghost use Rattle.dw_ranges.specs.Areas.{AreAreas};
 ghost use Rattle.dw_ranges.specs.Spans.{IsSpan};
 
 use dw_entries::{Entries, Sections, Stop, scan};
 use dw_ranges::{
-    Range, RangeSections, Span, Totals, UnitFunctions, UnitRange, first_units, functions_at,
+    Buffers, Range, RangeSections, Span, UnitFunctions, UnitRange, first_units, functions_at,
     functions_of_file, functions_of_unit, join, order, unit_at,
 };
 use std::alloc::{AllocError, Global};
@@ -176,7 +177,9 @@ const LISTS: RangeSections<'static> = RangeSections {
 };
 
 /// The areas of the program's code.
-fn code_areas(alloc: Global) -> Result<Vec<Range>, AllocError> {
+fn code_areas(alloc: Global) -> Result<Vec<Range>, AllocError>
+    ensures { IfOk result (λ code. AreAreas code.items) }
+{
     let mut code = Vec::new(alloc);
     code.push(Range {
         low: 0x10,
@@ -203,34 +206,13 @@ fn functions_of(
         return Err("no unit".into());
     }
     let code = code_areas(alloc)?;
-    let mut known = UnitFunctions {
-        inside: Vec::new(alloc),
-        areas: Vec::new(alloc),
-        spans: Vec::new(alloc),
-    };
-    let mut ranges: Vec<Range> = Vec::new(alloc);
-    let mut spans: Vec<Span> = Vec::new(alloc);
-    let mut totals = Totals {
-        left: 24,
-        ranges: 0,
-        functions: 0,
-        inlined: 0,
-        dead: 0,
-    };
-    match functions_of_unit(
-        &LISTS,
-        &code,
-        &entries,
-        0,
-        &mut totals,
-        &mut known,
-        &mut ranges,
-        &mut spans,
-    ) {
+    let mut known = UnitFunctions::new(alloc, 24);
+    let mut buffers = Buffers::new(alloc);
+    match functions_of_unit(&LISTS, &code, &entries, 0, &mut known, &mut buffers) {
         Ok(()) => {
             let mut functions = Vec::new(alloc);
             functions_at(&known.spans, 0x13, &mut functions)?;
-            Ok(Ok((functions, totals.dead)))
+            Ok(Ok((functions, known.totals.dead)))
         }
         Err(Stop::Memory) => Err("out of memory".into()),
         Err(Stop::Fault(fault)) => Ok(Err((fault.rule.code(), fault.at))),
@@ -339,16 +321,40 @@ fn units_by_address(rt: HostRuntime) -> Result<(), Fail> {
     Ok(())
 }
 
-/// The unit and the functions at an address of a file with units of these entries, and what is counted: ranges,
-/// functions, inlined ones and dead ranges; or the code of the rule, and the offset of the entry.
+/// A unit of a file: with a function and an inlined one, with a function that a linker dropped, with a function outside
+/// of the unit, or with two entries that name one list.
+#[derive(Clone, Copy, Debug)]
+enum UnitKind {
+    Chain,
+    Dead,
+    Outside,
+    Lists,
+}
+
+/// The entries of such a unit.
+fn items_of(kind: UnitKind) -> &'static [u8] {
+    match kind {
+        UnitKind::Chain => &[2, 0x10, 0, 0, 0, 8, 3, 0x12, 0, 0, 0, 4, 0, 0],
+        UnitKind::Dead => &[2, 0, 0, 0, 0, 8, 0],
+        UnitKind::Outside => &[2, 0x2e, 0, 0, 0, 4, 0],
+        UnitKind::Lists => &[4, 16, 0, 0, 0, 0, 4, 16, 0, 0, 0, 0],
+    }
+}
+
+/// How many ranges, functions, inlined functions and dead ranges are counted.
+#[derive(Clone, Copy, Debug, PartialEq, Eq)]
+struct Counts(usize, usize, usize, usize);
+
+/// The unit and the functions at an address of a file with these units, and what is counted; or the code of the rule,
+/// and the offset of the entry.
 fn file_functions(
     alloc: Global,
-    units: &[&[u8]],
+    units: &[UnitKind],
     address: u64,
-) -> Result<Result<(Option<usize>, Vec<usize>, [usize; 4]), (&'static str, u32)>, Fail> {
+) -> Result<Result<(Option<usize>, Vec<usize>, Counts), (&'static str, u32)>, Fail> {
     let mut info: Vec<u8> = Vec::new(alloc);
-    for items in units {
-        push_unit(&mut info, items)?;
+    for kind in units {
+        push_unit(&mut info, items_of(*kind))?;
     }
     let sections = Sections::new(&TABLE, &info, &[], &[], &[], &[])
         .ok()
@@ -359,12 +365,12 @@ fn file_functions(
         Ok(file) => {
             let mut functions = Vec::new(alloc);
             let unit = file.functions_at(address, &mut functions)?;
-            let counts = [
+            let counts = Counts(
                 file.totals.ranges,
                 file.totals.functions,
                 file.totals.inlined,
                 file.totals.dead,
-            ];
+            );
             Ok(Ok((unit, functions, counts)))
         }
         Err(Stop::Memory) => Err("out of memory".into()),
@@ -376,17 +382,31 @@ fn file_functions(
 // violates a rule is named.
 #[test]
 fn functions_of_files(rt: HostRuntime) -> Result<(), Fail> {
-    let chain: &[u8] = &[2, 0x10, 0, 0, 0, 8, 3, 0x12, 0, 0, 0, 4, 0, 0];
-    let dead: &[u8] = &[2, 0, 0, 0, 0, 8, 0];
-    let outside: &[u8] = &[2, 0x2e, 0, 0, 0, 4, 0];
-    let lists: &[u8] = &[4, 16, 0, 0, 0, 0, 4, 16, 0, 0, 0, 0];
-    let rows: [(&[&[u8]], u64, Option<usize>, &[usize], [usize; 4]); 6] = [
-        (&[], 0x13, None, &[], [0, 0, 0, 0]),
-        (&[chain], 0x13, Some(0), &[1, 2], [3, 1, 1, 0]),
-        (&[chain], 0x30, None, &[], [3, 1, 1, 0]),
-        (&[dead, chain], 0x13, Some(0), &[], [5, 1, 1, 1]),
-        (&[chain, chain], 0x13, Some(0), &[1, 2], [6, 2, 2, 0]),
-        (&[lists], 0x13, Some(0), &[], [1, 0, 0, 0]),
+    let rows: [(&[UnitKind], u64, Option<usize>, &[usize], Counts); 6] = [
+        (&[], 0x13, None, &[], Counts(0, 0, 0, 0)),
+        (
+            &[UnitKind::Chain],
+            0x13,
+            Some(0),
+            &[1, 2],
+            Counts(3, 1, 1, 0),
+        ),
+        (&[UnitKind::Chain], 0x30, None, &[], Counts(3, 1, 1, 0)),
+        (
+            &[UnitKind::Dead, UnitKind::Chain],
+            0x13,
+            Some(0),
+            &[],
+            Counts(5, 1, 1, 1),
+        ),
+        (
+            &[UnitKind::Chain, UnitKind::Chain],
+            0x13,
+            Some(0),
+            &[1, 2],
+            Counts(6, 2, 2, 0),
+        ),
+        (&[UnitKind::Lists], 0x13, Some(0), &[], Counts(1, 0, 0, 0)),
     ];
     for (units, address, unit, functions, counts) in rows {
         match file_functions(rt.alloc(), units, address)? {
@@ -398,10 +418,10 @@ fn functions_of_files(rt: HostRuntime) -> Result<(), Fail> {
             Err(fault) => assert_eq!(rt; fault, ("", 0), "{units:?}"),
         }
     }
-    let faults: [(&[&[u8]], (&str, u32)); 3] = [
-        (&[outside, outside], ("X9", 17)),
-        (&[dead, outside], ("X9", 42)),
-        (&[lists, lists], ("X13", 53)),
+    let faults: [(&[UnitKind], (&str, u32)); 3] = [
+        (&[UnitKind::Outside, UnitKind::Outside], ("X9", 17)),
+        (&[UnitKind::Dead, UnitKind::Outside], ("X9", 42)),
+        (&[UnitKind::Lists, UnitKind::Lists], ("X13", 53)),
     ];
     for (units, want) in faults {
         let got = file_functions(rt.alloc(), units, 0x13)?.err();

@@ -15,7 +15,7 @@ returns-clause-found c =
       units = units;
       spans = t.spans;
       parts = t.parts;
-      totals = c.read_units.new.totals;
+      totals = c.in-Ok.totals;
     } in
     file_read a.sections.now a.code.now a.entries.now a.budget file t.all.items c.in-Ok.ensures.found
     c.in_ok-first_units.ensures.ranges
@@ -31,7 +31,7 @@ returns-clause-index c =
       units = units;
       spans = t.spans;
       parts = t.parts;
-      totals = c.read_units.new.totals;
+      totals = c.in-Ok.totals;
     } in
     let has : HasFile a.sections.now a.code.now a.entries.now a.budget file =
     file_read a.sections.now a.code.now a.entries.now a.budget file t.all.items c.in-Ok.ensures.found

@@ -10,9 +10,9 @@ pub loop-number-init : goal.loop-number-init
 loop-number-init c =
     let a = c.args in
     let t = a.tables.now in
-    subst (λ (x : Totals). AreRead a.sections.now a.code.now a.entries.now a.totals.now.left 0 x t.all.items
-    t.spans.items t.parts.items) (sym c.requires.totals)
-    (read_none a.sections.now a.code.now a.entries.now a.totals.now.left t.all.items t.spans.items t.parts.items
+    subst (λ (x : Totals). AreRead a.sections.now a.code.now a.entries.now a.budget 0 x t.all.items
+    t.spans.items t.parts.items) (sym c.new-known.ensures.totals)
+    (read_none a.sections.now a.code.now a.entries.now a.budget t.all.items t.spans.items t.parts.items
     c.requires.all c.requires.parts)
 
 pub returns-in-Err-clause-fault : goal.returns-in-Err-clause-fault
@@ -20,16 +20,16 @@ returns-in-Err-clause-fault c =
     let a = c.args in
     let t = c.loop-number.tables in
     fault_then c.in-Err.stop c.in-Err.ensures.fault (λ f violates.
-    read_fails a.sections.now a.code.now a.entries.now a.totals.now.left c.loop-number.number c.loop-number.totals
+    read_fails a.sections.now a.code.now a.entries.now a.budget c.loop-number.number c.loop-number.known.totals
     t.all.items t.spans.items t.parts.items f c.loop-number.invariant (omega arith) violates)
 
 pub loop-number-preserved : goal.loop-number-preserved
 loop-number-preserved c =
     let a = c.args in
     let t = c.loop-number.tables in
-    let k = known_of c.functions_of_unit.new.known c.functions_of_unit.new.totals in
+    let k = known_of c.functions_of_unit.new.known in
     let after = c.add_unit.new.tables in
     let added = c.in_ok-add_unit.ensures in
-    read_more a.sections.now a.code.now a.entries.now a.totals.now.left c.loop-number.number c.loop-number.totals
+    read_more a.sections.now a.code.now a.entries.now a.budget c.loop-number.number c.loop-number.known.totals
     t.all.items t.spans.items t.parts.items k after.all.items after.spans.items after.parts.items
     c.loop-number.invariant c.in-Ok.ensures.found c.in-Ok.ensures.few added.all added.spans added.parts

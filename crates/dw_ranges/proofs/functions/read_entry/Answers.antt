@@ -1,16 +1,18 @@
-use Rattle.std.proofs.Common.{ℕ, ◌++◌, ◌∷◌, [], ◌+◌, List, map, sym, ap, ◌∙◌, subst, refl}
+use Rattle.std.proofs.Common.{ℕ, ◌++◌, ◌∷◌, [], ◌+◌, List, map, Some, sym, ap, ◌∙◌, subst, refl}
 use Rattle.std.specs.Prelude.{slice_range}
 use Rattle.std.proofs.lemmas.Bool.{false≢true}
 use Rattle.dw_ranges.specs.Areas.{Has}
 use Rattle.dw_ranges.specs.Functions.{ArePart, Scope, known_of, outer_of, outside, scope_of, scopes_of, span_in}
+use Rattle.dw_ranges.specs.Totals.{counted}
 use Rattle.dw_ranges.specs.declared.range.Range.{Range}
+use Rattle.dw_ranges.specs.declared.totals.Totals.{Totals}
 use Rattle.dw_ranges.proofs.FunctionLemmas.{is_group, is_home, takes_some, refuses_outside}
 use Rattle.dw_ranges.proofs.functions.read_entry.Goals as goal
 
 pub returns-then-not-contain-clause-fault : goal.returns-then-not-contain-clause-fault
 returns-then-not-contain-clause-fault c =
     let a = c.args in
-    let k = known_of a.known.now a.totals.now in
+    let k = known_of a.known.now in
     let all = a.known.now.areas.items in
     let areas = c.code_of_entry.new.ranges.items in
     let left = c.code_of_entry.new.budget in
@@ -40,7 +42,7 @@ returns-then-not-contain-clause-fault c =
 pub returns-clause-found : goal.returns-clause-found
 returns-clause-found c =
     let a = c.args in
-    let k = known_of a.known.now a.totals.now in
+    let k = known_of a.known.now in
     let all = a.known.now.areas.items in
     let areas = c.code_of_entry.new.ranges.items in
     let left = c.code_of_entry.new.budget in
@@ -65,7 +67,9 @@ returns-clause-found c =
     in
     takes_some a.sections.now a.unit.now a.code.now a.first a.number k a.entry.now areas left counts are
     (scopes_of c.push_inside.new.known) c.push_spans.new.spans.items c.with_entry-after.result g
-    (sym group ∙ c.in-Some.is) c.with_entry-after.ensures
+    (sym group ∙ c.in-Some.is)
+    (c.with_entry-after.ensures
+    ∙ ap (λ (t : Totals). counted t t.left counts (Some g)) c.in_ok-push_inside.ensures.totals)
     (subst (ArePart areas) home here)
     (c.in_ok-push_inside.ensures.scopes
     ∙ ap (λ (l : List Range). k.scopes ++ (let s : Scope = record { group = a.number + 1; areas = l } in s) ∷ [])

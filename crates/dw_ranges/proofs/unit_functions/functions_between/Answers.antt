@@ -16,17 +16,17 @@ order_spans-requires-clause-each c =
     let a = c.args in
     let all = all_entries a.entries.now in
     let e : c.at-entry.result ≡ entry_of all a.first = c.at-entry.ensures ∙ ap (entry_of all) c.id.ensures in
-    let start = known_of c.read_first.new.known c.read_first.new.totals in
-    let known = known_of c.read_entries.new.known c.read_entries.new.totals in
-    let are : AreFunctions a.sections.now a.unit.now a.code.now a.first all a.end a.totals.now known = record {
+    let start = known_of c.read_first.new.known in
+    let known = known_of c.read_entries.new.known in
+    let are : AreFunctions a.sections.now a.unit.now a.code.now a.first all a.end a.known.now.totals known = record {
       start = start;
       starts =
-          subst (λ (x : Entry). Starts a.sections.now a.unit.now a.code.now x a.totals.now start) e
+          subst (λ (x : Entry). Starts a.sections.now a.unit.now a.code.now x a.known.now.totals start) e
           c.in-Ok.ensures.found;
       reads = c.in-Ok-read_entries.ensures.found;
     } in
     subst (All IsSpan) (sym c.as_mut_slice.ensures.value)
-    (spans_each a.sections.now a.unit.now a.code.now a.first all a.end a.totals.now known c.requires.some
+    (spans_each a.sections.now a.unit.now a.code.now a.first all a.end a.known.now.totals known c.requires.some
     c.requires.within are)
 
 pub order_spans-requires-clause-within : goal.order_spans-requires-clause-within
@@ -34,17 +34,17 @@ order_spans-requires-clause-within c =
     let a = c.args in
     let all = all_entries a.entries.now in
     let e : c.at-entry.result ≡ entry_of all a.first = c.at-entry.ensures ∙ ap (entry_of all) c.id.ensures in
-    let start = known_of c.read_first.new.known c.read_first.new.totals in
-    let known = known_of c.read_entries.new.known c.read_entries.new.totals in
-    let are : AreFunctions a.sections.now a.unit.now a.code.now a.first all a.end a.totals.now known = record {
+    let start = known_of c.read_first.new.known in
+    let known = known_of c.read_entries.new.known in
+    let are : AreFunctions a.sections.now a.unit.now a.code.now a.first all a.end a.known.now.totals known = record {
       start = start;
       starts =
-          subst (λ (x : Entry). Starts a.sections.now a.unit.now a.code.now x a.totals.now start) e
+          subst (λ (x : Entry). Starts a.sections.now a.unit.now a.code.now x a.known.now.totals start) e
           c.in-Ok.ensures.found;
       reads = c.in-Ok-read_entries.ensures.found;
     } in
     subst (All (λ (s : Span). s.function < length all)) (sym c.as_mut_slice.ensures.value)
-    (spans_within a.sections.now a.unit.now a.code.now a.first all a.end a.totals.now known c.requires.some
+    (spans_within a.sections.now a.unit.now a.code.now a.first all a.end a.known.now.totals known c.requires.some
     c.requires.within are)
 
 pub returns-in-Ok-order_spans-clause-few : goal.returns-in-Ok-order_spans-clause-few
@@ -52,12 +52,12 @@ returns-in-Ok-order_spans-clause-few c =
     let a = c.args in
     let all = all_entries a.entries.now in
     let e : c.at-entry.result ≡ entry_of all a.first = c.at-entry.ensures ∙ ap (entry_of all) c.id.ensures in
-    let start = known_of c.read_first.new.known c.read_first.new.totals in
-    let known = known_of c.read_entries.new.known c.read_entries.new.totals in
-    let are : AreFunctions a.sections.now a.unit.now a.code.now a.first all a.end a.totals.now known = record {
+    let start = known_of c.read_first.new.known in
+    let known = known_of c.read_entries.new.known in
+    let are : AreFunctions a.sections.now a.unit.now a.code.now a.first all a.end a.known.now.totals known = record {
       start = start;
       starts =
-          subst (λ (x : Entry). Starts a.sections.now a.unit.now a.code.now x a.totals.now start) e
+          subst (λ (x : Entry). Starts a.sections.now a.unit.now a.code.now x a.known.now.totals start) e
           c.in-Ok.ensures.found;
       reads = c.in-Ok-read_entries.ensures.found;
     } in
@@ -66,7 +66,7 @@ returns-in-Ok-order_spans-clause-few c =
     (omega (arith, c.order_spans.auto.spans, c.as_mut_slice.ensures.len))))
     (All-permutation P c.as_mut_slice.result.now c.order_spans.new.spans c.order_spans.ensures.permutation
     (subst (All P) (sym c.as_mut_slice.ensures.value)
-    (spans_few a.sections.now a.unit.now a.code.now a.first all a.end a.totals.now known c.requires.some
+    (spans_few a.sections.now a.unit.now a.code.now a.first all a.end a.known.now.totals known c.requires.some
     c.requires.within are (omega arith))))
 
 pub returns-in-Ok-order_spans-clause-found : goal.returns-in-Ok-order_spans-clause-found
@@ -74,13 +74,13 @@ returns-in-Ok-order_spans-clause-found c =
     let a = c.args in
     let all = all_entries a.entries.now in
     let e : c.at-entry.result ≡ entry_of all a.first = c.at-entry.ensures ∙ ap (entry_of all) c.id.ensures in
-    let start = known_of c.read_first.new.known c.read_first.new.totals in
+    let start = known_of c.read_first.new.known in
     let k = c.read_entries.new.known in
-    let known = known_of k c.read_entries.new.totals in
-    let are : AreFunctions a.sections.now a.unit.now a.code.now a.first all a.end a.totals.now known = record {
+    let known = known_of k in
+    let are : AreFunctions a.sections.now a.unit.now a.code.now a.first all a.end a.known.now.totals known = record {
       start = start;
       starts =
-          subst (λ (x : Entry). Starts a.sections.now a.unit.now a.code.now x a.totals.now start) e
+          subst (λ (x : Entry). Starts a.sections.now a.unit.now a.code.now x a.known.now.totals start) e
           c.in-Ok.ensures.found;
       reads = c.in-Ok-read_entries.ensures.found;
     } in

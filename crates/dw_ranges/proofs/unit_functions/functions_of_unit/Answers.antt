@@ -27,13 +27,13 @@ returns-clause-found c =
     let u = c.of_unit-unit.result in
     let all = all_entries a.entries.now in
     let r = c.range-first.result in
-    let k = known_of c.functions_between.new.known c.functions_between.new.totals in
+    let k = known_of c.functions_between.new.known in
     on_ok c.functions_between.result c.functions_between.ensures.found (λ p. record {
       unit = u;
       addresses = c.of_unit-unit.ensures;
       are = subst (λ (e : ℕ). AreInOrder a.sections.now u a.code.now (head_in a.entries.now a.number).first all e
-          a.totals.now k) c.range-first.ensures.end
-          (subst (λ (f : ℕ). AreInOrder a.sections.now u a.code.now f all r.1 a.totals.now k)
+          a.known.now.totals k) c.range-first.ensures.end
+          (subst (λ (f : ℕ). AreInOrder a.sections.now u a.code.now f all r.1 a.known.now.totals k)
           c.range-first.ensures.first p);
     })
 
@@ -47,7 +47,7 @@ returns-clause-fault c =
       unit = u;
       addresses = c.of_unit-unit.ensures;
       is = subst (λ (e : ℕ). IsViolated a.sections.now u a.code.now (head_in a.entries.now a.number).first all e
-          a.totals.now fault) c.range-first.ensures.end
-          (subst (λ (f : ℕ). IsViolated a.sections.now u a.code.now f all r.1 a.totals.now fault)
+          a.known.now.totals fault) c.range-first.ensures.end
+          (subst (λ (f : ℕ). IsViolated a.sections.now u a.code.now f all r.1 a.known.now.totals fault)
           c.range-first.ensures.first p);
     })

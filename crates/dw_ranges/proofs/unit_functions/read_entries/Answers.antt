@@ -11,7 +11,7 @@ returns-in-Err-clause-fault c =
     let a = c.args in
     let all = all_entries a.entries.now in
     let n = c.loop-number.number in
-    let k = known_of c.loop-number.known c.loop-number.totals in
+    let k = known_of c.loop-number.known in
     let e : c.at-entry.result ≡ entry_of all n = c.at-entry.ensures ∙ ap (entry_of all) c.id.ensures in
     let step = slice_step all n a.end no_entry (omega arith) c.requires.within in
     fault_then c.in-Err.stop c.in-Err.ensures.fault (λ f refuses.
@@ -24,8 +24,8 @@ loop-number-preserved c =
     let a = c.args in
     let all = all_entries a.entries.now in
     let n = c.loop-number.number in
-    let k = known_of c.loop-number.known c.loop-number.totals in
-    let after = known_of c.read_entry.new.known c.read_entry.new.totals in
+    let k = known_of c.loop-number.known in
+    let after = known_of c.read_entry.new.known in
     let e : c.at-entry.result ≡ entry_of all n = c.at-entry.ensures ∙ ap (entry_of all) c.id.ensures in
     let step = slice_step all n a.end no_entry (omega arith) c.requires.within in (
       c.in-Ok.ensures.inside,

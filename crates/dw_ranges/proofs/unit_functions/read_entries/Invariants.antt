@@ -7,8 +7,8 @@ use Rattle.dw_ranges.proofs.unit_functions.read_entries.Given as goal
 
 abbrev pub invariant-loop-number : goal.invariant-loop-number
 invariant-loop-number l =
-    AreInside l.known × (l.totals.left ≤ l.initial.totals.left) × ((r : Result Known RangeFault)
-    → Reads l.sections l.unit l.code l.first (known_of l.known l.totals) l.number
+    AreInside l.known × (l.known.totals.left ≤ l.initial.known.totals.left) × ((r : Result Known RangeFault)
+    → Reads l.sections l.unit l.code l.first (known_of l.known) l.number
     (slice_range (all_entries l.entries) l.number l.end) r
-    → Reads l.sections l.unit l.code l.first (known_of l.initial.known l.initial.totals) (l.first + 1)
+    → Reads l.sections l.unit l.code l.first (known_of l.initial.known) (l.first + 1)
     (slice_range (all_entries l.entries) (l.first + 1) l.end) r)
