@@ -37,11 +37,11 @@ path { fill: none; stroke: #3b5b8c; stroke-width: 1.5; marker-end: url(#to) } #t
 
 
 def used():
-    """The crates that each crate of the programs uses, as crates.txt lists them."""
+    """The crates that each crate of the programs uses, as crates.txt lists them, of those that something flows from."""
     lines = (line.partition(":") for line in (TOP / "crates.txt").read_text().splitlines())
     uses = {before.split()[0]: after.split() for before, _, after in lines}
     found = set(PROGRAMS)
-    while more := {it for crate in found for it in uses[crate] if it in uses} - found:
+    while more := {it for crate in found for it in uses[crate] if it in FLOWS} - found:
         found |= more
     return {crate: [it for it in uses[crate] if it in found] for crate in uses if crate in found}
 

@@ -1,4 +1,3 @@
-pub mod OutputLemmas
 pub mod ReportLemmas
 pub mod OffsetLemmas
 pub mod WordLemmas

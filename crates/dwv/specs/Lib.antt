@@ -1,5 +1,3 @@
 -- Chapters, in reading order.
 pub mod Words
 pub mod Reports
--- State.
-pub mod Devices

@@ -4,12 +4,12 @@ use Rattle.std.specs.Io.KnownBytes.{Appends}
 use Rattle.dw_report.specs.Reports.{Report, file_limit, status_code}
 use Rattle.dw_report.specs.declared.request.Request.{Request}
 use Rattle.dw_report.specs.declared.request.Status.{Status}
-use Rattle.dwv.specs.declared.running.RunFault.{RunFault}
+use Rattle.dw_io.specs.declared.transfer.RunFault.{RunFault}
 use Rattle.dwv.specs.declared.endings.Outcome.{Outcome}
 use Rattle.dwv.specs.declared.endings.Outcome.TheVariants.{Ran, Refused, Unopened}
 use Rattle.dwv.specs.declared.words.WordsFault.{WordsFault}
 use Rattle.dwv.specs.declared.words.WordsFault.TheVariants as words
-use Rattle.dwv.specs.declared.running.RunFault.TheVariants.{ReadFailed, WriteFailed, Memory}
+use Rattle.dw_io.specs.declared.transfer.RunFault.TheVariants.{ReadFailed, WriteFailed, Memory}
 
 -- a writer whose known bytes were `old` and are `new` has taken the report of these bytes
 abbrev pub WritesReport : ℕ → Request → List ℕ → Status → Option (List ℕ) → Option (List ℕ) → Type 0

@@ -6,9 +6,9 @@ ghost use Rattle.std.specs.String.{string_bytes};
 ghost use Rattle.dwv.specs.Reports.{IsOutcomeOf, ending_line, ending_status, words_line, words_status};
 ghost use Rattle.dwv.specs.declared.endings.Outcome.TheVariants.{Refused};
 
-use crate::device::{Device, Sink};
-use crate::running::{RunFault, ending, run};
+use crate::running::{ending, run};
 use crate::words::WordsFault;
+use dw_io::{Device, RunFault, Sink};
 use dw_report::{Request, Status};
 use std::alloc::Global;
 use std::io::Read;

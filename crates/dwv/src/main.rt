@@ -1,16 +1,15 @@
 //! Checks the debugging entries of a program.
 #![tactic(auto)]
 
-mod device;
 mod endings;
 mod running;
 #[cfg(test)]
 mod tests;
 mod words;
 
-use crate::device::Device;
 use crate::endings::{Outcome, outcome_of};
 use crate::words::read_words;
+use dw_io::Device;
 use std::process::ExitCode;
 use std::rt::{Env, Files};
 use std::{fs, io};

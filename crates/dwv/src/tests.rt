@@ -1,9 +1,9 @@
 //! Words and endings, devices that are slow or fail, and the limit of a file. `tests/rows` has what is printed,
 //! `tests/endings.py` the command line and the exit statuses of the program.
 
-use crate::device::Device;
-use crate::running::{RunFault, ending, run};
+use crate::running::{ending, run};
 use crate::words::{WordsFault, words};
+use dw_io::{Device, RunFault};
 use dw_report::{Request, Status, report};
 use std::alloc::Global;
 use std::io;

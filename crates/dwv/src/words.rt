@@ -10,11 +10,10 @@ ghost use Rattle.dwv.specs.declared.words.WordsFault.TheVariants.{Memory};
 
 use clap::error::ErrorKind;
 use clap::{Arg, ArgAction, ArgMatches, Command, Error};
+use dw_io::{ArgumentFault, after_name};
 use dw_report::Request;
 use std::alloc::{AllocError, Global};
-use std::env::FillError;
 use std::rt::Env;
-use std::{env, io};
 
 /// Why words are no request.
 #[derive(Clone, Copy, Debug, PartialEq, Eq)]
@@ -148,45 +147,11 @@ pub fn words(alloc: Global, words: &[String]) -> Result<(Request, String), Words
     Ok((request, String::from_str(alloc, file)?))
 }
 
-/// The arguments from number 1 on. Number 0, the program's name, is never read: it may be any bytes.
-#[derive(Drop)]
-struct AfterName<'a, R> {
-    rt: &'a R,
-}
-
-impl<R: Env> Env for AfterName<'_, R> {
-    fn arg(&self, i: usize, buf: &mut [u8]) -> Result<usize, FillError> {
-        match i.checked_add(1) {
-            Some(number) => self.rt.arg(number, buf),
-            None => Err(FillError::NotPresent),
-        }
-    }
-
-    fn var(&self, name: &str, buf: &mut [u8]) -> Result<usize, FillError> {
-        self.rt.var(name, buf)
-    }
-
-    fn var_at(&self, i: usize, buf: &mut [u8]) -> Result<usize, FillError> {
-        self.rt.var_at(i, buf)
-    }
-}
-
 /// The request and the file's name that the words after the program's name give. Each of them must be UTF-8.
 pub fn read_words<R: Env + AllocGlobal>(rt: &R) -> Result<(Request, String), WordsFault> {
-    let arguments = match env::args(&(AfterName { rt }, rt.alloc())) {
-        Ok(arguments) => arguments,
-        Err(error) => {
-            return Err(match error.kind() {
-                io::ErrorKind::OutOfMemory => WordsFault::Memory,
-                _ => WordsFault::BadUsage,
-            });
-        }
-    };
-    let mut after_name = Vec::new(rt.alloc());
-    for argument in arguments {
-        if after_name.push(argument).is_err() {
-            return Err(WordsFault::Memory);
-        }
+    match after_name(rt) {
+        Ok(given) => words(rt.alloc(), given.as_slice()),
+        Err(ArgumentFault::NotText) => Err(WordsFault::BadUsage),
+        Err(ArgumentFault::Memory) => Err(WordsFault::Memory),
     }
-    words(rt.alloc(), after_name.as_slice())
 }

@@ -11,7 +11,7 @@ returns-in_err-write_text-clause-write_failed g c = λ is.
     let input = g.R.Source.remaining c.args.reader.now in
     let old = g.W.Sink.contents c.args.writer.now in
     let new = g.W.Sink.contents c.write_text.new.writer in
-    let answer = c.in_ok-answer.answer in
+    let answer = c.in-Ok.answer in
     let written = c.in_err-write_text.ensures.err in
     subst (λ limit. IfSome input (λ bytes. WritesPrefix limit c.args.request bytes old new))
     c.longest_file-limit.ensures
@@ -19,7 +19,7 @@ returns-in_err-write_text-clause-write_failed g c = λ is.
     answer.text.items written.0
     input old new c.in_ok-bytes.ensures.read
     (subst (λ xs. Report c.longest_file-limit.result c.args.request xs answer.status answer.text.items)
-    c.as_slice-input.ensures.value c.in_ok-answer.ensures)
+    c.as_slice-input.ensures.value c.in-Ok.ensures)
     (subst (λ text. Appends old new (take written.0 text)) c.as_slice-text.ensures.value written.1))
 
 pub returns-clause-written : goal.returns-clause-written
@@ -27,12 +27,12 @@ returns-clause-written g c =
     let input = g.R.Source.remaining c.args.reader.now in
     let old = g.W.Sink.contents c.args.writer.now in
     let new = g.W.Sink.contents c.write_text.new.writer in
-    let answer = c.in_ok-answer.answer in
+    let answer = c.in-Ok.answer in
     subst (λ limit. IfSome input (λ bytes. WritesReport limit c.args.request bytes answer.status old new))
     c.longest_file-limit.ensures
     (WritesReport-of_read c.longest_file-limit.result c.args.request c.in_ok-bytes.bytes.items answer.status
     answer.text.items
     input old new c.in_ok-bytes.ensures.read
     (subst (λ xs. Report c.longest_file-limit.result c.args.request xs answer.status answer.text.items)
-    c.as_slice-input.ensures.value c.in_ok-answer.ensures)
+    c.as_slice-input.ensures.value c.in-Ok.ensures)
     (subst (λ text. Appends old new text) c.as_slice-text.ensures.value c.in_ok-write_text.ensures.ok))

@@ -1,6 +1,6 @@
 use Rattle.std.proofs.Common.{◌≡◌, ◌-◌, ◌≤◌, length, take}
 use Rattle.std.specs.Io.KnownBytes.{Appends}
-use Rattle.dwv.proofs.running.write_text.Given as goal
+use Rattle.dw_io.proofs.transfer.write_text.Given as goal
 
 abbrev pub invariant-writes : goal.invariant-writes
 invariant-writes g l =

@@ -1,6 +1,6 @@
 use Rattle.std.proofs.Common.{◌≡◌, ◌+◌, ◌-◌, ◌≤◌, vec_len, length}
 use Rattle.std.specs.Io.KnownBytes.{Consumes}
-use Rattle.dwv.proofs.running.read_input.Given as goal
+use Rattle.dw_io.proofs.transfer.read_input.Given as goal
 
 abbrev pub invariant-chunks : goal.invariant-chunks
 invariant-chunks g l =

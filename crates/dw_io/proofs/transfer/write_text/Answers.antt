@@ -1,7 +1,7 @@
 use Rattle.std.proofs.Common.{arith}
 use Rattle.std.proofs.lemmas.Grind.{common_steps}
-use Rattle.dwv.proofs.OutputLemmas.{Appends-more}
-use Rattle.dwv.proofs.running.write_text.Goals as goal
+use Rattle.dw_io.proofs.OutputLemmas.{Appends-more}
+use Rattle.dw_io.proofs.transfer.write_text.Goals as goal
 
 pub writes-preserved : goal.writes-preserved
 writes-preserved g c = (

@@ -3,7 +3,7 @@
 ghost use Rattle.std.specs.Prelude.{◌≡◌, ℕ, ◌<◌, List, Option};
 ghost use Rattle.std.specs.Io.{ReadsAtMost, WritesAtMost};
 ghost use Rattle.std.specs.Io.KnownBytes.{ReadConsumes, WriteAppends};
-ghost use Rattle.dwv.specs.Devices.{after_read, after_write};
+ghost use Rattle.dw_io.specs.Devices.{after_read, after_write};
 
 use std::io;
 use std::io::{Read, Write};
