@@ -2,10 +2,9 @@
 //! the limit plus one.
 
 ghost use Rattle.std.specs.Prelude.{◌≡◌, false, map};
-ghost use Rattle.dw_cprint.specs.Lengths.{bytes_around, byte_count, capped, declared_bytes};
-ghost use Rattle.dw_cprint.specs.Lengths.{has_gap, member_bytes, members_bytes};
-ghost use Rattle.dw_cprint.specs.Lengths.{named_bytes, parameter_bytes, parameters_bytes, qualifier_bytes, shape_bytes};
-ghost use Rattle.dw_cprint.specs.Lengths.{space, tag_bytes};
+ghost use Rattle.dw_cprint.specs.Lengths.{bytes_around, byte_count, capped, declared_bytes, has_gap, member_bytes};
+ghost use Rattle.dw_cprint.specs.Lengths.{members_bytes, named_bytes, parameter_bytes, parameters_bytes};
+ghost use Rattle.dw_cprint.specs.Lengths.{qualifier_bytes, shape_bytes, space, tag_bytes};
 ghost use Rattle.dw_cprint.specs.Shapes.{view_member, view_name, view_shape, view_subject};
 ghost use Rattle.dw_cprint.specs.Summaries.{known_of};
 ghost use Rattle.dw_cprint.specs.Writing.{bits_tokens};

@@ -53,10 +53,8 @@ fn named_type<'a>(source: &Source<'a>, k: usize) -> Option<(EntryId, Text<'a>)>
     ensures name { IfSome result (λ found. IsNameOf source.now.image.now found.0 found.1) }
 {
     let id = source.image.nth(k)?;
-    match named_text(source, id) {
-        Some(name) => Some((id, name)),
-        None => None,
-    }
+    let name = named_text(source, id)?;
+    Some((id, name))
 }
 
 /// The named types of an image, in rising offset.

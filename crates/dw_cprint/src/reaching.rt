@@ -5,8 +5,7 @@ ghost use Rattle.dw_cprint.specs.Reach.{AddsRow, AreMarks, ArePlaces, FindsAll, 
 ghost use Rattle.dw_image.specs.Images.{entries_in};
 ghost use Rattle.dw_cprint.specs.EntryShapes.{member_at, members_in, shape_in};
 ghost use Rattle.dw_cprint.specs.Shapes.{view_member, view_shape, view_subject};
-ghost use Rattle.dw_cprint.specs.Steps.{entries_among};
-ghost use Rattle.dw_cprint.specs.Steps.{member_types, parameter_types, types_declared, types_reached};
+ghost use Rattle.dw_cprint.specs.Steps.{entries_among, member_types, parameter_types, types_declared, types_reached};
 
 use crate::shape::{Member, Parameter, Shape, Subject};
 use crate::shape_reader::shape_of;

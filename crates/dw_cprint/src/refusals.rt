@@ -5,8 +5,7 @@ ghost use Rattle.dw_cprint.specs.Declarations.{is_misplaced};
 ghost use Rattle.dw_cprint.specs.Shapes.{view_member, view_shape, view_name};
 ghost use Rattle.dw_cprint.specs.Steps.{member_types, types_reached};
 ghost use Rattle.dw_cprint.specs.Summaries.{are_unspeakable, has_void, is_unspeakable, kind_known};
-ghost use Rattle.dw_cprint.specs.Wrong.{has_bad_name, is_wrong_member};
-ghost use Rattle.dw_cprint.specs.Wrong.{lack_names, lacks_member_name};
+ghost use Rattle.dw_cprint.specs.Wrong.{has_bad_name, is_wrong_member, lack_names, lacks_member_name};
 
 use crate::names::{is_base_name, lacks_name};
 use crate::shape::{Member, Parameter, Shape, TypeKind};

@@ -4,9 +4,8 @@ ghost use Rattle.std.specs.Prelude.{◌≡◌, ◌<◌, ℕ, length, map, IfOk, 
 ghost use Rattle.dw_image.specs.Images.{entries_in};
 ghost use Rattle.dw_cprint.specs.Children.{AreKept, TellsAny};
 ghost use Rattle.dw_cprint.specs.EntryShapes.{dimension_counts, defined_in, has_stride_at, is_odd, is_strange};
-ghost use Rattle.dw_cprint.specs.EntryShapes.{member_at};
-ghost use Rattle.dw_cprint.specs.EntryShapes.{members_in, parameter_at, parameters_in, shape_in, subject_in, tag_in};
-ghost use Rattle.dw_cprint.specs.EntryShapes.{tag_shape, tag_word};
+ghost use Rattle.dw_cprint.specs.EntryShapes.{member_at, members_in, parameter_at, parameters_in, shape_in, subject_in};
+ghost use Rattle.dw_cprint.specs.EntryShapes.{tag_in, tag_shape, tag_word};
 ghost use Rattle.dw_cprint.specs.LookUps.{children_at, name_at, type_at};
 ghost use Rattle.dw_cprint.specs.Shapes.{array, function, view_member, view_name, view_shape, view_subject};
 
