@@ -2,3 +2,5 @@ mod UnitLemmas
 mod NamedLemmas
 mod ReadingLemmas
 mod NextLemmas
+mod FrameLemmas
+mod NameLemmas

@@ -13,7 +13,8 @@ use Rattle.std.proofs.lemmas.List.Elements.{All-push, Contains-append_left, Cont
 use Rattle.std.proofs.lemmas.List.Sorted.{IsNonDecreasingBy-from_all_adjacent}
 use Rattle.dw_entries.proofs.Firsts.{same_some}
 use Rattle.dw_entries.specs.declared.entries.Entries.{Entries}
-use Rattle.dw_addresses.specs.LinePrograms.{head_in, offset_named}
+use Rattle.dw_ranges.specs.EntryRanges.{head_in}
+use Rattle.dw_addresses.specs.LinePrograms.{offset_named}
 use Rattle.dw_addresses.specs.Reading.{AllNamed, IsOne, IsUpTo}
 use Rattle.dw_addresses.specs.declared.named.Named.{Named}
 

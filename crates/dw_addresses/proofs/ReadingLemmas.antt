@@ -15,7 +15,8 @@ use Rattle.dw_lines.specs.Programs.{program_end}
 use Rattle.dw_lines.specs.declared.fault.LineFault.{LineFault}
 use Rattle.dw_lines.specs.declared.program.Program.{Program}
 use Rattle.dw_lines.specs.declared.sections.LineSections.{LineSections}
-use Rattle.dw_addresses.specs.LinePrograms.{Fails, Holds, IsApart, IsValid, Names, ProgramsFail, head_in, offset_named}
+use Rattle.dw_ranges.specs.EntryRanges.{head_in}
+use Rattle.dw_addresses.specs.LinePrograms.{Fails, Holds, IsApart, IsValid, Names, ProgramsFail, offset_named}
 use Rattle.dw_addresses.specs.Lines.{HasPrograms, IsProgramOf, program_of}
 use Rattle.dw_addresses.specs.Reading.{AllNamed, AreKept, IsAfter, IsKept, IsNext, IsRead, IsUpTo, NextFails}
 use Rattle.dw_addresses.specs.declared.lines.FileLines.{FileLines}

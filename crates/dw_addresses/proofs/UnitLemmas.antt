@@ -12,7 +12,7 @@ use Rattle.dw_entries.specs.Views.{all_entries, all_units, units_of}
 use Rattle.dw_entries.proofs.EntryFacts.{length-placed_from, placed_get, first_entry}
 use Rattle.dw_entries.proofs.Firsts.{same_some}
 use Rattle.dw_entries.proofs.HeadLaws.{all_get}
-use Rattle.dw_addresses.specs.LinePrograms.{head_in}
+use Rattle.dw_ranges.specs.EntryRanges.{head_in}
 use Rattle.dw_addresses.specs.Reading.{IsOne}
 use Rattle.dw_addresses.specs.declared.named.Named.{Named}
 

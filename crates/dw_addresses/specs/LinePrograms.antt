@@ -1,35 +1,18 @@
 -- Chapter: the line programs that the units of a file name (DWARF 5, 3.1.1 and 6.2), and the rules on them.
 use Rattle.std.specs.Prelude.{◌≡◌, ℕ, ◌+◌, ◌<◌, ◌≤◌, ◌⊎◌, length, Option, Some, None, Ok, Err, option_and_then}
-use Rattle.dw_entries.specs.ByNumber.{placed_of, entry_of}
-use Rattle.dw_entries.specs.Lookups.{value_at_entry, unit_head}
-use Rattle.dw_entries.specs.Views.{all_entries, all_units, units_of}
+use Rattle.dw_entries.specs.Views.{units_of}
 use Rattle.dw_entries.specs.declared.entries.Entries.{Entries}
-use Rattle.dw_entries.specs.declared.units.UnitHead.{UnitHead}
-use Rattle.dw_forms.specs.Value.{Datum, sec_offset}
 use Rattle.dw_lines.specs.Programs.{program_end, program_from, program_view}
 use Rattle.dw_lines.specs.Rows.{program_run}
 use Rattle.dw_lines.specs.declared.fault.LineFault.{LineFault}
 use Rattle.dw_lines.specs.declared.program.Program.{Program}
 use Rattle.dw_lines.specs.declared.rule.LineRule.TheVariants.{ProgramsMeet}
 use Rattle.dw_lines.specs.declared.sections.LineSections.{LineSections}
+use Rattle.dw_ranges.specs.EntryRanges.{first_value, head_in, offset_in}
 
 -- the code of the attribute (7.5.4, Table 7.5)
 abbrev pub DW_AT_stmt_list : ℕ
 DW_AT_stmt_list = 0x10
-
--- the offset into a section that a value is
-abbrev pub offset_in : Datum → Option ℕ
-offset_in (sec_offset offset) = Some offset
-offset_in datum = None
-
--- the unit with a number
-abbrev pub head_in : Entries → ℕ → UnitHead
-head_in entries number = unit_head (placed_of (all_units entries) number)
-
--- the value of an attribute of its first entry
-abbrev pub first_value : Entries → ℕ → ℕ → Option Datum
-first_value entries number attribute =
-    value_at_entry (entry_of (all_entries entries) (head_in entries number).first) attribute
 
 -- the offset of the line program that the unit with a number names
 abbrev pub offset_named : Entries → ℕ → Option ℕ

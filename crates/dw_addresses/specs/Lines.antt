@@ -9,7 +9,9 @@ use Rattle.dw_entries.specs.Views.{all_entries, units_of}
 use Rattle.dw_entries.specs.declared.entries.Entries.{Entries}
 use Rattle.dw_forms.specs.Value.{Datum, unsigned, signed}
 use Rattle.dw_lines.specs.Addresses.{row_at}
-use Rattle.dw_lines.specs.Files.{may_be_named}
+use Rattle.dw_lines.specs.Files.{has_file, may_be_named}
+use Rattle.dw_lines.specs.Paths.{file_path}
+use Rattle.dw_lines.specs.Programs.{fields_of}
 use Rattle.dw_lines.specs.Rows.{program_run}
 use Rattle.dw_lines.specs.declared.files.Files.{Files}
 use Rattle.dw_lines.specs.declared.line_index.LineIndex.{LineIndex}
@@ -39,6 +41,15 @@ row_by address index = row_at index.code.now (program_run index.program).rows ad
 -- the row of an address in the program of the unit with a number
 abbrev pub row_in : FileLines → (unit address : ℕ) → Option Row
 row_in lines unit address = option_and_then (row_by address) (program_of lines unit)
+
+-- the path of a file of an index of rows, where the unit names this directory of the compilation
+abbrev pub path_by : (file : ℕ) → List ℕ → LineIndex → Option (List ℕ)
+path_by file directory index = if has_file index.program.header.files file
+    then Some (file_path (fields_of index.program.header) directory file) else None
+
+-- the path of a file in the program of the unit with a number
+abbrev pub path_in : FileLines → (unit file : ℕ) → List ℕ → Option (List ℕ)
+path_in lines unit file directory = option_and_then (path_by file directory) (program_of lines unit)
 
 module _ (sections : LineSections) (code : List (ℕ × ℕ)) (entries : Entries) where
   -- this is the program of the unit with a number: the one that it names, which violates no rule, with the rows of the

@@ -17,7 +17,7 @@ const DW_AT_DECL_FILE: Attribute = Attribute(0x3a);
 const DW_AT_CALL_FILE: Attribute = Attribute(0x58);
 
 /// The number that a value is.
-fn number_of(value: Value<'_>) -> Option<u64>
+pub(crate) fn number_of(value: Value<'_>) -> Option<u64>
     ensures { result ≡ number_in (view value.entry) }
 {
     match value {

@@ -3,11 +3,17 @@
 
 mod fault;
 mod files;
+mod frame;
+mod frames;
 mod lines;
 mod lines_reader;
 mod named;
+mod names;
 mod programs;
 
 pub use fault::LinesFault;
+pub use frame::{Frame, Place};
+pub use frames::frames_at;
 pub use lines::FileLines;
 pub use lines_reader::lines_of_file;
+pub use names::{directory_of_unit, function_name};

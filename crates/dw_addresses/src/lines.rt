@@ -1,9 +1,11 @@
 //! The line programs of the units of a file.
 
-ghost use Rattle.std.specs.Prelude.{◌≡◌, option_map};
-ghost use Rattle.dw_addresses.specs.Lines.{program_of as program_of_unit, row_in};
+ghost use Rattle.std.specs.Prelude.{◌≡◌, ◌++◌, [], IfOk, OnErr, OnOk, option_map};
+ghost use Rattle.std.specs.Option.{is_some, unwrap_or};
+ghost use Rattle.dw_addresses.specs.Lines.{path_in, program_of as program_of_unit, row_in};
 
 use dw_lines::{LineIndex, Row};
+use std::alloc::AllocError;
 
 /// The line programs that the units of a file name.
 #[derive(Drop)]
@@ -35,5 +37,29 @@ impl<'a> FileLines<'a> {
         ensures { result ≡ row_in self.now unit address }
     {
         self.program_of(unit)?.row_at(address)
+    }
+
+    /// Appends the path of a file of the program of the unit with a number, and returns whether there is such a file.
+    /// `comp_dir` is the directory of the compilation that the unit names, or empty.
+    pub fn push_path(
+        &self,
+        unit: usize,
+        file: u64,
+        comp_dir: &[u8],
+        text: &mut Vec<u8>,
+    ) -> Result<bool, AllocError>
+        ensures there { IfOk result (λ there. there ≡ is_some (path_in self.now unit file comp_dir.now)) }
+        ensures path { OnOk result
+            (text.new.items ≡ text.old.items ++ unwrap_or (path_in self.now unit file comp_dir.now) []) }
+        ensures err { OnErr result (text.new.items ≡ text.old.items) }
+    {
+        let Some(index) = self.program_of(unit) else {
+            return Ok(false);
+        };
+        if !index.program.header.files.has(file) {
+            return Ok(false);
+        }
+        index.program.header.push_path(comp_dir, file, text)?;
+        Ok(true)
     }
 }

@@ -1,10 +1,10 @@
 //! The line programs that the units of a file name (DWARF 5, 3.1.1).
 
-ghost use Rattle.std.specs.Prelude.{◌≡◌, ◌<◌, All, Contains, IfOk, IsPermutation, length, option_and_then, option_map, ℕ};
+ghost use Rattle.std.specs.Prelude.{◌≡◌, ◌<◌, IfOk, IsPermutation, length, option_and_then, option_map};
 ghost use Rattle.std.specs.List.{AllAdjacentBelow};
 ghost use Rattle.dw_forms.specs.Value.{view};
 ghost use Rattle.dw_entries.specs.Views.{units_of};
-ghost use Rattle.dw_addresses.specs.LinePrograms.{DW_AT_stmt_list, head_in, first_value, offset_in, offset_named};
+ghost use Rattle.dw_ranges.specs.EntryRanges.{offset_in};
 ghost use Rattle.dw_addresses.specs.Reading.{AllNamed, IsNamed, IsUpTo};
 
 use dw_entries::{Attribute, Entries, Value};
