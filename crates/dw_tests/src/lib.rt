@@ -24,6 +24,8 @@ mod links;
 #[cfg(test)]
 mod ranges;
 #[cfg(test)]
+mod spans;
+#[cfg(test)]
 mod surface;
 #[cfg(test)]
 mod types;

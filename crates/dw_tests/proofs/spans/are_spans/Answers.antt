@@ -2,7 +2,7 @@ use Rattle.std.proofs.Common.{◌-◌, ◌^◌, ◌<◌, get_or, refl, subst, ar
 use Rattle.std.proofs.lemmas.List.{get_or_default}
 use Rattle.dw_ranges.specs.Spans.{IsSpan}
 use Rattle.dw_ranges.specs.declared.spans.Span.{Span}
-use Rattle.dw_tests.proofs.addresses.are_spans.Goals as goal
+use Rattle.dw_tests.proofs.spans.are_spans.Goals as goal
 
 pub loop-span-preserved : goal.loop-span-preserved
 loop-span-preserved c k d =

@@ -1,7 +1,7 @@
 use Rattle.std.proofs.Common.{ℕ, ◌-◌, ◌^◌, ◌<◌, get_or}
 use Rattle.dw_ranges.specs.Spans.{IsSpan}
 use Rattle.dw_ranges.specs.declared.spans.Span.{Span}
-use Rattle.dw_tests.proofs.addresses.are_spans.Given as goal
+use Rattle.dw_tests.proofs.spans.are_spans.Given as goal
 
 abbrev pub invariant-loop-span : goal.invariant-loop-span
 invariant-loop-span l =
