@@ -43,10 +43,14 @@ fault_object f =
     fault_members f.at f.attribute (cycle_array f.cycle.items) (name_text f.rule) (code_text f.rule)
     (section_text f.section)
 
+-- a fault without a cycle
+abbrev pub place_object : ℕ → ℕ → List ℕ → List ℕ → List ℕ → Data
+place_object at attribute name rule section = fault_members at attribute (cycle_array []) name rule section
+
 -- a fault of the file: its place is a section's number
 abbrev pub elf_fault_object : ElfFault → Data
 elf_fault_object f =
-    fault_members f.section 0 (cycle_array []) (elf.name_text f.rule) (elf.code_text f.rule) (codes "file")
+    place_object f.section 0 (elf.name_text f.rule) (elf.code_text f.rule) (codes "file")
 
 -- an object on a line, with no spaces
 abbrev pub object_line : Data → List ℕ

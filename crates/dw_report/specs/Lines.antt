@@ -45,6 +45,10 @@ unfoldable pub place_part : List ℕ → ℕ → ℕ → List ℕ
 place_part section at attribute =
     codes " at " ++ section ++ codes "+" ++ offset_text at ++ codes " attribute 0x" ++ hex attribute
 
+-- `fault RULE NAME at SECTION+0xOOOOOOOO attribute 0xA`
+unfoldable pub place_line : (code name section : List ℕ) → (at attribute : ℕ) → List ℕ
+place_line code name section at attribute = line (rule_part code name ++ place_part section at attribute)
+
 -- an offset of a cycle, after a space
 unfoldable pub cycle_offset : ℕ → List ℕ
 cycle_offset n = codes " " ++ offset_text n
@@ -54,8 +58,8 @@ unfoldable pub cycle_line : List ℕ → List ℕ
 cycle_line [] = []
 cycle_line (n ∷ ns) = line (codes "cycle" ++ flat_map cycle_offset (n ∷ ns))
 
--- `fault RULE NAME at SECTION+0xOOOOOOOO attribute 0xA`, and the line of the cycle
+-- the line of a fault, and the line of its cycle
 unfoldable pub fault_lines : Fault → List ℕ
 fault_lines f =
-    line (rule_part (code_text f.rule) (name_text f.rule) ++ place_part (section_text f.section) f.at f.attribute)
+    place_line (code_text f.rule) (name_text f.rule) (section_text f.section) f.at f.attribute
     ++ cycle_line f.cycle.items

@@ -4,7 +4,7 @@ ghost use Rattle.std.specs.Prelude.{◌≡◌, ◌++◌, OnOk, IfOk, false};
 ghost use Rattle.serde_json.specs.View.{view};
 ghost use Rattle.serde_json.specs.Written.{has_float};
 ghost use Rattle.dw_report.specs.JsonObjects.{cycle_array as array_of, sound_object, fault_members, fault_object};
-ghost use Rattle.dw_report.specs.JsonObjects.{elf_fault_object, object_line};
+ghost use Rattle.dw_report.specs.JsonObjects.{elf_fault_object, object_line, place_object};
 
 use dw_elf::ElfFault;
 use dw_image::Fault;
@@ -70,7 +70,7 @@ fn sound_value(alloc: Global, units: u64, entries: u64, types: u64) -> Result<Va
 }
 
 /// An object on a line.
-fn put_object_line(text: &mut Vec<u8>, alloc: Global, value: &Value) -> Result<(), AllocError>
+pub fn put_object_line(text: &mut Vec<u8>, alloc: Global, value: &Value) -> Result<(), AllocError>
     requires { has_float (view value.now) ≡ false }
     ensures ok { OnOk result (text.new.items ≡ text.old.items ++ object_line (view value.now)) }
 {
@@ -108,6 +108,24 @@ pub fn put_fault_object(text: &mut Vec<u8>, alloc: Global, fault: &Fault) -> Res
     put_object_line(text, alloc, &value)
 }
 
+/// A fault without a cycle as an object.
+pub fn put_place_object(
+    text: &mut Vec<u8>,
+    alloc: Global,
+    at: u32,
+    attribute: u16,
+    name: &str,
+    rule: &str,
+    section: &str,
+) -> Result<(), AllocError>
+    ensures ok { OnOk result (text.new.items
+        ≡ text.old.items ++ object_line (place_object at attribute name.now rule.now section.now)) }
+{
+    let cycle = cycle_array(alloc, &[])?;
+    let value = fault_value(alloc, at, attribute, cycle, name, rule, section)?;
+    put_object_line(text, alloc, &value)
+}
+
 /// A fault of the file as an object.
 pub fn put_elf_fault_object(
     text: &mut Vec<u8>,
@@ -116,14 +134,8 @@ pub fn put_elf_fault_object(
 ) -> Result<(), AllocError>
     ensures ok { OnOk result (text.new.items ≡ text.old.items ++ object_line (elf_fault_object fault)) }
 {
-    let value = fault_value(
-        alloc,
-        u32::from(fault.section),
-        0,
-        cycle_array(alloc, &[])?,
-        fault.rule.name(),
-        fault.rule.code(),
-        "file",
-    )?;
-    put_object_line(text, alloc, &value)
+    let at = u32::from(fault.section);
+    let name = fault.rule.name();
+    let rule = fault.rule.code();
+    put_place_object(text, alloc, at, 0, name, rule, "file")
 }

@@ -3,7 +3,7 @@
 ghost use Rattle.std.specs.Prelude.{◌≡◌, ◌++◌, OnOk};
 ghost use Rattle.std.specs.List.{flat_map};
 ghost use Rattle.dw_report.specs.Lines.{offset_text, sound_line, elf_fault_line, fault_lines, cycle_line, cycle_offset};
-ghost use Rattle.dw_report.specs.Lines.{rule_part, place_part, hex};
+ghost use Rattle.dw_report.specs.Lines.{rule_part, place_part, place_line, hex};
 
 use dw_cprint::{put_decimal, put_hex};
 use dw_elf::ElfFault;
@@ -103,6 +103,24 @@ fn put_cycle_line(text: &mut Vec<u8>, cycle: &[u32]) -> Result<(), AllocError>
     text.extend_from_slice(b"\n")
 }
 
+/// `fault RULE NAME at SECTION+0xOOOOOOOO attribute 0xA`, on a line.
+#[tactic(auto, unfolding(crate::specs::Lines::place_line))]
+pub fn put_place_line(
+    text: &mut Vec<u8>,
+    code: &[u8],
+    name: &[u8],
+    section: &[u8],
+    at: u32,
+    attribute: u16,
+) -> Result<(), AllocError>
+    ensures ok { OnOk result (text.new.items
+        ≡ text.old.items ++ place_line code.now name.now section.now at attribute) }
+{
+    put_rule(text, code, name)?;
+    put_place(text, section, at, attribute)?;
+    text.extend_from_slice(b"\n")
+}
+
 /// `fault RULE NAME at SECTION+0xOOOOOOOO attribute 0xA`, and the line of the cycle.
 #[tactic(auto, unfolding(crate::specs::Lines::fault_lines))]
 pub fn put_fault_lines(text: &mut Vec<u8>, fault: &Fault) -> Result<(), AllocError>
@@ -111,9 +129,7 @@ pub fn put_fault_lines(text: &mut Vec<u8>, fault: &Fault) -> Result<(), AllocErr
     let code = fault.rule.code().as_bytes();
     let name = fault.rule.name().as_bytes();
     let section = fault.section.name().as_bytes();
-    put_rule(text, code, name)?;
-    put_place(text, section, fault.at, fault.attribute)?;
-    text.extend_from_slice(b"\n")?;
+    put_place_line(text, code, name, section, fault.at, fault.attribute)?;
     put_cycle_line(text, fault.cycle.as_slice())
 }
 

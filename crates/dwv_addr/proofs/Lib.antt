@@ -1,0 +1,5 @@
+pub mod AddressLemmas
+pub mod GlyphLemmas
+pub mod ObjectLemmas
+pub mod TextLemmas
+pub mod WordLemmas
