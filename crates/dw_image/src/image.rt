@@ -91,6 +91,13 @@ impl<'a> Image<'a> {
         &self.entries
     }
 
+    /// What was found of references, strings and addresses.
+    pub fn links(&self) -> &LinkTables
+        ensures { result.now ≡ self.now.tables }
+    {
+        &self.tables
+    }
+
     /// The entry that starts at this offset of `sections.info`.
     #[tactic(auto, unfolding(crate::specs::Images::units_in))]
     pub fn entry(&self, offset: u32) -> Option<EntryId>
