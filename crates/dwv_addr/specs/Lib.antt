@@ -4,3 +4,4 @@ pub mod Addresses
 pub mod Sound
 pub mod Answers
 pub mod AnswerObjects
+pub mod Endings

@@ -1,4 +1,6 @@
-//! What is requested of a file.
+//! What is requested of a file, and how the request ends.
+
+ghost use Rattle.std.specs.Prelude.{◌≡◌};
 
 /// What is requested of a file.
 #[derive(Clone, Copy, Debug, PartialEq, Eq)]
@@ -7,4 +9,30 @@ pub enum Request {
     Check { json: bool },
     /// The frames at addresses: lines, or an object in JSON for each.
     Find { json: bool },
+}
+
+/// How a request ends that has a result.
+#[derive(Clone, Copy, Debug, PartialEq, Eq)]
+pub enum Status {
+    /// The file is sound, and each word or line in the place of an address is one.
+    Sound,
+    /// The file violates a rule.
+    Fault,
+    /// The file is sound, and some word or line is no address.
+    BadAddress,
+}
+
+impl Status {
+    ghost use Rattle.dwv_addr.specs.Endings.{status_code};
+
+    /// The exit status of the program.
+    pub fn code(self) -> u8
+        ensures { result ≡ status_code self }
+    {
+        match self {
+            Status::Sound => 0,
+            Status::Fault => 1,
+            Status::BadAddress => 2,
+        }
+    }
 }
