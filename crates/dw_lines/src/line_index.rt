@@ -28,7 +28,8 @@ pub struct LineIndex<'a> {
 }
 
 impl<'a> LineIndex<'a> {
-    ghost use Rattle.std.specs.Prelude.{IfErr, IfOk, None, OnOk, Some};
+    ghost use Rattle.std.specs.Prelude.{IfErr, IfOk, length, None, OnOk, Some};
+    ghost use Rattle.std.specs.List.{count_by};
     ghost use Rattle.dw_forms.specs.Stops.{IfFault};
     ghost use Rattle.dw_lines.specs.Addresses.{AreAreas, row_at as row_of_address};
 
@@ -64,5 +65,19 @@ impl<'a> LineIndex<'a> {
     {
         let sequence = sequence_with(&self.sequences, &self.reaches, address)?;
         row_up_to(rows_of(&self.rows, sequence), address)
+    }
+
+    /// How many rows the program has.
+    pub fn row_count(&self) -> usize
+        ensures { result ≡ length (program_run self.now.program).rows }
+    {
+        self.rows.len()
+    }
+
+    /// How many sequences the program has: each is ended by one of its rows.
+    pub fn sequence_count(&self) -> usize
+        ensures { result ≡ count_by (λ row. row.end_sequence) (program_run self.now.program).rows }
+    {
+        self.rows.iter().filter(|row| row.end_sequence).count()
     }
 }
