@@ -14,6 +14,12 @@ all: toolchain
 toolchain:
 	@command -v rt > /dev/null || { echo "There is no rt on PATH: see README.md, Install, From source." >&2; exit 1; }
 
+# Proves every crate below dwv-addr and builds it.
+.PHONY: addr
+addr: toolchain
+	cd crates/dwv_addr && rt run -- check data/four
+	@echo "The program is crates/dwv_addr/out/dwv_addr: make install installs it as dwv-addr."
+
 # Proves the C library and links it into out/, with its header and a file for pkg-config. Only the names dwv_* are
 # visible. The toolchain's own archive has its allocator, which calls malloc.
 kit = $(dir $(shell readlink -f "$$(command -v rt)"))..
@@ -58,6 +64,8 @@ test: toolchain
 	tests/examples.py
 	tests/real-programs.py
 	tests/lines.py
+	tests/addresses.py
+	tests/hostile_addresses.py
 	tests/hostile_lines.py
 	tests/hostile_files.py
 	tests/sweep.py --part --jobs $(checks)
@@ -139,8 +147,8 @@ same-answers:
 	tests/same-answers.py $(OLD) $(NEW)
 
 # Installs the program that `make` built, the scripts beside it (as dwv-explain, ..) with the Python package by which
-# they call the C library, the manual page, the completions, the integrations (in share/dwv/integrations), and the C
-# library if `make lib` built it. `make install PREFIX=$HOME/.local` chooses the folder. It builds and proves nothing.
+# they call the C library, the manual pages, the completions, the integrations (in share/dwv/integrations), dwv-addr if
+# `make addr` built it, and the C library if `make lib` built it. `make install PREFIX=$HOME/.local` chooses the folder. It builds and proves nothing.
 # DESTDIR is put before all paths, as packages need it. PYTHON is the interpreter of the scripts: with
 # `make install PYTHON=/usr/bin/python3` they run by that one, wherever another stands first in PATH.
 PREFIX = /usr/local
@@ -156,6 +164,7 @@ integrations = $(patsubst contrib/%,%,$(wildcard contrib/integrations/*/*))
 lib = $(DESTDIR)$(PREFIX)/lib
 include = $(DESTDIR)$(PREFIX)/include
 library = $(wildcard out/lib/libdwv.a)
+addr = $(wildcard crates/dwv_addr/out/dwv_addr)
 .PHONY: install
 install:
 	@[ -x crates/dwv/out/dwv ] || { echo "crates/dwv/out/dwv is not built: run make first." >&2; exit 1; }
@@ -179,6 +188,11 @@ install:
 	    ln -sf "../share/dwv/$$it" "$(bin)/dwv-$$it" && ln -sf dwv "$(completions)/dwv-$$it" && \
 	    ln -sf dwv.1 "$(man)/dwv-$$it.1" || exit 1; \
 	done
+ifneq ($(addr),)
+	install -m 755 $(addr) "$(bin)/dwv-addr"
+	install -m 644 docs/dwv-addr.1 "$(man)/dwv-addr.1"
+	ln -sf dwv "$(completions)/dwv-addr"
+endif
 ifneq ($(library),)
 	install -d "$(lib)/pkgconfig" "$(include)"
 	install -m 644 out/lib/libdwv.a "$(lib)/libdwv.a"
@@ -192,17 +206,18 @@ endif
 .PHONY: uninstall
 uninstall:
 	rm -f "$(bin)/dwv" "$(man)/dwv.1" "$(completions)/dwv" "$(zsh)/_dwv" "$(fish)/dwv.fish"
-	rm -f $(scripts:%="$(bin)/dwv-%") $(scripts:%="$(completions)/dwv-%") $(scripts:%="$(man)/dwv-%.1")
+	rm -f $(patsubst %,"$(bin)/dwv-%",addr $(scripts)) $(patsubst %,"$(completions)/dwv-%",addr $(scripts))
+	rm -f $(patsubst %,"$(man)/dwv-%.1",addr $(scripts))
 	rm -rf "$(share)"
 	rm -f "$(lib)/libdwv.a" "$(lib)/libdwv.so.0" "$(lib)/libdwv.so" "$(include)/dwv.h" "$(lib)/pkgconfig/dwv.pc"
 
 # Packages of what `make` and `make lib` built, in out/packages: a tarball, three .debs, and a wheel for Python.
 .PHONY: dist
-dist: lib
+dist: lib addr
 	packaging/package.py tarball out/packages
 
 .PHONY: deb
-deb: lib
+deb: lib addr
 	packaging/package.py deb out/packages
 
 .PHONY: wheel

@@ -13,6 +13,19 @@ _dwv() {
 
 complete -o bashdefault -o default -F _dwv dwv
 
+# The same for dwv-addr.
+_dwv_addr() {
+    local word=${COMP_WORDS[COMP_CWORD]}
+    COMPREPLY=()
+    if [ "$COMP_CWORD" -eq 1 ]; then
+        mapfile -t COMPREPLY < <(compgen -W 'check find' -- "$word")
+    elif [[ $word == -* ]]; then
+        mapfile -t COMPREPLY < <(compgen -W --json -- "$word")
+    fi
+}
+
+complete -o bashdefault -o default -F _dwv_addr dwv-addr
+
 # Completes the options of the scripts. For each other word bash completes names of files.
 _dwv_script() {
     local word=${COMP_WORDS[COMP_CWORD]} options='--help'

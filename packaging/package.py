@@ -177,8 +177,8 @@ def arranged(work):
     for script in (usr / "share/dwv").iterdir():
         if script.is_file():
             script.write_text(re.sub(r"\A#!/usr/bin/env python3", "#!/usr/bin/python3", script.read_text()))
-    subprocess.run(["strip", "--strip-unneeded", "--remove-section=.comment", usr / "bin/dwv", libraries / SONAME],
-                   check=True)
+    programs = [it for it in (usr / "bin/dwv", usr / "bin/dwv-addr") if it.exists()]
+    subprocess.run(["strip", "--strip-unneeded", "--remove-section=.comment", *programs, libraries / SONAME], check=True)
     subprocess.run(["strip", "--strip-debug", "-D", libraries / "libdwv.a"], check=True)
     for page in (usr / "share/man").rglob("*.1"):
         compress(page)

@@ -11,8 +11,9 @@ import common
 import pytest
 from common import SAMPLE, TOP
 
-LEAST = 21
+LEAST = 23
 PAGE = TOP / "docs/dwv.1"
+PAGES = PAGE, TOP / "docs/dwv-addr.1"
 SCRIPTS = ("check", "explain", "c-header")
 INSTALLED = ["644 share/bash-completion/completions/dwv", "644 share/fish/vendor_completions.d/dwv.fish",
              "644 share/man/man1/dwv.1", "644 share/zsh/site-functions/_dwv", "755 bin/dwv"]
@@ -24,6 +25,9 @@ for path in (TOP / "python/dwv").glob("*.py"):
 for script in SCRIPTS:
     INSTALLED += [f"../share/dwv/{script} bin/dwv-{script}", f"755 share/dwv/{script}",
                   f"dwv share/bash-completion/completions/dwv-{script}", f"dwv.1 share/man/man1/dwv-{script}.1"]
+ADDR = TOP / "crates/dwv_addr/out/dwv_addr"
+if ADDR.exists():
+    INSTALLED += ["755 bin/dwv-addr", "644 share/man/man1/dwv-addr.1", "dwv share/bash-completion/completions/dwv-addr"]
 # What bash completes: a name, the function, the words, and what it offers for the last of them.
 COMPLETED = [
     ("completion of no word", "_dwv", ["dwv", ""], "check show types size"),
@@ -33,6 +37,8 @@ COMPLETED = [
     ("names of files after check", "_dwv", ["dwv", "check", "a"], ""),
     ("completion of types", "_dwv", ["dwv", "t"], "types"),
     ("show has no option", "_dwv", ["dwv", "show", "-"], ""),
+    ("completion of a command of dwv-addr", "_dwv_addr", ["dwv-addr", "f"], "find"),
+    ("completion of an option of dwv-addr", "_dwv_addr", ["dwv-addr", "find", "-"], "--json"),
     ("completion of dwv-explain", "_dwv_script", ["dwv-explain", "--"], "--debuginfod --help --html --json --version"),
     ("completion of dwv-c-header", "_dwv_script", ["dwv-c-header", "--a"], "--all --assert"),
     ("completion of dwv-check", "_dwv_script", ["dwv-check", "--e"], "--every --explain"),
@@ -112,7 +118,7 @@ def test_default_prefix(tmp_path):
 def test_rules_of_the_manual_page():
     found = sorted(re.findall(r"(?m)^\.It Sy ([A-Z]\d*) (\w*)$", PAGE.read_text()))
     pages = "".join((TOP / f"docs/{name}.md").read_text() for name in ("RULES", "REPORTS"))
-    assert found == sorted(set(re.findall(r"(?m)^\| ([A-KN-WYZ]\d*) \| (\w*) \|", pages)))
+    assert found == sorted(set(re.findall(r"(?m)^\| ([A-EG-KN-WYZ]\d*) \| (\w*) \|", pages)))
 
 
 def test_lines_of_the_manual_page():
@@ -123,7 +129,7 @@ def test_lines_of_the_manual_page():
 
 def test_mandoc():
     common.needs("mandoc")
-    assert common.run("mandoc", "-T", "lint", "-W", "warning", PAGE, text=True)[1:] == ("", "")
+    assert common.run("mandoc", "-T", "lint", "-W", "warning", *PAGES, text=True)[1:] == ("", "")
 
 
 def test_man():
@@ -132,7 +138,8 @@ def test_man():
     if not common.run("man", "--version")[1].startswith(b"man "):
         pytest.skip("man is not installed")
     env = {**os.environ, "LC_ALL": "C.UTF-8"}
-    assert common.run("man", "--warnings", "-l", "-Tutf8", "-Z", PAGE, env=env)[2] == b""
+    for page in PAGES:
+        assert common.run("man", "--warnings", "-l", "-Tutf8", "-Z", page, env=env)[2] == b""
 
 
 def test_nothing_is_built(tmp_path):

@@ -15,6 +15,7 @@ PLACES = [
     ("rust/dwv/Cargo.lock", r'name = "dwv"\nversion = "(.*)"'),
     ("rust/gimli/Cargo.toml", r'(?m)^version = "(.*)"$'),
     ("docs/dwv.1", r'\.Os "dwv (.*)"'),
+    ("docs/dwv-addr.1", r'\.Os "dwv (.*)"'),
     ("CHANGELOG.md", r"(?m)^## (\d.*)$"),
 ]
 
