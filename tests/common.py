@@ -23,6 +23,8 @@ BROKEN = SAMPLE.read_bytes().replace(b"\x02int", b"\x03int")
 DWV = pathlib.Path(os.environ.get("DWV", CRATE / "out/dwv")).absolute()
 # The program that prints the rows of line programs: that of the variable LINE_ROWS, or the one that was built.
 LINE_ROWS = pathlib.Path(os.environ.get("LINE_ROWS", TOP / "crates/line_rows/out/line_rows")).absolute()
+# The program that looks addresses up: that of the variable DWV_ADDR, or the one that was built.
+DWV_ADDR = pathlib.Path(os.environ.get("DWV_ADDR", TOP / "crates/dwv_addr/out/dwv_addr")).absolute()
 # The library that `make lib` built.
 LIBRARY = TOP / "out/lib/libdwv.so.0"
 sys.path[:0] = [str(TOP / folder) for folder in ("contrib", "bench")]
@@ -48,6 +50,13 @@ def build_line_rows():
     """Proves and builds the program that prints the rows of line programs, if there is none."""
     if not LINE_ROWS.exists():
         subprocess.run(["rt", "run", "--", "data/X1"], cwd=TOP / "crates/line_rows", check=True,
+                       stdout=subprocess.DEVNULL)
+
+
+def build_addr():
+    """Proves and builds the program that looks addresses up, if there is none."""
+    if not DWV_ADDR.exists():
+        subprocess.run(["rt", "run", "--", "check", "data/four"], cwd=TOP / "crates/dwv_addr", check=True,
                        stdout=subprocess.DEVNULL)
 
 
