@@ -50,7 +50,7 @@ def rules():
 def rule_of(row):
     """The code and the name of a row's rule, or None if it prints another rule or none."""
     rule = tuple(row.name.split(",")[0].split(" "))
-    lines = [lines for (command, *_), _, lines in row.asked if command in ("check", "lines")]
+    lines = [lines for (command, *_), _, lines in row.asked if command in ("check", "lines", "addresses")]
     fault = f"fault {' '.join(rule)} at "
     return rule if lines and any(line.startswith(fault) for line in lines[0]) else None
 

@@ -12,11 +12,11 @@ import sys
 
 sys.dont_write_bytecode = True
 import common
-from common import DWV, LINE_ROWS
+from common import DWV, DWV_ADDR, LINE_ROWS
 
 SECTIONS = ("abbrev", "info", "str", "line_str", "str_offsets", "addr")
 TOKEN = re.compile(r'\s*("[^"]*"|[0-9a-f]{2}\b|[A-Z]\w*|unit4?\(|type_unit\(|sized\(|\(|\)|\[[^\]]*\]|\*\d+)')
-REQUEST = re.compile(r"(check --json|check|show|types|size 0x[0-9a-f]+|lines) ([0-4])(?: \| (.*))?$")
+REQUEST = re.compile(r"(check --json|check|show|types|size 0x[0-9a-f]+|lines|addresses) ([0-4])(?: \| (.*))?$")
 
 
 class Bytes:
@@ -166,7 +166,7 @@ def wrong(row, parts, path):
         path.write_bytes(file)
         for (command, *words), status, lines in row.asked:
             runs += 1
-            said = lines_of(path) if command == "lines" else common.run(DWV, command, path, *words)
+            said = OTHERS[command](path) if command in OTHERS else common.run(DWV, command, path, *words)
             if said != (status, "".join(f"{filled(line, case)}\n" for line in lines).encode(), b""):
                 asked = " ".join([command, *words, *(f"({text})" for text in case)])
                 return runs, f"{asked}: {' '.join(map(str, said))}"
@@ -183,9 +183,20 @@ def lines_of(path):
     return status, text.partition(b"debug_line[")[0], errors
 
 
+def verdict_of(path):
+    """What `dwv-addr check` prints of a file."""
+    if "DWV" not in os.environ:
+        common.build_addr()
+    return common.run(DWV_ADDR, "check", path)
+
+
+# What is asked of other programs.
+OTHERS = {"lines": lines_of, "addresses": verdict_of}
+
+
 def has_lines(row):
     """Whether a row is one of line programs."""
-    return any(command == "lines" for (command, *_), *_ in row.asked)
+    return any(command in OTHERS for (command, *_), *_ in row.asked)
 
 
 def tried(rows, least=1):
@@ -194,8 +205,8 @@ def tried(rows, least=1):
     common.build()
     with common.empty_folder() as folder:
         for table, row, parts in rows:
-            if has_lines(row) and "DWV" in os.environ and not LINE_ROWS.exists():
-                tally.skip(f"{table}: {row.name}: line_rows is not built")
+            if has_lines(row) and "DWV" in os.environ and not (LINE_ROWS.exists() and DWV_ADDR.exists()):
+                tally.skip(f"{table}: {row.name}: line_rows or dwv-addr is not built")
                 continue
             try:
                 runs, why = wrong(row, parts, folder / "file")
