@@ -1,6 +1,10 @@
 pub mod AddressLemmas
 pub mod GlyphLemmas
 pub mod InputLemmas
+pub mod LocatedLemmas
 pub mod ObjectLemmas
+pub mod PartLemmas
+pub mod ReportLemmas
+pub mod RunLemmas
 pub mod TextLemmas
 pub mod WordLemmas

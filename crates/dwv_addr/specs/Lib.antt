@@ -1,7 +1,13 @@
 -- Chapters, in reading order.
 pub mod Words
 pub mod Addresses
+pub mod Parts
 pub mod Sound
 pub mod Answers
 pub mod AnswerObjects
+pub mod Located
+pub mod Faults
+pub mod Requests
+pub mod Reports
 pub mod Endings
+pub mod Runs

@@ -1,8 +1,37 @@
 -- Chapter: what is written of the counts of a sound file.
-use Rattle.std.specs.Prelude.{true, List, ℕ, ◌++◌, codes}
+use Rattle.std.specs.Prelude.{true, List, ℕ, ◌-◌, ◌^◌, ◌++◌, codes, length, min, sum_by}
+use Rattle.std.specs.List.{count_by}
 use Rattle.std.specs.Fmt.{decimal}
 use Rattle.serde_json.specs.Data.{Data, boolean, member, no_members, number, object, unsigned}
+use Rattle.dw_addresses.specs.declared.lines.FileLines.{FileLines}
+use Rattle.dw_lines.specs.Rows.{program_run}
+use Rattle.dw_lines.specs.declared.line_index.LineIndex.{LineIndex}
+use Rattle.dw_lines.specs.declared.row.Row.{Row}
+use Rattle.dw_ranges.specs.declared.file.FileFunctions.{FileFunctions}
 use Rattle.dwv_addr.specs.declared.counts.Counts.{Counts}
+
+-- how many rows a program has
+abbrev pub rows_in : LineIndex → ℕ
+rows_in index = length (program_run index.program).rows
+
+-- how many sequences it has: each is ended by one of its rows
+abbrev pub sequences_in : LineIndex → ℕ
+sequences_in index = count_by (λ (row : Row). row.end_sequence) (program_run index.program).rows
+
+-- a count as 64 bits, where the greatest number stands for those past it
+abbrev pub at_most : ℕ → ℕ
+at_most count = min count (2 ^ 64 - 1)
+
+-- the counts of a sound file
+abbrev pub counts_of : FileLines → FileFunctions → Counts
+counts_of lines functions = record {
+  sequences = at_most (sum_by sequences_in lines.programs.items);
+  rows = at_most (sum_by rows_in lines.programs.items);
+  ranges = functions.totals.ranges;
+  functions = functions.totals.functions;
+  inlined = functions.totals.inlined;
+  dead = functions.totals.dead;
+}
 
 -- `sound: S sequences`
 unfoldable pub sequence_count : ℕ → List ℕ

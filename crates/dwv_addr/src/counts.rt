@@ -1,12 +1,15 @@
 //! The counts of a sound file.
 
-ghost use Rattle.std.specs.Prelude.{◌≡◌, ◌++◌, IfOk, OnOk};
+ghost use Rattle.std.specs.Prelude.{◌≡◌, ◌++◌, IfOk, OnOk, sum_by};
 ghost use Rattle.serde_json.specs.View.{view};
 ghost use Rattle.dw_report.specs.JsonObjects.{object_line};
-ghost use Rattle.dwv_addr.specs.Sound.{function_count, inlined_counts, row_counts, sequence_count, sound_line};
-ghost use Rattle.dwv_addr.specs.Sound.{sound_object};
+ghost use Rattle.dwv_addr.specs.Sound.{at_most, counts_of as counts_of_file, function_count, inlined_counts};
+ghost use Rattle.dwv_addr.specs.Sound.{row_counts, rows_in, sequence_count, sequences_in, sound_line, sound_object};
 
+use dw_addresses::FileLines;
 use dw_cprint::put_decimal;
+use dw_lines::LineIndex;
+use dw_ranges::FileFunctions;
 use dw_report::put_object_line;
 use serde_json::{Value, json};
 use std::alloc::{AllocError, Global};
@@ -26,6 +29,43 @@ pub struct Counts {
     pub inlined: u64,
     /// The ranges of entries not all of whose addresses are of the program's code.
     pub dead: u64,
+}
+
+/// How many sequences programs have.
+fn sequences_of(programs: &[LineIndex<'_>]) -> u64
+    ensures { result ≡ at_most (sum_by sequences_in programs.now) }
+{
+    let mut count = 0u64;
+    for index in programs {
+        count = count.saturating_add(index.sequence_count() as u64);
+    }
+    count
+}
+
+/// How many rows they have.
+fn rows_of(programs: &[LineIndex<'_>]) -> u64
+    ensures { result ≡ at_most (sum_by rows_in programs.now) }
+{
+    let mut count = 0u64;
+    for index in programs {
+        count = count.saturating_add(index.row_count() as u64);
+    }
+    count
+}
+
+/// The counts of a sound file.
+pub fn counts_of(lines: &FileLines<'_>, functions: &FileFunctions) -> Counts
+    ensures { result ≡ counts_of_file lines.now functions.now }
+{
+    let totals = functions.totals;
+    Counts {
+        sequences: sequences_of(&lines.programs),
+        rows: rows_of(&lines.programs),
+        ranges: totals.ranges as u64,
+        functions: totals.functions as u64,
+        inlined: totals.inlined as u64,
+        dead: totals.dead as u64,
+    }
 }
 
 /// `sound: S sequences`.

@@ -11,6 +11,20 @@ pub enum Request {
     Find { json: bool },
 }
 
+impl Request {
+    ghost use Rattle.dwv_addr.specs.Requests.{writes_json};
+
+    /// Whether objects in JSON are written.
+    pub fn json(self) -> bool
+        ensures { result ≡ writes_json self }
+    {
+        match self {
+            Request::Check { json } => json,
+            Request::Find { json } => json,
+        }
+    }
+}
+
 /// How a request ends that has a result.
 #[derive(Clone, Copy, Debug, PartialEq, Eq)]
 pub enum Status {

@@ -1,0 +1,54 @@
+-- The answers for addresses, one after another, and that their objects have no floats.
+use Rattle.std.proofs.Common.{◌≡◌, ℕ, ◌==◌, Bool, true, List, [], ◌∷◌, ◌++◌, Option, Some, None, false, map, refl, sym, ap, ◌∙◌, append_assoc}
+use Rattle.std.specs.Prelude.{if◌then◌else◌}
+use Rattle.std.proofs.lemmas.List.{append-nil}
+use Rattle.serde_json.specs.Data.{Data, null, number, unsigned}
+use Rattle.serde_json.specs.View.{items_of}
+use Rattle.serde_json.specs.Written.{has_float, items_have_float}
+use Rattle.dw_entries.specs.declared.entries.Entries.{Entries}
+use Rattle.dw_ranges.specs.Functions.{Known}
+use Rattle.dw_addresses.specs.declared.frame.Frame.{Frame}
+use Rattle.dw_addresses.specs.declared.lines.FileLines.{FileLines}
+use Rattle.dwv_addr.specs.AnswerObjects.{frame_object, number_or_null, text_or_null}
+use Rattle.dwv_addr.specs.Located.{AreAnswers, IsAnswer, column_at, line_at, name_at, object_at, path_at}
+
+module _ (json : Bool) (lines : FileLines) (entries : Entries) (units : List Known) where
+  -- the answers for some, and then the answer for one more
+  pub answers_more : (asked : List (Option ℕ)) (other : Option ℕ) (text more : List ℕ)
+      → AreAnswers json lines entries units asked text → IsAnswer json lines entries units other more
+      → AreAnswers json lines entries units (asked ++ other ∷ []) (text ++ more)
+  answers_more [] other text more are is =
+      (more, [], is, refl, ap (λ (t : List ℕ). t ++ more) are ∙ sym (append-nil more))
+  answers_more (one ∷ asked) other text more are is =
+      let (first, rest, first_is, rest_are, same) = are in (
+        first,
+        rest ++ more,
+        first_is,
+        answers_more asked other rest more rest_are is,
+        ap (λ (t : List ℕ). t ++ more) same ∙ append_assoc first rest more,
+      )
+
+no_float_choice : (b : Bool) (n : ℕ) → has_float (if b then null else number (unsigned n)) ≡ false
+no_float_choice true n = refl
+no_float_choice false n = refl
+
+no_float_number : (n : ℕ) → has_float (number_or_null n) ≡ false
+no_float_number n = no_float_choice (n == 0) n
+
+no_float_text : (text : Option (List ℕ)) → has_float (text_or_null text) ≡ false
+no_float_text None = refl
+no_float_text (Some text) = refl
+
+no_float_frame : (function path : Option (List ℕ)) (line column : ℕ)
+    → has_float (frame_object function path line column) ≡ false
+no_float_frame function path line column =
+    rw (no_float_number column, no_float_text path, no_float_text function, no_float_number line) refl
+
+-- the objects of frames have no floats
+pub no_float_frames : (lines : FileLines) (entries : Entries) (unit : ℕ) (frames : List Frame)
+    → items_have_float (items_of (map (object_at lines entries unit) frames)) ≡ false
+no_float_frames lines entries unit [] = refl
+no_float_frames lines entries unit (frame ∷ frames) =
+    let first = no_float_frame (name_at entries frame.function) (path_at lines entries unit frame.place)
+    (line_at frame.place) (column_at frame.place) in
+    rw (first, no_float_frames lines entries unit frames) refl

@@ -1,0 +1,24 @@
+use Rattle.std.proofs.Common.{Option, None, List, ℕ, ◌++◌, get_or, ap, sym, ◌∙◌, append_assoc, subst, take, length, ◌<◌, arith}
+use Rattle.std.proofs.lemmas.List.{take_more}
+use Rattle.dwv_addr.specs.Located.{AreAnswers}
+use Rattle.dwv_addr.proofs.LocatedLemmas.{answers_more}
+use Rattle.dwv_addr.proofs.answers.put_answers.Goals as goal
+
+pub loop-question-preserved : goal.loop-question-preserved
+loop-question-preserved c =
+    let a = c.args in
+    let known = a.known.now in
+    let l = c.loop-question in
+    let k = l.question-index in
+    let asked = a.asked.now in
+    let question = get_or asked k None in
+    let (before, so_far, are) = l.invariant in
+    let (more, appended, is) = c.in_ok-put_answer.ensures in (
+      before ++ more,
+      appended ∙ ap (λ (t : List ℕ). t ++ more) so_far ∙ append_assoc a.text.now.items before more,
+      λ units index.
+          subst (λ (xs : List (Option ℕ)). AreAnswers a.json known.lines.now known.image.now.entries units xs
+          (before ++ more)) (sym (take_more asked k None c.loop-question-test.true))
+          (answers_more a.json known.lines.now known.image.now.entries units (take k asked) question before more
+          (are units index) (is units index)),
+    )
