@@ -143,7 +143,7 @@ def by_words(folder):
     tally.same("the last function", (status, frames[-1][0], errors), (0, "four", ""))
     tally.same("its file", {it[1] for it in frames}, {str(folder / "small.c")})
     for form in (four, four.upper(), f"0x{four.zfill(16)}"):
-        tally.same(f"the address {len(form)} digits long", said("find", path, form)[1], text)
+        tally.same(f"the address {form}", said("find", path, form)[1], text)
     tally.same("lines of standard input", said("find", path, text=f"0x{four}\n{four}\n"), (0, text * 2, ""))
     tally.same("an address that nothing has", said("find", path, "0x1"), (0, UNKNOWN, ""))
     wrong = (2, UNKNOWN + text, "dwv-addr: bad address\n")
