@@ -18,8 +18,8 @@ DW_AT_linkage_name = 0x6e
 
 -- the text of an attribute of the entry with a number, if there is one
 abbrev pub text_in : Entries → (attribute : ℕ) → ℕ → Option (List ℕ)
-text_in entries attribute id =
-    text_at (sections_of entries) (all_entries entries) (all_units entries) (entry_of (all_entries entries) id) attribute
+text_in entries attribute id = text_at (sections_of entries) (all_entries entries) (all_units entries)
+    (entry_of (all_entries entries) id) attribute
 
 -- the entry that an attribute of the entry with a number refers to, if it refers to one
 abbrev pub target_in : Entries → (attribute : ℕ) → ℕ → Option ℕ

@@ -79,7 +79,8 @@ pub record AreKept (sections : LineSections) (code : List (ℕ × ℕ)) (entries
   pub long : length lines.of_unit.items ≡ length (units_of entries)
   pub kept : (j : ℕ) (d : Named) → j < count → IsKept sections code lines (slice_index_or named j d)
   pub none : (unit : ℕ) → offset_named entries unit ≡ None → slice_index_or lines.of_unit.items unit None ≡ None
-  pub apart : (i j : ℕ) (d : Named) → i < count → j < count → (slice_index_or named i d).at < (slice_index_or named j d).at
+  pub apart : (i j : ℕ) (d : Named) → i < count → j < count
+      → (slice_index_or named i d).at < (slice_index_or named j d).at
       → program_end sections (slice_index_or named i d).at ≤ (slice_index_or named j d).at
   pub has_last : HasLast sections code lines last
   pub first : count ≡ 0 → last.end ≡ 0

@@ -4,8 +4,9 @@ ghost use Rattle.std.specs.Prelude.{◌≡◌, ◌++◌, IfOk, OnOk, List};
 ghost use Rattle.dw_entries.specs.Views.{all_entries};
 ghost use Rattle.dw_ranges.specs.Files.{IsIndex, IsIndexOf};
 ghost use Rattle.dw_ranges.specs.Functions.{Known as AnyKnown};
-ghost use Rattle.dw_addresses.specs.Frames.{AreFramesAt, call_place as place_of_call, frames_at as all_frames, frames_of};
-ghost use Rattle.dw_addresses.specs.Frames.{number_at as number_in_entry, place_of, row_place as place_of_address};
+ghost use Rattle.dw_addresses.specs.Frames.{AreFramesAt, call_place as place_of_call, frames_at as all_frames};
+ghost use Rattle.dw_addresses.specs.Frames.{frames_of, number_at as number_in_entry, place_of};
+ghost use Rattle.dw_addresses.specs.Frames.{row_place as place_of_address};
 
 use crate::files::number_of;
 use crate::frame::{Frame, Place};

@@ -31,7 +31,8 @@ fn has_slash_last(path: &[u8]) -> bool
 /// Appends a part of a path, which starts at an index of a text. If an allocation fails, a slash may be appended.
 fn push_part(text: &mut Vec<u8>, start: usize, part: &[u8]) -> Result<(), AllocError>
     requires { start ≤ length text.old.items }
-    ensures ok { OnOk result (text.new.items ≡ take start text.old.items ++ joined (drop start text.old.items) part.now) }
+    ensures ok { OnOk result
+        (text.new.items ≡ take start text.old.items ++ joined (drop start text.old.items) part.now) }
     ensures before { take start text.new.items ≡ take start text.old.items }
 {
     if has_slash_first(part) {

@@ -55,7 +55,8 @@ module _ (entries : Entries) (number : ℕ) (below : number < length (units_of e
       let has = first_entry (units_of entries) number p unit_there in
       slice_get_within (all_entries entries) p.first has.entry has.is_entry
 
-  is_size : IsSize (head_in entries number).header.address_size
+  -- an address of the unit has 4 bytes or 8
+  pub is_size : IsSize (head_in entries number).header.address_size
   is_size =
       let us = units_of entries in
       let u = unit_of us number in

@@ -73,8 +73,8 @@ pub fn functions_are_unique()
         → Violates sections code entries number before other → fault ≡ other }
 {}
 
-/// A file has one list of the functions of its units, one count of them, and one unit for each address, or one rule that
-/// it violates first.
+/// A file has one list of the functions of its units, one count of them, and one unit for each address, or one rule
+/// that it violates first.
 pub fn functions_of_a_file_are_unique()
     ensures units { (sections : AnySections) (code : List AnyRange) (entries : AnyEntries) (budget : ℕ)
         (file other : AnyFile) (one : HasFile sections code entries budget file)

@@ -159,8 +159,8 @@ fn functions_between(
 }
 
 /// Reads the functions of the unit with a number, where `code` are the areas of the program's code. A range list takes
-/// its bytes from `known.totals.left` each time that an entry names it: apart from sorting and binary searches, the time
-/// of all units with one budget is linear in it and in the entries. Afterwards the spans are in order, for
+/// its bytes from `known.totals.left` each time that an entry names it: apart from sorting and binary searches, the
+/// time of all units with one budget is linear in it and in the entries. Afterwards the spans are in order, for
 /// `functions_at`. Of the rules that are violated the first one is returned: of X1 to X10 and X13 by the order of the
 /// entries, then of X11 and X12 by addresses. Adds to the totals, and overwrites what is known of another unit.
 pub fn functions_of_unit(
