@@ -3,7 +3,6 @@ pub mod GlyphLemmas
 pub mod InputLemmas
 pub mod LocatedLemmas
 pub mod ObjectLemmas
-pub mod PartLemmas
 pub mod ReportLemmas
 pub mod RunLemmas
 pub mod TextLemmas

@@ -5,18 +5,18 @@ use Rattle.std.proofs.lemmas.List.{append-nil}
 use Rattle.serde_json.specs.Data.{Data, null, number, unsigned}
 use Rattle.serde_json.specs.View.{items_of}
 use Rattle.serde_json.specs.Written.{has_float, items_have_float}
-use Rattle.dw_entries.specs.declared.entries.Entries.{Entries}
-use Rattle.dw_ranges.specs.Functions.{Known}
+use Rattle.dw_ranges.specs.Functions.{Known as KnownUnit}
 use Rattle.dw_addresses.specs.declared.frame.Frame.{Frame}
-use Rattle.dw_addresses.specs.declared.lines.FileLines.{FileLines}
+use Rattle.dw_lookup.specs.Places.{column_at, line_at, name_at, path_at}
+use Rattle.dw_lookup.specs.declared.known.Known.{Known}
 use Rattle.dwv_addr.specs.AnswerObjects.{frame_object, number_or_null, text_or_null}
-use Rattle.dwv_addr.specs.Located.{AreAnswers, IsAnswer, column_at, line_at, name_at, object_at, path_at}
+use Rattle.dwv_addr.specs.Located.{AreAnswers, IsAnswer, object_at}
 
-module _ (json : Bool) (lines : FileLines) (entries : Entries) (units : List Known) where
+module _ (json : Bool) (known : Known) (units : List KnownUnit) where
   -- the answers for some, and then the answer for one more
   pub answers_more : (asked : List (Option ℕ)) (other : Option ℕ) (text more : List ℕ)
-      → AreAnswers json lines entries units asked text → IsAnswer json lines entries units other more
-      → AreAnswers json lines entries units (asked ++ other ∷ []) (text ++ more)
+      → AreAnswers json known units asked text → IsAnswer json known units other more
+      → AreAnswers json known units (asked ++ other ∷ []) (text ++ more)
   answers_more [] other text more are is =
       (more, [], is, refl, ap (λ (t : List ℕ). t ++ more) are ∙ sym (append-nil more))
   answers_more (one ∷ asked) other text more are is =
@@ -45,10 +45,10 @@ no_float_frame function path line column =
     rw (no_float_number column, no_float_text path, no_float_text function, no_float_number line) refl
 
 -- the objects of frames have no floats
-pub no_float_frames : (lines : FileLines) (entries : Entries) (unit : ℕ) (frames : List Frame)
-    → items_have_float (items_of (map (object_at lines entries unit) frames)) ≡ false
-no_float_frames lines entries unit [] = refl
-no_float_frames lines entries unit (frame ∷ frames) =
-    let first = no_float_frame (name_at entries frame.function) (path_at lines entries unit frame.place)
-    (line_at frame.place) (column_at frame.place) in
-    rw (first, no_float_frames lines entries unit frames) refl
+pub no_float_frames : (known : Known) (unit : ℕ) (frames : List Frame)
+    → items_have_float (items_of (map (object_at known unit) frames)) ≡ false
+no_float_frames known unit [] = refl
+no_float_frames known unit (frame ∷ frames) =
+    let first = no_float_frame (name_at known frame.function) (path_at known unit frame.place) (line_at frame.place)
+    (column_at frame.place) in
+    rw (first, no_float_frames known unit frames) refl

@@ -1,7 +1,6 @@
 -- Chapters, in reading order.
 pub mod Words
 pub mod Addresses
-pub mod Parts
 pub mod Sound
 pub mod Answers
 pub mod AnswerObjects

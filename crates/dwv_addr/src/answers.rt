@@ -1,111 +1,19 @@
 //! The answers for addresses, by what is known of a sound file.
 
-ghost use Rattle.std.specs.Prelude.{◌≡◌, ◌++◌, [], List, ℕ, OnOk, IfOk, map, option_copied};
+ghost use Rattle.std.specs.Prelude.{◌≡◌, ◌++◌, List, ℕ, OnOk, IfOk, map};
 ghost use Rattle.std.specs.List.{flat_map};
-ghost use Rattle.std.specs.Option.{is_some, unwrap_or};
 ghost use Rattle.serde_json.specs.View.{view};
-ghost use Rattle.dw_ranges.specs.Files.{IsIndex, IsIndexOf};
-ghost use Rattle.dw_ranges.specs.Functions.{Known as AnyKnown};
-ghost use Rattle.dwv_addr.specs.Located.{AreAnswers, IsAnswer, column_at, directory_in, line_at, lines_at};
-ghost use Rattle.dwv_addr.specs.Located.{located_lines, located_object, located_text, name_at, object_at, path_at};
-ghost use Rattle.dwv_addr.specs.Located.{unknown_text};
+ghost use Rattle.dw_ranges.specs.Files.{IsIndexOf};
+ghost use Rattle.dw_ranges.specs.Functions.{Known as KnownUnit};
+ghost use Rattle.dwv_addr.specs.Located.{AreAnswers, IsAnswer, lines_at, located_lines, located_object};
+ghost use Rattle.dwv_addr.specs.Located.{located_text, object_at, unknown_text};
 
 use crate::json::{frame_value, put_answer_object};
 use crate::lines::{put_frame_lines, put_unknown_lines};
-use dw_addresses::{FileLines, Frame, Place, directory_of_unit, frames_at, function_name};
-use dw_image::Image;
-use dw_ranges::FileFunctions;
+use dw_addresses::Frame;
+use dw_lookup::{Known, column_of, line_of};
 use serde_json::Value;
 use std::alloc::{AllocError, Global};
-
-/// What is known of a sound file, for look-ups by address.
-#[derive(Clone, Copy)]
-pub struct Known<'f, 'a> {
-    pub image: &'f Image<'a>,
-    pub lines: &'f FileLines<'a>,
-    pub functions: &'f FileFunctions,
-}
-
-impl<'a> Known<'_, 'a> {
-    /// The name of the function that is the entry with a number, if it has one.
-    fn name_of(&self, function: Option<usize>) -> Option<&'a [u8]>
-        ensures { option_copied result ≡ name_at self.now.image.now.entries function }
-    {
-        let entries = self.image.scanned();
-        let id = entries.nth(function?)?;
-        function_name(entries, self.image.links(), id)
-    }
-
-    /// The directory of the compilation that a unit names, empty if it names none.
-    fn directory_of(&self, unit: usize) -> &'a [u8]
-        ensures { result.now ≡ directory_in self.now.image.now.entries unit }
-    {
-        let entries = self.image.scanned();
-        if unit >= entries.unit_count() {
-            return &[];
-        }
-        directory_of_unit(entries, self.image.links(), unit).unwrap_or(&[])
-    }
-
-    /// Appends the path of the file of a place, and returns whether it is known.
-    fn push_path(
-        &self,
-        unit: usize,
-        place: Option<Place>,
-        path: &mut Vec<u8>,
-    ) -> Result<bool, AllocError>
-        ensures there { IfOk result (λ there.
-            there ≡ is_some (path_at self.now.lines.now self.now.image.now.entries unit place)) }
-        ensures path { OnOk result (path.new.items ≡ path.old.items
-            ++ unwrap_or (path_at self.now.lines.now self.now.image.now.entries unit place) []) }
-    {
-        let Some(place) = place else {
-            return Ok(false);
-        };
-        let Some(file) = place.file else {
-            return Ok(false);
-        };
-        self.lines
-            .push_path(unit, file, self.directory_of(unit), path)
-    }
-
-    /// The path of the file of a place, if it is known. Overwrites `path`.
-    fn path_of<'p>(
-        &self,
-        unit: usize,
-        place: Option<Place>,
-        path: &'p mut Vec<u8>,
-    ) -> Result<Option<&'p [u8]>, AllocError>
-        ensures { IfOk result (λ shown.
-            option_copied shown ≡ path_at self.now.lines.now self.now.image.now.entries unit place) }
-    {
-        path.clear();
-        if self.push_path(unit, place, path)? {
-            return Ok(Some(path.as_slice()));
-        }
-        Ok(None)
-    }
-}
-
-/// The line of a place, 0 if it is not known.
-fn line_of(place: Option<Place>) -> u64
-    ensures { result ≡ line_at place }
-{
-    match place {
-        Some(place) => place.line,
-        None => 0,
-    }
-}
-
-/// The column of a place, 0 if it is not known.
-fn column_of(place: Option<Place>) -> u64
-    ensures { result ≡ column_at place }
-{
-    match place {
-        Some(place) => place.column,
-        None => 0,
-    }
-}
 
 /// The lines of a frame at an address of a unit.
 fn put_frame(
@@ -116,7 +24,7 @@ fn put_frame(
     path: &mut Vec<u8>,
 ) -> Result<(), AllocError>
     ensures ok { OnOk result (text.new.items
-        ≡ text.old.items ++ lines_at known.now.lines.now known.now.image.now.entries unit frame.now) }
+        ≡ text.old.items ++ lines_at known.now unit frame.now) }
 {
     let shown = known.path_of(unit, frame.place, path)?;
     let name = known.name_of(frame.function);
@@ -138,7 +46,7 @@ fn object_of(
     path: &mut Vec<u8>,
 ) -> Result<Value, AllocError>
     ensures { IfOk result (λ value.
-        view value ≡ object_at known.now.lines.now known.now.image.now.entries unit frame.now) }
+        view value ≡ object_at known.now unit frame.now) }
 {
     let shown = known.path_of(unit, frame.place, path)?;
     let name = known.name_of(frame.function);
@@ -160,7 +68,7 @@ fn put_frames(
     path: &mut Vec<u8>,
 ) -> Result<(), AllocError>
     ensures ok { OnOk result (text.new.items
-        ≡ text.old.items ++ flat_map (lines_at known.now.lines.now known.now.image.now.entries unit) frames.now) }
+        ≡ text.old.items ++ flat_map (lines_at known.now unit) frames.now) }
 {
     for frame in frames {
         put_frame(text, known, unit, frame, path)?;
@@ -177,7 +85,7 @@ fn put_lines(
     path: &mut Vec<u8>,
 ) -> Result<(), AllocError>
     ensures ok { OnOk result (text.new.items
-        ≡ text.old.items ++ located_lines known.now.lines.now known.now.image.now.entries unit frames.now) }
+        ≡ text.old.items ++ located_lines known.now unit frames.now) }
 {
     put_frames(text, known, unit, frames, path)?;
     text.extend_from_slice(b"\n")
@@ -192,7 +100,7 @@ fn objects_of(
     path: &mut Vec<u8>,
 ) -> Result<Vec<Value>, AllocError>
     ensures { IfOk result (λ values. map view values.items
-        ≡ map (object_at known.now.lines.now known.now.image.now.entries unit) frames.now) }
+        ≡ map (object_at known.now unit) frames.now) }
 {
     let mut values = Vec::new(alloc);
     for frame in frames {
@@ -212,7 +120,7 @@ fn put_object(
     path: &mut Vec<u8>,
 ) -> Result<(), AllocError>
     ensures ok { OnOk result (text.new.items ≡ text.old.items
-        ++ located_object known.now.lines.now known.now.image.now.entries unit address frames.now) }
+        ++ located_object known.now unit address frames.now) }
 {
     let values = objects_of(alloc, known, unit, frames, path)?;
     put_answer_object(text, alloc, Some(address), values)
@@ -245,7 +153,7 @@ fn put_located(
     path: &mut Vec<u8>,
 ) -> Result<(), AllocError>
     ensures ok { OnOk result (text.new.items ≡ text.old.items
-        ++ located_text json known.now.lines.now known.now.image.now.entries address unit frames.now) }
+        ++ located_text json known.now address unit frames.now) }
 {
     let Some(unit) = unit else {
         return put_unknown(text, alloc, json, Some(address));
@@ -276,23 +184,14 @@ fn put_answer(
     asked: Option<u64>,
     room: &mut Room,
 ) -> Result<(), AllocError>
-    requires { IsIndex known.now.functions.now }
     ensures { OnOk result ((answer : List ℕ) × (text.new.items ≡ text.old.items ++ answer)
-        × ((units : List AnyKnown) → IsIndexOf units known.now.functions.now
-        → IsAnswer json known.now.lines.now known.now.image.now.entries units asked answer)) }
+        × ((units : List KnownUnit) → IsIndexOf units known.now.functions
+        → IsAnswer json known.now units asked answer)) }
 {
     let Some(address) = asked else {
         return put_unknown(text, alloc, json, None);
     };
-    let entries = known.image.scanned();
-    let unit = frames_at(
-        known.lines,
-        known.functions,
-        entries,
-        address,
-        &mut room.functions,
-        &mut room.frames,
-    )?;
+    let unit = known.frames_at(address, &mut room.functions, &mut room.frames)?;
     put_located(
         text,
         alloc,
@@ -313,10 +212,9 @@ pub fn put_answers(
     known: &Known<'_, '_>,
     asked: &[Option<u64>],
 ) -> Result<(), AllocError>
-    requires { IsIndex known.now.functions.now }
     ensures { OnOk result ((answer : List ℕ) × (text.new.items ≡ text.old.items ++ answer)
-        × ((units : List AnyKnown) → IsIndexOf units known.now.functions.now
-        → AreAnswers json known.now.lines.now known.now.image.now.entries units asked.now answer)) }
+        × ((units : List KnownUnit) → IsIndexOf units known.now.functions
+        → AreAnswers json known.now units asked.now answer)) }
 {
     let functions = Vec::new(alloc);
     let frames = Vec::new(alloc);

@@ -8,7 +8,6 @@ mod endings;
 mod faults;
 mod json;
 mod lines;
-mod parts;
 mod reporting;
 mod request;
 mod running;

@@ -6,4 +6,4 @@ use Rattle.dwv_addr.proofs.answers.objects_of.Given as goal
 abbrev pub invariant-loop-frame : goal.invariant-loop-frame
 invariant-loop-frame l =
     map view l.values.items
-    ≡ map (object_at l.known.lines.now l.known.image.now.entries l.unit) (take l.frame-index l.frames)
+    ≡ map (object_at l.known l.unit) (take l.frame-index l.frames)

@@ -17,8 +17,8 @@ loop-question-preserved c =
       before ++ more,
       appended ∙ ap (λ (t : List ℕ). t ++ more) so_far ∙ append_assoc a.text.now.items before more,
       λ units index.
-          subst (λ (xs : List (Option ℕ)). AreAnswers a.json known.lines.now known.image.now.entries units xs
+          subst (λ (xs : List (Option ℕ)). AreAnswers a.json known units xs
           (before ++ more)) (sym (take_more asked k None c.loop-question-test.true))
-          (answers_more a.json known.lines.now known.image.now.entries units (take k asked) question before more
+          (answers_more a.json known units (take k asked) question before more
           (are units index) (is units index)),
     )

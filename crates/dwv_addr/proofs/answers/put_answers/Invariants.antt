@@ -7,5 +7,5 @@ use Rattle.dwv_addr.proofs.answers.put_answers.Given as goal
 abbrev pub invariant-loop-question : goal.invariant-loop-question
 invariant-loop-question l =
     (answer : List ℕ) × (l.text.items ≡ l.fn.text.items ++ answer)
-    × ((units : List Known) → IsIndexOf units l.known.functions.now
-    → AreAnswers l.json l.known.lines.now l.known.image.now.entries units (take l.question-index l.asked) answer)
+    × ((units : List Known) → IsIndexOf units l.known.functions
+    → AreAnswers l.json l.known units (take l.question-index l.asked) answer)

@@ -7,4 +7,4 @@ abbrev pub invariant-loop-frame : goal.invariant-loop-frame
 invariant-loop-frame l =
     l.text.items
     ≡ l.fn.text.items
-    ++ flat_map (lines_at l.known.lines.now l.known.image.now.entries l.unit) (take l.frame-index l.frames)
+    ++ flat_map (lines_at l.known l.unit) (take l.frame-index l.frames)

@@ -8,7 +8,7 @@ pub returns : goal.returns
 returns c =
     let known = c.args.known.now in
     let before = c.args.text.now.items in
-    let frames = flat_map (lines_at known.lines.now known.image.now.entries c.args.unit) c.args.frames.now in
+    let frames = flat_map (lines_at known c.args.unit) c.args.frames.now in
     let whole = ap (λ (text : List ℕ). text ++ codes "\n") c.in_ok-put_frames.ensures.ok
     ∙ append_assoc before frames (codes "\n") in
     search rules

@@ -9,4 +9,4 @@ pub put_answer_object-requires : goal.put_answer_object-requires
 put_answer_object-requires c =
     let known = c.args.known.now in
     ap (λ (ds : List Data). items_have_float (items_of ds)) c.in_ok-values.ensures
-    ∙ no_float_frames known.lines.now known.image.now.entries c.args.unit c.args.frames.now
+    ∙ no_float_frames known c.args.unit c.args.frames.now

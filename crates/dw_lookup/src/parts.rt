@@ -4,7 +4,7 @@ ghost use Rattle.std.specs.Prelude.{◌≡◌, ◌↔◌, ◌⊎◌, ℕ, map, I
 ghost use Rattle.dw_elf.specs.Checks.{HasHeaders};
 ghost use Rattle.dw_lines.specs.Addresses.{AreAreas as ArePairs};
 ghost use Rattle.dw_ranges.specs.Areas.{AreAreas, Has};
-ghost use Rattle.dwv_addr.specs.Parts.{AreCodeAreas, HasParts, IsCodeAt, PartsFail, budget_of, pair_of};
+ghost use Rattle.dw_lookup.specs.Parts.{AreCodeAreas, HasParts, IsCodeAt, PartsFail, budget_of, pair_of};
 
 use dw_elf::{ElfFault, OtherSection, Sections, code_at, find_other, header_count};
 use dw_lines::LineSections;

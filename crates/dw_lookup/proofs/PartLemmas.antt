@@ -8,7 +8,7 @@ use Rattle.dw_elf.specs.Elf.{section_count}
 use Rattle.dw_lines.specs.Addresses.{AreAreas as ArePairs}
 use Rattle.dw_ranges.specs.Areas.{AreAreas, Has}
 use Rattle.dw_ranges.specs.declared.range.Range.{Range}
-use Rattle.dwv_addr.specs.Parts.{AreCodeAreas, IsCodeAt, pair_of}
+use Rattle.dw_lookup.specs.Parts.{AreCodeAreas, IsCodeAt, pair_of}
 
 pairs_apart : (areas : List Range) → AllPairs (λ r s. r.high < s.low) areas
     → AllPairs (λ (x y : ℕ × ℕ). x.1 < y.0) (map pair_of areas)

@@ -1,6 +1,6 @@
 use Rattle.std.proofs.Common.{sym, subst, arith}
-use Rattle.dwv_addr.proofs.PartLemmas.{code_all, code_more}
-use Rattle.dwv_addr.proofs.parts.code_areas.Goals as goal
+use Rattle.dw_lookup.proofs.PartLemmas.{code_all, code_more}
+use Rattle.dw_lookup.proofs.parts.code_areas.Goals as goal
 
 pub loop-k-preserved : goal.loop-k-preserved
 loop-k-preserved c =

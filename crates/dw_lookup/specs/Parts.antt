@@ -13,7 +13,7 @@ use Rattle.dw_elf.specs.declared.sections.Sections.{Sections}
 use Rattle.dw_ranges.specs.Areas.{AreAreas, Has}
 use Rattle.dw_ranges.specs.declared.bounds.RangeSections.{RangeSections}
 use Rattle.dw_ranges.specs.declared.range.Range.{Range}
-use Rattle.dwv_addr.specs.declared.parts.Parts.{Parts}
+use Rattle.dw_lookup.specs.declared.parts.Parts.{Parts}
 
 -- no check of the file fails where this section is looked for, and these are its bytes
 pub record IsFound (file : List ℕ) (section : OtherSection) (bytes : List ℕ) : Type 0 where

@@ -1,6 +1,6 @@
 use Rattle.std.proofs.Common.{rules}
-use Rattle.dwv_addr.specs.Reports.{of_entries, of_file}
-use Rattle.dwv_addr.proofs.reporting.image_of.Goals as goal
+use Rattle.dw_lookup.specs.Files.{of_entries, of_file}
+use Rattle.dw_lookup.proofs.reading.image_of.Goals as goal
 
 pub returns-in-Err-clause-fault : goal.returns-in-Err-clause-fault
 returns-in-Err-clause-fault c = of_file c.in-Err.fault c.in-Err.ensures.fault

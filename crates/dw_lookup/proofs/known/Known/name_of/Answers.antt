@@ -3,9 +3,9 @@ use Rattle.dw_entries.specs.Failures.{HasNone}
 use Rattle.dw_entries.specs.Views.{sections_of, units_of}
 use Rattle.dw_entries.specs.declared.entries.Entries.{Entries}
 use Rattle.dw_links.specs.Strings.{StringFailures}
-use Rattle.dwv_addr.proofs.answers.Known.directory_of.Goals as goal
+use Rattle.dw_lookup.proofs.known.Known.name_of.Goals as goal
 
-pub directory_of_unit-requires-clause-strings : goal.directory_of_unit-requires-clause-strings
-directory_of_unit-requires-clause-strings c =
+pub function_name-requires-clause-strings : goal.function_name-requires-clause-strings
+function_name-requires-clause-strings c =
     subst (λ (e : Entries). HasNone (StringFailures (sections_of e) (units_of e))) (sym c.scanned-entries.ensures)
     c.args.self.now.image.now.strings

@@ -1,8 +1,8 @@
 use Rattle.std.proofs.Common.{◌∙◌, ap, map, length, arith}
 use Rattle.std.proofs.Math.Seq.{take_all}
-use Rattle.dwv_addr.specs.Parts.{pair_of}
-use Rattle.dwv_addr.proofs.PartLemmas.{pairs_are}
-use Rattle.dwv_addr.proofs.parts.pairs_of.Goals as goal
+use Rattle.dw_lookup.specs.Parts.{pair_of}
+use Rattle.dw_lookup.proofs.PartLemmas.{pairs_are}
+use Rattle.dw_lookup.proofs.parts.pairs_of.Goals as goal
 
 pub returns-clause-areas : goal.returns-clause-areas
 returns-clause-areas c =
