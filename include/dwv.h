@@ -53,7 +53,7 @@ struct dwv_verdict {
     uint32_t at;        /* the offset in the section; if the section is "file", the number of a section header */
     uint32_t attribute; /* the attribute, 0 for none */
     char rule[8];       /* as "G1"; these three texts end with a zero byte */
-    char section[16];   /* ".debug_info", ".debug_abbrev", or "file" for a fault of the file itself */
+    char section[16];   /* as ".debug_info", or "file" for a fault of the file itself */
     char name[24];      /* as "UndeclaredCode" */
 };
 
@@ -213,6 +213,47 @@ enum dwv_status dwv_table_sections(
     struct dwv_entry *entries, size_t entry_capacity,
     struct dwv_value *values, size_t value_capacity,
     struct dwv_counts *counts,
+    struct dwv_verdict *verdict);
+
+/* A frame at an address: a function that has it, and the place in it. */
+struct dwv_frame {
+    uint64_t line;        /* 0 if it is not known */
+    uint64_t column;      /* 0 if it is not known */
+    uint64_t name;        /* where the function's name starts in `text`: the linkage name if it has one */
+    uint64_t name_length; /* how many bytes it has; 0 if it is not known, or empty */
+    uint64_t path;        /* where the path of the source file starts in `text` */
+    uint64_t path_length; /* how many bytes it has; 0 if it is not known */
+    uint32_t function;    /* the row of the function's entry, as dwv_table has it, or DWV_NONE where only the line is
+                             known */
+    uint32_t unit;        /* the row of the unit */
+};
+
+/* The frames at an address: rows first .. first + frames - 1, the innermost first. */
+struct dwv_located {
+    uint64_t first;
+    uint64_t frames;
+};
+
+/* How many rows and bytes there are. */
+struct dwv_frame_counts {
+    uint64_t frames, text;
+};
+
+/* Checks a file, its line programs and its ranges, as `dwv-addr check` does, and looks addresses up in a sound one: for
+ * each address, in their order, `located` says which rows have its frames (none if nothing is known of it). A function
+ * that is inlined has a row before that of the function that it is inlined in, whose place is then that of the call.
+ * Names and paths follow one another in `text`, without zero bytes. It returns DWV_SOUND, DWV_FAULT, DWV_NO_MEMORY, or
+ * DWV_TOO_SHORT if one array has no room: then `counts` says how many rows and bytes there are, the verdict is that of
+ * a sound file, and no array is written. `located` needs as much room as there are addresses. Rows and bytes past the
+ * last are not written. If the file is not sound, `counts` is not written. Each call checks the file anew: look many
+ * addresses up at once. They are the file's own: take off first what a loader adds to them. */
+enum dwv_status dwv_frames(
+    const uint8_t *file, size_t file_length,
+    const uint64_t *addresses, size_t address_count,
+    struct dwv_located *located, size_t located_capacity,
+    struct dwv_frame *frames, size_t frame_capacity,
+    uint8_t *text, size_t text_capacity,
+    struct dwv_frame_counts *counts,
     struct dwv_verdict *verdict);
 
 #ifdef __cplusplus

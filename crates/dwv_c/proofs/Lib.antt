@@ -1,5 +1,6 @@
 pub mod CheckLemmas
 pub mod CountLemmas
+pub mod FrameLemmas
 pub mod MeaningLemmas
 pub mod NameLemmas
 pub mod NamedLemmas

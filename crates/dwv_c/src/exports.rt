@@ -1,25 +1,30 @@
 //! The calls from C, and what they check.
 
-ghost use Rattle.std.specs.Prelude.{◌≡◌, MatchResult};
-ghost use Rattle.dw_report.specs.Reports.{status_code};
+ghost use Rattle.std.specs.Prelude.{◌≡◌, ◌≤◌, ℕ, List, MatchResult, length};
+ghost use Rattle.dw_lookup.specs.Files.{IsSound as IsSoundFile};
+ghost use Rattle.dw_report.specs.Reports.{file_limit, status_code};
 ghost use Rattle.dwv_c.specs.Verdicts.{Given, of_file, of_six, AreCountsOf, Checks, IsFaultOfSections, IsSound};
+ghost use Rattle.dwv_c.specs.Frames.{PutsFrames, frame_arrays};
 ghost use Rattle.dwv_c.specs.Tables.{PutsTable, arrays};
 ghost use Rattle.dwv_c.specs.Texts.{PutsReport, request_of};
 ghost use Rattle.dwv_c.specs.Checked.{AreFound, IsErrorOf, IsFound, status_of, verdict_after};
 ghost use Rattle.dw_image.specs.Headline.{IsImageOf};
 ghost use Rattle.dw_units.specs.Counts.{AreCounts};
 
+use crate::frame_rows::{FrameCounts, FrameRow, Located};
+use crate::frames::{gather, put_frame_counts, put_gathered};
 use crate::meaning::ValueRow;
 use crate::places::Ground;
 use crate::table::put_table;
 use crate::table_rows::{EntryRow, TableCounts, UnitRow};
 use crate::verdict::{
-    FAULT, NO_MEMORY, NO_REQUEST, SOUND, TOO_SHORT, Verdict, put_text, verdict_of_counts,
+    FAULT, NO_MEMORY, NO_REQUEST, SOUND, TOO_SHORT, Verdict, put_over, put_stop, verdict_of_counts,
     verdict_of_fault, verdict_of_file_fault, verdict_of_large,
 };
 use dw_elf::{Sections, TooLarge, find};
 use dw_forms::Stop;
 use dw_image::{Image, NoMemory, Verdict as Verified, verify};
+use dw_lookup::{Known, look_up, sources_of};
 use dw_report::{Request, Status, longest_file, report};
 use dw_units::{Counts, Found, check};
 use std::alloc::Global;
@@ -187,7 +192,7 @@ pub extern "C" fn dwv_report(
             if text.len() > buffer.len() {
                 return TOO_SHORT;
             }
-            put_text(buffer, text);
+            put_over(buffer, text);
             number_of(answer.status)
         }
         Err(NoMemory) => NO_MEMORY,
@@ -249,5 +254,62 @@ pub extern "C" fn dwv_table_sections(
             )
         }
         Err(error) => put_verdict(Err(error), verdict),
+    }
+}
+
+/// Writes what is known of a sound file at addresses.
+fn put_known(
+    alloc: Global,
+    known: &Known<'_, '_>,
+    addresses: &[u64],
+    located: &mut [Located],
+    frames: &mut [FrameRow],
+    text: &mut [u8],
+    counts: &mut FrameCounts,
+    verdict: &mut Verdict,
+) -> u32
+    ensures { (bytes : List ℕ) → length bytes ≤ file_limit → IsSoundFile bytes known.now
+        → PutsFrames bytes addresses.now (frame_arrays located.old frames.old text.old) counts.old verdict.old result
+        (frame_arrays located.new frames.new text.new) counts.new verdict.new }
+{
+    match gather(alloc, known, addresses) {
+        Ok(gathered) => {
+            put_frame_counts(&gathered, known.image, counts, verdict);
+            put_gathered(&gathered, located, frames, text)
+        }
+        Err(_) => NO_MEMORY,
+    }
+}
+
+/// Checks a file, and writes a row for each frame at each address of a sound one, with the names of functions and the
+/// paths of files: all of it and SOUND, or none of it and TOO_SHORT, FAULT or NO_MEMORY. `counts` says how many rows and
+/// bytes there are.
+#[unsafe(no_mangle)]
+pub extern "C" fn dwv_frames(
+    alloc: Global,
+    file: &[u8],
+    addresses: &[u64],
+    located: &mut [Located],
+    frames: &mut [FrameRow],
+    text: &mut [u8],
+    counts: &mut FrameCounts,
+    verdict: &mut Verdict,
+) -> u32
+    ensures { PutsFrames file.now addresses.now (frame_arrays located.old frames.old text.old) counts.old verdict.old
+        result (frame_arrays located.new frames.new text.new) counts.new verdict.new }
+{
+    if file.len() > longest_file() {
+        *verdict = verdict_of_large();
+        return FAULT;
+    }
+    let sources = match sources_of(alloc, file) {
+        Ok(sources) => sources,
+        Err(stop) => return put_stop(stop, verdict),
+    };
+    match look_up(alloc, &sources) {
+        Ok(known) => put_known(
+            alloc, &known, addresses, located, frames, text, counts, verdict,
+        ),
+        Err(stop) => put_stop(stop, verdict),
     }
 }

@@ -83,7 +83,7 @@ pub struct TableCounts {
 }
 
 /// A count in 32 bits, or the greatest number of 32 bits if it does not fit.
-fn count_in(count: usize) -> u32
+pub fn count_in(count: usize) -> u32
     ensures { result ≡ min count greatest }
 {
     if count < NONE as usize {
@@ -94,7 +94,7 @@ fn count_in(count: usize) -> u32
 }
 
 /// The row of an entry, or the word for none.
-fn row_or_none(id: Option<EntryId>) -> u32
+pub fn row_or_none(id: Option<EntryId>) -> u32
     ensures { result ≡ row_of id }
 {
     match id {

@@ -7,11 +7,17 @@ ghost use Rattle.dw_entries.specs.declared.fault.Section.{Section};
 ghost use Rattle.dw_forms.specs.declared.rule.Rule.{Rule};
 ghost use Rattle.dw_forms.specs.Rules.{code_text, name_text};
 ghost use Rattle.dw_entries.specs.SectionTexts.{section_text};
+ghost use Rattle.dw_lookup.specs.FirstFaults.{code_of, name_of, section_of};
+ghost use Rattle.dw_lookup.specs.declared.first_fault.FirstFault.{FirstFault as FirstOf};
 ghost use Rattle.dw_report.specs.Reports.{too_large};
+ghost use Rattle.dwv_c.specs.Frames.{of_first_fault};
+ghost use Rattle.dwv_c.specs.FrameState.{stop_status, stop_verdict};
 ghost use Rattle.dwv_c.specs.Verdicts.{fault_verdict, of_counts, of_file_fault, of_fault};
 
 use dw_elf::{ElfFault, ElfRule};
+use dw_forms::Stop;
 use dw_image::Fault;
+use dw_lookup::FirstFault;
 use dw_units::Counts;
 
 /// The file is sound.
@@ -58,14 +64,17 @@ pub fn texts_fit()
     ensures sections { (section : Section) → length (section_text section) < 16 }
     ensures file_rules { (rule : FileRule) → length (elf.code_text rule) < 8 }
     ensures file_names { (rule : FileRule) → length (elf.name_text rule) < 24 }
+    ensures first_rules { (f : FirstOf) → length (code_of f) < 8 }
+    ensures first_names { (f : FirstOf) → length (name_of f) < 24 }
+    ensures first_sections { (f : FirstOf) → length (section_of f) < 16 }
 {}
 
-/// Writes a text over the first bytes of a buffer.
-pub fn put_text(buffer: &mut [u8], text: &[u8])
-    requires { length text.now ≤ length buffer.old }
-    ensures { buffer.new ≡ text.now ++ drop (length text.now) buffer.old }
+/// Writes items over the first ones of an array.
+pub fn put_over<T: Copy>(array: &mut [T], items: &[T])
+    requires { length items.now ≤ length array.old }
+    ensures { array.new ≡ items.now ++ drop (length items.now) array.old }
 {
-    buffer[..text.len()].copy_from_slice(text);
+    array[..items.len()].copy_from_slice(items);
 }
 
 /// A fault with its texts.
@@ -85,9 +94,9 @@ fn with_texts(at: u32, attribute: u32, rule: &str, section: &str, name: &str) ->
         section: [0; 16],
         name: [0; 24],
     };
-    put_text(&mut verdict.rule, rule.as_bytes());
-    put_text(&mut verdict.section, section.as_bytes());
-    put_text(&mut verdict.name, name.as_bytes());
+    put_over(&mut verdict.rule, rule.as_bytes());
+    put_over(&mut verdict.section, section.as_bytes());
+    put_over(&mut verdict.name, name.as_bytes());
     verdict
 }
 
@@ -123,6 +132,34 @@ pub fn verdict_of_fault(fault: &Fault) -> Verdict
         fault.section.name(),
         rule.name(),
     )
+}
+
+/// The first rule that a file violates.
+pub fn verdict_of_first(fault: &FirstFault) -> Verdict
+    ensures { result ≡ of_first_fault fault.now }
+{
+    let attribute = u32::from(fault.attribute());
+    with_texts(
+        fault.at(),
+        attribute,
+        fault.code(),
+        fault.section(),
+        fault.name(),
+    )
+}
+
+/// Writes the fault into the struct of the caller, unless an allocation failed.
+pub fn put_stop(stop: Stop<FirstFault>, verdict: &mut Verdict) -> u32
+    ensures status { result ≡ stop_status stop }
+    ensures verdict { verdict.new ≡ stop_verdict stop verdict.old }
+{
+    match stop {
+        Stop::Fault(fault) => {
+            *verdict = verdict_of_first(&fault);
+            FAULT
+        }
+        Stop::Memory => NO_MEMORY,
+    }
 }
 
 /// The counts of sound sections.
