@@ -1,27 +1,23 @@
 //! What is known of a sound file, and what it says of addresses.
 
-ghost use Rattle.std.specs.Prelude.{◌≡◌};
-ghost use Rattle.dw_ranges.specs.Files.{IsIndex};
-
 use dw_addresses::{FileLines, Frame, Place, directory_of_unit, frames_at, function_name};
 use dw_image::Image;
 use dw_ranges::FileFunctions;
 use std::alloc::AllocError;
 
-/// What is known of a sound file, for look-ups by address. Only `look_up` makes it.
+/// What is known of a sound file, for look-ups by address.
 #[derive(Drop)]
 pub struct Known<'s, 'a> {
     pub image: &'s Image<'a>,
     pub lines: FileLines<'s>,
     pub functions: FileFunctions,
-    ghost index: { IsIndex functions },
 }
 
 impl<'a> Known<'_, 'a> {
-    ghost use Rattle.std.specs.Prelude.{◌++◌, [], IfOk, List, OnOk, option_copied};
+    ghost use Rattle.std.specs.Prelude.{◌≡◌, ◌++◌, [], IfOk, List, OnOk, option_copied};
     ghost use Rattle.std.specs.Option.{is_some, unwrap_or};
     ghost use Rattle.dw_entries.specs.Views.{all_entries};
-    ghost use Rattle.dw_ranges.specs.Files.{IsIndexOf};
+    ghost use Rattle.dw_ranges.specs.Files.{IsIndex, IsIndexOf};
     ghost use Rattle.dw_ranges.specs.Functions.{Known as KnownUnit};
     ghost use Rattle.dw_addresses.specs.Frames.{AreFramesAt};
     ghost use Rattle.dw_lookup.specs.Places.{directory_in, entries_of, name_at, path_at};
@@ -34,6 +30,7 @@ impl<'a> Known<'_, 'a> {
         functions: &mut Vec<usize>,
         frames: &mut Vec<Frame>,
     ) -> Result<Option<usize>, AllocError>
+        requires { IsIndex self.now.functions }
         ensures { IfOk result (λ unit. (units : List KnownUnit) → IsIndexOf units self.now.functions
             → AreFramesAt self.now.lines (all_entries (entries_of self.now)) units address unit frames.new.items) }
     {

@@ -2,6 +2,7 @@
 
 ghost use Rattle.std.specs.Prelude.{◌≡◌, ℕ, List, IfErr, IfOk};
 ghost use Rattle.dw_forms.specs.Stops.{IfFault};
+ghost use Rattle.dw_ranges.specs.Files.{IsIndex};
 ghost use Rattle.dw_lookup.specs.Files.{FileFails, HasImage, HasSources, IsSound};
 ghost use Rattle.dw_lookup.specs.Reading.{first_of_lines, first_of_ranges};
 
@@ -82,6 +83,7 @@ pub fn look_up<'s, 'a>(
     sources: &'s Sources<'a>,
 ) -> Result<Known<'s, 'a>, Stop<FirstFault>>
     ensures known { (bytes : List ℕ) → HasSources bytes sources.now → IfOk result (IsSound bytes) }
+    ensures index { IfOk result (λ known. IsIndex known.functions) }
     ensures fault { (bytes : List ℕ) → HasSources bytes sources.now → IfErr result (IfFault (FileFails bytes)) }
 {
     let image = &sources.image;

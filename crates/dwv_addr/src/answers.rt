@@ -3,7 +3,7 @@
 ghost use Rattle.std.specs.Prelude.{◌≡◌, ◌++◌, List, ℕ, OnOk, IfOk, map};
 ghost use Rattle.std.specs.List.{flat_map};
 ghost use Rattle.serde_json.specs.View.{view};
-ghost use Rattle.dw_ranges.specs.Files.{IsIndexOf};
+ghost use Rattle.dw_ranges.specs.Files.{IsIndex, IsIndexOf};
 ghost use Rattle.dw_ranges.specs.Functions.{Known as KnownUnit};
 ghost use Rattle.dwv_addr.specs.Located.{AreAnswers, IsAnswer, lines_at, located_lines, located_object};
 ghost use Rattle.dwv_addr.specs.Located.{located_text, object_at, unknown_text};
@@ -184,6 +184,7 @@ fn put_answer(
     asked: Option<u64>,
     room: &mut Room,
 ) -> Result<(), AllocError>
+    requires { IsIndex known.now.functions }
     ensures { OnOk result ((answer : List ℕ) × (text.new.items ≡ text.old.items ++ answer)
         × ((units : List KnownUnit) → IsIndexOf units known.now.functions
         → IsAnswer json known.now units asked answer)) }
@@ -212,6 +213,7 @@ pub fn put_answers(
     known: &Known<'_, '_>,
     asked: &[Option<u64>],
 ) -> Result<(), AllocError>
+    requires { IsIndex known.now.functions }
     ensures { OnOk result ((answer : List ℕ) × (text.new.items ≡ text.old.items ++ answer)
         × ((units : List KnownUnit) → IsIndexOf units known.now.functions
         → AreAnswers json known.now units asked.now answer)) }

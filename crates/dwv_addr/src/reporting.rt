@@ -4,7 +4,7 @@ ghost use Rattle.std.specs.Prelude.{◌≡◌, IfErr, IfOk, List};
 ghost use Rattle.std.specs.List.{list_all};
 ghost use Rattle.std.specs.Option.{is_some};
 ghost use Rattle.dw_forms.specs.Stops.{IfFault};
-ghost use Rattle.dw_ranges.specs.Files.{IsIndexOf};
+ghost use Rattle.dw_ranges.specs.Files.{IsIndex, IsIndexOf};
 ghost use Rattle.dw_ranges.specs.Functions.{Known as KnownUnit};
 ghost use Rattle.dw_lookup.specs.Files.{FileFails};
 ghost use Rattle.dwv_addr.specs.Faults.{first_fault_text};
@@ -65,6 +65,7 @@ fn answer_of_sound(
     asked: &[Option<u64>],
     known: &Known<'_, '_>,
 ) -> Result<Answer, AllocError>
+    requires { IsIndex known.now.functions }
     ensures { IfOk result (λ answer. (units : List KnownUnit) → IsIndexOf units known.now.functions
         → SoundReport known.now units asked.now request answer.status answer.text.items) }
 {

@@ -79,7 +79,8 @@ located_append first [] found =
     ap (λ (n : ℕ). ◌∷◌ {A = Located} (record { first = n; frames = length found }) []) (omega arith)
 located_append first (one ∷ all) found =
     let long = length-append one (concat all) in
-    let after : (first + length one) + length (concat all) ≡ first + length (concat (one ∷ all)) = omega (arith, long) in
+    let after : (first + length one) + length (concat all) ≡ first + length (concat (one ∷ all)) =
+    omega (arith, long) in
     ap (λ (rows : List Located). record { first = first; frames = length one } ∷ rows)
     (located_append (first + length one) all found
     ∙ ap (λ (n : ℕ). located_rows (first + length one) all ++ record { first = n; frames = length found } ∷ []) after)
@@ -114,7 +115,8 @@ gathered_more known addresses address found located more frames more_frames text
     let is_located : more ≡ located_rows 0 (all ++ found ∷ []) =
     located_is
     ∙ ap (λ (n : ℕ). located ++ record { first = n; frames = length found } ∷ []) count
-    ∙ ap (λ (rows : List Located). rows ++ record { first = length (concat all); frames = length found } ∷ []) old_located
+    ∙ ap (λ (rows : List Located). rows ++ record { first = length (concat all); frames = length found } ∷ [])
+    old_located
     ∙ sym (located_append 0 all found) in
     let are_frames : more_frames ≡ frame_rows known 0 (concat (all ++ found ∷ [])) =
     frames_are ∙ ap (λ (rows : List FrameRow). rows ++ frame_rows known (length text) found) old_frames

@@ -10,6 +10,15 @@ use Rattle.dw_forms.specs.declared.rule.Rule.{Rule}
 use Rattle.dw_forms.specs.declared.rule.Rule.TheVariants.{AbbrevCut}
 use Rattle.dw_forms.specs.Rules.{code_text, name_text}
 use Rattle.dw_entries.specs.SectionTexts.{section_text}
+use Rattle.dw_lines.specs.LineRules as of_lines
+use Rattle.dw_lines.specs.declared.rule.LineRule.{LineRule}
+use Rattle.dw_lines.specs.declared.rule.LineRule.TheVariants.{LineOffset, NoFile}
+use Rattle.dw_ranges.specs.RangeRules as of_ranges
+use Rattle.dw_ranges.specs.declared.rule.RangeRule.{RangeRule}
+use Rattle.dw_ranges.specs.declared.rule.RangeRule.TheVariants.{BadBounds}
+use Rattle.dw_lookup.specs.FirstFaults.{code_of, name_of, section_of, section_of_rule}
+use Rattle.dw_lookup.specs.declared.first_fault.FirstFault.{FirstFault}
+use Rattle.dw_lookup.specs.declared.first_fault.FirstFault.TheVariants.{File, Entries, Lines, Ranges}
 use Rattle.dwv_c.specs.declared.verdict.Verdict.{Verdict}
 use Rattle.dwv_c.specs.Verdicts.{fault_verdict, field_text}
 
@@ -57,3 +66,45 @@ pub file_name_fits : (rule : ElfRule) → length (elf.name_text rule) < 24
 unfolding elf.name_text
 file_name_fits TooLarge = omega arith
 file_name_fits _ = omega arith
+
+line_rule_fits : (rule : LineRule) → length (of_lines.code_text rule) < 8
+unfolding of_lines.code_text
+line_rule_fits LineOffset = omega arith
+line_rule_fits _ = omega arith
+
+line_name_fits : (rule : LineRule) → length (of_lines.name_text rule) < 24
+unfolding of_lines.name_text
+line_name_fits LineOffset = omega arith
+line_name_fits _ = omega arith
+
+line_section_fits : (rule : LineRule) → length (section_of_rule rule) < 16
+line_section_fits NoFile = omega arith
+line_section_fits _ = omega arith
+
+range_rule_fits : (rule : RangeRule) → length (of_ranges.code_text rule) < 8
+unfolding of_ranges.code_text
+range_rule_fits BadBounds = omega arith
+range_rule_fits _ = omega arith
+
+range_name_fits : (rule : RangeRule) → length (of_ranges.name_text rule) < 24
+unfolding of_ranges.name_text
+range_name_fits BadBounds = omega arith
+range_name_fits _ = omega arith
+
+pub first_rule_fits : (f : FirstFault) → length (code_of f) < 8
+first_rule_fits (File f) = file_rule_fits f.rule
+first_rule_fits (Entries f) = rule_fits f.rule
+first_rule_fits (Lines f) = line_rule_fits f.fault.rule
+first_rule_fits (Ranges f) = range_rule_fits f.rule
+
+pub first_name_fits : (f : FirstFault) → length (name_of f) < 24
+first_name_fits (File f) = file_name_fits f.rule
+first_name_fits (Entries f) = name_fits f.rule
+first_name_fits (Lines f) = line_name_fits f.fault.rule
+first_name_fits (Ranges f) = range_name_fits f.rule
+
+pub first_section_fits : (f : FirstFault) → length (section_of f) < 16
+first_section_fits (File f) = omega arith
+first_section_fits (Entries f) = section_fits f.section
+first_section_fits (Lines f) = line_section_fits f.fault.rule
+first_section_fits (Ranges f) = omega arith

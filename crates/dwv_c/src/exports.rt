@@ -1,6 +1,7 @@
 //! The calls from C, and what they check.
 
 ghost use Rattle.std.specs.Prelude.{◌≡◌, ◌≤◌, ℕ, List, MatchResult, length};
+ghost use Rattle.dw_ranges.specs.Files.{IsIndex};
 ghost use Rattle.dw_lookup.specs.Files.{IsSound as IsSoundFile};
 ghost use Rattle.dw_report.specs.Reports.{file_limit, status_code};
 ghost use Rattle.dwv_c.specs.Verdicts.{Given, of_file, of_six, AreCountsOf, Checks, IsFaultOfSections, IsSound};
@@ -268,6 +269,7 @@ fn put_known(
     counts: &mut FrameCounts,
     verdict: &mut Verdict,
 ) -> u32
+    requires { IsIndex known.now.functions }
     ensures { (bytes : List ℕ) → length bytes ≤ file_limit → IsSoundFile bytes known.now
         → PutsFrames bytes addresses.now (frame_arrays located.old frames.old text.old) counts.old verdict.old result
         (frame_arrays located.new frames.new text.new) counts.new verdict.new }

@@ -2,7 +2,7 @@
 
 ghost use Rattle.std.specs.Prelude.{◌≡◌, ◌++◌, [], ◌∷◌, ℕ, IfOk, List, OnOk, length, map};
 ghost use Rattle.std.specs.Bool.{OnFalse, OnTrue};
-ghost use Rattle.dw_ranges.specs.Files.{IsIndexOf};
+ghost use Rattle.dw_ranges.specs.Files.{IsIndex, IsIndexOf};
 ghost use Rattle.dw_ranges.specs.Functions.{Known as KnownUnit};
 ghost use Rattle.dwv_c.specs.Frames.{AreAt, FillsFrames, HasRoomFor, LacksRoomFor, LocatedFrame, frame_arrays};
 ghost use Rattle.dwv_c.specs.Frames.{frame_counts, frame_rows, of_unit, texts_of, with_unit};
@@ -46,7 +46,8 @@ fn push_frames(
         ≡ text.old.items ++ texts_of known.now (map (of_unit unit) frames.now)) }
 {
     for frame in frames {
-        rows.push(frame_row(known, unit, frame, text)?)?;
+        let row = frame_row(known, unit, frame, text)?;
+        rows.push(row)?;
     }
     Ok(())
 }
@@ -79,6 +80,7 @@ fn push_address(
     room: &mut Room,
     gathered: &mut Gathered,
 ) -> Result<(), AllocError>
+    requires { IsIndex known.now.functions }
     ensures { OnOk result ((found : List LocatedFrame)
         × (gathered.new.located.items ≡ gathered.old.located.items
         ++ record { first = length gathered.old.frames.items; frames = length found } ∷ [])
@@ -104,6 +106,7 @@ pub fn gather(
     known: &Known<'_, '_>,
     addresses: &[u64],
 ) -> Result<Gathered, AllocError>
+    requires { IsIndex known.now.functions }
     ensures { IfOk result (λ gathered. IsAllOf known.now addresses.now (gathered_arrays gathered)) }
 {
     let mut gathered = Gathered {
