@@ -1,7 +1,7 @@
 -- Chapter: the frames at addresses as rows in arrays of the caller, and their texts.
 use Rattle.std.specs.Prelude.{◌≡◌, ℕ, ◌+◌, ◌<◌, ◌≤◌, ◌⊎◌, List, [], ◌∷◌, ◌++◌, length, drop, map, min}
 use Rattle.std.specs.Prelude.{Option, Some, None, option_and_then}
-use Rattle.std.specs.List.{AllZip, concat, flat_map}
+use Rattle.std.specs.List.{AllZip, flat_map}
 use Rattle.std.specs.Option.{unwrap_or}
 use Rattle.dw_entries.specs.Lookups.{nth_of}
 use Rattle.dw_entries.specs.Views.{all_entries}
@@ -46,6 +46,10 @@ pub record AreAt (known : Known) (units : List KnownUnit) (address : ℕ) (found
 -- these are the frames at each of some addresses
 abbrev pub AreAtAll : Known → List KnownUnit → List ℕ → List (List LocatedFrame) → Type 0
 AreAtAll known units = AllZip (AreAt known units)
+
+-- the frames at some addresses, one after another
+abbrev pub joined : List (List LocatedFrame) → List LocatedFrame
+joined = flat_map (λ found. found)
 
 module _ (known : Known) where
   -- the entry of the function of a frame, if it has one
@@ -105,7 +109,7 @@ frame_arrays located frames text = record { located = located; frames = frames; 
 -- what is to be written of the frames at addresses
 abbrev pub arrays_of : Known → List (List LocatedFrame) → FrameArrays
 arrays_of known all =
-    frame_arrays (located_rows 0 all) (frame_rows known 0 (concat all)) (texts_of known (concat all))
+    frame_arrays (located_rows 0 all) (frame_rows known 0 (joined all)) (texts_of known (joined all))
 
 -- how much there is of it
 abbrev pub frame_counts : FrameArrays → FrameCounts

@@ -32,9 +32,9 @@ returns-else-text-buffer c =
     c.in-Ok.ensures in
     let fits : length answer.text.items ≤ length c.args.buffer.now =
     subst (λ xs. length xs ≤ length c.args.buffer.now) value c.if-text-buffer.false in
-    let put : c.put_over.new.buffer ≡ answer.text.items ++ drop (length answer.text.items) c.args.buffer.now =
+    let put : c.put_over.new.array ≡ answer.text.items ++ drop (length answer.text.items) c.args.buffer.now =
     c.put_over.ensures ∙ ap (λ xs. xs ++ drop (length xs) c.args.buffer.now) value in
-    subst (λ s. PutsReport c.args.file.now request c.args.buffer.now c.args.needed.now s c.put_over.new.buffer
+    subst (λ s. PutsReport c.args.file.now request c.args.buffer.now c.args.needed.now s c.put_over.new.array
     (length c.as_slice-text.result.now)) (sym c.number_of.ensures)
     (subst (λ b. PutsReport c.args.file.now request c.args.buffer.now c.args.needed.now (status_code answer.status)
     b (length c.as_slice-text.result.now)) (sym put)
