@@ -22,13 +22,13 @@ import sys
 sys.dont_write_bytecode = True
 import common
 import generate
-from common import BROKEN, DWV, DWV_ADDR, SAMPLE
+from common import BROKEN, CODE, DWV, DWV_ADDR, SAMPLE
 
 # How many addresses of a program are asked for, and how many in all with --all.
 EACH, IN_ALL = 2_000, 100_000
 WORDS = ("-O0", "-O2", "-gdwarf-4", "-gdwarf-4 -O2", "-O2 -ffunction-sections -Wl,--gc-sections", "-O2 -flto")
-# The types of sections that have symbols, and the flags of those that have code.
-SYMBOLS, CODE = (2, 11), 6
+# The types of sections that have symbols.
+SYMBOLS = (2, 11)
 tally = common.Tally(20)
 
 
@@ -92,22 +92,12 @@ def compare(title, path, tool, folder, count=EACH):
 
 def compiled(folder, is_all):
     """Programs of the compilers, each with its title."""
-    for language, compilers in (("c", ("gcc", "clang")), ("cpp", ("g++", "clang++"))):
-        made = generate.sources(language, 0.3 if is_all or language == "cpp" else 0.03)
-        for name, text in made.items():
-            (folder / name).write_text(text)
-        for compiler, words in itertools.product(filter(tally.has, compilers), WORDS if is_all else WORDS[:4]):
-            path, standard = folder / "program", "-std=c++17" if language == "cpp" else ""
-            if common.compiled(path, f"{compiler} -g {words} {standard}", *(folder / name for name in made)):
-                yield f"{compiler} {words}", path
-            else:
-                tally.skip(f"{compiler} {words} does not compile")
-    if is_all and tally.has("rustc"):
-        (folder / "main.rs").write_text(generate.sources("rs", 0.3)["main.rs"])
-        for words in ("-g", "-g -O", "-g -C dwarf-version=5"):
-            run = ("rustc", *words.split(), "-A", "warnings", "-o", folder / "program", folder / "main.rs")
-            if common.run(*run, timeout=600)[0] == 0:
-                yield f"rustc {words}", folder / "program"
+    few = WORDS if is_all else WORDS[:4]
+    plans = {"c": (0.3 if is_all else 0.03, few), "cpp": (0.3, few)}
+    if is_all:
+        plans["rs"] = (0.3, common.RUST_WORDS)
+    for language, (megabytes, words) in plans.items():
+        yield from common.programs(tally, folder, language, generate.sources(language, megabytes), words)
 
 
 # A program of which it is known where the call of a function that is inlined is.

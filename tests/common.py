@@ -2,6 +2,7 @@
 readelf lists, files made of bytes, and counts of tests."""
 import collections
 import contextlib
+import itertools
 import os
 import pathlib
 import re
@@ -27,6 +28,8 @@ LINE_ROWS = pathlib.Path(os.environ.get("LINE_ROWS", TOP / "crates/line_rows/out
 DWV_ADDR = pathlib.Path(os.environ.get("DWV_ADDR", TOP / "crates/dwv_addr/out/dwv_addr")).absolute()
 # The library that `make lib` built.
 LIBRARY = TOP / "out/lib/libdwv.so.0"
+# The flags of a section of code.
+CODE = 6
 sys.path[:0] = [str(TOP / folder) for folder in ("contrib", "bench")]
 
 # What the tests need besides make, python3 and the toolchain: .ci/run installs it. If CI is set, as CI services do, a
@@ -231,6 +234,27 @@ def compiled(out, command, *sources):
     return subprocess.run(words, capture_output=True).returncode == 0
 
 
+# The compilers of each language of bench/generate.py, and the words that each of them gets.
+COMPILERS = {"c": (("gcc", "clang"), "-g -w"), "cpp": (("g++", "clang++"), "-g -w -std=c++17"),
+             "rs": (("rustc",), "-g -A warnings")}
+RUST_WORDS = ("", "-O", "-C dwarf-version=5")
+
+
+def programs(tally, folder, language, sources, plans):
+    """What the compilers of a language make of sources in a folder, by the words of each plan: a title, and the path.
+    Sources have their texts by their names. What is not installed or does not compile is skipped."""
+    compilers, always = COMPILERS[language]
+    for name, text in sources.items():
+        (folder / name).write_text(text)
+    paths, out = [folder / name for name in sources], folder / "program"
+    for compiler, words in itertools.product(filter(tally.has, compilers), plans):
+        title = f"{compiler} -g {words}".rstrip()
+        if run(compiler, *always.split(), *words.split(), "-o", out, *paths, timeout=600)[0] == 0:
+            yield title, out
+        else:
+            tally.skip(f"{title} does not compile")
+
+
 def readelf_entries(path):
     """The entries of a file, as readelf lists them. A null has no tag."""
     found = []
@@ -256,9 +280,10 @@ def rewrite(page, lines):
     print(text)
 
 
-def section(name, kind, start, size):
-    """A section header: where its name begins, its type, where its bytes begin, and its size."""
-    return struct.pack("<IIQQQQIIQQ", name, kind, 0, 0, start, size, 0, 0, 0, 0)
+def section(name, kind, start, size, flags=0, low=0):
+    """A section header: where its name begins, its type, its flags, its address, where its bytes begin, and its size.
+    """
+    return struct.pack("<IIQQQQIIQQ", name, kind, flags, low, start, size, 0, 0, 0, 0)
 
 
 def linked(body, headers):
@@ -269,9 +294,13 @@ def linked(body, headers):
     return b"".join([ident, head, body, *headers])
 
 
-def elf(sections):
-    """A linked ELF64 file with these sections, each with its name, its type and its bytes, and the name table."""
+def elf(sections, code=None):
+    """A linked ELF64 file with these sections, each with its name, its type and its bytes, and the name table. Before
+    them it has code, if that is given by its first address and its size: a section of which the file has no bytes."""
     names, headers, body = b"\0", [bytes(64)], bytearray()
+    if code:
+        headers.append(section(len(names), 8, 64, code[1], CODE, code[0]))
+        names += b".text\0"
     for name, kind, data in [*sections, (".shstrtab", 3, None)]:
         at, names = len(names), names + name.encode() + b"\0"
         data = names if data is None else data

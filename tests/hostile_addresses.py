@@ -88,16 +88,9 @@ def files():
 
 
 def file_of(info, line, ranges):
-    """An ELF file with these sections, and code without bytes."""
-    sections = [(".text", 8, b"", 6), (".debug_abbrev", 1, TABLE, 0), (".debug_info", 1, info, 0),
-                (".debug_line", 1, line, 0), (".debug_ranges", 1, ranges, 0)]
-    names, headers, body = b"\0", [bytes(64)], b""
-    for name, kind, data, flags in sections:
-        size, low = (SIZE, LOW) if flags else (len(data), 0)
-        headers.append(struct.pack("<IIQQQQIIQQ", len(names), kind, flags, low, 64 + len(body), size, 0, 0, 0, 0))
-        names, body = names + name.encode() + b"\0", body + data
-    headers.append(common.section(len(names), 3, 64 + len(body), len(names) + 10))
-    return common.linked(body + names + b".shstrtab\0", headers)
+    """An ELF file with these sections, and code."""
+    sections = [(".debug_abbrev", TABLE), (".debug_info", info), (".debug_line", line), (".debug_ranges", ranges)]
+    return common.elf([(name, 1, data) for name, data in sections], (LOW, SIZE))
 
 
 def ran(*words):

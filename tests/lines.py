@@ -131,29 +131,12 @@ def compare(title, path, tool, has_elftools):
 
 
 def compiled(folder, is_all):
-    """Programs of the compilers, each with its title."""
-    for language, compilers in (("c", ("gcc", "clang")), ("cpp", ("g++", "clang++"))):
-        megabytes = {"c": (0.03, 0.3), "cpp": (0.3, 1)}[language][is_all]
-        made = generate.sources(language, megabytes)
-        for name, text in made.items():
-            (folder / name).write_text(text)
-        for compiler, words in itertools.product(filter(tally.has, compilers), WORDS):
-            if is_all or language == "c" or words in WORDS[:2]:    # half a minute in the gate
-                title, path = f"{compiler} {words}", folder / "program"
-                sources = [folder / name for name in made]
-                standard = "-std=c++17" if language == "cpp" else ""
-                if common.compiled(path, f"{compiler} -g {words} {standard}", *sources):
-                    yield title, path
-                else:
-                    tally.skip(f"{title} does not compile")
-    if is_all and shutil.which("rustc"):
-        (folder / "main.rs").write_text(generate.sources("rs", 1)["main.rs"])
-        for words in ("-g", "-g -O", "-g -C dwarf-version=5"):
-            run = ("rustc", *words.split(), "-A", "warnings", "-o", folder / "program", folder / "main.rs")
-            if common.run(*run, timeout=600)[0] == 0:
-                yield f"rustc {words}", folder / "program"
-            else:
-                tally.skip(f"rustc {words} does not compile")
+    """Programs of the compilers, each with its title. Those of C++ take half a minute in the gate."""
+    plans = {"c": (0.03, WORDS), "cpp": (0.3, WORDS[:2])}
+    if is_all:
+        plans = {"c": (0.3, WORDS), "cpp": (1, WORDS), "rs": (1, common.RUST_WORDS)}
+    for language, (megabytes, words) in plans.items():
+        yield from common.programs(tally, folder, language, generate.sources(language, megabytes), words)
 
 
 def by_hand(folder):
