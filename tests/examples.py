@@ -1,8 +1,9 @@
 #!/usr/bin/env python3
 """Runs the program on the smallest file of each rule: the rows in docs/RULES.md.
 
-A row is named after its rule and must print that rule. Each rule in the tables of the page must have a row. A file that
-is too large as a whole is tried too, if there is memory for it. The script prints one line a row and ends with
+A row is named after its rule and must print that rule. Each rule in the tables of the page must have a row: one of the
+page, or for a rule on ranges one of tests/rows/ranges.txt, which tests/rows.py runs. A file that is too large as a
+whole is tried too, if there is memory for it. The script prints one line a row and ends with
 'N passed, N failed, N skipped'.
 """
 import os
@@ -42,9 +43,8 @@ def files():
 
 
 def rules():
-    """The codes and names of the rules in the tables of the page, in its order, but those on ranges, which no program
-    prints: crates/dw_tests has their rows."""
-    return list(dict.fromkeys(re.findall(r"(?m)^\| ([A-WYZ]\d+) \| (\w+) \|", RULES.read_text())))
+    """The codes and names of the rules in the tables of the page, in its order."""
+    return list(dict.fromkeys(re.findall(r"(?m)^\| ([A-Z]\d+) \| (\w+) \|", RULES.read_text())))
 
 
 def rule_of(row):
@@ -94,7 +94,8 @@ def main():
     for row in table:
         if row.name.startswith("E1 "):
             too_large(tally, row, parts)
-    shown = {rule_of(row) for row in table + of_lines}
+    of_ranges = [row for name, row, _ in rows.all_rows() if name == "ranges"]
+    shown = {rule_of(row) for row in table + of_lines + of_ranges}
     for rule in rules():
         tally.add(f"RULES: {' '.join(rule)} has an example", None if rule in shown else "no row prints it")
     return tally.end()

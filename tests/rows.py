@@ -81,12 +81,12 @@ def made(kind, items):
     return common.unit(items, version=4 if kind == "unit4" else 5) if kind else items
 
 
-def elf(sections, more=()):
-    """A linked ELF64 file: the sections that are not empty, more sections, the name table. It has .debug_info."""
+def elf(sections, more=(), code=None):
+    """A linked ELF64 file: code, the sections that are not empty, more sections, the name table. It has .debug_info."""
     kept = [(f".debug_{name}", 1, sections[name]) for name in SECTIONS if sections.get(name)] + list(more)
     if ".debug_info" not in [name for name, _, _ in kept]:
         kept.append((".debug_info", 1, b""))
-    return common.elf(kept)
+    return common.elf(kept, code)
 
 
 class Row:
@@ -94,6 +94,7 @@ class Row:
 
     def __init__(self, name):
         self.name, self.sections, self.more, self.file, self.cases, self.asked = name, {}, [], "FILE", [], []
+        self.code = None
 
     def add(self, line):
         """Takes a line below the row's first."""
@@ -105,6 +106,8 @@ class Row:
         elif word == "section":
             name, kind, *data = rest.split(" ", 2)
             self.more.append((name.strip('"'), int(kind, 16), "".join(data)))
+        elif word == "code":
+            self.code = tuple(int(number, 16) for number in rest.split())
         elif word == "file":
             self.file = rest
         elif word == "each":
@@ -123,7 +126,7 @@ class Row:
                 return Bytes(filled(text, case), parts).all()
 
             sections = {name: of(self.sections.get(name, "")) for name in SECTIONS}
-            whole = elf(sections, [(name, kind, of(data)) for name, kind, data in self.more])
+            whole = elf(sections, [(name, kind, of(data)) for name, kind, data in self.more], self.code)
             yield of(self.file, {**parts, "FILE": whole}), case
 
 
