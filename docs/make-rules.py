@@ -360,6 +360,7 @@ def made():
     """Each file that says what rules are, and what makes its text of the one that it has."""
     rules = table()
     faults = [rule for rule in rules if rule.letter == "E" or rule.group]
+    of_files = [rule for rule in rules if rule.letter != "P"]
     yield "docs/RULES.md", lambda text: put(text, "<!-- made by docs/make-rules.py:", "<!-- end -->",
                                             lambda groups: page_table(of(rules, groups)))
     yield "docs/REPORTS.md", lambda text: with_cells(text, of(rules, "P"))
@@ -367,7 +368,7 @@ def made():
                                          lambda groups: manual_list(of(rules, groups)))
     yield "contrib/dwv_tools/rules.txt", lambda text: "\n".join([*list_text(faults), ""])
     yield "rust/dwv/src/rule.rs", lambda text: re.sub(
-        r"(?s)(\nrules! \{\n).*?(\n\}\n)", lambda it: it[1] + "\n".join(rust_lines(faults)) + it[2], text)
+        r"(?s)(\nrules! \{\n).*?(\n\}\n)", lambda it: it[1] + "\n".join(rust_lines(of_files)) + it[2], text)
     for enum, (file, letters, chapter) in ENUMS.items():
         those = of(rules, letters)
         yield file, lambda text: with_arms(with_variants(text, those), those, enum)

@@ -7,6 +7,7 @@
 //! }
 //! ```
 #![warn(missing_docs)]
+pub mod addresses;
 pub mod constants;
 mod rows;
 mod rule;
@@ -14,6 +15,7 @@ pub mod table;
 
 use std::{error, fmt};
 
+pub use addresses::Addresses;
 pub use rule::Rule;
 pub use table::Table;
 
@@ -38,6 +40,8 @@ pub enum Section {
     Info,
     /// `.debug_abbrev`: the place is an offset in it.
     Abbrev,
+    /// `.debug_line`: the place is an offset in it. Only `Addresses` has faults there.
+    Line,
     /// The file itself: the place is the number of a section header, or 0.
     File,
 }
@@ -176,11 +180,12 @@ pub fn report(file: &[u8], request: Request) -> Result<(Status, Vec<u8>), Error>
 }
 
 impl Section {
-    /// `.debug_info`, `.debug_abbrev` or `file`.
+    /// `.debug_info`, `.debug_abbrev`, `.debug_line` or `file`.
     pub const fn name(self) -> &'static str {
         match self {
             Section::Info => ".debug_info",
             Section::Abbrev => ".debug_abbrev",
+            Section::Line => ".debug_line",
             Section::File => "file",
         }
     }
@@ -244,6 +249,7 @@ impl Raw {
         let section = match text(&self.section) {
             ".debug_info" => Section::Info,
             ".debug_abbrev" => Section::Abbrev,
+            ".debug_line" => Section::Line,
             _ => Section::File,
         };
         Fault { rule, section, at: self.at, attribute: self.attribute }

@@ -42,6 +42,36 @@ pub(crate) struct Counts {
     pub(crate) values: u64,
 }
 
+/// `struct dwv_frame` of dwv.h.
+#[repr(C)]
+#[derive(Clone, Copy)]
+pub(crate) struct FrameRow {
+    pub(crate) line: u64,
+    pub(crate) column: u64,
+    pub(crate) name: u64,
+    pub(crate) name_length: u64,
+    pub(crate) path: u64,
+    pub(crate) path_length: u64,
+    pub(crate) function: u32,
+    pub(crate) unit: u32,
+}
+
+/// `struct dwv_located` of dwv.h.
+#[repr(C)]
+#[derive(Clone, Copy)]
+pub(crate) struct Located {
+    pub(crate) first: u64,
+    pub(crate) frames: u64,
+}
+
+/// `struct dwv_frame_counts` of dwv.h.
+#[repr(C)]
+#[derive(Default)]
+pub(crate) struct FrameCounts {
+    pub(crate) frames: u64,
+    pub(crate) text: u64,
+}
+
 extern "C" {
     pub(crate) fn dwv_table(
         file: *const u8,
@@ -75,6 +105,20 @@ extern "C" {
         values: *mut ValueRow,
         value_room: usize,
         counts: *mut Counts,
+        verdict: *mut Raw,
+    ) -> u32;
+    pub(crate) fn dwv_frames(
+        file: *const u8,
+        length: usize,
+        addresses: *const u64,
+        address_count: usize,
+        located: *mut Located,
+        located_room: usize,
+        frames: *mut FrameRow,
+        frame_room: usize,
+        text: *mut u8,
+        text_room: usize,
+        counts: *mut FrameCounts,
         verdict: *mut Raw,
     ) -> u32;
 }

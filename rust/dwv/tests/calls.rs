@@ -1,7 +1,12 @@
-use dwv::{constants::*, table::Value, Counts, Error, Fault, Request, Rule, Section, Sections, Status, Table};
+use dwv::{
+    addresses::Frame, constants::*, table::Value, Addresses, Counts, Error, Fault, Request, Rule, Section, Sections,
+    Status, Table,
+};
 use std::{collections::BTreeSet, thread};
 
 const SAMPLE: &[u8] = include_bytes!("../../../crates/dwv/data/X1");
+// The function `four`, which has `twice` inlined from 0x1004 on.
+const FOUR: &[u8] = include_bytes!("../../../crates/dwv_addr/data/four");
 const SOUND: Counts = Counts { units: 1, entries: 2, types: 1 };
 
 #[test]
@@ -114,6 +119,58 @@ fn a_table_with_more_values_than_compilers_write() -> Result<(), Error> {
     Ok(())
 }
 
+/// A frame in the file of FOUR.
+fn frame(function: &'static [u8], line: u64, column: u64, entry: u32) -> Frame<'static> {
+    let (line, column) = (Some(line), Some(column));
+    Frame { function: Some(function), file: Some(b"/src/four.c"), line, column, entry: Some(entry), unit: 0 }
+}
+
+#[test]
+fn frames_of_addresses() -> Result<(), Error> {
+    let mut addresses = Addresses::new(FOUR)?;
+    let (start, inner, call) = (frame(b"four", 2, 5, 2), frame(b"twice", 1, 33, 3), frame(b"four", 2, 22, 2));
+    assert!(addresses.frames(0x1000)?.eq([start]));
+    assert!(addresses.frames(0x1006)?.eq([inner, call]));
+    assert_eq!(addresses.frames(0x2000)?.len(), 0);
+    let found = addresses.find(&[0x1006, 0x2000, 0x1000])?;
+    assert_eq!(found.iter().map(|frames| frames.len()).collect::<Vec<_>>(), [2, 0, 1]);
+    assert!(found.frames(0).eq([inner, call]) && found.frames(2).eq([start]));
+    assert_eq!(Table::of(FOUR)?.entry(inner.entry.unwrap()).unwrap().tag(), DW_TAG_inlined_subroutine);
+    assert!(addresses.find(&[])?.is_empty());
+    Ok(())
+}
+
+#[test]
+fn frames_of_more_addresses_than_before() -> Result<(), Error> {
+    let mut addresses = Addresses::new(FOUR)?;
+    for count in [1, 1000, 10] {
+        let found = addresses.find(&vec![0x1006; count])?;
+        assert_eq!(found.len(), count);
+        assert!(found.iter().all(|frames| frames.map(|frame| frame.line).eq([Some(1), Some(2)])));
+    }
+    Ok(())
+}
+
+#[test]
+fn addresses_of_a_file_without_lines() -> Result<(), Error> {
+    assert_eq!(Addresses::new(SAMPLE)?.frames(0)?.len(), 0);
+    Ok(())
+}
+
+#[test]
+fn faults_of_lines_and_ranges() {
+    let fault = |place: usize, byte| {
+        let mut file = FOUR.to_vec();
+        file[place] = byte;
+        assert!(dwv::check(&file).is_ok());
+        Addresses::new(&file).unwrap_err().to_string()
+    };
+    // The version of the line program, and the size of the unit.
+    assert_eq!(fault(0xdd + 4, 6), "fault L4 LineVersion at .debug_line+0x00000000 attribute 0x0");
+    assert_eq!(fault(0x85 + 0x1f, 0x0f), "fault X9 OutsideUnit at .debug_info+0x00000030 attribute 0x0");
+    assert!(matches!(Addresses::new(b"no ELF file"), Err(Error::Fault(Fault { rule: Rule::NotElf64, .. }))));
+}
+
 #[test]
 fn no_bytes() {
     let fault = Fault { rule: Rule::NotElf64, section: Section::File, at: 0, attribute: 0 };
@@ -130,7 +187,7 @@ fn codes_and_names() {
     let codes: BTreeSet<&str> = rules.lines().filter_map(|line| line.strip_prefix("| ")?.split(' ').next()).collect();
     let is_rule = |code: &&&str| {
         let (group, number) = code.split_at(code.len().min(1));
-        "EAUGKSRYCZ".contains(group) && number.bytes().all(|b| b.is_ascii_digit()) && !number.is_empty()
+        "EAUGKSRYCZLMFX".contains(group) && number.bytes().all(|b| b.is_ascii_digit()) && !number.is_empty()
     };
     assert_eq!(codes.iter().filter(is_rule).count(), Rule::ALL.len());
 }
