@@ -6,52 +6,27 @@ usage: addresses.py [--all] [FILE ..]
 It compiles programs of C, C++ and Rust in several ways, and asks for random addresses of their code: 2,000 of each
 program, with --all 100,000 in all over more programs, or of the named files alone. Functions, paths, lines and columns
 must be the same, frame by frame. Paths are compared without `.` and `..`. llvm-symbolizer gets a copy of the file
-without a table of symbols, since it would take names from there. A program of four lines is asked by each form of the
-words. It prints a line a program or form, and ends with 'N passed, N failed, N skipped'.
+without a table of symbols, since it would take names from there. The C library must find the frames that `dwv-addr`
+prints. A program of four lines is asked by each form of the words. It prints a line a program or form, and ends with
+'N passed, N failed, N skipped'.
 """
 import itertools
 import json
 import os
 import pathlib
-import random
 import re
 import shutil
-import struct
 import sys
 
 sys.dont_write_bytecode = True
 import common
 import generate
-from common import BROKEN, CODE, DWV, DWV_ADDR, SAMPLE
+from common import BROKEN, DWV, DWV_ADDR, SAMPLE
 
 # How many addresses of a program are asked for, and how many in all with --all.
 EACH, IN_ALL = 2_000, 100_000
 WORDS = ("-O0", "-O2", "-gdwarf-4", "-gdwarf-4 -O2", "-O2 -ffunction-sections -Wl,--gc-sections", "-O2 -flto")
-# The types of sections that have symbols.
-SYMBOLS = (2, 11)
-tally = common.Tally(20)
-
-
-def sections_of(file):
-    """The section headers of a file: where each starts, and its numbers."""
-    start, count = struct.unpack_from("<Q", file, 40)[0], struct.unpack_from("<H", file, 60)[0]
-    return [(at, *struct.unpack_from("<IIQQQQ", file, at)) for at in range(start, start + 64 * count, 64)]
-
-
-def without_symbols(file):
-    """A file whose tables of symbols are no such tables any more."""
-    made = bytearray(file)
-    for at, _, kind, *_ in sections_of(file):
-        if kind in SYMBOLS:
-            struct.pack_into("<I", made, at + 4, 1)
-    return bytes(made)
-
-
-def some_addresses(file, count):
-    """So many random addresses of the code of a file, or all if it has no more."""
-    code = [(low, low + size) for _, _, kind, flags, low, _, size in sections_of(file) if flags & CODE == CODE and size]
-    every = list(itertools.chain(*(range(*it) for it in code)))
-    return sorted(random.Random(1).sample(every, min(count, len(every))))
+tally = common.Tally(1 if set(sys.argv[1:]) - {"--all"} else 28)
 
 
 def frames_in(text):
@@ -77,8 +52,8 @@ def asked(words, addresses):
 def compare(title, path, tool, folder, count=EACH):
     """The frames of addresses of a file must be those of llvm-symbolizer."""
     file, copy = path.read_bytes(), folder / "without-symbols"
-    copy.write_bytes(without_symbols(file))
-    addresses = some_addresses(file, count)
+    copy.write_bytes(common.without_symbols(file))
+    addresses = common.some_addresses(file, count)
     words = (tool, f"--obj={copy}", "--no-demangle", "--functions=linkage", "--output-style=LLVM")
     ours, theirs = asked((DWV_ADDR, "find", path), addresses), asked(words, addresses)
     wrong = [f"0x{at:x}: {a}, llvm-symbolizer has {b}" for at, a, b in zip(addresses, ours, theirs) if a != b]
@@ -86,8 +61,21 @@ def compare(title, path, tool, folder, count=EACH):
         wrong.insert(0, f"{len(addresses)} addresses, {len(ours)} answers, llvm-symbolizer has {len(theirs)}")
     inlined = sum(len(it) > 1 for it in ours)
     known = sum(it[0][0] != "??" for it in ours)
+    tally.same(f"{title}, by the library", *by_library(path, addresses))
     tally.add(title, f"{len(wrong)} differ, {'; '.join(wrong[:2])}" if wrong else None,
               f"{len(addresses)} addresses, {known} in functions, {inlined} of them inlined")
+
+
+def by_library(path, addresses):
+    """The objects of addresses by the C library, and by `dwv-addr find --json`: the first that differ, or nothing."""
+    text = common.run(DWV_ADDR, "find", "--json", path, timeout=600, text=True, input="".join(
+        f"{it:x}\n" for it in addresses))[1]
+    ours = [{"address": f"0x{address:x}", "frames": [
+        {"column": it.column, "file": it.file and it.file.decode(), "function": it.function and it.function.decode(),
+         "line": it.line} for it in frames]} for address, frames in zip(addresses, dwv.addresses(path).find(addresses))]
+    theirs = list(map(json.loads, text.splitlines()))
+    differ = [pair for pair in itertools.zip_longest(ours, theirs) if pair[0] != pair[1]]
+    return differ[0] if differ else (None, None)
 
 
 def compiled(folder, is_all):
@@ -179,4 +167,7 @@ def main():
 
 
 if __name__ == "__main__":
+    common.build_library()
+    sys.path.append(str(common.TOP / "python"))
+    import dwv
     sys.exit(main())

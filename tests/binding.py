@@ -4,15 +4,19 @@ import doctest
 import json
 import mmap
 import os
+import re
+import runpy
 import sqlite3
 import struct
+import sys
 
+import addresses
 import common
 import examples
 import pytest
-from common import BROKEN, SAMPLE
+from common import BROKEN, FOUR, SAMPLE
 
-LEAST = 15
+LEAST = 20
 if "DWV_LIBRARY" not in os.environ and not common.LIBRARY.exists():
     common.lack("the C library is not built (make lib)", allow_module_level=True)
 os.environ.setdefault("DWV_LIBRARY", str(common.LIBRARY))
@@ -138,6 +142,71 @@ def test_rooms_of_a_table(monkeypatch):
         said(41)
 
 
+# The frames at 0x1006 of FOUR: `twice` is inlined in `four`.
+INNER = dwv.frames.Frame(b"twice", b"/src/four.c", 1, 33, 3, 0)
+OUTER = dwv.frames.Frame(b"four", b"/src/four.c", 2, 22, 2, 0)
+
+
+def test_addresses():
+    four = dwv.addresses(FOUR)
+    assert four.frames(0x1006) == [INNER, OUTER]
+    assert four.frames(0x2000) == []
+    found = four.find([0x2000, 0x1006, 0x1000])
+    assert repr(found) == "Found(3 addresses, 3 frames)"
+    assert [len(it) for it in found] == [0, 2, 1] and found[1] == [INNER, OUTER]
+    assert found.columns["located"]["first"].tolist() == [0, 0, 2]
+    assert str(found[2][0]) == "four at /src/four.c:2:5"
+    assert str(dwv.frames.Frame(None, b"a\xff", None, None, None, 0)) == "?? at a\\xff:0:0"
+    assert dwv.table(FOUR).tag(INNER.entry) == "DW_TAG_inlined_subroutine"
+    assert len(four.find([])) == 0 and dwv.addresses(SAMPLE).frames(0) == []
+
+
+def test_faults_of_lines_and_ranges():
+    for place, byte, rule in ((0xE1, 6, "L4"), (0xA4, 0x0F, "X9")):  # a version, the size of the unit
+        file = bytearray(FOUR.read_bytes())
+        file[place] = byte
+        assert dwv.check(file)
+        with pytest.raises(dwv.NotSound) as raised:
+            dwv.addresses(file)
+        assert raised.value.fault.rule == rule
+    for wrong in (-1, 1 << 64):
+        with pytest.raises(OverflowError):
+            dwv.addresses(FOUR).frames(wrong)
+
+
+def test_rooms_of_addresses(monkeypatch):
+    """A look-up takes one call; two if there are more frames than compilers mostly make, and than there were before."""
+    statuses, write, four = [], dwv._library.dwv_frames, dwv.addresses(FOUR)
+
+    def counted(*words):
+        statuses.append(write(*words))
+        return statuses[-1]
+
+    def said(found):
+        statuses.clear()
+        return [len(it) for it in found()], statuses
+
+    monkeypatch.setattr(dwv._library, "dwv_frames", counted)
+    assert said(lambda: four.find([0x1006, 0x1000])) == ([2, 1], [0])
+    monkeypatch.setattr(dwv.frames, "GUESS", (1, 16))
+    fresh = dwv.addresses(FOUR)
+    assert said(lambda: fresh.find([0x1006])) == ([2], [5, 0])
+    assert said(lambda: fresh.find([0x1000])) == ([1], [0])
+
+
+def test_arrays_of_frames():
+    numpy, pandas = pytest.importorskip("numpy"), pytest.importorskip("pandas")
+    found = dwv.addresses(FOUR).find(numpy.array([0x1006, 0x2000, 0x1000]))
+    assert found.arrays.located["frames"].tolist() == [2, 0, 1]
+    assert found.arrays.frames["line"].tolist() == [1, 2, 2]
+    assert numpy.shares_memory(found.arrays.frames, numpy.frombuffer(found.columns["frames"]["line"].obj, "u1"))
+    frame = found.to_pandas()
+    assert frame["address"].tolist() == [0x1006, 0x1006, 0x1000] and frame["depth"].tolist() == [0, 1, 0]
+    assert frame["function"].tolist() == ["twice", "four", "four"] and frame["function"].dtype == "category"
+    assert frame["line"].tolist() == [1, 2, 2] and frame["entry"].tolist() == [3, 2, 2]
+    assert isinstance(frame, pandas.DataFrame)
+
+
 def test_frames():
     numpy, pandas = pytest.importorskip("numpy"), pytest.importorskip("pandas")
     table = dwv.table(SAMPLE)
@@ -174,6 +243,29 @@ def test_saving(tmp_path):
     numpy = pytest.importorskip("numpy")
     assert saving.main(["-o", str(tmp_path / "a.npz"), str(SAMPLE)]) == 0
     assert len(numpy.load(tmp_path / "a.npz")["values"]) == 4
+
+
+def test_folded_stacks(tmp_path):
+    """The example that folds stacks, on a text as `perf script` writes it, of a program that is loaded somewhere."""
+    common.needs("gcc", "nm")
+    path, script = tmp_path / "small", common.TOP / "contrib/integrations/examples/folded.py"
+    (tmp_path / "small.c").write_text(addresses.SMALL)
+    assert common.compiled(path, "gcc -g", tmp_path / "small.c")
+    symbols = {name: (int(start, 16), int(size, 16)) for start, size, name in
+               re.findall(r"(?m)^(\w+) (\w+) T (\w+)$", common.run("nm", "-S", path, text=True)[1])}
+    start, size = symbols["four"]
+    frames = dwv.addresses(path).find(range(start, start + size))
+    inner = next(start + k for k, it in enumerate(frames) if len(it) == 2)
+    base, text = 0x7F0000000000, ""
+    for offset, length, at in runpy.run_path(script)["segments"](path.read_bytes()):
+        at, offset = base + at & -4096, offset & -4096
+        text += f"small 7 1.0: PERF_RECORD_MMAP2 7/7: [{at:#x}({length:#x}) @ {offset:#x} 08:01 2 3]: r-xp {path}\n"
+    for top in (inner, inner, start):
+        text += f"small 7 1.1: 1 cycles:\n\t{base + top:16x} four+0x1 ({path})\n"
+        text += f"\t{base + symbols['main'][0] + 1:16x} main+0x1 ({path})\n\t{4096:16x} outer+0x9 (/lib/libc.so.6)\n\n"
+    env = {**os.environ, "PYTHONPATH": str(common.TOP / "python")}
+    said = common.run(sys.executable, script, path, text=True, input=text, env=env)
+    assert said == (0, "outer;main;four 1\nouter;main;four;twice 2\n", "")
 
 
 def test_reports():

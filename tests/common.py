@@ -5,6 +5,7 @@ import contextlib
 import itertools
 import os
 import pathlib
+import random
 import re
 import resource
 import shutil
@@ -17,8 +18,9 @@ HERE = pathlib.Path(__file__).resolve().parent
 TOP = HERE.parent
 CRATE = TOP / "crates/dwv"
 PROGRAMS = HERE / "programs"
-# A sound file, and the bytes of one with a code that its table does not declare.
+# A sound file, one with functions and their lines, and the bytes of one with a code that its table does not declare.
 SAMPLE = CRATE / "data/X1"
+FOUR = TOP / "crates/dwv_addr/data/four"
 BROKEN = SAMPLE.read_bytes().replace(b"\x02int", b"\x03int")
 # The program: that of the variable DWV, or the one that `make` built.
 DWV = pathlib.Path(os.environ.get("DWV", CRATE / "out/dwv")).absolute()
@@ -28,8 +30,8 @@ LINE_ROWS = pathlib.Path(os.environ.get("LINE_ROWS", TOP / "crates/line_rows/out
 DWV_ADDR = pathlib.Path(os.environ.get("DWV_ADDR", TOP / "crates/dwv_addr/out/dwv_addr")).absolute()
 # The library that `make lib` built.
 LIBRARY = TOP / "out/lib/libdwv.so.0"
-# The flags of a section of code.
-CODE = 6
+# The flags of a section of code, and the types of sections that have symbols.
+CODE, SYMBOLS = 6, (2, 11)
 sys.path[:0] = [str(TOP / folder) for folder in ("contrib", "bench")]
 
 # What the tests need besides make, python3 and the toolchain: .ci/run installs it. If CI is set, as CI services do, a
@@ -307,6 +309,28 @@ def elf(sections, code=None):
         headers.append(section(at, kind, 64 + len(body), len(data)))
         body += data
     return linked(bytes(body), headers)
+
+
+def sections_of(file):
+    """The section headers of a file: where each starts, and its numbers."""
+    start, count = struct.unpack_from("<Q", file, 40)[0], struct.unpack_from("<H", file, 60)[0]
+    return [(at, *struct.unpack_from("<IIQQQQ", file, at)) for at in range(start, start + 64 * count, 64)]
+
+
+def without_symbols(file):
+    """A file whose tables of symbols are no such tables any more."""
+    made = bytearray(file)
+    for at, _, kind, *_ in sections_of(file):
+        if kind in SYMBOLS:
+            struct.pack_into("<I", made, at + 4, 1)
+    return bytes(made)
+
+
+def some_addresses(file, count):
+    """So many random addresses of the code of a file, or all if it has no more."""
+    code = [(low, low + size) for _, _, kind, flags, low, _, size in sections_of(file) if flags & CODE == CODE and size]
+    every = list(itertools.chain(*(range(*it) for it in code)))
+    return sorted(random.Random(1).sample(every, min(count, len(every))))
 
 
 def unit(items, kind=1, more=b"", table=0, version=5):

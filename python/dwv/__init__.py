@@ -18,11 +18,11 @@ import os
 import pathlib
 from typing import List, NamedTuple, Optional, Tuple, Union
 
-from dwv import tables
+from dwv import frames, tables
 
 __version__ = "0.9.0"
 __all__ = ["CHECK", "CHECK_JSON", "SHOW", "TYPES", "SIZE", "Counts", "Fault", "Entry", "NotSound", "File", "check",
-           "check_sections", "verify", "entries", "table", "table_sections", "report"]
+           "check_sections", "verify", "entries", "table", "table_sections", "addresses", "report"]
 
 CHECK, CHECK_JSON, SHOW, TYPES, SIZE = range(5)
 
@@ -132,6 +132,25 @@ def table_sections(*, info: bytes = b"", abbrev: bytes = b"", str: bytes = b"", 
     return _table(_library.dwv_table_sections, words, (b"", given[0], given[2], given[3]), limit)
 
 
+def addresses(file: File) -> frames.Addresses:
+    """A sound file, to find the functions and lines of its addresses. Any other raises NotSound, with the fault.
+
+    Here the line programs, the files that entries name and the ranges must be valid too."""
+    data = _bytes(file)
+
+    def find(asked, most):
+        raw = _Verdict()
+
+        def call(*words):
+            return _library.dwv_frames(data, len(data), *words, ctypes.byref(raw))
+
+        return _found(frames.read(call, asked, most), raw)
+
+    found = frames.Addresses(find)
+    found.find([])
+    return found
+
+
 def report(file: File, request: int = CHECK, offset: int = 0) -> Tuple[int, bytes]:
     """The exit status of a command of the program, and what it prints."""
     data = _bytes(file)
@@ -153,7 +172,11 @@ def report(file: File, request: int = CHECK, offset: int = 0) -> Tuple[int, byte
 def _table(call, words, parts, limit):
     """The table that a call writes. `parts` has the bytes that places count in, by the number of the section."""
     raw = _Verdict()
-    found = tables.read(lambda rooms, counts: call(*words, *rooms, counts, ctypes.byref(raw)), parts, limit)
+    return _found(tables.read(lambda rooms, counts: call(*words, *rooms, counts, ctypes.byref(raw)), parts, limit), raw)
+
+
+def _found(found, raw):
+    """What a call found, or what its status raises."""
     if found == 1:
         raise NotSound(_fault(raw))
     if found == 4:
@@ -221,8 +244,10 @@ def _loaded():
     rooms = [ctypes.c_void_p, size] * 3 + [ctypes.c_void_p, pointer(_Verdict)]
     library.dwv_table.argtypes = [ctypes.c_char_p, size, *rooms]
     library.dwv_table_sections.argtypes = [ctypes.c_char_p, size] * 6 + rooms
+    library.dwv_frames.argtypes = [ctypes.c_char_p, size, *[ctypes.c_void_p, size] * 4, ctypes.c_void_p,
+                                   pointer(_Verdict)]
     for call in (library.dwv_check, library.dwv_check_sections, library.dwv_report, library.dwv_table,
-                 library.dwv_table_sections):
+                 library.dwv_table_sections, library.dwv_frames):
         call.restype = ctypes.c_uint32
     return library
 

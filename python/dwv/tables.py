@@ -8,7 +8,7 @@ import functools
 import mmap
 import pathlib
 import re
-from typing import Any, Dict, Iterator, NamedTuple, Optional, Tuple, Union
+from typing import Any, Callable, Dict, Iterator, List, NamedTuple, Optional, Tuple, Union
 
 # The row of a parent or of a next sibling that an entry does not have.
 NONE = 0xFFFFFFFF
@@ -50,7 +50,7 @@ class Table:
     def __init__(self, parts: Tuple[bytes, ...], memory: Dict[str, Any], counts: Dict[str, int]) -> None:
         self.parts, self._memory, self._counts = parts, memory, counts
         self.columns: Dict[str, Dict[str, memoryview]] = {
-            part: dict(_columns(memory[part], part, counts[part])) for part in FIELDS}
+            part: dict(columns_of(memory[part], fields, counts[part])) for part, fields in FIELDS.items()}
         entries, values = self.columns["entries"], self.columns["values"]
         self._tags, self._parents, self._next = entries["tag"], entries["parent"], entries["next_sibling"]
         self._first, self._count = entries["first_value"], entries["values"]
@@ -200,10 +200,10 @@ class Table:
         return pandas.Categorical.from_codes(codes, list(found))
 
 
-def _columns(memory, part: str, count: int) -> Iterator[Tuple[str, memoryview]]:
+def columns_of(memory, fields: Dict[str, int], count: int) -> Iterator[Tuple[str, memoryview]]:
     """A view of each field of `count` rows."""
-    view, at, row = memoryview(memory).cast("B"), 0, SIZES[part]
-    for name, size in FIELDS[part].items():
+    view, at, row = memoryview(memory).cast("B"), 0, sum(fields.values())
+    for name, size in fields.items():
         words = view.cast("Q" if size == 8 else "I")
         yield name, words[at // size : count * row // size : row // size]
         at += size
@@ -267,31 +267,41 @@ def read(call, parts: Tuple[bytes, ...], limit: Optional[int]) -> Union[Table, i
     """The table that a call of the library writes, or its status. More values than the limit, or than `usual_limit`
     says, raise MemoryError, before memory is asked for them.
 
-    `call` gets the memory and the rooms of the arrays, and the counts. It is called again only if the bytes have more
-    rows than compilers write, or there is no memory for so many: then the call says how many there are. Rows that are
-    not written are not touched."""
+    `call` gets the memory and the rooms of the arrays, and the counts."""
     # Compilers write fewer rows for 64 bytes of .debug_info. In all, these take at most 1 GiB.
     blocks = min(len(parts[1]) // 64, 500_000) + 1
     limit = usual_limit(len(parts[1])) if limit is None else limit
-    rooms = [blocks, 12 * blocks, max(0, min(40 * blocks, limit))]
-    counts = (ctypes.c_uint64 * 3)()
-    is_guess = True
+
+    def accept(counts):
+        if counts[2] > limit:
+            raise MemoryError(f"{counts[2]} values, and the limit is {limit}")
+
+    found = written(call, SIZES, [], [blocks, 12 * blocks, max(0, min(40 * blocks, limit))], accept)
+    return found if isinstance(found, int) else Table(parts, found[0], dict(zip(FIELDS, found[1])))
+
+
+def written(call, sizes: Dict[str, int], fixed: List[int], guess: List[int],
+            accept: Callable[[List[int]], None] = lambda counts: None) -> Union[Tuple[Dict[str, Any], List[int]], int]:
+    """The memory of the arrays that a call of the library writes, and the counts that it gives, or its status. The
+    first arrays have `fixed` rooms, the others at first those of `guess`. The call is made again only if there is more
+    than that, or no memory for so much: then it says how much there is, which `accept` may refuse. What is not written
+    is not touched."""
+    counts, rooms, is_guess = (ctypes.c_uint64 * len(guess))(), guess, True
     while True:
         try:
-            memory = {part: mmap.mmap(-1, max(room, 1) * SIZES[part], mmap.MAP_PRIVATE | mmap.MAP_ANONYMOUS)
-                      for part, room in zip(FIELDS, rooms)}
+            memory = {part: mmap.mmap(-1, max(room, 1) * size, mmap.MAP_PRIVATE | mmap.MAP_ANONYMOUS)
+                      for (part, size), room in zip(sizes.items(), [*fixed, *rooms])}
             starts = [ctypes.byref(ctypes.c_char.from_buffer(it)) for it in memory.values()]
-            status = call([word for pair in zip(starts, rooms) for word in pair], counts)
+            status = call([word for pair in zip(starts, [*fixed, *rooms]) for word in pair], counts)
         except OSError:  # there is no memory
             status = 4
         if status == 0:
-            return Table(parts, memory, dict(zip(FIELDS, counts)))
+            return memory, list(counts)
         if status == 5:
             rooms = list(counts)
-            if rooms[2] > limit:
-                raise MemoryError(f"{rooms[2]} values, and the limit is {limit}")
+            accept(rooms)
         elif status == 4 and is_guess:
-            rooms = [0, 0, 0]
+            rooms = [0] * len(guess)
         else:
             return status
         is_guess = False
