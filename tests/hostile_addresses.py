@@ -4,10 +4,12 @@ inside one another, functions inlined 100,000 deep, a list of 100,000 ranges, a 
 
 usage: hostile_addresses.py [--only PATTERN]
 
-Of each file `check` must print the stated line, and `find` the frames of an address, within limits of time and memory.
+Of each file `check` must print the stated line, and `find` the frames of an address, within limits of time and memory;
+the C library must find as many.
 It prints one line a run with the seconds it took, and ends with 'N passed, N failed, N skipped'.
 """
 import argparse
+import os
 import re
 import resource
 import struct
@@ -50,6 +52,13 @@ def named(code, offset):
 
 # The first entry of a unit with the first list: its ranges count from 0.
 LISTED = bytes((5,)) + bytes(8) + bytes(4)
+# Prints as many lines as `find` for an address, by the C library.
+BY_LIBRARY = """import dwv, sys
+try:
+    print("\\n" * 2 * max(len(dwv.addresses(sys.argv[1]).frames(int(sys.argv[2], 16))), 1))
+except dwv.NotSound as error:
+    print(error)
+"""
 
 
 def units(*items):
@@ -96,7 +105,8 @@ def file_of(info, line, ranges):
 def ran(*words):
     """The text of a run, and what is wrong of what it took, or None, and the seconds."""
     before = resource.getrusage(resource.RUSAGE_CHILDREN)
-    status, text, errors = common.run(DWV_ADDR, *words, memory=MEMORY, seconds=END, text=True)
+    env = {**os.environ, "PYTHONPATH": str(common.TOP / "python")}
+    status, text, errors = common.run(*words, memory=MEMORY, seconds=END, text=True, env=env)
     after = resource.getrusage(resource.RUSAGE_CHILDREN)
     took = after.ru_utime + after.ru_stime - before.ru_utime - before.ru_stime
     why = f"status {status}: {errors[-100:]}" if errors or status > 1 else "too slow" if took > SECONDS else None
@@ -107,22 +117,24 @@ def main():
     parser = argparse.ArgumentParser(description=__doc__.splitlines()[0])
     parser.add_argument("--only", default="", metavar="PATTERN", help="runs those whose names have this pattern")
     words = parser.parse_args()
-    tally = common.Tally(1 if words.only else 18)
+    tally = common.Tally(1 if words.only else 27)
     common.build_addr()
+    common.build_library()
     with common.empty_folder() as folder:
         path = folder / "file"
         for name, info, line, ranges, wanted, lines in files():
             if not re.search(words.only, name):
                 continue
             path.write_bytes(file_of(info, line, ranges))
-            text, why, took = ran("check", path)
+            text, why, took = ran(DWV_ADDR, "check", path)
             if not why and not re.fullmatch(f"{wanted}\n", text):
                 why = f"{text[:200]!r}, wanted {wanted}"
             tally.add(f"check of {name}", why, f"{took:.2f} s")
-            text, why, took = ran("find", path, f"0x{LOW:x}")
-            if not why and text.count("\n") != lines:
-                why = f"{len(text.splitlines())} lines, wanted {lines}"
-            tally.add(f"find in {name}", why, f"{took:.2f} s")
+            for title, *asked in (("find in", DWV_ADDR, "find"), ("dwv_frames of", sys.executable, "-c", BY_LIBRARY)):
+                text, why, took = ran(*asked, path, f"0x{LOW:x}")
+                if not why and text.count("\n") != lines:
+                    why = f"{len(text.splitlines())} lines, wanted {lines}"
+                tally.add(f"{title} {name}", why, f"{took:.2f} s")
     return tally.end()
 
 

@@ -9,13 +9,15 @@ cd "$(dirname "$0")/.." || exit 1
 folder=$(mktemp -d)
 trap 'rm -rf "$folder"' EXIT
 dwv=crates/dwv/out/dwv
+addr=crates/dwv_addr/out/dwv_addr
 tests=tests/library
 sample=crates/dwv/data/X1
+four=crates/dwv_addr/data/four
 passed=0
 failed=0
 skipped=0
 # How many checks there are at least, if no tool is missing that they need.
-least=44
+least=56
 lacking=
 
 # is NAME SAID WANTED: the two texts must be the same.
@@ -67,6 +69,7 @@ end() {
 }
 
 [ -x "$dwv" ] || (cd crates/dwv && rt run -- check data/X1)
+[ -x "$addr" ] || (cd crates/dwv_addr && rt run -- check data/four)
 make --no-print-directory lib > "$folder/log" 2>&1
 is 'make lib ends' "$?" 0
 [ "$failed" -eq 0 ] || { cat "$folder/log"; end; }
@@ -75,7 +78,7 @@ is 'make lib ends' "$?" 0
 names() {
     sed -n "s/^[0-9a-f ]* [$1] \\([A-Za-z0-9_.]*\\)\$/\\1/p" | sort -u | xargs
 }
-calls='dwv_check dwv_check_sections dwv_report dwv_table dwv_table_sections dwv_version'
+calls='dwv_check dwv_check_sections dwv_frames dwv_report dwv_table dwv_table_sections dwv_version'
 needs='free malloc memcpy memmove memset realloc'
 if has nm; then
     is 'what libdwv.a has' "$(nm -g out/lib/libdwv.a | names TDBRVWC)" "$calls"
@@ -115,10 +118,13 @@ layout() {
     layout crates/dwv_c/src/table_rows.rt EntryRow dwv_entry
     layout crates/dwv_c/src/meaning.rt ValueRow dwv_value
     layout crates/dwv_c/src/table_rows.rt TableCounts dwv_counts
+    layout crates/dwv_c/src/frame_rows.rt FrameRow dwv_frame
+    layout crates/dwv_c/src/frame_rows.rt Located dwv_located
+    layout crates/dwv_c/src/frame_rows.rt FrameCounts dwv_frame_counts
     sed -n 's/^pub const \([A-Z_]*\): u32 = \([0-9]*\);/_Static_assert(DWV_\1 == \2, "\1");/p' \
         crates/dwv_c/src/verdict.rt crates/dwv_c/src/places.rt
 } > "$folder/layout.c"
-is 'tests of the layout' "$(grep -c '^_Static_assert' "$folder/layout.c")" 93
+is 'tests of the layout' "$(grep -c '^_Static_assert' "$folder/layout.c")" 120
 
 # Files: a sound one, one with a fault, and one of each compiler. Names are in .debug_info, .debug_str and
 # .debug_line_str, and in clang's program at indexed offsets.
@@ -132,6 +138,12 @@ for compiler in gcc clang; do
     [ -e "$program" ] && files+=("$program")
 done
 
+# The addresses that are looked up in a file: those of its functions, and some of `four`.
+addresses_of() {
+    echo 0 1000 1006 100c
+    nm "$1" 2> /dev/null | sed -n 's/^\([0-9a-f]*\) [Tt] .*/\1/p'
+}
+
 flags=(-std=c11 -g -O1 -Wall -Wextra -Werror -pedantic -Iout/include)
 sanitizers=(-fsanitize=address,undefined -fno-sanitize-recover=all)
 for compiler in gcc clang; do
@@ -142,6 +154,7 @@ for compiler in gcc clang; do
     ends "$compiler: the layout of the structs" "$compiler" "${flags[@]}" -c -o "$folder/layout.o" "$folder/layout.c"
     ends "$compiler: calls.c compiles" build -o "$folder/calls" "$tests/calls.c"
     ends "$compiler: table.c compiles" build -o "$folder/table" "$tests/table.c"
+    ends "$compiler: frames.c compiles" build -o "$folder/frames" "$tests/frames.c"
     for file in "${files[@]}"; do
         name=$(basename "$file")
         is "$compiler: check of $name" "$("$folder/calls" "$file" 2>&1; echo $?)" \
@@ -149,9 +162,14 @@ for compiler in gcc clang; do
         is "$compiler: table of $name" "$("$folder/table" "$file" 2>&1 | md5sum)" \
             "$("$dwv" show "$file" | sed '/^fault/d' | md5sum)"
     done
+    for file in "${files[@]}" "$four"; do
+        mapfile -t addresses < <(addresses_of "$file" | xargs -n 1)
+        is "$compiler: frames of $(basename "$file")" "$("$folder/frames" "$file" "${addresses[@]}" 2>&1 | md5sum)" \
+            "$("$addr" find "$file" "${addresses[@]}" | md5sum)"
+    done
     wraps=(-Wl,--wrap=malloc,--wrap=realloc,--wrap=free)
     ends "$compiler: failing.c compiles" build "${wraps[@]}" -o "$folder/failing" "$tests/failing.c"
-    ends "$compiler: allocations that fail" "$folder/failing" "${files[@]:0:2}"
+    ends "$compiler: allocations that fail" "$folder/failing" "${files[@]:0:2}" "$four"
     ends "$compiler: threads.c compiles" build -pthread -o "$folder/threads" "$tests/threads.c"
     ends "$compiler: eight threads" "$folder/threads" "${files[@]:0:2}"
 done
@@ -233,6 +251,15 @@ if has cargo; then
             cargo "$1" --quiet --offline --locked --manifest-path rust/dwv/Cargo.toml "${@:2}"
     }
     crate test
+    if has gcc; then
+        # `deep` prints the backtrace of its program.
+        ends 'a program that prints its backtrace compiles' gcc -g -o "$folder/crash" "$tests/crash.c"
+        ends 'the Rust example with a backtrace compiles' \
+            cargo build --quiet --offline --locked --manifest-path rust/dwv/Cargo.toml --example backtrace
+        is 'the Rust example with a backtrace' \
+            "$("$folder/crash" | "$folder/target/debug/examples/backtrace" "$folder/crash" | sed -n 's/ at .*:/ /p' |
+                xargs)" 'deep 6 main 11'
+    fi
     crate doc
     crate package --allow-dirty
     if has cargo-clippy; then

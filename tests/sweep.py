@@ -517,8 +517,14 @@ def calls(made):
             return took, sum(n * each for n, each in zip(counts, (40, 64, 32))), 0
         return ask
 
+    def frames(many):
+        """The frames at address 0: there are none."""
+        counts, verdict, address = (size * 2)(), ctypes.create_string_buffer(128), ctypes.c_uint64(0)
+        places = [word for count in (1, 0, 0) for word in (ctypes.byref(room, 64 * count), size(count))]
+        return timed(lib.dwv_frames, *of_file(many), ctypes.byref(address), size(1), *places, counts, verdict), 0, 0
+
     found = {"dwv_check": check(of_file, "dwv_check"), "dwv_check_sections": check(of_sections, "dwv_check_sections"),
-             "dwv_table": table(of_file, "dwv_table"),
+             "dwv_table": table(of_file, "dwv_table"), "dwv_frames": frames,
              "dwv_table_sections": table(of_sections, "dwv_table_sections")}
     names = ("check", "check --json", "show", "types", "size")
     return found | {f"dwv_report, {name}": report(number) for number, name in enumerate(names)}

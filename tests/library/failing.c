@@ -45,12 +45,16 @@ struct memory {
     struct dwv_unit units[64];
     struct dwv_entry entries[64];
     struct dwv_value values[64];
+    struct dwv_frame_counts frame_counts;
+    struct dwv_located located[3];
+    struct dwv_frame frames[64];
     uint8_t text[1 << 16];
 };
 
 /* A call by its number: 0 to 4 are the requests of dwv_report. */
 static uint32_t call(int number, const uint8_t *file, size_t length, struct memory *to) {
     static const uint8_t none[1];
+    static const uint64_t addresses[] = {0x1006, 0, 0x1000};
     memset(to, 0x5a, sizeof *to);
     requests = live = 0;
     counting = 1;
@@ -61,6 +65,9 @@ static uint32_t call(int number, const uint8_t *file, size_t length, struct memo
         status = dwv_check(file, length, &to->verdict);
     else if (number == 6)
         status = dwv_table(file, length, to->units, 64, to->entries, 64, to->values, 64, &to->counts, &to->verdict);
+    else if (number == 7)
+        status = dwv_frames(file, length, addresses, 3, to->located, 3, to->frames, 64, to->text, sizeof to->text,
+                            &to->frame_counts, &to->verdict);
     else
         status = dwv_check_sections(file + 64, 64, file, 64, none, 0, none, 0, none, 0, none, 0, &to->verdict);
     counting = 0;
@@ -74,7 +81,7 @@ int main(int argc, char **argv) {
     for (int k = 1; k < argc; k++) {
         size_t length;
         uint8_t *file = read_file(argv[k], &length);
-        for (int number = 0; number <= 7; number++) {
+        for (int number = 0; number <= 8; number++) {
             refused = 1, last = 0;
             uint32_t status = call(number, file, length, &want);
             long all = requests;
