@@ -224,10 +224,12 @@ deb: lib addr
 wheel: lib
 	packaging/package.py wheel out/packages
 
-# Measures the program beside the peers that are installed, and draws docs/performance.svg.
+# Measures the program beside the peers that are installed, and draws docs/performance.svg; and dwv-addr, if `make addr`
+# built it.
 .PHONY: bench
 bench:
 	bench/bench.py
+	bench/lookups.py
 
 # Runs the program on what the installed compilers make of small programs, and writes docs/COMPILERS.md.
 .PHONY: compilers

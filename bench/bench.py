@@ -150,9 +150,10 @@ def entries(program):
     return int(re.search(r"(\d+) entries", said)[1])
 
 
-def run(words):
-    """Processor seconds and peak megabytes of one run, or None if it is stopped at the limit."""
-    child = subprocess.Popen(words, stdout=subprocess.DEVNULL, stderr=subprocess.DEVNULL)
+def run(words, given=os.devnull):
+    """Processor seconds and peak megabytes of one run, or None if it is stopped at the limit. It reads a file."""
+    with open(given) as opened:
+        child = subprocess.Popen(words, stdin=opened, stdout=subprocess.DEVNULL, stderr=subprocess.DEVNULL)
     resource.prlimit(child.pid, resource.RLIMIT_CPU, (LIMIT, LIMIT + 1))
     _, status, used = os.wait4(child.pid, 0)
     if os.WIFSIGNALED(status):
@@ -162,14 +163,14 @@ def run(words):
     return used.ru_utime + used.ru_stime, used.ru_maxrss / 1024
 
 
-def measure(commands):
-    """The best run of each command, or None if a run is stopped at the limit. They take turns."""
+def measure(commands, given=os.devnull):
+    """The best run of each command, or None if a run is stopped at the limit. They take turns, and read a file."""
     best, spent = {}, dict.fromkeys(commands, 0)
     for _ in range(ROUNDS):
         for name, words in commands.items():
             if spent[name] > ENOUGH:
                 continue
-            row = run(words)
+            row = run(words, given)
             best[name] = row and min(best.get(name, row), row)
             spent[name] += row[0] if row else LIMIT
     return best
