@@ -21,14 +21,16 @@ addr: toolchain
 	@echo "The program is crates/dwv_addr/out/dwv_addr: make install installs it as dwv-addr."
 
 # Proves the C library and links it into out/, with its header and a file for pkg-config. Only the names dwv_* are
-# visible. The toolchain's own archive has its allocator, which calls malloc.
+# visible. The toolchain's own archive has its allocator, which calls malloc, and the compiler's has the division of
+# numbers of 128 bits.
 kit = $(dir $(shell readlink -f "$$(command -v rt)"))..
 .PHONY: lib
 lib: toolchain
 	cd crates/dwv_c && rt lib
 	install -d out/lib/pkgconfig out/include
 	$(CC) -O2 -fPIC -Iinclude -c include/version.c -o out/lib/version.o
-	ld -r --whole-archive crates/dwv_c/out/libdwv_c.a "$(kit)/c/liblibc_c.a" out/lib/version.o -o out/lib/dwv.o
+	ld -r --whole-archive crates/dwv_c/out/libdwv_c.a "$(kit)/c/liblibc_c.a" out/lib/version.o --no-whole-archive \
+	    "$$($(CC) -print-libgcc-file-name)" -o out/lib/dwv.o
 	objcopy --wildcard --keep-global-symbol='dwv_*' out/lib/dwv.o
 	rm -f out/lib/libdwv.a
 	ar rcsD out/lib/libdwv.a out/lib/dwv.o
