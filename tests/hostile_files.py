@@ -111,12 +111,10 @@ REFERRING_MEMORY = 60
 # grows four times), the least time that is compared, and how often one is measured.
 DOUBLED = doubled_files.Limits(seconds=3, memory=60, growth=2.7)
 LEAST_TIME, TRIES = 0.05, 5
-# Those that may take more: the loads of each type (some of each code) miss the caches, and a list has a node for each
-# offset.
+# Those that may take more: the loads of each type (some of each code) miss the caches.
 DOUBLED_MORE = {
     "a random chain of typedefs": DOUBLED._replace(seconds=8, growth=3),
     "entries with codes of ten bytes, found last": DOUBLED._replace(growth=3),
-    "lists of attributes that are read at two parities": DOUBLED._replace(memory=80),
 }
 
 

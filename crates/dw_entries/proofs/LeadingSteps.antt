@@ -1,5 +1,5 @@
 -- One step of a walk over the values that may lead elsewhere.
-use Rattle.std.proofs.Common.{rules, ◌≡◌, ℕ, ◌-◌, ◌≤◌, ◌⊎◌, List, [], ◌∷◌, ◌++◌, length, take, drop, map, Ok, sym, ap, subst, ◌∙◌}
+use Rattle.std.proofs.Common.{rules, ◌≡◌, ℕ, ◌-◌, ◌≤◌, List, [], ◌∷◌, ◌++◌, length, take, drop, map, Ok, sym, ap, subst, ◌∙◌}
 use Rattle.std.proofs.lemmas.Bool.{ltb-false}
 use Rattle.std.proofs.lemmas.List.{take-append-drop}
 use Rattle.dw_forms.specs.declared.attributes.Attributes.{Attributes}
@@ -11,10 +11,10 @@ use Rattle.dw_forms.specs.Chains.{Numbered, items_of}
 use Rattle.dw_forms.specs.KnownValues.{known_sum, rest_beyond}
 use Rattle.dw_forms.specs.Suffixes.{nodes_of, numbered, specs_in}
 use Rattle.dw_forms.specs.Value.{Datum}
-use Rattle.dw_forms.specs.LeadingWalks.{does_lead, IsFirstStep}
+use Rattle.dw_forms.specs.LeadingWalks.{does_lead, skip_in, IsFirstStep}
 use Rattle.dw_forms.proofs.ChainLaws.{chain_none}
 use Rattle.dw_forms.proofs.PassSteps.{run, items_append}
-use Rattle.dw_forms.proofs.WalkSteps.{GoesTo, goes_to, step_lead, skip_is}
+use Rattle.dw_forms.proofs.WalkSteps.{GoesTo, goes_to, step_lead}
 use Rattle.dw_entries.specs.EntryRules.{value_of}
 use Rattle.dw_entries.specs.Grammar.{Context, AreAttributes}
 use Rattle.dw_entries.specs.Leading.{BeginsWithLead, PassesOver}
@@ -33,9 +33,8 @@ cut_is len bytes rest e = search (rules, ltb-false)
 -- the attributes before the one that a step goes to
 module _ (v : Values) (step : Step) (skip : ℕ) (is : IsFirstStep (numbered v.attributes) step)
     (some : step.lead ≡ lead.Nothing → ⊥)
-    (chosen : ((v.address_size ≡ 8) × (skip ≡ step.skip_with_8))
-    ⊎ ((v.address_size ≡ 8 → ⊥) × (skip ≡ step.skip_with_4)))
-    (there : Attributes) (nodes_are : nodes_of there ≡ nodes_of v.attributes) (first_is : there.first ≡ step.to) where
+    (skipped : skip ≡ skip_in v.address_size (numbered v.attributes)) (there : Attributes)
+    (nodes_are : nodes_of there ≡ nodes_of v.attributes) (first_is : there.first ≡ step.to) where
   -- what the values are read by
   abbrev x : Context
   x = value_context v.version v.address_size
@@ -74,9 +73,7 @@ module _ (v : Values) (step : Step) (skip : ℕ) (is : IsFirstStep (numbered v.a
   here = those x (specs_in all) front (specs_in there) parts v.bytes.now v.left
 
   skips : skip ≡ known_sum v.address_size front
-  skips =
-      skip_is (nodes_of all) all.lists.now.known all.first all.within step is v.address_size v.sized skip chosen
-      ∙ goes.skips v.address_size
+  skips = skipped ∙ goes.skips v.address_size
 
   cut : (skip ≤ length v.bytes.now) × (here.behind ≡ drop skip v.bytes.now)
   cut =

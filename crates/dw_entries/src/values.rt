@@ -100,13 +100,9 @@ impl<'e, 'a> Values<'e, 'a> {
             (specs_left self.new) }
         ensures first { BeginsWithLead step.now.lead (specs_left self.new) }
     {
-        let skip = if self.address_size == 8 {
-            step.skip_with_8
-        } else {
-            step.skip_with_4
-        };
+        let skip = self.attributes.skipped(step, self.address_size);
         self.attributes = self.attributes.stepped(step);
-        self.bytes = &self.bytes[skip as usize..];
+        self.bytes = &self.bytes[skip..];
     }
 
     /// Takes the first attribute that is left, and the step from those after it. If a form is given, the attribute has

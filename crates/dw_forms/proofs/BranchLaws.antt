@@ -6,7 +6,7 @@ use Rattle.std.proofs.lemmas.Bool.{eqb-true, cases_eq}
 use Rattle.std.proofs.lemmas.List.{length-append, get_or_append_left, get_or_at, get_or_default}
 use Rattle.dw_forms.specs.declared.chains.Link.{Link}
 use Rattle.dw_forms.specs.CodeBits.{same_bit, agrees, parts}
-use Rattle.dw_forms.specs.Chains.{codes_in, codes_of, number_where, number_in, AreBranches, AreBelow, AreFound}
+use Rattle.dw_forms.specs.Chains.{codes_in, codes_of, number_where, number_in, AreBranches, AreBelow, AreMore, AreFound}
 use Rattle.dw_forms.proofs.BitLaws.{eq_true, agrees_less, agrees_same, agrees_all, agrees_on, parts_on, parts_later, parts_as, parts_turned}
 use Rattle.dw_forms.proofs.ChainLaws.{where_same, where_passes, narrowed, are_numbered}
 use Rattle.dw_forms.proofs.CodeLaws.{codes_none, found_stay, code_read}
@@ -16,6 +16,7 @@ use Rattle.dw_forms.proofs.SearchLaws.{branch_is, branch_below, first_passes}
 pub record AreAppended (old branches : List ℕ) (links : List Link) (rest code place number : ℕ) : Type 0 where
   pub found : AreFound branches links
   pub within : number ≤ length links
+  pub more : AreMore old branches
   pub long : length branches ≡ length old + place
   pub first : number ≡ number_where (agrees code place) (codes_in links rest)
   pub each : (i : ℕ) → i < place
@@ -36,7 +37,7 @@ first_read branches (y ∷ links) rest code are within some =
     (omega (arith, within, some)) in
     sym (first_passes branches (y ∷ links) rest x are some within read (agrees code 0) (agrees_none code x.code))
 
-none_where : (p : ℕ → Bool) (links : List Link) → number_where p (codes_in links 0) ≡ 0
+pub none_where : (p : ℕ → Bool) (links : List Link) → number_where p (codes_in links 0) ≡ 0
 unfolding number_where
 none_where p links = rw (codes_none links) refl
 
@@ -47,13 +48,26 @@ first_of_all branches links rest code are within (inr some) =
     first_read branches links rest code are within (omega (arith, some))
 
 -- before the first place
+none_more : (branches : List ℕ) → AreMore branches branches
+none_more branches = record { long = omega arith; same = λ i less. refl }
+
 pub appended_none : (branches : List ℕ) (links : List Link) (rest code : ℕ) → AreFound branches links
     → rest ≤ length links → AreAppended branches branches links rest code 0 rest
-appended_none branches links rest code are within = search (rules, first_of_all, cases_eq)
+appended_none branches links rest code are within = search (rules, none_more, first_of_all, cases_eq)
 
 -- the branch at one place more
 module _ (old branches : List ℕ) (links : List Link) (rest code place number new : ℕ)
     (are : AreAppended old branches links rest code place number) where
+  more_kept : AreMore old (branches ++ new ∷ [])
+  more_kept =
+      let more = are.more in
+      let long = more.long in
+      record {
+        long = omega (arith, long, length-append branches (new ∷ []));
+        same = λ i less.
+            get_or_append_left branches (new ∷ []) 0 i (omega (arith, less, long)) ∙ more.same i less;
+      }
+
   more_each : new ≡ number_where (parts code place) (codes_in links rest) → (i : ℕ) → i < place + 1
       → get_or (branches ++ new ∷ []) (length old + i) 0 ≡ number_where (parts code i) (codes_in links rest)
   more_each is i less = elim (cases_eq i place) [
@@ -75,7 +89,7 @@ module _ (old branches : List ℕ) (links : List Link) (rest code place number n
       → then ≡ number_where (agrees code (suc place)) (codes_in links rest) → then ≤ length links
       → AreAppended old (branches ++ new ∷ []) links rest code (place + 1) then
   one_more then is small turn within =
-      search (rules, common_steps, found_stay, length-append, more_each, is, more_below, small)
+      search (rules, common_steps, found_stay, length-append, more_kept, more_each, is, more_below, small)
 
 either_within : (x y bound : ℕ) (b : Bool) → x ≤ bound → y ≤ bound → cond b x y ≤ bound
 either_within x y bound true here rest = here

@@ -17,6 +17,7 @@ pub mod StepLaws
 pub mod OffsetLaws
 pub mod NodeSteps
 pub mod NodeLaws
+pub mod ShortLists
 pub mod PartLaws
 pub mod ListLaws
 pub mod EndLaws

@@ -1,47 +1,32 @@
 -- Codes are found in lists of attributes.
-use Rattle.std.proofs.Common.{rules, ◌≡◌, ℕ, zero, suc, ◌<◌, ◌≤◌, true, false, List, [], ◌∷◌, ◌++◌, length, map, refl, sym, ap, ◌∙◌, inl, inr, arith}
+use Rattle.std.proofs.Common.{rules, ◌≡◌, ℕ, zero, suc, ◌<◌, ◌≤◌, true, false, List, [], ◌∷◌, ◌++◌, length, sym, ap, ◌∙◌, inl, inr, arith}
 use Rattle.std.proofs.lemmas.Grind.{common_steps}
-use Rattle.std.specs.Prelude.{◌==◌, ◌≢◌, ◌+◌, not, get_or}
+use Rattle.std.specs.Prelude.{◌==◌, not, get_or}
 use Rattle.std.proofs.lemmas.Bool.{cases_eq}
 use Rattle.std.proofs.lemmas.List.{length-append, length-map, map-append, get_or_append_left, get_or_at, get_or_default}
 use Rattle.std.proofs.lemmas.List.Elements.{All-nil}
 use Rattle.dw_forms.specs.declared.abbrev.AttributeSpec.{AttributeSpec}
 use Rattle.dw_forms.specs.declared.attribute_lists.Node.{Node}
-use Rattle.dw_forms.specs.Abbrev.{IsCode16, AreAttributeSpecs, attribute_of}
+use Rattle.dw_forms.specs.Abbrev.{IsCode16, AreAttributeSpecs}
 use Rattle.dw_forms.specs.AbbrevReading.{has_attribute}
 use Rattle.dw_forms.specs.AttributeLists.{spec_of, specs_of, numbered_in, list_in, has_this, link_of, links_of, Knows, IsKnown, AreKnown}
-use Rattle.dw_forms.specs.Chains.{Numbered, chain_in, chains_of, codes_of, codes_in, number_in, number_where, AreBranches, AreBelow, AreFound}
+use Rattle.dw_forms.specs.Chains.{Numbered, number_where}
 use Rattle.dw_forms.specs.LeadingWalks.{IsFirstStep}
 use Rattle.dw_forms.proofs.BitLaws.{eq_true, differ}
-use Rattle.dw_forms.proofs.CodeLaws.{found_more}
 use Rattle.dw_forms.specs.Keys.{apart_cons, lacks_from}
-use Rattle.dw_forms.proofs.ChainLaws.{chain_none, chain_map, where_map, are_numbered, none_has, some_has, old_chain, new_chain}
-
--- the code of an attribute, with the number of the list after it
-abbrev pub code_part : (AttributeSpec × ℕ) → ℕ × ℕ
-code_part x = (x.0.attribute, x.1)
-
-codes_parts : (nodes : List Node) → codes_of (links_of nodes) ≡ map code_part (specs_of nodes)
-codes_parts [] = refl
-codes_parts (n ∷ nodes) = ap (λ (rest : List (ℕ × ℕ)). (n.attribute, n.next) ∷ rest) (codes_parts nodes)
+use Rattle.dw_forms.proofs.FewAttributes.{few_specs}
+use Rattle.dw_forms.proofs.ChainLaws.{chain_none, are_numbered, none_has, some_has, old_chain, new_chain}
 
 -- the first attribute with the code
 abbrev pub attribute_in : List Node → ℕ → ℕ → ℕ
 attribute_in nodes number code = number_where (has_this code) (numbered_in nodes number)
-
-pub code_is : (nodes : List Node) (number code : ℕ)
-    → number_in (codes_in (links_of nodes) number) code ≡ attribute_in nodes number code
-code_is nodes number code =
-    ap (λ (items : List (ℕ × ℕ)). number_in (chain_in (chains_of items) number) code) (codes_parts nodes)
-    ∙ ap (λ (chain : List (Numbered ℕ)). number_in chain code) (chain_map attribute_of (specs_of nodes) number)
-    ∙ where_map (λ c. c == code) attribute_of (numbered_in nodes number)
 
 lacks : (nodes : List Node) (number code : ℕ) → attribute_in nodes number code ≡ 0
     → has_attribute code (list_in nodes number) ≡ false
 lacks nodes number code none =
     none_has (has_this code) (specs_of nodes) (numbered_in nodes number) (are_numbered (specs_of nodes) number) none
 
-has : (nodes : List Node) (number code : ℕ) → (attribute_in nodes number code ≡ 0 → ⊥)
+pub has : (nodes : List Node) (number code : ℕ) → (attribute_in nodes number code ≡ 0 → ⊥)
     → has_attribute code (list_in nodes number) ≡ true
 has nodes number code some = some_has (has_this code) (numbered_in nodes number) some
 
@@ -49,15 +34,6 @@ has nodes number code some = some_has (has_this code) (numbered_in nodes number)
 pub has_is : (nodes : List Node) (number code found : ℕ) → found ≡ attribute_in nodes number code
     → not (found == 0) ≡ has_attribute code (list_in nodes number)
 has_is nodes number code found is = search (rules, cases_eq, eq_true, lacks, differ, has)
-
--- the same, as it is found by the links
-pub lacks_code : (nodes : List Node) (number code : ℕ) → number_in (codes_in (links_of nodes) number) code ≡ 0
-    → has_attribute code (list_in nodes number) ≡ false
-lacks_code nodes number code none = lacks nodes number code (sym (code_is nodes number code) ∙ none)
-
-pub has_code : (nodes : List Node) (number code : ℕ) → number_in (codes_in (links_of nodes) number) code ≢ 0
-    → has_attribute code (list_in nodes number) ≡ true
-has_code nodes number code some = has nodes number code (λ none. some (code_is nodes number code ∙ none))
 
 -- ---- one attribute more
 
@@ -79,17 +55,6 @@ new_list nodes n = search (rules, length-map, specs_more, new_chain)
 pub links_long : (nodes : List Node) → length (links_of nodes) ≡ length nodes
 links_long nodes = length-map nodes link_of
 
--- attributes are found with one more
-pub found_push : (branches : List ℕ) (nodes : List Node) (n : Node) (spec : AttributeSpec) (rest from count : ℕ)
-    → spec_of n ≡ spec → n.next ≡ rest → n.branches ≡ from → n.places ≡ count → AreFound branches (links_of nodes)
-    → AreBelow branches from count (length (links_of nodes) + 1)
-    → AreBranches branches from count spec.attribute (codes_in (links_of nodes) rest)
-    → AreFound branches (links_of (nodes ++ n ∷ []))
-found_push branches nodes n spec rest from count spec_is next_is from_is count_is are below is =
-    rw (map-append link_of nodes (n ∷ []))
-    (found_more branches (links_of nodes) (link_of n) are (omega arith)
-    refl (rw (from_is, count_is) below) (rw (ap attribute_of spec_is, next_is, from_is, count_is) is))
-
 -- ---- what is known of the new list
 
 pub attributes_more : (spec : AttributeSpec) (specs : List AttributeSpec) → AreAttributeSpecs specs
@@ -106,6 +71,16 @@ attributes_in [] (suc k) known within = absurd (omega (arith, within))
 attributes_in (d ∷ nodes) (suc k) known within =
     (known k (get_or (d ∷ nodes) k d) (omega (arith, within))
     (get_or_default (d ∷ nodes) k d (get_or (d ∷ nodes) k d) (omega (arith, within)))).attributes
+
+-- there is room to count it
+pub few_more : (nodes : List Node) (spec : AttributeSpec) (rest : ℕ) (next : Node) → AreKnown nodes
+    → rest ≤ length nodes → IsCode16 spec.attribute → has_attribute spec.attribute (list_in nodes rest) ≡ false
+    → Knows (numbered_in nodes rest) next → next.count < 0xffff
+few_more nodes spec rest next known within code none knows =
+    let few = few_specs (spec ∷ list_in nodes rest)
+    (attributes_more spec (list_in nodes rest) (attributes_in nodes rest known within) code none) in
+    let count = knows.count in
+    omega (arith, few, count, length-map (numbered_in nodes rest) (λ (n : Numbered AttributeSpec). n.item))
 
 module _ (nodes : List Node) (n : Node) where
   old_known : (number : ℕ) (x : Node) → number ≤ length nodes → IsKnown nodes number x

@@ -6,7 +6,7 @@ use Rattle.std.proofs.lemmas.List.Sums.{sum_by-cons}
 use Rattle.dw_forms.specs.declared.abbrev.AttributeSpec.{AttributeSpec}
 use Rattle.dw_forms.specs.declared.attribute_lists.Node.{Node}
 use Rattle.dw_forms.specs.Abbrev.{AreAttributeSpecs}
-use Rattle.dw_forms.specs.AttributeLists.{IsKnown, AreKnown}
+use Rattle.dw_forms.specs.AttributeLists.{Knows, IsKnown, AreKnown}
 use Rattle.dw_forms.specs.Chains.{Numbered, items_of, number_where}
 use Rattle.dw_forms.specs.KnownValues.{known_size, known_sum}
 use Rattle.dw_forms.proofs.FewAttributes.{few_specs}
@@ -23,6 +23,17 @@ pub sum_more : (size : ℕ) (spec : AttributeSpec) (specs : List AttributeSpec) 
     → known ≡ known_sum size specs → own ≡ known_size size spec.form → known + own ≡ known_sum size (spec ∷ specs)
 sum_more size spec specs known own e o = search (rules, sum_by-cons)
 
+-- the same where addresses have 4 bytes
+pub sum_more_4 : (spec : AttributeSpec) (specs : List AttributeSpec) (known addresses own more : ℕ)
+    → known ≡ known_sum 4 specs + 4 * addresses → own ≡ known_size 8 spec.form
+    → known_size 8 spec.form ≡ known_size 4 spec.form + 4 * more
+    → known + own ≡ known_sum 4 (spec ∷ specs) + 4 * (addresses + more)
+sum_more_4 spec specs known addresses own more e o address =
+    let sum : known_sum 4 (spec ∷ specs)
+    ≡ known_size 4 spec.form + known_sum 4 specs =
+    sum_by-cons (λ (s : AttributeSpec). known_size 4 s.form) spec specs in
+    omega (arith, e, o, address, sum)
+
 -- whether both hold, if the second one holds
 pub and_true : (own all result next : Bool) → next ≡ all → next ≡ true → result ≡ own → result ≡ (own && all)
 and_true true all result next e held is = is ∙ sym held ∙ e
@@ -33,23 +44,26 @@ pub and_false : (own all result next : Bool) → next ≡ all → next ≡ false
 and_false true all result next e failed is = is ∙ e
 and_false false all result next e failed is = is ∙ failed
 
--- ---- the sums are small
+-- ---- there are few attributes, and the sums are small
+
+pub few_in : (list : List (Numbered AttributeSpec)) → AreAttributeSpecs (items_of list) → length list ≤ 0xffff
+few_in list are =
+    omega (arith, few_specs (items_of list) are, length-map list (λ (n : Numbered AttributeSpec). n.item))
 
 pub known_small : (list : List (Numbered AttributeSpec)) (known : ℕ) → AreAttributeSpecs (items_of list)
     → known ≤ 0xff * length list → known ≤ 0xffffff
 known_small list known are le =
-    omega (arith, le, few_specs (items_of list) are, length-map list (λ (n : Numbered AttributeSpec). n.item))
-
--- and so is the number of attributes
-pub known_few : (list : List (Numbered AttributeSpec)) (count : ℕ) → AreAttributeSpecs (items_of list)
-    → count ≡ length list → count ≤ 0x10000
-known_few list count are is =
-    omega (arith, is, few_specs (items_of list) are, length-map list (λ (n : Numbered AttributeSpec). n.item))
+    omega (arith, le, few_in list are)
 
 -- one attribute more
 pub count_more : (list : List (Numbered AttributeSpec)) (first : Numbered AttributeSpec) (next count : ℕ)
     → next ≡ length list → count ≡ next + 1 → count ≡ length (first ∷ list)
 count_more list first next count before more = omega (arith, before, more)
+
+-- addresses are among the values
+pub addresses_less : (list : List (Numbered AttributeSpec)) (n : Node) → Knows list n
+    → 4 * n.addresses ≤ n.known_with_8
+addresses_less list n is = let four = is.known_with_4 in omega (arith, four)
 
 -- ---- the node that is read at the place before a number
 

@@ -123,8 +123,8 @@ sum_goes size nodes from to before goes = search (rules, items_append, sum_appen
 
 pub known_is : (size : ℕ) (list : List (Numbered AttributeSpec)) (n : Node) → (size ≡ 4) ⊎ (size ≡ 8) → Knows list n
     → known_with size n ≡ known_sum size (items_of list)
-known_is size list n (inl e) k = rw e k.known_with_4
-known_is size list n (inr e) k = rw e k.known_with_8
+known_is size list n (inl e) k = rw e (let four = k.known_with_4 in omega (arith, four))
+known_is size list n (inr e) k = rw e (let eight = k.known_with_8 in omega (arith, eight))
 
 -- values that do not vary are cut off together
 pub run : (version size : ℕ) (before : List (Numbered AttributeSpec)) (bytes : List ℕ)

@@ -1,5 +1,5 @@
 -- One turn of passing values: up to the next value of no one size, or up to the end.
-use Rattle.std.proofs.Common.{◌≡◌, ℕ, ◌+◌, ◌-◌, ◌<◌, ◌≤◌, ◌⊎◌, false, List, [], ◌∷◌, ◌++◌, length, Ok, Err, refl, sym, ap, subst, ◌∙◌, rules, arith}
+use Rattle.std.proofs.Common.{◌≡◌, ℕ, ◌+◌, ◌-◌, ◌*◌, ◌<◌, ◌≤◌, ◌⊎◌, false, List, [], ◌∷◌, ◌++◌, length, Ok, Err, refl, sym, ap, subst, ◌∙◌, rules, arith}
 use Rattle.std.specs.Prelude.{get_or}
 use Rattle.std.specs.List.{list_any}
 use Rattle.std.proofs.lemmas.List.{append_cancel_right}
@@ -13,7 +13,7 @@ use Rattle.dw_forms.specs.KnownValues.{known_sum, rest_beyond, values_end}
 use Rattle.dw_forms.specs.Sizes.{rest_at}
 use Rattle.dw_forms.specs.Steps.{◌>>=◌}
 use Rattle.dw_forms.specs.Suffixes.{nodes_of, specs_in, Ends}
-use Rattle.dw_forms.proofs.NodeSteps.{node_read}
+use Rattle.dw_forms.proofs.NodeSteps.{node_read, addresses_less}
 use Rattle.dw_forms.proofs.PartLaws.{Falls, StartsAt, falls, starts, head_above, none_before, split, part_at}
 use Rattle.dw_forms.proofs.PassSteps.{known_is, sum_goes, run, one}
 
@@ -35,6 +35,7 @@ pub record Turn (nodes : List Node) (size at to : ℕ) (before : List (Numbered 
   pub parts : before ≡ front ++ record { number = here.next_varying; item = spec_of varying } ∷ others
   pub goes_on : EndsWith nodes varying.next to others
   pub sum : known_with size here ≡ known_sum size (items_of front) + known_with size varying
+  pub addresses : 4 * varying.addresses ≤ varying.known_with_8
   pub within : varying.next ≤ length nodes
   pub less : varying.next < at
 
@@ -86,6 +87,9 @@ module _ {all to : Attributes} {version size : ℕ} {bytes : List ℕ} {at : ℕ
     module _ {here : Node} (read : here ≡ get_or (nodes_of all) (at - 1) here) where
       is : IsKnown (nodes_of all) at here
       is = node_read (nodes_of all) at here all.lists.now.known some_left p.within read
+
+      pub here_addresses : 4 * here.addresses ≤ here.known_with_8
+      here_addresses = addresses_less (numbered_in (nodes_of all) at) here is.knows
 
       next_is : here.next_varying ≡ number_where varies (numbered_in (nodes_of all) at)
       next_is = is.knows.varying
@@ -146,6 +150,7 @@ module _ {all to : Attributes} {version size : ℕ} {bytes : List ℕ} {at : ℕ
             sum = here_sum ∙ sum_goes size (nodes_of all) at here.next_varying s.before front_goes
                 ∙ ap (λ (n : ℕ). known_sum size (items_of s.before) + n)
                 (sym (known_is size (numbered_in (nodes_of all) here.next_varying) varying p.sized v.knows));
+            addresses = addresses_less (numbered_in (nodes_of all) here.next_varying) varying v.knows;
             within = omega (arith, next, next_number);
             less = omega (arith, next, next_within);
           }

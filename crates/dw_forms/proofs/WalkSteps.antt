@@ -1,5 +1,5 @@
 -- Where the first step in the list of a number goes to, and what comes before that attribute.
-use Rattle.std.proofs.Common.{rules, ◌≡◌, ℕ, zero, suc, ◌+◌, ◌<◌, ◌≤◌, ◌⊎◌, Bool, true, false, not, List, [], ◌∷◌, length, refl, sym, ap, subst, ◌∙◌, inl, inr, arith}
+use Rattle.std.proofs.Common.{rules, ◌≡◌, ℕ, zero, suc, ◌+◌, ◌<◌, ◌≤◌, Bool, true, false, not, List, [], ◌∷◌, length, refl, sym, ap, subst, ◌∙◌, arith}
 use Rattle.std.specs.Prelude.{◌==◌, ◌&&◌, ◌||◌}
 use Rattle.std.specs.List.{list_any}
 use Rattle.std.proofs.lemmas.Bool.{ne_eqb, or_parts}
@@ -226,13 +226,3 @@ module _ (nodes : List Node) (known : AreKnown nodes) where
 
       pub goes_to : (step.to ≡ 0 → ⊥) → GoesTo nodes number step.to
       goes_to other = walks.goes other
-
-      -- how many bytes are passed
-      pub skip_is : (size : ℕ) → (size ≡ 4) ⊎ (size ≡ 8) → (skip : ℕ)
-          → ((size ≡ 8) × (skip ≡ step.skip_with_8)) ⊎ ((size ≡ 8 → ⊥) × (skip ≡ step.skip_with_4))
-          → skip ≡ skip_in size (numbered_in nodes number)
-      skip_is size sized skip (inl eight) =
-          eight.1 ∙ is.with_8 ∙ ap (λ (n : ℕ). skip_in n (numbered_in nodes number)) (sym eight.0)
-      skip_is size (inl four) skip (inr other) =
-          other.1 ∙ is.with_4 ∙ ap (λ (n : ℕ). skip_in n (numbered_in nodes number)) (sym four)
-      skip_is size (inr eight) skip (inr other) = absurd (other.0 eight)

@@ -77,6 +77,11 @@ pub record AreBranches (branches : List ℕ) (from count code : ℕ) (chain : Li
 abbrev pub AreBelow : List ℕ → ℕ → ℕ → ℕ → Type 0
 AreBelow branches from count number = (place : ℕ) → place < count → get_or branches (from + place) 0 < number
 
+-- the branches begin with those that were there before
+pub record AreMore (old new : List ℕ) : Type 0 where
+  pub long : length old ≤ length new
+  pub same : (i : ℕ) → i < length old → get_or new i 0 ≡ get_or old i 0
+
 -- the link of this number says how codes are found in its chain
 pub record IsFoundBy (branches : List ℕ) (links : List Link) (number : ℕ) (l : Link) : Type 0 where
   pub first : (test : ℕ → Bool) → test l.code ≡ true → number_where test (codes_in links number) ≡ number

@@ -69,11 +69,11 @@ unfoldable pub lead_in : List (Numbered AttributeSpec) → Lead
 lead_in [] = lead.Nothing
 lead_in (n ∷ list) = if stops_at (step_in list) n.item then lead_of n.item else lead_in list
 
--- this is the first step in the list
+-- this is the first step in the list; each address that it passes takes 8 bytes, or 4
 pub record IsFirstStep (list : List (Numbered AttributeSpec)) (s : Step) : Type 0 where
   pub lead : s.lead ≡ lead_in list
   pub to : s.to ≡ step_in list
-  pub with_4 : s.skip_with_4 ≡ skip_in 4 list
   pub with_8 : s.skip_with_8 ≡ skip_in 8 list
-  pub small_4 : s.skip_with_4 ≤ 0xff * length list
-  pub small_8 : s.skip_with_8 ≤ 0xff * length list
+  pub with_4 : s.skip_with_8 ≡ skip_in 4 list + 4 * s.addresses
+  pub small : s.skip_with_8 ≤ 0xff * length list
+  pub few : s.addresses ≤ length list

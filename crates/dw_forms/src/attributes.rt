@@ -1,6 +1,6 @@
 //! The attributes of a declaration, and where their values begin.
 
-ghost use Rattle.std.specs.Prelude.{◌≡◌, ◌≢◌, ◌≤◌, ◌⊎◌, ◌↔◌, List, [], length, All, IfSome, IfNone, IsTrue};
+ghost use Rattle.std.specs.Prelude.{◌≡◌, ◌≢◌, ◌≤◌, ◌-◌, ◌*◌, ◌⊎◌, ◌↔◌, List, [], length, All, IfSome, IfNone, IsTrue};
 ghost use Rattle.dw_forms.specs.declared.abbrev.AttributeSpec.{AttributeSpec as SpecData};
 ghost use Rattle.dw_forms.specs.Chains.{Numbered, items_of};
 ghost use Rattle.dw_forms.specs.AttributeLists.{known_with, has_this, IsKnown};
@@ -9,7 +9,7 @@ ghost use Rattle.dw_forms.specs.KnownValues.{rest_beyond, flag_in, known_flag, k
 ghost use Rattle.dw_forms.specs.Classes.{is_open};
 ghost use Rattle.dw_forms.specs.Sizes.{are_allowed, rest_at};
 ghost use Rattle.dw_forms.specs.ValueReading.{Gives};
-ghost use Rattle.dw_forms.specs.LeadingWalks.{IsFirstStep};
+ghost use Rattle.dw_forms.specs.LeadingWalks.{IsFirstStep, skip_in};
 
 use crate::abbrev::AttributeSpec;
 use crate::attribute_lists::{AttributeLists, Node, Step};
@@ -30,12 +30,15 @@ pub struct Attributes<'a> {
 /// The sum of the known sizes from a node on.
 #[inline(always)]
 pub(crate) fn known(node: &Node, address_size: u8) -> usize
+    requires size { (address_size ≡ 4) ⊎ (address_size ≡ 8) }
+    requires within { 4 * node.now.addresses ≤ node.now.known_with_8 }
     ensures { result ≡ known_with address_size node.now }
 {
+    let with_8 = node.known_with_8 as usize;
     if address_size == 8 {
-        node.known_with_8 as usize
+        with_8
     } else {
-        node.known_with_4 as usize
+        with_8 - 4 * usize::from(node.addresses)
     }
 }
 
@@ -113,7 +116,7 @@ impl<'a> Attributes<'a> {
         ensures { result ≡ length (specs_in self.now) }
     {
         match self.node() {
-            Some(node) => node.count,
+            Some(node) => u32::from(node.count),
             None => 0,
         }
     }
@@ -129,7 +132,7 @@ impl<'a> Attributes<'a> {
     }
 
     /// Whether none of these has the attribute. That takes one test for the attributes that rules and declarations look
-    /// for, and at most 16 turns for others.
+    /// for, and a search at most for others.
     #[inline(always)]
     pub fn lacks(&self, attribute: Attribute) -> bool
         ensures { IsTrue result ↔ All (λ spec. spec.attribute ≢ attribute) (specs_in self.now) }
@@ -189,6 +192,21 @@ impl<'a> Attributes<'a> {
         ensures first { result.first ≡ step.now.to }
     {
         Attributes::new(self.lists, step.to)
+    }
+
+    /// The sum of the sizes of the values that a step from these passes.
+    #[inline(always)]
+    pub fn skipped(&self, step: &Step, address_size: u8) -> usize
+        requires step { IsFirstStep (numbered self.now) step.now }
+        requires size { (address_size ≡ 4) ⊎ (address_size ≡ 8) }
+        ensures { result ≡ skip_in address_size (numbered self.now) }
+    {
+        let with_8 = step.skip_with_8 as usize;
+        if address_size == 8 {
+            with_8
+        } else {
+            with_8 - 4 * usize::from(step.addresses)
+        }
     }
 
     /// The first attribute, those after it, and the step from these.

@@ -4,7 +4,8 @@ ghost use Rattle.std.specs.Prelude.{◌≡◌, ◌≢◌, ◌+◌, ◌-◌, ◌^
 ghost use Rattle.std.specs.Prelude.{IfOk, IfSome, IfNone, OnErr};
 ghost use Rattle.dw_forms.specs.CodeBits.{same_bit};
 ghost use Rattle.dw_forms.specs.declared.chains.Link.{Link as LinkData};
-ghost use Rattle.dw_forms.specs.Chains.{codes_in, number_in, AreBranches, AreBelow, AreFound, IsRun, IsAddedChain};
+ghost use Rattle.dw_forms.specs.Chains.{codes_in, number_in, AreBranches, AreBelow, AreMore, AreFound, IsRun};
+ghost use Rattle.dw_forms.specs.Chains.{IsAddedChain};
 
 use std::alloc::{AllocError, Global};
 
@@ -123,6 +124,7 @@ pub(crate) fn push_branches<L: Links>(
     requires rest { rest ≤ length (L.links links.now) }
     requires found { AreFound branches.old.items (L.links links.now) }
     ensures found { AreFound branches.new.items (L.links links.now) }
+    ensures more { AreMore branches.old.items branches.new.items }
     ensures branches { IfOk result (λ found. IfSome found (λ count. AreBranches branches.new.items
         (length branches.old.items) count code (codes_in (L.links links.now) rest))) }
     ensures below { IfOk result (λ found. IfSome found (λ count. AreBelow branches.new.items

@@ -9,10 +9,10 @@ returns c =
     record {
       varying = refl;
       next_open = refl;
-      known_with_4 = refl;
       known_with_8 = refl;
-      small_4 = omega arith;
-      small_8 = omega arith;
+      known_with_4 = refl;
+      small = omega arith;
+      addresses = omega arith;
       bits = no_bits;
       count = refl;
       allowed = refl;

@@ -5,4 +5,4 @@ use Rattle.dw_forms.proofs.attribute_lists.no_step.Goals as goal
 pub returns : goal.returns
 unfolding step_in skip_in lead_in
 returns c =
-    record { lead = refl; to = refl; with_4 = refl; with_8 = refl; small_4 = omega arith; small_8 = omega arith }
+    record { lead = refl; to = refl; with_8 = refl; with_4 = refl; small = omega arith; few = omega arith }

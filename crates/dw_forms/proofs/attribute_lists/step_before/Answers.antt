@@ -9,6 +9,6 @@ returns-then-stops_at c list is =
 
 pub returns : goal.returns
 returns c list is =
-    step_past c.args.number c.args.spec.now list c.args.after is c.known_size.result c.known_size-2.result
-    c.known_size.ensures.same c.known_size-2.ensures.same c.known_size.ensures.small c.known_size-2.ensures.small
+    step_past c.args.number c.args.spec.now list c.args.after is c.known_size.result c.addresses_in.result
+    c.known_size.ensures.same c.addresses_in.ensures.same c.known_size.ensures.small c.addresses_in.ensures.few
     (sym c.stops_at.ensures ∙ c.if-stops_at.false)

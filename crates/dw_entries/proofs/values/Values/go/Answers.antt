@@ -1,61 +1,40 @@
-use Rattle.std.proofs.Common.{inl, inr}
 use Rattle.dw_entries.proofs.LeadingSteps.{begins, skip_within, left_there, over}
 use Rattle.dw_entries.proofs.PlacedLaws.{rest_of_slice}
 use Rattle.dw_entries.proofs.values.Values.go.Goals as goal
-use Rattle.dw_entries.proofs.values.Values.go.Goals.{then-self-eq8, else-self-eq8}
 
 pub slice_bounds-self-count : goal.slice_bounds-self-count
 slice_bounds-self-count c =
-    skip_within c.args.self.now c.args.step.now c.if-self-eq8.skip c.requires.step c.requires.some
-    (elim c.if-self-eq8.branch [
-      | then-self-eq8 w ↦ inl (w.if-self-eq8.true, w.skip-is)
-      | else-self-eq8 w ↦ inr (w.if-self-eq8.false, w.skip-is)
-    ])
+    skip_within c.args.self.now c.args.step.now c.skipped-skip.result c.requires.step c.requires.some
+    c.skipped-skip.ensures
     c.stepped-self.result c.stepped-self.ensures.nodes c.stepped-self.ensures.first
 
 pub slice_bounds-self-start : goal.slice_bounds-self-start
 slice_bounds-self-start c =
-    skip_within c.args.self.now c.args.step.now c.if-self-eq8.skip c.requires.step c.requires.some
-    (elim c.if-self-eq8.branch [
-      | then-self-eq8 w ↦ inl (w.if-self-eq8.true, w.skip-is)
-      | else-self-eq8 w ↦ inr (w.if-self-eq8.false, w.skip-is)
-    ])
+    skip_within c.args.self.now c.args.step.now c.skipped-skip.result c.requires.step c.requires.some
+    c.skipped-skip.ensures
     c.stepped-self.result c.stepped-self.ensures.nodes c.stepped-self.ensures.first
 
 pub invariant_of-self : goal.invariant_of-self
 invariant_of-self c = record {
   sized = c.args.self.now.sized;
   left =
-      left_there c.args.self.now c.args.step.now c.if-self-eq8.skip c.requires.step c.requires.some
-      (elim c.if-self-eq8.branch [
-        | then-self-eq8 w ↦ inl (w.if-self-eq8.true, w.skip-is)
-        | else-self-eq8 w ↦ inr (w.if-self-eq8.false, w.skip-is)
-      ])
+      left_there c.args.self.now c.args.step.now c.skipped-skip.result c.requires.step c.requires.some
+      c.skipped-skip.ensures
       c.stepped-self.result c.stepped-self.ensures.nodes c.stepped-self.ensures.first;
   rest =
-      rest_of_slice c.args.self.now.info.now c.args.self.now.bytes.now c.if-self-eq8.skip c.args.self.now.rest
-      (skip_within c.args.self.now c.args.step.now c.if-self-eq8.skip c.requires.step c.requires.some
-      (elim c.if-self-eq8.branch [
-        | then-self-eq8 w ↦ inl (w.if-self-eq8.true, w.skip-is)
-        | else-self-eq8 w ↦ inr (w.if-self-eq8.false, w.skip-is)
-      ])
+      rest_of_slice c.args.self.now.info.now c.args.self.now.bytes.now c.skipped-skip.result c.args.self.now.rest
+      (skip_within c.args.self.now c.args.step.now c.skipped-skip.result c.requires.step c.requires.some
+      c.skipped-skip.ensures
       c.stepped-self.result c.stepped-self.ensures.nodes c.stepped-self.ensures.first);
 }
 
 pub returns-clause-passed : goal.returns-clause-passed
 returns-clause-passed c =
-    search (over c.args.self.now c.args.step.now c.if-self-eq8.skip c.requires.step c.requires.some
-    (elim c.if-self-eq8.branch [
-      | then-self-eq8 w ↦ inl (w.if-self-eq8.true, w.skip-is)
-      | else-self-eq8 w ↦ inr (w.if-self-eq8.false, w.skip-is)
-    ])
+    search (over c.args.self.now c.args.step.now c.skipped-skip.result c.requires.step c.requires.some
+    c.skipped-skip.ensures
     c.stepped-self.result c.stepped-self.ensures.nodes c.stepped-self.ensures.first)
 
 pub returns-clause-first : goal.returns-clause-first
 returns-clause-first c =
-    begins c.args.self.now c.args.step.now c.if-self-eq8.skip c.requires.step c.requires.some
-    (elim c.if-self-eq8.branch [
-      | then-self-eq8 w ↦ inl (w.if-self-eq8.true, w.skip-is)
-      | else-self-eq8 w ↦ inr (w.if-self-eq8.false, w.skip-is)
-    ])
+    begins c.args.self.now c.args.step.now c.skipped-skip.result c.requires.step c.requires.some c.skipped-skip.ensures
     c.stepped-self.result c.stepped-self.ensures.nodes c.stepped-self.ensures.first

@@ -1,30 +1,27 @@
 use Rattle.std.proofs.Common.{arith}
 use Rattle.dw_forms.specs.AttributeLists.{specs_of, numbered_in}
 use Rattle.dw_forms.proofs.ChainLaws.{chain_none}
-use Rattle.dw_forms.proofs.NodeSteps.{known_few, known_small, node_read}
+use Rattle.dw_forms.proofs.NodeSteps.{known_small, node_read}
+use Rattle.dw_forms.proofs.ShortLists.{rest_read}
 use Rattle.dw_forms.proofs.attribute_lists.AttributeLists.node.Goals as goal
 
 pub returns-then-number-eq0-clause-knows : goal.returns-then-number-eq0-clause-knows
 returns-then-number-eq0-clause-knows c =
     rw (c.if-number-eq0.true, chain_none (specs_of c.args.self.now.nodes.items)) c.no_node.ensures
 
-pub returns-clause-small_4 : goal.returns-clause-small_4
-returns-clause-small_4 c =
-    let some = c.if-number-eq0.false in
-    let is = node_read c.args.self.now.nodes.items c.args.number c.index.result.now c.args.self.now.known
-    (omega (arith, some)) c.requires c.index.ensures in
-    known_small (numbered_in c.args.self.now.nodes.items c.args.number) _ is.attributes is.knows.small_4
+pub returns-then-number-eq0-clause-short : goal.returns-then-number-eq0-clause-short
+returns-then-number-eq0-clause-short c long = let none = c.no_node.ensures.count in absurd (omega (arith, long, none))
 
-pub returns-clause-small_8 : goal.returns-clause-small_8
-returns-clause-small_8 c =
+pub returns-clause-small : goal.returns-clause-small
+returns-clause-small c =
     let some = c.if-number-eq0.false in
     let is = node_read c.args.self.now.nodes.items c.args.number c.index.result.now c.args.self.now.known
     (omega (arith, some)) c.requires c.index.ensures in
-    known_small (numbered_in c.args.self.now.nodes.items c.args.number) _ is.attributes is.knows.small_8
+    known_small (numbered_in c.args.self.now.nodes.items c.args.number) _ is.attributes is.knows.small
 
-pub returns-clause-few : goal.returns-clause-few
-returns-clause-few c =
+pub returns-clause-short : goal.returns-clause-short
+returns-clause-short c =
     let some = c.if-number-eq0.false in
-    let is = node_read c.args.self.now.nodes.items c.args.number c.index.result.now c.args.self.now.known
-    (omega (arith, some)) c.requires c.index.ensures in
-    known_few (numbered_in c.args.self.now.nodes.items c.args.number) _ is.attributes is.knows.count
+    let a = c.args.self.now in
+    rest_read a.branches.items a.nodes.items c.args.number c.index.result.now a.found (omega (arith, some)) c.requires
+    c.index.ensures

@@ -3,33 +3,35 @@ use Rattle.dw_forms.specs.declared.abbrev.AttributeSpec.{AttributeSpec}
 use Rattle.dw_forms.specs.LeadingWalks.{IsFirstStep}
 use Rattle.dw_forms.specs.AttributeLists.{specs_of, numbered_in}
 use Rattle.dw_forms.proofs.ChainLaws.{chain_none}
-use Rattle.dw_forms.proofs.NodeSteps.{known_small, node_read}
+use Rattle.dw_forms.proofs.NodeSteps.{few_in, known_small, node_read}
 use Rattle.dw_forms.proofs.NodeLaws.{attributes_in}
+use Rattle.dw_forms.proofs.ShortLists.{one_less}
 use Rattle.dw_forms.proofs.attribute_lists.AttributeLists.step.Goals as goal
 
 pub returns-then-number-eq0 : goal.returns-then-number-eq0
 returns-then-number-eq0 c =
     record { step = rw (c.if-number-eq0.true, chain_none (specs_of c.args.self.now.nodes.items)) c.no_step.ensures }
 
-pub step_before-requires-clause-small_4 : goal.step_before-requires-clause-small_4
-step_before-requires-clause-small_4 c =
+pub step_before-requires-clause-few : goal.step_before-requires-clause-few
+step_before-requires-clause-few c =
     let a = c.args.self.now in
     let n = c.index-node.result.now in
     let is = node_read a.nodes.items c.args.number n a.known (omega (arith, c.if-number-eq0.false)) c.requires
     c.index-node.ensures in
-    let less = is.next in
-    known_small (numbered_in a.nodes.items n.next) _
-    (attributes_in a.nodes.items n.next a.known (omega (arith, less, c.requires))) is.after.small_4
+    let few = is.after.few in
+    let all = few_in (numbered_in a.nodes.items c.args.number) is.attributes in
+    let more = one_less a.nodes.items c.args.number n is n.attribute in
+    omega (arith, few, all, more)
 
-pub step_before-requires-clause-small_8 : goal.step_before-requires-clause-small_8
-step_before-requires-clause-small_8 c =
+pub step_before-requires-clause-small : goal.step_before-requires-clause-small
+step_before-requires-clause-small c =
     let a = c.args.self.now in
     let n = c.index-node.result.now in
     let is = node_read a.nodes.items c.args.number n a.known (omega (arith, c.if-number-eq0.false)) c.requires
     c.index-node.ensures in
     let less = is.next in
     known_small (numbered_in a.nodes.items n.next) _
-    (attributes_in a.nodes.items n.next a.known (omega (arith, less, c.requires))) is.after.small_8
+    (attributes_in a.nodes.items n.next a.known (omega (arith, less, c.requires))) is.after.small
 
 pub returns : goal.returns
 returns c =

@@ -1,6 +1,6 @@
 use Rattle.std.proofs.Common.{arith}
 use Rattle.std.proofs.lemmas.Result.{err_from_is_err_and}
-use Rattle.dw_forms.proofs.PassTurns.{passes_first, passes_last, some_left, last_less, last_cut, next_number, next_turn, cut_fails, value_fails, value_passes}
+use Rattle.dw_forms.proofs.PassTurns.{passes_first, passes_last, some_left, here_addresses, last_less, last_cut, next_number, next_turn, cut_fails, value_fails, value_passes}
 use Rattle.dw_forms.proofs.attributes.Attributes.pass.Goals as goal
 
 pub loop-at-init : goal.loop-at-init
@@ -13,6 +13,9 @@ pub index-here-requires : goal.index-here-requires
 index-here-requires c =
     let within = c.loop-at.invariant.within in let some = some_left c.loop-at.invariant c.loop-at-test.true in
     omega (arith, within, some)
+
+pub known-requires-clause-within : goal.known-requires-clause-within
+known-requires-clause-within c = here_addresses c.loop-at.invariant c.loop-at-test.true c.index-here.ensures
 
 pub overflow_sub-known : goal.overflow_sub-known
 overflow_sub-known c =
@@ -29,6 +32,15 @@ pub index-varying-requires : goal.index-varying-requires
 index-varying-requires c =
     let within = next_number c.loop-at.invariant c.loop-at-test.true c.index-here.ensures in
     omega (arith, within, c.if-here-to.false)
+
+pub known-requires-in-loop-at-clause-within : goal.known-requires-in-loop-at-clause-within
+known-requires-in-loop-at-clause-within c = here_addresses c.loop-at.invariant c.loop-at-test.true c.index-here.ensures
+
+pub known-requires-in-loop-at-2-clause-within : goal.known-requires-in-loop-at-2-clause-within
+known-requires-in-loop-at-2-clause-within c =
+    let t = next_turn c.loop-at.invariant c.loop-at-test.true c.index-here.ensures c.if-here-to.false
+    c.index-varying.ensures in
+    t.addresses
 
 pub overflow_sub-known-in-loop-at : goal.overflow_sub-known-in-loop-at
 overflow_sub-known-in-loop-at c =
