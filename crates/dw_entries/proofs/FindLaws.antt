@@ -1,27 +1,20 @@
--- The search for an entry by its offset.
-use Rattle.std.proofs.Common.{rules, ◌≡◌, ℕ, ◌<◌, ◌≤◌, List, length, get_or, Some, sym, ap, subst, ◌∙◌, arith, inl, inr}
-use Rattle.std.specs.Prelude.{slice_get}
-use Rattle.std.specs.List.Sorted.{IsPartitionPoint, IsNonDecreasingBy}
-use Rattle.std.proofs.lemmas.Option.{slice_get_within, slice_get-get_or}
+-- The entries and their records, by their offsets.
+use Rattle.std.proofs.Common.{◌≡◌, ℕ, ◌<◌, ◌^◌, List, length, Option, Some, None, refl, sym, ap, ◌∙◌, arith}
+use Rattle.std.specs.Prelude.{IfSome, option_map, slice_get}
+use Rattle.std.proofs.lemmas.Option.{slice_get_within}
 use Rattle.std.proofs.lemmas.List.{length-map}
 use Rattle.dw_forms.specs.KeptDecls.{Tables}
 use Rattle.dw_entries.specs.declared.records.Record.{Record}
 use Rattle.dw_entries.specs.declared.records.UnitRecord.{UnitRecord}
+use Rattle.dw_entries.specs.declared.starts.Block.{Block}
 use Rattle.dw_entries.specs.Entries.{entries_of}
 use Rattle.dw_entries.specs.Scanned.{found_units, numbers_of, record_of, Scanned}
+use Rattle.dw_entries.specs.Starts.{AreInOrder, AreStarts, IsRecordAt, number_from}
 use Rattle.dw_entries.specs.EntriesAt.{IsEntryAt}
-use Rattle.dw_entries.proofs.NumberOrder.{three_ways}
 use Rattle.dw_entries.proofs.EntryFacts.{entries_rise}
-use Rattle.dw_entries.proofs.KeptLaws.{KeptEntry, found_entry, kept_entry, one_some, record_is}
-
--- the records before this one start below the offset, and it and those after it start there or after it
-abbrev pub IsFirstFrom : List Record → ℕ → ℕ → Type 0
-IsFirstFrom records offset number =
-    IsPartitionPoint (λ (r : Record). r.at < offset) (λ (r : Record). offset ≤ r.at) records number
-
--- a record is the one that its place gives
-read_at : (records : List Record) (i : ℕ) (r : Record) → slice_get records i ≡ Some r → get_or records i r ≡ r
-read_at records i r is = search (rules, slice_get-get_or, slice_get_within)
+use Rattle.dw_entries.proofs.HeadLaws.{stands_within}
+use Rattle.dw_entries.proofs.KeptLaws.{found_entry, kept_entry, record_is}
+use Rattle.dw_entries.proofs.OrderLaws.{scanned_few}
 
 module _ {base : ℕ} (a info : List ℕ) (tables : Tables) (rs : List UnitRecord) (records : List Record)
     (s : Scanned base a info tables rs records) where
@@ -33,74 +26,67 @@ module _ {base : ℕ} (a info : List ℕ) (tables : Tables) (rs : List UnitRecor
       → slice_get records id ≡ Some (record_of (numbers_of tables rs) (found_entry s id))
   stands_at id found = (kept_entry a info tables rs records s id found.within).is_record
 
-  -- records stand in rising offset
-  pub records_rise : IsNonDecreasingBy (λ (r : Record). r.at) records
-  records_rise i j d le lt =
-      let low = kept_entry a info tables rs records s i (omega (arith, lt, entries_counted)) in
-      let high = kept_entry a info tables rs records s j (omega (arith, lt, entries_counted)) in
-      let at_low = ap (λ (r : Record). r.at)
-      (record_is low (get_or records i d) (slice_get-get_or records i d (omega arith))) in
-      let at_high = ap (λ (r : Record). r.at) (record_is high (get_or records j d) (slice_get-get_or records j d lt)) in
-      elim (three_ways i j) [
-        | inl (inl less) ↦ search (rules, entries_rise)
-        | inl (inr same) ↦ search (rules)
-        | inr more ↦ absurd (omega arith)
-      ]
+  -- where the record of an entry is, the entry begins
+  pub entry_at : (offset id : ℕ) → IsRecordAt records offset id → IsEntryAt (entries_of (found_units s)) offset id
+  entry_at offset id at = go (slice_get records id) refl at
+    where
+      go : (o : Option Record) → slice_get records id ≡ o → option_map (λ (r : Record). r.at) o ≡ Some offset
+          → IsEntryAt (entries_of (found_units s)) offset id
+      go None is same = absurd cc
+      go (Some r) is same =
+          let within : id < length (entries_of (found_units s)) =
+          omega (arith, slice_get_within records id r is, entries_counted) in
+          let offset_is : r.at ≡ offset = cc in
+          record {
+            within = within;
+            begins =
+                sym (ap (λ (q : Record). q.at) (record_is (kept_entry a info tables rs records s id within) r is))
+                ∙ offset_is;
+          }
 
-  module _ (number offset : ℕ) (first : IsFirstFrom records offset number) where
-    before : (i : ℕ) (r : Record) → i < number → slice_get records i ≡ Some r → r.at < offset
-    before i r lt is =
-        let P : Record → Type 0 = λ q. q.at < offset in subst P (read_at records i r is) (first.0 i r (omega arith) lt)
+  -- where an entry begins, its record is
+  pub record_at : (offset id : ℕ) → IsEntryAt (entries_of (found_units s)) offset id → IsRecordAt records offset id
+  record_at offset id found =
+      ap (option_map (λ (r : Record). r.at)) (stands_at id found) ∙ ap (λ (n : ℕ). Some n) found.begins
 
-    behind : (r : Record) → slice_get records number ≡ Some r → offset ≤ r.at
-    behind r is =
-        let P : Record → Type 0 = λ q. offset ≤ q.at in
-        subst P (read_at records number r is) (first.1 number r (omega arith) (slice_get_within records number r is))
+  -- the records are in the order of their entries
+  pub records_ordered : AreInOrder records (length info)
+  records_ordered = record { rise = rise; within = below }
+    where
+      rise : (i j offset after : ℕ) → i < j → IsRecordAt records offset i → IsRecordAt records after j → offset < after
+      rise i j offset after less at_i at_j =
+          let low = entry_at offset i at_i in
+          let high = entry_at after j at_j in
+          let up = entries_rise a (found_units s) s.1.spells.are i j (found_entry s i) (found_entry s j) less
+          (kept_entry a info tables rs records s i low.within).is_entry
+          (kept_entry a info tables rs records s j high.within).is_entry in
+          let begins_low = low.begins in
+          let begins_high = high.begins in
+          omega (arith, up, begins_low, begins_high)
 
-    -- where all records stand below the offset, no entry begins there
-    pub none_from_end : length records ≤ number → (id : ℕ) → IsEntryAt (entries_of (found_units s)) offset id → ⊥
-    none_from_end end id found =
-        let at = found.begins in
-        let is = stands_at id found in
-        let b = before id (record_of (numbers_of tables rs) (found_entry s id))
-        (let w = slice_get_within records id (record_of (numbers_of tables rs) (found_entry s id)) is in
-        omega (arith, w, end)) is in
-        omega (arith, at, b)
+      below : (number offset : ℕ) → IsRecordAt records offset number → offset < length info
+      below number offset at =
+          let here = entry_at offset number at in
+          let begins = here.begins in
+          let w = stands_within (found_units s) info (found_entry s number)
+          (kept_entry a info tables rs records s number here.within).stands in
+          omega (arith, begins, w)
 
-    module _ (r : Record) (within : number < length records) (read : r ≡ get_or records number r) where
-      here : KeptEntry a info tables rs records s number
-      here = kept_entry a info tables rs records s number (omega (arith, within, entries_counted))
+  -- what the blocks say of an offset is so
+  module _ (blocks : List Block) (starts : AreStarts records blocks) (offset : ℕ) where
+    pub found_from : (id : ℕ) → number_from blocks offset ≡ Some id
+        → IsEntryAt (entries_of (found_units s)) offset id
+    found_from id is = entry_at offset id ((starts offset id).0 is)
 
-      at_is : r.at ≡ (found_entry s number).at
-      at_is =
-          let stands : slice_get records number
-          ≡ Some r = slice_get-get_or records number r within ∙ ap (λ (x : Record). Some x) (sym read) in
-          ap (λ (q : Record). q.at) (record_is here r stands)
+    pub none_from : number_from blocks offset ≡ None → (id : ℕ) → IsEntryAt (entries_of (found_units s)) offset id → ⊥
+    none_from none id found = let some = (starts offset id).1 (record_at offset id found) in cc
 
-      pub found_first : r.at ≡ offset → IsEntryAt (entries_of (found_units s)) offset number
-      found_first same = record { within = omega (arith, within, entries_counted); begins = sym at_is ∙ same }
-
-      pub none_from : (r.at ≡ offset → ⊥) → (id : ℕ) → IsEntryAt (entries_of (found_units s)) offset id → ⊥
-      none_from other id found =
-          let at = found.begins in
-          let is = stands_at id found in
-          elim (three_ways id number) [
-            | inl (inl less) ↦ let b = before id (record_of (numbers_of tables rs) (found_entry s id)) less is in
-                omega (arith, at, b)
-            | inl (inr same) ↦
-                let P : ℕ → Type 0 = λ n. slice_get records n
-                ≡ Some (record_of (numbers_of tables rs) (found_entry s id)) in
-                let stands : slice_get records number
-                ≡ Some r = slice_get-get_or records number r within ∙ ap (λ (x : Record). Some x) (sym read) in
-                other (ap (λ (q : Record). q.at)
-                (one_some (slice_get records number) r (record_of (numbers_of tables rs) (found_entry s id)) stands
-                (subst P same is)) ∙ at)
-            | inr more ↦
-                let stands : slice_get records number
-                ≡ Some r = slice_get-get_or records number r within ∙ ap (λ (x : Record). Some x) (sym read) in
-                let low = behind r stands in
-                let rise = entries_rise a (found_units s) s.1.spells.are number id (found_entry s number)
-                (found_entry s id) more
-                here.is_entry (kept_entry a info tables rs records s id found.within).is_entry in
-                omega (arith, at, at_is, low, rise)
-          ]
+    pub few_from : length info < 2 ^ 32 → IfSome (number_from blocks offset) (λ n. n < 2 ^ 32)
+    few_from fits = go (number_from blocks offset) refl
+      where
+        go : (o : Option ℕ) → number_from blocks offset ≡ o → IfSome o (λ n. n < 2 ^ 32)
+        go None is = tt
+        go (Some id) is =
+            let within = (found_from id is).within in
+            let few = scanned_few a info tables rs records s in
+            omega (arith, within, few, entries_counted, fits)

@@ -25,6 +25,8 @@ pub mod EntryFacts
 pub mod KeptLaws
 pub mod LeftLaws
 pub mod UnitTurns
+pub mod StartLaws
+pub mod StartSteps
 pub mod FindLaws
 pub mod RunLaws
 pub mod PlacedLaws

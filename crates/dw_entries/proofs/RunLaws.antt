@@ -1,17 +1,20 @@
 -- The entries of one unit, by their offsets.
-use Rattle.std.proofs.Common.{rules, ◌≡◌, ℕ, ◌+◌, ◌<◌, ◌≤◌, ◌^◌, List, length, get_or, sym, ap, subst, ◌∙◌, arith}
+use Rattle.std.proofs.Common.{rules, ◌≡◌, ℕ, ◌+◌, ◌<◌, ◌≤◌, ◌^◌, List, length, sym, ap, subst, ◌∙◌, arith}
 use Rattle.std.proofs.lemmas.Option.{slice_get-get_or}
 use Rattle.dw_forms.specs.KeptDecls.{Tables}
 use Rattle.dw_entries.specs.declared.records.Record.{Record}
 use Rattle.dw_entries.specs.declared.records.UnitRecord.{UnitRecord}
+use Rattle.dw_entries.specs.Units.{DebugUnit}
 use Rattle.dw_entries.specs.Entries.{Entry, entries_of, PlacedUnit, placed}
-use Rattle.dw_entries.specs.ByNumber.{entry_of, placed_of}
+use Rattle.dw_entries.specs.ByNumber.{end_in, entry_of, no_entry, no_placed, placed_of}
 use Rattle.dw_entries.specs.Scanned.{found_units, Scanned}
 use Rattle.dw_entries.specs.EntriesAt.{IsEntryAt, IsEntryIn, ReachesInUnit}
 use Rattle.dw_entries.specs.EntryRules.{OffsetsRise}
 use Rattle.dw_entries.proofs.NumberOrder.{three_ways}
 use Rattle.dw_entries.proofs.HeadLaws.{stands_within}
-use Rattle.dw_entries.proofs.KeptLaws.{KeptUnit, found_entry, kept_entry, kept_is}
+use Rattle.dw_entries.proofs.KeptLaws.{found_entry, kept_entry}
+use Rattle.dw_entries.proofs.EntryFacts.{length-placed_from}
+use Rattle.dw_entries.proofs.UnitRanges.{range_of_unit, unit_in_range}
 
 -- ---- the entry of a unit at an offset
 
@@ -42,33 +45,41 @@ reaches entries units number offset at id within sum found same =
       target = record { within = found.within; begins = found.begins ∙ begins; in_unit = same };
     }
 
-pub never_other : (entries : List Entry) (units : List PlacedUnit) (number offset at id : ℕ) → OffsetsRise entries
-    → at ≡ offset + (placed_of units number).at → IsEntryAt entries at id
-    → ((entry_of entries id).unit ≡ number → ⊥) → (j : ℕ) → ReachesInUnit entries units number offset j → ⊥
-never_other entries units number offset at id rise sum found other j reached =
-    let there = reached_at entries units number offset at j sum reached in
-    let same = one_at entries at j id rise (in_is_at entries number at j there) found in
-    other (ap (λ (n : ℕ). (entry_of entries n).unit) (sym same) ∙ there.in_unit)
+-- where the entry at the offset is not between the first and the end of the unit, none of the unit is there
+pub never_other : (us : List DebugUnit) (number offset at first end id : ℕ) → number < length us
+    → OffsetsRise (entries_of us) → at ≡ offset + (placed_of (placed us) number).at → IsEntryAt (entries_of us) at id
+    → first ≡ (placed_of (placed us) number).first → end ≡ end_in (placed us) number
+    → (first ≤ id → id < end → ⊥) → (j : ℕ) → ReachesInUnit (entries_of us) (placed us) number offset j → ⊥
+never_other us number offset at first end id within rise sum found begins ends outside j reached =
+    let there = reached_at (entries_of us) (placed us) number offset at j sum reached in
+    let same = one_at (entries_of us) at j id rise (in_is_at (entries_of us) number at j there) found in
+    let its = range_of_unit us number (placed_of (placed us) number) id (entry_of (entries_of us) id)
+    (slice_get-get_or (placed us) number no_placed (omega (arith, within, length-placed_from 0 0 us)))
+    (slice_get-get_or (entries_of us) id no_entry found.within)
+    (ap (λ (n : ℕ). (entry_of (entries_of us) n).unit) (sym same) ∙ there.in_unit) in
+    let low = its.0 in
+    let high = its.1 in
+    outside (omega (arith, low, begins)) (omega (arith, high, ends))
 
--- where no entry begins at the offset, none of the unit does
-pub never_there : {base : ℕ} (a info : List ℕ) (tables : Tables) (rs : List UnitRecord) (records : List Record)
-    (s : Scanned base a info tables rs records) (number offset at : ℕ) (k : KeptUnit a info tables rs records s number)
-    (u : UnitRecord)
-    → u ≡ get_or rs number u → at ≡ offset + u.at → ((id : ℕ) → IsEntryAt (entries_of (found_units s)) at id → ⊥)
-    → (j : ℕ) → ReachesInUnit (entries_of (found_units s)) (placed (found_units s)) number offset j → ⊥
-never_there a info tables rs records s number offset at k u read sum nowhere j reached =
-    let place = (kept_is k u read).at in
-    nowhere j (in_is_at (entries_of (found_units s)) number at j
-    (reached_at (entries_of (found_units s)) (placed (found_units s)) number offset at j (omega (arith, sum, place))
-    reached))
+-- where it is between them, it is of the unit
+pub reaches_by_range : (us : List DebugUnit) (number offset at first end id : ℕ) → number < length us
+    → at ≡ offset + (placed_of (placed us) number).at → IsEntryAt (entries_of us) at id
+    → first ≡ (placed_of (placed us) number).first → end ≡ end_in (placed us) number
+    → first ≤ id → id < end → ReachesInUnit (entries_of us) (placed us) number offset id
+reaches_by_range us number offset at first end id within sum found begins ends low high =
+    let long = length-placed_from 0 0 us in
+    reaches (entries_of us) (placed us) number offset at id (omega (arith, within, long)) sum found
+    (unit_in_range us number (placed_of (placed us) number) id (entry_of (entries_of us) id)
+    (slice_get-get_or (placed us) number no_placed (omega (arith, within, long)))
+    (slice_get-get_or (entries_of us) id no_entry found.within) (omega (arith, low, begins))
+    (omega (arith, high, ends)))
 
+-- no entry begins after 2 ^ 64 bytes
 pub never_far : {base : ℕ} (a info : List ℕ) (tables : Tables) (rs : List UnitRecord) (records : List Record)
-    (s : Scanned base a info tables rs records) (number offset : ℕ) (k : KeptUnit a info tables rs records s number)
-    (u : UnitRecord)
-    → u ≡ get_or rs number u → length info < 2 ^ 64 → 2 ^ 64 ≤ offset + u.at → (j : ℕ)
+    (s : Scanned base a info tables rs records) (number offset start : ℕ)
+    → start ≡ (placed_of (placed (found_units s)) number).at → length info < 2 ^ 64 → 2 ^ 64 ≤ offset + start → (j : ℕ)
     → ReachesInUnit (entries_of (found_units s)) (placed (found_units s)) number offset j → ⊥
-never_far a info tables rs records s number offset k u read few far j reached =
-    let place = (kept_is k u read).at in
+never_far a info tables rs records s number offset start place few far j reached =
     let begins = reached.target.begins in
     let stands = stands_within (found_units s) info (found_entry s j)
     (kept_entry a info tables rs records s j reached.target.within).stands in

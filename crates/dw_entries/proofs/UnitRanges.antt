@@ -3,6 +3,7 @@ use Rattle.std.proofs.Common.{rules, ◌≡◌, ℕ, zero, suc, ◌+◌, ◌-◌
 use Rattle.std.specs.Prelude.{slice_get}
 use Rattle.std.specs.List.{AllByRecursion}
 use Rattle.std.specs.List.Sorted.{IsPartitionPoint, IsNonDecreasingBy}
+use Rattle.std.proofs.lemmas.Bool.{cases_lt}
 use Rattle.std.proofs.lemmas.Option.{slice_get_within, slice_get-get_or, slice_get_cases}
 use Rattle.dw_forms.specs.KeptDecls.{Tables}
 use Rattle.dw_entries.specs.declared.records.Record.{Record}
@@ -97,6 +98,34 @@ pub unit_in_range : (us : List DebugUnit) (n : ℕ) (p : PlacedUnit) (k : ℕ) (
     → slice_get (placed us) n ≡ Some p
     → slice_get (entries_of us) k ≡ Some e → p.first ≤ k → k < p.first + node_count p.unit.root → e.unit ≡ n
 unit_in_range us n p k e is is_e low high = search (rules, range_from)
+
+-- each entry is between the first of a unit and that of the next
+some_range : (unit id at : ℕ) (us : List DebugUnit) (k : ℕ) → k < length (entries_from unit id at us)
+    → (n : ℕ) × (p : PlacedUnit) × (slice_get (placed_from at id us) n ≡ Some p) × (p.first ≤ id + k)
+    × (id + k < p.first + node_count p.unit.root)
+some_range unit id at [] k within = absurd (omega arith)
+some_range unit id at (u ∷ us) k within = elim (cases_lt k (node_count u.root)) [
+  | inl less ↦ (0, record { at = at; first = id; unit = u }, refl, omega arith, omega (arith, less))
+  | inr more ↦
+      let count = length-node_entries unit None 0 None id (at + unit_header_size u.header.kind) u.root in
+      let both = length-append (node_entries unit None 0 None id (at + unit_header_size u.header.kind) u.root)
+      (entries_from (suc unit) (id + node_count u.root) (at + length (unit_bytes u)) us) in
+      let (n, p, is, low, high) = some_range (suc unit) (id + node_count u.root) (at + length (unit_bytes u)) us
+      (k - node_count u.root) (omega (arith, within, more, count, both)) in
+      (suc n, p, is, omega (arith, low, more), omega (arith, high, more))
+]
+
+-- the entries of a unit are between its first one and that of the next
+pub range_of_unit : (us : List DebugUnit) (n : ℕ) (p : PlacedUnit) (k : ℕ) (e : Entry)
+    → slice_get (placed us) n ≡ Some p → slice_get (entries_of us) k ≡ Some e → e.unit ≡ n
+    → (p.first ≤ k) × (k < p.first + node_count p.unit.root)
+range_of_unit us n p k e is is_e of_unit =
+    let (m, q, is_q, low, high) = some_range 0 0 0 us k (slice_get_within (entries_of us) k e is_e) in
+    let same : m ≡ n = sym (unit_in_range us m q k e is_q is_e (omega (arith, low)) (omega (arith, high))) ∙ of_unit in
+    let P : ℕ → Type 0 = λ i. slice_get (placed us) i ≡ Some q in
+    let one : q ≡ p = one_some (slice_get (placed us) n) q p (subst P same is_q) is in
+    let R : PlacedUnit → Type 0 = λ x. (x.first ≤ k) × (k < x.first + node_count x.unit.root) in
+    subst R one (omega (arith, low), omega (arith, high))
 
 -- the next unit begins where a unit ends
 next_from : (at first : ℕ) (us : List DebugUnit) (n : ℕ) (p q : PlacedUnit)

@@ -27,6 +27,7 @@ pub mod OneProof
 pub mod ValueLaws
 -- State.
 pub mod Scanned
+pub mod Starts
 pub mod Views
 pub mod Records
 pub mod Walk

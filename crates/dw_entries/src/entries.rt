@@ -1,12 +1,13 @@
 //! The entries of .debug_info, by their numbers and by their offsets.
 
-ghost use Rattle.std.specs.Prelude.{◌<◌, ◌≤◌, length};
-ghost use Rattle.std.specs.List.Sorted.{IsNonDecreasingBy, IsPartitionPoint};
+ghost use Rattle.std.specs.Prelude.{◌<◌, length};
 ghost use Rattle.dw_entries.specs.Scanned.{tables_among, Scanned};
 ghost use Rattle.dw_entries.specs.OneProof.{scanned_unique};
+ghost use Rattle.dw_entries.specs.Starts.{AreStarts};
 
 use crate::id::{EntryId, id_of};
 use crate::records::{Record, UnitRecord};
+use crate::starts::{Block, number_from};
 use dw_elf::Sections;
 use dw_forms::{DeclAt, Decls, Tag};
 
@@ -17,18 +18,12 @@ pub struct Entries<'a> {
     pub(crate) decls: Decls,
     pub(crate) units: Vec<UnitRecord>,
     pub(crate) records: Vec<Record>,
+    /// Where the entries start, by blocks of `sections.info`.
+    pub(crate) blocks: Vec<Block>,
     pub ghost scanned: { Scanned sections.base sections.«abbrev».now sections.info.now (tables_among decls)
         units.items records.items } by { scanned_unique sections.base sections.«abbrev».now sections.info.now
             (tables_among decls) units.items records.items },
-}
-
-/// The number of the first record that starts at an offset or after it.
-fn first_from(records: &[Record], offset: u64) -> usize
-    requires { IsNonDecreasingBy (λ r. r.at) records.now }
-    ensures within { result ≤ length records.now }
-    ensures first { IsPartitionPoint (λ r. r.at < offset) (λ r. offset ≤ r.at) records.now result }
-{
-    records.partition_point(|record| u64::from(record.at) < offset)
+    pub ghost starts: { AreStarts records.items blocks.items },
 }
 
 impl<'a> Entries<'a> {
@@ -92,19 +87,12 @@ impl<'a> Entries<'a> {
     }
 
     /// The entry that starts at an offset of `sections.info`.
+    #[inline(always)]
     pub(crate) fn find_at(&self, offset: u64) -> Option<EntryId>
         ensures found { IfSome result (IsEntryAt (all_entries self.now) offset) }
         ensures none { IfNone result ((id : ℕ) → IsEntryAt (all_entries self.now) offset id → ⊥) }
     {
-        let number = first_from(&self.records, offset);
-        if number >= self.records.len() {
-            return None;
-        }
-        if u64::from(self.records[number].at) == offset {
-            Some(EntryId::new(number as u32))
-        } else {
-            None
-        }
+        Some(EntryId::new(number_from(&self.blocks, offset)?))
     }
 
     /// The entry whose first byte is at this offset of `sections.info`.

@@ -16,6 +16,7 @@ use crate::entries::Entries;
 use crate::fault::{Fault, PlainFault, Section};
 use crate::header::read_header;
 use crate::records::{Kept, UnitContext, UnitRecord};
+use crate::starts::read_starts;
 use crate::tree::walk_unit;
 use dw_elf::Sections;
 use dw_forms::{AbbrevTables, Rule, Stop};
@@ -128,10 +129,12 @@ pub fn scan<'a>(alloc: Global, sections: &Sections<'a>) -> Result<Entries<'a>, S
         Err(Stop::Memory) => return Err(Stop::Memory),
         Err(Stop::Fault(broken)) => return Err(Stop::Fault(broken.into_fault(alloc))),
     };
+    let blocks = read_starts(alloc, sections.info.len(), &kept.records)?;
     Ok(Entries {
         sections: *sections,
         decls: kept.tables.into_decls(),
         units: kept.units,
         records: kept.records,
+        blocks,
     })
 }

@@ -103,17 +103,32 @@ impl<'a> Entries<'a> {
         ensures none { IfNone result ((id : ℕ)
             → ReachesInUnit (all_entries self.now) (all_units self.now) unit offset id → ⊥) }
     {
-        let Some(at) = offset.checked_add(self.units[unit].at as u64) else {
+        self.find_in_range(unit, self.units[unit].at, self.range(unit), offset)
+    }
+
+    /// The same, where the unit's header is at `start`, and these are the number of its first entry and the number
+    /// after that of its last entry. The unit is not looked up.
+    #[inline(always)]
+    pub fn find_in_range(
+        &self,
+        unit: usize,
+        start: u32,
+        range: (usize, usize),
+        offset: u64,
+    ) -> Option<EntryId>
+        requires unit { unit < length (units_of self.now) }
+        requires start { start ≡ (placed_of (all_units self.now) unit).at }
+        requires first { range.0 ≡ (placed_of (all_units self.now) unit).first }
+        requires end { range.1 ≡ end_in (all_units self.now) unit }
+        ensures found { IfSome result (ReachesInUnit (all_entries self.now) (all_units self.now) unit offset) }
+        ensures none { IfNone result ((id : ℕ)
+            → ReachesInUnit (all_entries self.now) (all_units self.now) unit offset id → ⊥) }
+    {
+        let id = self.find_at(offset.checked_add(u64::from(start))?)?;
+        if id.number() < range.0 || id.number() >= range.1 {
             return None;
-        };
-        let Some(id) = self.find_at(at) else {
-            return None;
-        };
-        if self.unit_of(id) == unit {
-            Some(id)
-        } else {
-            None
         }
+        Some(id)
     }
 
     /// The units in rising offset.

@@ -2,7 +2,6 @@
 use Rattle.std.proofs.Common.{◌≡◌, ℕ, ◌+◌, ◌*◌, ◌<◌, ◌≤◌, Bool, true, false, length, Option, Some, None, IfNone, inl, inr, refl, sym, ap, subst, ◌∙◌, arith}
 use Rattle.std.specs.Prelude.{slice_get}
 use Rattle.std.proofs.lemmas.Option.{slice_get-get_or}
-use Rattle.dw_elf.specs.declared.sections.Sections.{Sections}
 use Rattle.dw_forms.specs.Codes.{DW_AT_str_offsets_base, DW_AT_addr_base}
 use Rattle.dw_forms.specs.Value.{Datum, str, line_str, str_index, ref_info, ref_unit, ref_sig, addr_index}
 use Rattle.dw_forms.specs.declared.rule.Rule.{Rule}
@@ -11,31 +10,29 @@ use Rattle.dw_entries.specs.declared.entries.Entries.{Entries}
 use Rattle.dw_entries.specs.declared.header.UnitHeader.{UnitHeader}
 use Rattle.dw_entries.specs.declared.units.UnitHead.{UnitHead}
 use Rattle.dw_entries.specs.EntryRules.{OffsetsRise}
-use Rattle.dw_entries.specs.Entries.{Entry, placed}
-use Rattle.dw_entries.specs.ByNumber.{no_entry, end_in, entry_of, placed_of}
+use Rattle.dw_entries.specs.Entries.{placed}
+use Rattle.dw_entries.specs.ByNumber.{no_entry, entry_of, placed_of}
 use Rattle.dw_entries.specs.Failures.{HasNone}
 use Rattle.dw_entries.specs.Header.{IsSize}
 use Rattle.dw_entries.specs.Lookups.{entry_head, unit_head}
 use Rattle.dw_entries.specs.Places.{at_attribute}
 use Rattle.dw_entries.specs.Views.{all_entries, all_units}
-use Rattle.dw_entries.proofs.EntryFacts.{entries_rise, length-placed_from}
-use Rattle.dw_entries.proofs.UnitRanges.{unit_in_range}
+use Rattle.dw_entries.proofs.EntryFacts.{entries_rise}
 use Rattle.dw_links.specs.Bases.{base_in}
 use Rattle.dw_links.specs.Contributions.{slot_at}
 use Rattle.dw_links.specs.LinkLaws.{HasAddressAt, HasStringAt, HasItsText}
 use Rattle.dw_links.specs.References.{ReferenceFails, ReferenceFailures, is_reference_value}
-use Rattle.dw_links.specs.Targets.{reach_in_unit, reach_of}
-use Rattle.dw_links.specs.ValueTexts.{address_of, text_of_value, text_place_of}
+use Rattle.dw_links.specs.Targets.{reach_of}
 use Rattle.dw_links.specs.declared.texts.TextPlace.TheVariants.{Str, LineStr}
 use Rattle.dw_links.proofs.ClassLemmas.{unit_there}
 use Rattle.dw_links.proofs.SlotLemmas.{slot_within}
 use Rattle.dw_links.proofs.TableLemmas.{sized}
-use Rattle.dw_links.proofs.TargetLemmas.{reach_in_unit_is, type_is}
+use Rattle.dw_links.proofs.TargetLemmas.{type_is}
 use Rattle.dw_image.specs.declared.image.Image.{Image}
 use Rattle.dw_image.specs.Images.{entries_in, sections_in, unit_count, units_in}
 use Rattle.dw_image.proofs.JoinLemmas.{sound_image}
 use Rattle.dw_image.specs.declared.unit_at_hand.UnitAtHand.{UnitAtHand}
-use Rattle.dw_image.specs.UnitsAtHand.{HasValue, IsAtHand, IsStringOf, is_address, is_string, place_at}
+use Rattle.dw_image.specs.UnitsAtHand.{HasValue, IsAtHand, IsStringOf, place_at}
 
 -- what is told of a unit is what is known of it at hand
 pub unit_told : (i : Image) (es : Entries) (number : ℕ) (head : UnitHead) (strings addresses : Option ℕ)
@@ -121,27 +118,6 @@ module _ (i : Image) (u : UnitAtHand) where
           (ap (λ (unit : ℕ). reach_of (entries_in i) (placed (units_in i)) unit v) x.in_unit ∙ sym is))
 
 module _ (i : Image) (u : UnitAtHand) (hand : IsAtHand i u) where
-  -- the entry of the unit at an offset of .debug_info, by the numbers of the unit's entries
-  pub ranged : (offset at id told first end : ℕ)
-      → id < length (entries_in i) → at ≡ offset + u.offset → told ≡ at → told ≡ (entry_of (entries_in i) id).at
-      → first ≡ (place_at i u).first → end ≡ end_in (placed (units_in i)) u.number → first ≤ id → id < end
-      → reach_in_unit (entries_in i) (placed (units_in i)) u.number offset ≡ Some id
-  ranged offset at id told first end within at_is same begins of_first of_end low high =
-      let number = unit_in_range (units_in i) u.number (place_at i u) id (entry_of (entries_in i) id)
-      (unit_there (units_in i) u.number hand.within)
-      (slice_get-get_or (entries_in i) id no_entry within) (omega (arith, of_first, low)) (omega (arith, of_end, high))
-      in
-      reach_in_unit_is (entries_in i) (placed (units_in i)) u.number offset id (image_rise i)
-      (record {
-        unit_within = omega (arith, hand.within, length-placed_from 0 0 (units_in i));
-        target =
-            record {
-              within = within;
-              begins = omega (arith, begins, same, at_is, hand.offset);
-              in_unit = number;
-            };
-      })
-
   -- ---- strings and addresses
 
   its_text : (v : Datum) → HasValue i u v → HasItsText (sections_in i) (entries_in i) (place_at i u) v

@@ -1,8 +1,8 @@
 //! The unit at hand: what its values refer to, by what is read of the unit once.
 
-ghost use Rattle.std.specs.Prelude.{◌≡◌, ◌+◌, ◌*◌, ◌<◌, ◌≤◌, false, length, Some, IfNone, IfSome};
+ghost use Rattle.std.specs.Prelude.{◌≡◌, ◌+◌, ◌*◌, ◌<◌, ◌≤◌, false, length, IfNone, IfSome};
 ghost use Rattle.dw_entries.specs.Entries.{placed};
-ghost use Rattle.dw_forms.specs.Value.{ref_unit, view};
+ghost use Rattle.dw_forms.specs.Value.{view};
 ghost use Rattle.dw_links.specs.Contributions.{slot_at};
 ghost use Rattle.dw_image.specs.Images.{entries_in, sections_in, unit_count, units_in};
 ghost use Rattle.dw_links.specs.ValueTexts.{address_of};
@@ -12,7 +12,7 @@ ghost use Rattle.dw_image.specs.UnitsAtHand.{HasValue, IsAtHand, IsStringOf, is_
 
 use crate::image::Image;
 use dw_entries::constants::*;
-use dw_entries::{EntryId, Hints, UnitHeader};
+use dw_entries::{EntryId, UnitHeader};
 use dw_forms::Value;
 use dw_links::{TextPlace, base_in_unit, number};
 
@@ -70,47 +70,15 @@ impl UnitAtHand {
         }
     }
 
-    /// The entry that starts so many bytes after the unit's header, if a guess finds it in the unit.
-    #[tactic(auto, unfolding(crate::specs::Images::units_in))]
-    fn guess(&self, image: &Image<'_>, hints: &Hints, offset: u64) -> Option<EntryId>
-        requires { IsAtHand image.now self.now }
-        ensures { IfSome result (λ id. reach_of (entries_in image.now) (placed (units_in image.now)) self.now.number
-            (ref_unit offset) ≡ Some id) }
-    {
-        let at = offset.checked_add(u64::from(self.offset))?;
-        let id = image.nth(hints.guess(at)?)?;
-        let (first, end) = image.scanned().range(self.number);
-        if u64::from(image.offset(id)) == at && first <= id.number() && id.number() < end {
-            Some(id)
-        } else {
-            None
-        }
-    }
-
-    /// The entry that starts so many bytes after the unit's header.
-    fn target_after(&self, image: &Image<'_>, hints: &Hints, offset: u64) -> Option<EntryId>
-        requires { IsAtHand image.now self.now }
-        ensures { result ≡ reach_of (entries_in image.now) (placed (units_in image.now)) self.now.number
-            (ref_unit offset) }
-    {
-        match self.guess(image, hints, offset) {
-            Some(id) => Some(id),
-            None => image.reach(self.number, &Value::RefUnit(offset)),
-        }
-    }
-
     /// The entry that a value of the unit refers to. None if the value is no reference.
-    pub fn target(&self, image: &Image<'_>, hints: &Hints, value: &Value<'_>) -> Option<EntryId>
+    pub fn target(&self, image: &Image<'_>, value: &Value<'_>) -> Option<EntryId>
         requires unit { IsAtHand image.now self.now }
         requires value { HasValue image.now self.now (view value.now) }
         ensures exact { result ≡ reach_of (entries_in image.now) (placed (units_in image.now)) self.now.number
             (view value.now) }
         ensures none { IfNone result (is_reference_value (view value.now) ≡ false) }
     {
-        match *value {
-            Value::RefUnit(offset) => self.target_after(image, hints, offset),
-            _ => image.reach(self.number, value),
-        }
+        image.reach(self.number, value)
     }
 
     /// Where the text of a value of the unit is, if that is in .debug_str or .debug_line_str.

@@ -14,7 +14,7 @@ pub mod LinkSteps
 pub mod UnitToAll
 pub mod EntryByNumber
 pub mod LeadSteps
-pub mod GuessLemmas
+pub mod AfterLemmas
 pub mod RuleGroups
 pub mod DeclaredLemmas
 pub mod UnitByUnit

@@ -1,14 +1,13 @@
 -- State: the rules among all entries, and what must be known of the unit at hand while values are followed.
-use Rattle.std.specs.Prelude.{◌≡◌, ◌≢◌, ◌<◌, ◌≤◌, ℕ, true, Option, None, Some, length}
+use Rattle.std.specs.Prelude.{◌≡◌, ◌≢◌, ◌<◌, ℕ, true, Option, None, Some, length}
 use Rattle.dw_forms.specs.Codes.{is_type_tag}
 use Rattle.dw_forms.specs.Value.{Datum}
 use Rattle.dw_entries.specs.declared.entries.Entries.{Entries}
 use Rattle.dw_entries.specs.declared.entry.EntryHead.{EntryHead}
 use Rattle.dw_entries.specs.declared.led.Led.{Led}
 use Rattle.dw_entries.specs.declared.led.Led.TheVariants as led
-use Rattle.dw_entries.specs.Cursors.{HasEntries}
 use Rattle.dw_entries.specs.Entries.{Entry}
-use Rattle.dw_entries.specs.ByNumber.{entry_of}
+use Rattle.dw_entries.specs.ByNumber.{end_in, entry_of, placed_of}
 use Rattle.dw_entries.specs.Failures.{IsLeast}
 use Rattle.dw_entries.specs.Views.{sections_of, all_entries, all_units}
 use Rattle.dw_links.specs.declared.references.UnitLinks.{UnitLinks}
@@ -45,13 +44,13 @@ entry_after it offset =
     reach_in_unit (all_entries (entries_followed it)) (all_units (entries_followed it)) it.texts.unit offset
 
 -- the table has the type of each signature, each signature of a type unit has one, what was read of the unit at hand
--- is right, and the entries of this range are its entries
+-- is right, and this range is that of its entries
 pub record IsLinkable (it : UnitLinks) : Type 0 where
   pub types : HasSignedTypes (entries_followed it) it.signatures.now
   pub typed : AreTyped (entries_followed it)
   pub texts : AreContributions (entries_followed it) it.texts
-  pub range : HasEntries (all_entries (entries_followed it)) it.texts.unit it.range.0 it.range.1
-  pub within : it.range.1 ≤ length (all_entries (entries_followed it))
+  pub first : it.range.0 ≡ (placed_of (all_units (entries_followed it)) it.texts.unit).first
+  pub end : it.range.1 ≡ end_in (all_units (entries_followed it)) it.texts.unit
 
 -- the same, and the entry is in the unit at hand
 pub record MayAsk (it : UnitLinks) (head : EntryHead) : Type 0 where

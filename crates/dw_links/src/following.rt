@@ -1,5 +1,5 @@
 //! A value of an entry that may lead elsewhere. What it leads to says which rules can fail there, and only these are
-//! checked. If one fails, or a guess finds no entry, the value is judged by all rules.
+//! checked. If one fails, the value is judged by all rules.
 
 ghost use Rattle.std.specs.Prelude.{IfErr, IfOk, IfSome};
 ghost use Rattle.std.specs.Bool.{OnTrue};
@@ -16,12 +16,12 @@ use dw_entries::constants::*;
 use dw_entries::{EntryId, Led, OptionalId, PlainFault};
 
 impl UnitLinks<'_, '_, '_> {
-    /// The type that starts so many bytes after the unit's header, if a guess finds it.
-    fn guess_type(&self, offset: u64) -> Option<EntryId>
+    /// The type that starts so many bytes after the unit's header, if one does.
+    fn type_after(&self, offset: u64) -> Option<EntryId>
         requires { IsLinkable self.now }
         ensures { IfSome result (IsTypeAfter self.now offset) }
     {
-        let id = self.guess_in_unit(offset)?;
+        let id = self.find_in_unit(offset)?;
         if !self.entries.decl(id).is_type() {
             return None;
         }
@@ -34,20 +34,23 @@ impl UnitLinks<'_, '_, '_> {
         requires { MayLink self.now id }
         ensures { OnTrue result (IsSiblingAfter self.now id offset) }
     {
-        match self.entries.next_sibling(id) {
-            Some(next) => self.starts_after(next.number(), offset).is_some(),
-            None => false,
-        }
+        let Some(next) = self.entries.next_sibling(id) else {
+            return false;
+        };
+        let Some(target) = self.find_in_unit(offset) else {
+            return false;
+        };
+        target.number() == next.number()
     }
 
-    /// Whether another entry, which is a declaration, starts so many bytes after the unit's header. False also if a
-    /// guess does not find it, or if only its own values say whether it is a declaration.
+    /// Whether another entry, which is a declaration, starts so many bytes after the unit's header. False also if
+    /// only its own values say whether it is a declaration.
     #[inline(always)]
     fn is_completed(&self, id: EntryId, offset: u64) -> bool
         requires { IsLinkable self.now }
         ensures { OnTrue result (IsDeclaredAfter self.now id offset) }
     {
-        let Some(target) = self.guess_in_unit(offset) else {
+        let Some(target) = self.find_in_unit(offset) else {
             return false;
         };
         if target.number() == id.number() {
@@ -56,7 +59,7 @@ impl UnitLinks<'_, '_, '_> {
         self.entries.decl(target).declared().unwrap_or(false)
     }
 
-    /// Whether no rule fails at a value, which is of no type. False also if that takes a search to find out.
+    /// Whether no rule fails at a value, which is of no type. False also if that takes more to find out.
     #[inline(always)]
     fn leads_well(&self, id: EntryId, led: &Led<'_>) -> bool
         requires { MayLink self.now id }
@@ -65,7 +68,7 @@ impl UnitLinks<'_, '_, '_> {
         match *led {
             Led::Sibling(offset) => self.is_sibling(id, offset),
             Led::Specification(offset) => self.is_completed(id, offset),
-            Led::Entry(_, offset) => self.guess_in_unit(offset).is_some(),
+            Led::Entry(_, offset) => self.find_in_unit(offset).is_some(),
             Led::Text(_, offset) => self.texts.ask_text(offset).is_none(),
             Led::Index(_, index) => self.texts.ask_string(index).is_none(),
             Led::Address(_, index) => self.texts.ask_address(index).is_none(),
@@ -91,7 +94,7 @@ impl UnitLinks<'_, '_, '_> {
         ensures err { IfErr result (HasFailedAt self.now id (item_of led.now).0 (item_of led.now).1) }
     {
         if let Led::Type(offset) = *led {
-            if let Some(target) = self.guess_type(offset) {
+            if let Some(target) = self.type_after(offset) {
                 let target = number_of(self.entries, &Some(target));
                 return Ok(keep(kept, DW_AT_type, target));
             }

@@ -19,7 +19,7 @@ use crate::references::UnitLinks;
 use crate::strings::check_strings;
 use crate::tables::LinkTables;
 use dw_entries::constants::*;
-use dw_entries::{Entries, EntryId, Fault, Hints, OptionalId, PlainFault, Stop, UnitHeader};
+use dw_entries::{Entries, EntryId, Fault, OptionalId, PlainFault, Stop, UnitHeader};
 use dw_forms::Attribute;
 use std::alloc::Global;
 use std::collections::BTreeMap;
@@ -109,7 +109,6 @@ pub(crate) fn link_entries(
     alloc: Global,
     entries: &Entries<'_>,
     signatures: BTreeMap<u64, EntryId>,
-    hints: &Hints,
 ) -> Result<LinkTables, Stop<Fault>>
     requires types { HasSignedTypes entries.now signatures }
     requires typed { AreTyped entries.now }
@@ -128,7 +127,7 @@ pub(crate) fn link_entries(
     let mut types = vec![in alloc; OptionalId::none(); entries.count()]?;
     let mut known = vec![in alloc; None; entries.count()]?;
     for unit in 0..entries.unit_count() {
-        let references = UnitLinks::of_unit(entries, ends, unit, &signatures, hints);
+        let references = UnitLinks::of_unit(entries, ends, unit, &signatures);
         str_bases.push(references.texts.str_base)?;
         addr_bases.push(references.texts.addr_base)?;
         languages.push(language_in_unit(entries, unit))?;

@@ -46,8 +46,7 @@ pub fn link<'r, 'a>(alloc: Global, entries: &'r Entries<'a>) -> Result<Links<'r,
         Err(Stop::Memory) => return Err(Stop::Memory),
         Err(Stop::Fault(fault)) => return Err(Stop::Fault(strings_first(alloc, entries, fault))),
     };
-    let hints = entries.hints(alloc)?;
-    let tables = link_entries(alloc, entries, signatures, &hints)?;
+    let tables = link_entries(alloc, entries, signatures)?;
     Ok(Links { entries, tables })
 }
 

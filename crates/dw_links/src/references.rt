@@ -10,8 +10,6 @@ ghost use Rattle.dw_links.specs.DeclaredEntries.{KeepsDeclared};
 ghost use Rattle.dw_links.specs.UnitAtHand.{entries_followed, entry_with, entry_after, FailsByTarget, target_by};
 ghost use Rattle.dw_links.specs.UnitAtHand.{IsLinkable};
 ghost use Rattle.dw_links.specs.UnitAtHand.{MayAsk, MayLink};
-ghost use Rattle.dw_links.specs.LinkLaws.{IsEntryPast};
-ghost use Rattle.dw_links.specs.Targets.{entry_past};
 ghost use Rattle.dw_links.specs.References.{is_reference_value, HasType, TypeUnitFails, AtHeader, HeaderFailures};
 ghost use Rattle.dw_entries.specs.ByNumber.{end_in, placed_of};
 ghost use Rattle.dw_entries.specs.Views.{sections_of, all_entries, all_units, units_of};
@@ -21,14 +19,11 @@ ghost use Rattle.dw_links.specs.Signatures.{HasSignature};
 ghost use Rattle.dw_links.specs.SignedTypes.{AreSignedBelow, HasSignedTypes, AreTyped};
 
 use crate::strings::{UnitContributions, read_texts};
-use crate::targets::{
-    entry_from_header, entry_from_start, is_permitted, is_permitted_form, is_reference, is_sig8,
-    reach,
-};
+use crate::targets::{is_permitted, is_permitted_form, is_reference, is_sig8, reach};
 use dw_entries::constants::*;
 use dw_entries::{
-    Entries, EntryAt, EntryHead, EntryId, Fault, HeaderKind, Hints, PlainFault, Rule, Section,
-    Stop, UnitHeader,
+    Entries, EntryAt, EntryHead, EntryId, Fault, HeaderKind, PlainFault, Rule, Section, Stop,
+    UnitHeader,
 };
 use dw_forms::{Attribute, Value};
 use std::alloc::Global;
@@ -147,8 +142,6 @@ pub struct UnitLinks<'e, 'd, 't> {
     pub range: (usize, usize),
     /// The type of each signature.
     pub signatures: &'t BTreeMap<u64, EntryId>,
-    /// Guesses at the entry that starts at an offset.
-    pub hints: &'t Hints,
 }
 
 impl<'e, 'd, 't> UnitLinks<'e, 'd, 't> {
@@ -159,7 +152,6 @@ impl<'e, 'd, 't> UnitLinks<'e, 'd, 't> {
         ends: (usize, usize),
         unit: usize,
         signatures: &'t BTreeMap<u64, EntryId>,
-        hints: &'t Hints,
     ) -> UnitLinks<'e, 'd, 't>
         requires str_end { IsEndOfStrings (sections_of entries.now).str.now ends.0 }
         requires line_str_end { IsEndOfStrings (sections_of entries.now).line_str.now ends.1 }
@@ -177,7 +169,6 @@ impl<'e, 'd, 't> UnitLinks<'e, 'd, 't> {
             texts: read_texts(entries, ends.0, ends.1, unit),
             range: entries.range(unit),
             signatures,
-            hints,
         }
     }
 
@@ -191,69 +182,15 @@ impl<'e, 'd, 't> UnitLinks<'e, 'd, 't> {
         self.entries.at_with(id, self.texts.unit, header)
     }
 
-    /// The entry with this number, if it is one of the unit at hand and starts so many bytes after the unit's header.
-    #[inline(always)]
-    pub(crate) fn starts_after(&self, number: usize, offset: u64) -> Option<EntryId>
-        requires { IsLinkable self.now }
-        ensures reaches { IfSome result (λ id. entry_after self.now offset ≡ Some id) }
-        ensures number { IfSome result (λ id. id ≡ number) }
-    {
-        if number < self.range.0 || number >= self.range.1 {
-            return None;
-        }
-        let at = offset.checked_add(u64::from(self.texts.head.offset))?;
-        let id = self.entries.id(number);
-        if u64::from(self.entries.offset(id)) != at {
-            return None;
-        }
-        Some(id)
-    }
-
-    /// The entry of the unit at hand that starts so many bytes after the unit's header, if a guess finds it.
-    #[inline(always)]
-    pub(crate) fn guess_in_unit(&self, offset: u64) -> Option<EntryId>
-        requires { IsLinkable self.now }
-        ensures { IfSome result (λ id. entry_after self.now offset ≡ Some id) }
-    {
-        let at = offset.checked_add(u64::from(self.texts.head.offset))?;
-        self.starts_after(self.hints.guess(at)?, offset)
-    }
-
     /// The entry of the unit at hand that starts so many bytes after the unit's header.
-    fn find_in_unit(&self, offset: u64) -> Option<EntryId>
+    #[inline(always)]
+    pub(crate) fn find_in_unit(&self, offset: u64) -> Option<EntryId>
         requires { IsLinkable self.now }
         ensures { result ≡ entry_after self.now offset }
     {
-        match self.guess_in_unit(offset) {
-            Some(id) => Some(id),
-            None => entry_from_header(self.entries, self.texts.unit, offset),
-        }
-    }
-
-    /// The entry that starts so far after the start of .debug_info, if a guess finds it.
-    fn guess(&self, offset: u32) -> Option<EntryId>
-        ensures { IfSome result (IsEntryPast (all_entries (entries_followed self.now))
-            (sections_of (entries_followed self.now)).base offset) }
-    {
-        let at = u64::from(offset.checked_sub(self.entries.sections().base)?);
-        let number = self.hints.guess(at)?;
-        let id = self.entries.nth(number)?;
-        if u64::from(self.entries.offset(id)) != at {
-            return None;
-        }
-        Some(id)
-    }
-
-    /// The entry that starts so far after the start of .debug_info.
-    fn find(&self, offset: u32) -> Option<EntryId>
-        ensures { result ≡ entry_past (all_entries (entries_followed self.now))
-            (sections_of (entries_followed self.now)).base
-            offset }
-    {
-        match self.guess(offset) {
-            Some(id) => Some(id),
-            None => entry_from_start(self.entries, offset),
-        }
+        let start = self.texts.head.offset;
+        self.entries
+            .find_in_range(self.texts.unit, start, self.range, offset)
     }
 
     /// The target of a value of an entry.
@@ -263,7 +200,6 @@ impl<'e, 'd, 't> UnitLinks<'e, 'd, 't> {
     {
         match *value {
             Value::RefUnit(offset) => self.find_in_unit(offset),
-            Value::RefInfo(offset) => self.find(offset),
             _ => reach(self.entries, self.signatures, head.unit, value),
         }
     }

@@ -17,7 +17,7 @@ use dw_forms::{Attribute, Value};
 use std::collections::BTreeMap;
 
 /// The entry that begins so far after the start of .debug_info, of which the sections may have a part.
-pub(crate) fn entry_from_start(entries: &Entries<'_>, offset: u32) -> Option<EntryId>
+fn entry_from_start(entries: &Entries<'_>, offset: u32) -> Option<EntryId>
     ensures { result ≡ entry_past (all_entries entries.now) (sections_of entries.now).base offset }
 {
     entries.find(offset.checked_sub(entries.sections().base)?)
@@ -25,7 +25,7 @@ pub(crate) fn entry_from_start(entries: &Entries<'_>, offset: u32) -> Option<Ent
 
 /// The entry that begins so far after the first byte of a unit's header.
 #[inline(always)]
-pub(crate) fn entry_from_header(entries: &Entries<'_>, unit: usize, offset: u64) -> Option<EntryId>
+fn entry_from_header(entries: &Entries<'_>, unit: usize, offset: u64) -> Option<EntryId>
     requires { unit < length (units_of entries.now) }
     ensures { result ≡ reach_in_unit (all_entries entries.now) (all_units entries.now) unit offset }
 {

@@ -232,13 +232,9 @@ fn put_rows(
     let Ok(places) = Places::read(alloc, ground, image) else {
         return false;
     };
-    let Ok(hints) = image.scanned().hints(alloc) else {
-        return false;
-    };
     let resolver = Resolver {
         places: &places,
         image,
-        hints,
     };
     put_units(image, units);
     resolver.put_entries(entries, values);

@@ -11,7 +11,6 @@ ghost use Rattle.dw_image.specs.UnitsAtHand.{HasValue, IsAtHand, is_address, is_
 
 use crate::meaning::{Meaning, plain_meaning};
 use crate::places::Places;
-use dw_entries::Hints;
 use dw_forms::Value;
 use dw_image::{Image, UnitAtHand};
 
@@ -20,8 +19,6 @@ use dw_image::{Image, UnitAtHand};
 pub struct Resolver<'p, 'i, 'a> {
     pub places: &'p Places<'i, 'a>,
     pub image: &'i Image<'a>,
-    /// Guesses at the entry that starts at an offset.
-    pub hints: Hints,
     ghost same: { places.now.strings.image.now ≡ image.now },
 }
 
@@ -34,7 +31,7 @@ impl<'p, 'i, 'a> Resolver<'p, 'i, 'a> {
         ensures { (end : ℕ) → MeansIn (holders_of self.now.places.now) self.now.image.now unit.now end
             (view value.now) result }
     {
-        match unit.target(self.image, &self.hints, value) {
+        match unit.target(self.image, value) {
             Some(target) => Meaning::Reference(target.number() as u32),
             None => unreachable!(),
         }

@@ -1,4 +1,4 @@
-use Rattle.std.proofs.Common.{rules, ◌≡◌, ◌<◌, ◌≤◌, ◌∙◌, ℕ, Some, length, take, arith, sym, subst}
+use Rattle.std.proofs.Common.{rules, ◌≡◌, ◌≤◌, ◌∙◌, ℕ, Some, length, take, arith, sym, subst}
 use Rattle.std.specs.Prelude.{slice_get}
 use Rattle.std.proofs.lemmas.List.{length-set, take_all}
 use Rattle.std.proofs.lemmas.Option.{slice_get-get_or}
@@ -15,6 +15,7 @@ use Rattle.dw_links.specs.UnitAtHand.{FailsByText, FailsByTarget}
 use Rattle.dw_links.specs.EntryLinks.{IsEntryLinked, IsFirstAtEntry}
 use Rattle.dw_links.specs.References.{HeaderFailures, AttributeFailures}
 use Rattle.dw_links.specs.Tables.{target_of_type}
+use Rattle.dw_links.proofs.AfterLemmas.{may_link}
 use Rattle.dw_links.proofs.DeclaredLemmas.{keeps_none, keeps_whole, only_none}
 use Rattle.dw_links.proofs.ClassLemmas.{unit_there}
 use Rattle.dw_links.proofs.TableLemmas.{map_one_more, map_all}
@@ -53,15 +54,8 @@ id-id-requires c =
 
 pub link_entry-requires-clause-may : goal.link_entry-requires-clause-may
 link_entry-requires-clause-may c =
-    let it = c.of_unit-references.ensures.linkable in
-    let below : c.id-id.result < c.of_unit-references.result.range.1 = omega (arith, c.id-id.ensures) in
-    record {
-      within = omega (arith, below, it.within);
-      linkable = it;
-      in_unit =
-          sym (it.range c.id-id.result (omega (arith, below, it.within))
-          (omega (arith, c.id-id.ensures, c.loop-number.auto.number)) below);
-    }
+    may_link c.of_unit-references.result c.id-id.result c.of_unit-references.ensures.linkable
+    (omega (arith, c.id-id.ensures, c.loop-number.auto.number)) (omega (arith, c.id-id.ensures))
 
 pub link_entry-requires-clause-kept : goal.link_entry-requires-clause-kept
 link_entry-requires-clause-kept c = search (rules)
@@ -78,6 +72,17 @@ first_fault-requires c =
     i.linked.references c.requires.headers
     (omega (arith, end, c.id-id.ensures, ends_within us c.loop-unit.unit _ is))
     (subst P c.of_unit-references.ensures.entries c.in-Err.ensures.err)
+
+pub index_mut-requires : goal.index_mut-requires
+index_mut-requires c =
+    let us = units_of c.args.entries.now in
+    let is = unit_there us c.loop-unit.unit (omega arith) in
+    omega (
+      arith,
+      c.of_unit-references.ensures.end,
+      ends_within us c.loop-unit.unit _ is,
+      c.loop-number.invariant.linked.long,
+    )
 
 pub loop-number-preserved : goal.loop-number-preserved
 loop-number-preserved c =

@@ -1,7 +1,7 @@
 use Rattle.std.proofs.Common.{ap, ◌∙◌}
 use Rattle.dw_forms.specs.Codes.{DW_AT_type}
 use Rattle.dw_links.specs.EntryLinks.{kept_after}
-use Rattle.dw_links.proofs.GuessLemmas.{after_within}
+use Rattle.dw_links.proofs.AfterLemmas.{after_within}
 use Rattle.dw_links.proofs.LeadSteps.{well_keeps, type_led, judged_keeps, judged_fails}
 use Rattle.dw_links.proofs.references.UnitLinks.link_led.Goals as goal
 

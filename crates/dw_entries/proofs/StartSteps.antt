@@ -1,0 +1,174 @@
+-- The blocks in which the entries of records start, one record after another.
+use Rattle.std.proofs.Common.{◌≡◌, ◌≢◌, ℕ, ◌+◌, ◌*◌, ◌/◌, ◌%◌, ◌^◌, ◌<◌, List, length, get_or, set, replicate, Option, Some, None, refl, sym, ap, subst, ◌∙◌, inl, inr, arith}
+use Rattle.std.proofs.lemmas.Bool.{cases_eq, cases_lt}
+use Rattle.std.proofs.lemmas.Nat.{pow_pos}
+use Rattle.std.proofs.lemmas.List.{get_or-replicate, get_or-set_same, get_or-set_other, get_or_past, get_or_read, length-replicate}
+use Rattle.std.proofs.lemmas.Option.{slice_get_within, slice_get-get_or}
+use Rattle.std.proofs.lemmas.Nat.Bits.{bit_at-zero}
+use Rattle.std.specs.Prelude.{slice_get, option_map}
+use Rattle.dw_entries.specs.declared.records.Record.{Record}
+use Rattle.dw_entries.specs.declared.starts.Block.{Block}
+use Rattle.dw_entries.specs.Starts.{AreInOrder, AreStarts, IsNextIn, IsRecordAt, StartsToo, block_of, no_starts, number_at, number_from}
+use Rattle.dw_entries.proofs.StartLaws.{number_none}
+
+-- a number has no bit below the lowest
+no_bits : (bits byte : ℕ) → byte ≡ 0 → bits < 2 ^ byte → bits ≡ 0
+no_bits bits byte same few =
+    let one : 2 ^ byte ≡ 1 = ap (λ (n : ℕ). 2 ^ n) same in omega (arith, few, one)
+
+-- the record of a number is at one offset
+one_offset : (records : List Record) (number a b : ℕ) → IsRecordAt records a number → IsRecordAt records b number
+    → a ≡ b
+one_offset records number a b is_a is_b = let e : Some a ≡ Some b = sym is_a ∙ is_b in cc
+
+-- by the blocks the first count entries start where their records are, and the next one may start after them
+pub record HaveStarts (records : List Record) (count : ℕ) (blocks : List Block) : Type 0 where
+  pub found : (offset number : ℕ) → number_from blocks offset ≡ Some number
+      → (number < count) × IsRecordAt records offset number
+  pub start : (offset number : ℕ) → number < count → IsRecordAt records offset number
+      → number_from blocks offset ≡ Some number
+  pub next : (offset : ℕ) → ((number before : ℕ) → number < count → IsRecordAt records before number → before < offset)
+      → IsNextIn (block_of blocks offset) (offset % 32) count
+
+pub start_none : (records : List Record) (n : ℕ) → HaveStarts records 0 (replicate n no_starts)
+start_none records n = record {
+  found = λ offset number is. absurd (let e : None ≡ Some number = sym (nowhere offset) ∙ is in cc);
+  start = λ offset number few. absurd (omega arith);
+  next = λ offset _. let P : Block → Type 0 = λ b. IsNextIn b (offset % 32) 0 in
+      subst P (sym (none_at offset)) (record {
+        above = pow_pos (offset % 32);
+        follows = λ other. absurd (other refl);
+      });
+}
+  where
+    none_at : (offset : ℕ) → block_of (replicate n no_starts) offset ≡ no_starts
+    none_at offset = elim (cases_lt (offset / 32) n) [
+      | inl less ↦ get_or-replicate n (offset / 32) no_starts no_starts less
+      | inr past ↦
+          get_or_past (replicate n no_starts) (offset / 32) no_starts
+          (let len = length-replicate n no_starts in omega (arith, len, past))
+    ]
+
+    nowhere : (offset : ℕ) → number_from (replicate n no_starts) offset ≡ None
+    nowhere offset =
+        ap (λ (b : Block). number_at b (offset % 32)) (none_at offset)
+        ∙ number_none no_starts (offset % 32) (bit_at-zero (offset % 32))
+
+pub start_all : (records : List Record) (blocks : List Block) → HaveStarts records (length records) blocks
+    → AreStarts records blocks
+start_all records blocks have offset number = (
+  λ is. (have.found offset number is).1,
+  λ at. have.start offset number (within at) at,
+)
+  where
+    within : IsRecordAt records offset number → number < length records
+    within at = go (slice_get records number) refl at
+      where
+        go : (o : Option Record) → slice_get records number ≡ o → option_map (λ (r : Record). r.at) o ≡ Some offset
+            → number < length records
+        go (Some r) is same = slice_get_within records number r is
+        go None is same = absurd cc
+
+-- a record that was read is at its offset
+pub read_at : (records : List Record) (k : ℕ) (r : Record) → k < length records
+    → IsRecordAt records (get_or records k r).at k
+read_at records k r within = ap (option_map (λ (q : Record). q.at)) (slice_get-get_or records k r within)
+
+module _ (records : List Record) (end count at : ℕ) (blocks : List Block) (order : AreInOrder records end)
+    (is : IsRecordAt records at count) (old : HaveStarts records count blocks) (within : at / 32 < length blocks)
+    (block : Block) (read : block ≡ get_or blocks (at / 32) block) where
+  -- the records before are at lower offsets
+  below : (number before : ℕ) → number < count → IsRecordAt records before number → before < at
+  below number before few at_before = order.rise number count before at few at_before is
+
+  block_is : block_of blocks at ≡ block
+  block_is = sym (get_or_read blocks (at / 32) block within read no_starts)
+
+  pub may_start : IsNextIn block (at % 32) count
+  may_start = let P : Block → Type 0 = λ b. IsNextIn b (at % 32) count in subst P block_is (old.next at below)
+
+  module _ (new : Block) (too : StartsToo block (at % 32) count new) where
+    abbrev pub put : List Block
+    put = set blocks (at / 32) new
+
+    put_same : (offset : ℕ) → offset / 32 ≡ at / 32 → block_of put offset ≡ new
+    put_same offset same = ap (λ (n : ℕ). get_or put n no_starts) same
+        ∙ get_or-set_same blocks (at / 32) new no_starts within
+
+    put_other : (offset : ℕ) → offset / 32 ≢ at / 32 → block_of put offset ≡ block_of blocks offset
+    put_other offset other = get_or-set_other blocks (at / 32) (offset / 32) new no_starts other
+
+    number_here : number_from put at ≡ Some count
+    number_here = ap (λ (b : Block). number_at b (at % 32)) (put_same at refl) ∙ too.here
+
+    number_other : (offset : ℕ) → offset ≢ at → number_from put offset ≡ number_from blocks offset
+    number_other offset other = elim (cases_eq (offset / 32) (at / 32)) [
+      | inl same ↦
+          ap (λ (b : Block). number_at b (offset % 32)) (put_same offset same)
+          ∙ too.others (offset % 32) (λ e. other (omega (arith, e, same)))
+          ∙ ap (λ (b : Block). number_at b (offset % 32)) (sym block_is)
+          ∙ ap (λ (n : ℕ). number_at (get_or blocks n no_starts) (offset % 32)) (sym same)
+      | inr apart ↦ ap (λ (b : Block). number_at b (offset % 32)) (put_other offset apart)
+    ]
+
+    pub start_more : HaveStarts records (count + 1) put
+    start_more = record { found = found; start = start; next = after }
+      where
+        found : (offset number : ℕ) → number_from put offset ≡ Some number
+            → (number < count + 1) × IsRecordAt records offset number
+        found offset number found_here = elim (cases_eq offset at) [
+          | inl same ↦
+              let e : Some count ≡ Some number =
+              sym number_here ∙ ap (number_from put) (sym same) ∙ found_here in
+              let one : count ≡ number = cc in
+              let P : ℕ → ℕ → Type 0 = IsRecordAt records in
+              (omega (arith, one), subst (λ n. P n number) (sym same) (subst (P at) one is))
+          | inr other ↦
+              let (few, there) = old.found offset number (sym (number_other offset other) ∙ found_here) in
+              (omega (arith, few), there)
+        ]
+
+        start : (offset number : ℕ) → number < count + 1 → IsRecordAt records offset number
+            → number_from put offset ≡ Some number
+        start offset number few there = elim (cases_eq number count) [
+          | inl same ↦
+              let P : ℕ → Type 0 = IsRecordAt records offset in
+              let place : offset ≡ at = one_offset records count offset at (subst P same there) is in
+              ap (number_from put) place ∙ number_here ∙ ap (λ (n : ℕ). Some n) (sym same)
+          | inr other ↦
+              let earlier : number < count = omega (arith, few, other) in
+              let low = below number offset earlier there in
+              number_other offset (λ e. omega (arith, e, low)) ∙ old.start offset number earlier there
+        ]
+
+        after : (offset : ℕ)
+            → ((number before : ℕ) → number < count + 1 → IsRecordAt records before number → before < offset)
+            → IsNextIn (block_of put offset) (offset % 32) (count + 1)
+        after offset above =
+            let past : at < offset = above count at (omega arith) is in
+            elim (cases_eq (offset / 32) (at / 32)) [
+              | inl same ↦
+                  let P : Block → Type 0 = λ b. IsNextIn b (offset % 32) (count + 1) in
+                  subst P (sym (put_same offset same)) (too.next (offset % 32) (omega (arith, past, same)))
+              | inr apart ↦
+                  let P : Block → Type 0 = λ b. IsNextIn b (offset % 32) (count + 1) in
+                  subst P (sym (put_other offset apart)) (empty offset past apart)
+            ]
+          where
+            -- no entry starts in a block after that of the last one
+            empty : (offset : ℕ) → at < offset → offset / 32 ≢ at / 32
+                → IsNextIn (block_of blocks offset) (offset % 32) (count + 1)
+            empty offset past apart =
+                let first : ℕ = offset / 32 * 32 in
+                let later : at < first = omega (arith, past, apart) in
+                let low = old.next first (λ number before few there.
+                let e = below number before few there in omega (arith, e, later)) in
+                let place : first / 32 ≡ offset / 32 = omega arith in
+                let byte : first % 32 ≡ 0 = omega arith in
+                let zero : (block_of blocks offset).bits ≡ 0 =
+                ap (λ (n : ℕ). (get_or blocks n no_starts).bits) (sym place)
+                ∙ no_bits (block_of blocks first).bits (first % 32) byte low.above in
+                record {
+                  above = let e = pow_pos (offset % 32) in omega (arith, e, zero);
+                  follows = λ other. absurd (other zero);
+                }
