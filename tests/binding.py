@@ -245,8 +245,10 @@ def test_saving(tmp_path):
     assert len(numpy.load(tmp_path / "a.npz")["values"]) == 4
 
 
-def test_folded_stacks(tmp_path):
-    """The example that folds stacks, on a text as `perf script` writes it, of a program that is loaded somewhere."""
+@pytest.mark.parametrize("has_offsets", (False, True))
+def test_folded_stacks(tmp_path, has_offsets):
+    """The example that folds stacks, on a text as `perf script` writes it, of a program that is loaded somewhere: with
+    addresses, or as newer perfs write it with the offsets in the file."""
     common.needs("gcc", "nm")
     path, script = tmp_path / "small", common.TOP / "contrib/integrations/examples/folded.py"
     (tmp_path / "small.c").write_text(addresses.SMALL)
@@ -257,12 +259,18 @@ def test_folded_stacks(tmp_path):
     frames = dwv.addresses(path).find(range(start, start + size))
     inner = next(start + k for k, it in enumerate(frames) if len(it) == 2)
     base, text = 0x7F0000000000, ""
-    for offset, length, at in runpy.run_path(script)["segments"](path.read_bytes()):
+    loaded = list(runpy.run_path(script)["segments"](path.read_bytes()))
+
+    def written(at):
+        offsets = [offset + at - low for offset, length, low in loaded if low <= at < low + length]
+        return f"{offsets[0] if has_offsets else base + at:16x}"
+
+    for offset, length, at in loaded:
         at, offset = base + at & -4096, offset & -4096
         text += f"small 7 1.0: PERF_RECORD_MMAP2 7/7: [{at:#x}({length:#x}) @ {offset:#x} 08:01 2 3]: r-xp {path}\n"
     for top in (inner, inner, start):
-        text += f"small 7 1.1: 1 cycles:\n\t{base + top:16x} four+0x1 ({path})\n"
-        text += f"\t{base + symbols['main'][0] + 1:16x} main+0x1 ({path})\n\t{4096:16x} outer+0x9 (/lib/libc.so.6)\n\n"
+        text += f"small 7 1.1: 1 cycles:\n\t{written(top)} four+0x1 ({path})\n"
+        text += f"\t{written(symbols['main'][0] + 1)} main+0x1 ({path})\n\t{4096:16x} outer+0x9 (/lib/libc.so.6)\n\n"
     env = {**os.environ, "PYTHONPATH": str(common.TOP / "python")}
     said = common.run(sys.executable, script, path, text=True, input=text, env=env)
     assert said == (0, "outer;main;four 1\nouter;main;four;twice 2\n", "")
