@@ -15,7 +15,9 @@ import json
 import os
 import pathlib
 import re
+import select
 import shutil
+import subprocess
 import sys
 
 sys.dont_write_bytecode = True
@@ -26,7 +28,7 @@ from common import BROKEN, DWV, DWV_ADDR, SAMPLE
 # How many addresses of a program are asked for, and how many in all with --all.
 EACH, IN_ALL = 2_000, 100_000
 WORDS = ("-O0", "-O2", "-gdwarf-4", "-gdwarf-4 -O2", "-O2 -ffunction-sections -Wl,--gc-sections", "-O2 -flto")
-tally = common.Tally(1 if set(sys.argv[1:]) - {"--all"} else 28)
+tally = common.Tally(1 if set(sys.argv[1:]) - {"--all"} else 31)
 
 
 def frames_in(text):
@@ -104,6 +106,23 @@ def said(*words, text=""):
     return common.run(DWV_ADDR, *words, text=True, input=text)
 
 
+def line_by_line(path, line, text):
+    """Each line must be answered before the next one is written, and the last one, which has no end, at the end."""
+    with subprocess.Popen([DWV_ADDR, "find", path], stdin=subprocess.PIPE, stdout=subprocess.PIPE) as ran:
+        found = []
+        for _ in range(3):
+            os.write(ran.stdin.fileno(), f"{line}\n".encode())
+            answer = b""
+            while len(answer) < len(text) and select.select([ran.stdout], [], [], 60)[0]:
+                answer += os.read(ran.stdout.fileno(), 65_536) or b"the end of the answers"
+            found.append(answer.decode())
+        tally.same("a line at a time", found, [text] * 3)
+        last, _ = ran.communicate(line.encode())
+        tally.same("a last line without its end", (ran.returncode, last.decode()), (0, text))
+    many = said("find", path, text=f"{line}\n" * 100_000)
+    tally.same("100,000 lines", (many[0], many[1] == text * 100_000, many[2]), (0, True, ""))
+
+
 def by_words(folder):
     """The words of the program, and its answers for a program of four lines."""
     (folder / "small.c").write_text(SMALL)
@@ -123,6 +142,7 @@ def by_words(folder):
     for form in (four, four.upper(), f"0x{four.zfill(16)}"):
         tally.same(f"the address {form}", said("find", path, form)[1], text)
     tally.same("lines of standard input", said("find", path, text=f"0x{four}\n{four}\n"), (0, text * 2, ""))
+    line_by_line(path, four, text)
     tally.same("an address that nothing has", said("find", path, "0x1"), (0, UNKNOWN, ""))
     wrong = (2, UNKNOWN + text, "dwv-addr: bad address\n")
     for word in ("", "0x", "f" * 17, "0x-1", "12 ", "main"):

@@ -12,13 +12,13 @@ use thiserror::Error;
 /// Why a request has no result.
 #[derive(Clone, Copy, Debug, PartialEq, Eq, Error)]
 pub enum RunFault {
-    /// A read returned an error; nothing was written.
+    /// A read returned an error.
     #[error("reading failed")]
     ReadFailed,
     /// A write returned an error, or took no byte; a prefix of the text was written.
     #[error("writing failed")]
     WriteFailed,
-    /// An allocation failed; nothing was written.
+    /// An allocation failed.
     #[error("out of memory")]
     Memory,
 }
@@ -66,6 +66,7 @@ pub fn write_text<W: Sink>(text: &[u8], writer: &mut W) -> Result<(), RunFault>
     requires { W.failures writer.old < u64.MAX }
     ensures ok { OnOk result (Appends (W.contents writer.old) (W.contents writer.new) text.now) }
     ensures err { OnErr result ((n : ℕ) × Appends (W.contents writer.old) (W.contents writer.new) (take n text.now)) }
+    ensures kept { OnOk result (W.failures writer.new ≡ W.failures writer.old) }
     ensures failed { IsErrOf result RunFault.WriteFailed ↔ (W.failures writer.old < W.failures writer.new) }
     ensures only { OnErr result (IsErrOf result RunFault.WriteFailed) }
 {

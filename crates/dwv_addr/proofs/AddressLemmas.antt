@@ -18,7 +18,8 @@ digit_fits number i below few =
     let power : 16 ^ i ≤ 16 ^ 15 = pow-le-pow_right least most in
     omega (arith, below, power)
 
-not_true : (b : Bool) → (b ≡ true → ⊥) → b ≡ false
+-- a bit that is not set
+pub not_true : (b : Bool) → (b ≡ true → ⊥) → b ≡ false
 not_true true never = absurd (never refl)
 not_true false never = refl
 

@@ -1,9 +1,11 @@
 pub mod AddressLemmas
+pub mod AnswerLemmas
 pub mod GlyphLemmas
-pub mod InputLemmas
 pub mod LocatedLemmas
 pub mod ObjectLemmas
 pub mod ReportLemmas
 pub mod RunLemmas
+pub mod StreamLemmas
+pub mod TakenLemmas
 pub mod TextLemmas
 pub mod WordLemmas

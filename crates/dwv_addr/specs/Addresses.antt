@@ -1,6 +1,6 @@
 -- Chapter: the addresses that are looked up, as words of the command line and lines of standard input.
-use Rattle.std.specs.Prelude.{ℕ, ◌==◌, nat_lt, Bool, List, [], ◌∷◌, codes, drop, length, take, Option, None, Some}
-use Rattle.std.specs.Prelude.{if◌then◌else◌}
+use Rattle.std.specs.Prelude.{◌≡◌, ℕ, ◌==◌, nat_lt, Bool, List, [], ◌∷◌, ◌++◌, codes, drop, length, map, take}
+use Rattle.std.specs.Prelude.{Option, None, Some, if◌then◌else◌}
 use Rattle.std.specs.Char.{digit_value}
 use Rattle.std.specs.List.{list_all}
 use Rattle.std.specs.Str.{bytes_eq}
@@ -33,3 +33,26 @@ led_by b (line ∷ lines) = (b ∷ line) ∷ lines
 abbrev pub lines_of : List ℕ → List (List ℕ)
 lines_of [] = []
 lines_of (b ∷ text) = if b == 10 then [] ∷ lines_of text else led_by b (lines_of text)
+
+-- a byte at the front of the first of some lines, if there is one
+abbrev pub ended_by : ℕ → List (List ℕ) → List (List ℕ)
+ended_by b [] = []
+ended_by b (line ∷ lines) = (b ∷ line) ∷ lines
+
+-- the lines of a text that end in it, each without its line feed
+abbrev pub ended_lines : List ℕ → List (List ℕ)
+ended_lines [] = []
+ended_lines (b ∷ text) = if b == 10 then [] ∷ ended_lines text else ended_by b (ended_lines text)
+
+-- after the lines that end in a text these bytes have started a line: what follows the text follows them
+pub record HasStarted (text started : List ℕ) : Type 0 where
+  pub lines : (more : List ℕ) → lines_of (text ++ more) ≡ ended_lines text ++ lines_of (started ++ more)
+  pub ended : (more : List ℕ) → ended_lines (text ++ more) ≡ ended_lines text ++ ended_lines (started ++ more)
+
+-- the addresses that the lines of a text are, and that some are none
+abbrev pub asked_by : List ℕ → List (Option ℕ)
+asked_by text = map address_in (lines_of text)
+
+-- the same for the lines that end in it
+abbrev pub asked_so_far : List ℕ → List (Option ℕ)
+asked_so_far text = map address_in (ended_lines text)

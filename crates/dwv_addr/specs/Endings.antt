@@ -1,8 +1,8 @@
 -- Chapter: which addresses are asked for, the exit status, and the line on standard error.
-use Rattle.std.specs.Prelude.{ℕ, List, [], ◌∷◌, codes, map, Option, None, Some, Result, Ok, Err}
+use Rattle.std.specs.Prelude.{ℕ, List, [], ◌∷◌, codes, Option, None, Some, Result, Ok, Err}
 use Rattle.dw_io.specs.declared.transfer.RunFault.{RunFault}
 use Rattle.dw_io.specs.declared.transfer.RunFault.TheVariants.{ReadFailed, WriteFailed, Memory}
-use Rattle.dwv_addr.specs.Addresses.{address_in, lines_of}
+use Rattle.dwv_addr.specs.Addresses.{asked_by}
 use Rattle.dwv_addr.specs.declared.endings.Outcome.{Outcome}
 use Rattle.dwv_addr.specs.declared.endings.Outcome.TheVariants.{Ran, Refused, Unopened}
 use Rattle.dwv_addr.specs.declared.request.Request.{Request}
@@ -18,7 +18,7 @@ abbrev pub asked_from : Request → List (Option ℕ) → Option (List ℕ) → 
 asked_from (Check json) given input = Some given
 asked_from (Find json) (word ∷ given) input = Some (word ∷ given)
 asked_from (Find json) [] None = None
-asked_from (Find json) [] (Some text) = Some (map address_in (lines_of text))
+asked_from (Find json) [] (Some text) = Some (asked_by text)
 
 -- the exit status of a request that has a result
 abbrev pub status_code : Status → ℕ

@@ -9,4 +9,5 @@ pub mod Faults
 pub mod Requests
 pub mod Reports
 pub mod Endings
+pub mod Streams
 pub mod Runs

@@ -24,9 +24,13 @@ abbrev pub counts_text : (json : Bool) → Counts → List ℕ
 counts_text true counts = object_line (sound_object counts)
 counts_text false counts = sound_line counts
 
--- how a request for addresses of a sound file ends
+-- how a request for addresses of a sound file ends, by whether each word or line is one
+abbrev pub status_if : Bool → Status
+status_if are = if are then Sound else BadAddress
+
+-- how a request for such words or lines ends
 abbrev pub asked_status : List (Option ℕ) → Status
-asked_status asked = if list_all is_some asked then Sound else BadAddress
+asked_status asked = status_if (list_all is_some asked)
 
 -- what is returned and written of a sound file, by the functions of its units: its counts, or the answers for addresses
 pub data SoundReport (known : Known) (units : List KnownUnit) (asked : List (Option ℕ))

@@ -1,18 +1,11 @@
-//! Which addresses are asked for, and how the program ends.
+//! How the program ends.
 
-ghost use Rattle.std.specs.Prelude.{◌≡◌, ◌≢◌, ◌<◌, ◌↔◌, Err, IfOk, IfSome, IsErrOf, map};
-ghost use Rattle.dwv_addr.specs.Addresses.{address_in, lines_of};
-ghost use Rattle.dwv_addr.specs.Endings.{asked_from, ending_line, ending_status, exit_status, line_of, words_line};
-ghost use Rattle.dwv_addr.specs.Endings.{words_status};
+ghost use Rattle.std.specs.Prelude.{◌≡◌, Err};
+ghost use Rattle.dwv_addr.specs.Endings.{ending_line, ending_status, exit_status, line_of, words_line, words_status};
 
-use crate::addresses::addresses_in;
-use crate::request::{Request, Status};
+use crate::request::Status;
 use crate::words::WordsFault;
-use dw_io::{RunFault, Source, read_input};
-use std::alloc::Global;
-
-/// As many bytes as a vector may have.
-const MOST: usize = 0x7fff_ffff_ffff_ffff;
+use dw_io::RunFault;
 
 /// What becomes of the words of the command line.
 #[derive(Clone, Copy, Debug, PartialEq, Eq)]
@@ -23,43 +16,6 @@ pub enum Outcome {
     Unopened,
     /// What their request gives.
     Ran(Result<Status, RunFault>),
-}
-
-/// The addresses that the lines of the input are.
-fn asked_in<I: Source>(alloc: Global, input: &mut I) -> Result<Vec<Option<u64>>, RunFault>
-    requires { I.failures input.old < u64.MAX }
-    ensures asked { IfOk result (λ asked. IfSome (I.remaining input.old)
-        (λ text. asked.items ≡ map address_in (lines_of text))) }
-    ensures failed { IsErrOf result RunFault.ReadFailed ↔ (I.failures input.old < I.failures input.new) }
-    ensures only { result ≢ Err RunFault.WriteFailed }
-{
-    let text = read_input(alloc, MOST, input)?;
-    let asked = addresses_in(alloc, text.as_slice())?;
-    Ok(asked)
-}
-
-/// The addresses that a request is for: those that the words are, or the lines of the input if there are no words.
-pub fn asked_of<I: Source>(
-    alloc: Global,
-    request: Request,
-    given: Vec<Option<u64>>,
-    input: &mut I,
-) -> Result<Vec<Option<u64>>, RunFault>
-    requires { I.failures input.old < u64.MAX }
-    ensures asked { IfOk result (λ asked. IfSome (asked_from request given.items (I.remaining input.old))
-        (λ they. asked.items ≡ they)) }
-    ensures failed { IsErrOf result RunFault.ReadFailed ↔ (I.failures input.old < I.failures input.new) }
-    ensures only { result ≢ Err RunFault.WriteFailed }
-{
-    match request {
-        Request::Check { .. } => Ok(given),
-        Request::Find { .. } => {
-            if !given.is_empty() {
-                return Ok(given);
-            }
-            asked_in(alloc, input)
-        }
-    }
 }
 
 /// The line for standard error.

@@ -11,6 +11,7 @@ mod lines;
 mod reporting;
 mod request;
 mod running;
+mod stream;
 #[cfg(test)]
 mod tests;
 mod words;

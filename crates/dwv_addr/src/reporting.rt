@@ -7,8 +7,10 @@ ghost use Rattle.dw_forms.specs.Stops.{IfFault};
 ghost use Rattle.dw_ranges.specs.Files.{IsIndex, IsIndexOf};
 ghost use Rattle.dw_ranges.specs.Functions.{Known as KnownUnit};
 ghost use Rattle.dw_lookup.specs.Files.{FileFails};
+ghost use Rattle.dw_lookup.specs.declared.first_fault.FirstFault.TheVariants.{File};
+ghost use Rattle.dw_report.specs.Reports.{too_large};
 ghost use Rattle.dwv_addr.specs.Faults.{first_fault_text};
-ghost use Rattle.dwv_addr.specs.Reports.{FileReport, Report, SoundReport, asked_status, counts_text};
+ghost use Rattle.dwv_addr.specs.Reports.{FileReport, Report, SoundReport, counts_text, status_if};
 ghost use Rattle.dwv_addr.specs.Requests.{writes_json};
 ghost use Rattle.dwv_addr.specs.declared.request.Status.TheVariants.{Fault};
 
@@ -42,17 +44,17 @@ fn text_of_counts(alloc: Global, json: bool, counts: Counts) -> Result<Vec<u8>, 
 }
 
 /// Whether each word or line is an address.
-fn are_addresses(asked: &[Option<u64>]) -> bool
+pub fn are_addresses(asked: &[Option<u64>]) -> bool
     ensures { result ≡ list_all is_some asked.now }
 {
     asked.iter().all(|question| question.is_some())
 }
 
-/// How a request for addresses ends.
-fn status_of(asked: &[Option<u64>]) -> Status
-    ensures { result ≡ asked_status asked.now }
+/// How a request for addresses ends, by whether each word or line is one.
+pub fn status_of(are: bool) -> Status
+    ensures { result ≡ status_if are }
 {
-    if are_addresses(asked) {
+    if are {
         return Status::Sound;
     }
     Status::BadAddress
@@ -79,7 +81,7 @@ fn answer_of_sound(
         Request::Find { json } => {
             let mut text = Vec::new(alloc);
             put_answers(&mut text, alloc, json, known, asked)?;
-            let status = status_of(asked);
+            let status = status_of(are_addresses(asked));
             Ok(Answer { status, text })
         }
     }
@@ -108,7 +110,7 @@ fn answer_of_file(
 }
 
 /// The result for the first rule that a file violates.
-fn answer_of_fault(
+pub fn answer_of_fault(
     alloc: Global,
     request: Request,
     fault: &FirstFault,
@@ -120,6 +122,16 @@ fn answer_of_fault(
     put_first_fault(&mut text, alloc, request.json(), fault)?;
     let status = Status::Fault;
     Ok(Answer { status, text })
+}
+
+/// The fault of a file with more bytes than are read.
+pub fn fault_of_size() -> FirstFault
+    ensures { result ≡ File too_large }
+{
+    FirstFault::File(ElfFault {
+        rule: ElfRule::TooLarge,
+        section: 0,
+    })
 }
 
 /// The text for a request over the bytes of a file and addresses, and how the request ends. A file of more than `limit`
@@ -134,11 +146,7 @@ pub fn report(
     ensures { IfOk result (λ answer. Report limit bytes.now request asked.now answer.status answer.text.items) }
 {
     if bytes.len() > limit {
-        let fault = ElfFault {
-            rule: ElfRule::TooLarge,
-            section: 0,
-        };
-        let answer = answer_of_fault(alloc, request, &FirstFault::File(fault))?;
+        let answer = answer_of_fault(alloc, request, &fault_of_size())?;
         return Ok(answer);
     }
     match answer_of_file(alloc, request, asked, bytes) {

@@ -1,5 +1,6 @@
 use Rattle.std.proofs.Common.{◌≡◌, ◌++◌, ap, ◌∙◌, subst, sym}
 use Rattle.dwv_addr.specs.Located.{AreAnswers}
+use Rattle.dwv_addr.specs.Reports.{status_if}
 use Rattle.dwv_addr.proofs.ReportLemmas.{answers_report, counts_report}
 use Rattle.dwv_addr.proofs.reporting.answer_of_sound.Goals as goal
 
@@ -14,5 +15,5 @@ returns-in_ok-put_answers-in-Find c = λ units index.
     let text : c.put_answers.new.text.items ≡ written.0 =
     written.1 ∙ ap (λ xs. xs ++ written.0) c.new-text.ensures.items in
     answers_report c.args.known.now units c.args.asked.now c.args.request c.in-Find.json c.status_of-status.result
-    c.put_answers.new.text.items c.in-Find.is c.status_of-status.ensures
+    c.put_answers.new.text.items c.in-Find.is (c.status_of-status.ensures ∙ ap status_if c.are_addresses.ensures)
     (subst (AreAnswers c.in-Find.json c.args.known.now units c.args.asked.now) (sym text) (written.2 units index))

@@ -1,50 +1,64 @@
-use Rattle.std.proofs.Common.{◌≡◌, ◌+◌, subst, take}
-use Rattle.std.specs.Prelude.{IfSome}
-use Rattle.std.specs.Io.KnownBytes.{Appends}
+use Rattle.std.proofs.Common.{◌≡◌, ◌+◌, sym, subst, take}
+use Rattle.std.specs.Prelude.{IfOk, IfSome}
 use Rattle.dwv_addr.specs.Endings.{asked_from}
-use Rattle.dwv_addr.specs.Reports.{Report}
-use Rattle.dwv_addr.proofs.RunLemmas.{WritesPrefix-of_read, WritesReport-of_read}
+use Rattle.dwv_addr.specs.Runs.{IfKnown, IsCut, IsStopped, WritesReport}
+use Rattle.dwv_addr.proofs.RunLemmas.{cut_of_read, stopped_of_read, written_of_read}
 use Rattle.dwv_addr.proofs.running.run.Goals as goal
-
-pub returns-in_err-write_text-clause-write_failed : goal.returns-in_err-write_text-clause-write_failed
-returns-in_err-write_text-clause-write_failed g c = λ is.
-    let file = g.R.Source.remaining c.args.reader.now in
-    let they = asked_from c.args.request c.args.given.items (g.I.Source.remaining c.args.input.now) in
-    let answer = c.in_ok-answer.answer in
-    let bytes = c.in_ok-bytes.bytes.items in
-    let asked = c.in_ok-asked.asked.items in
-    let old = g.W.Sink.contents c.args.writer.now in
-    let new = g.W.Sink.contents c.write_text.new.writer in
-    let written = c.in_err-write_text.ensures.err in
-    WritesPrefix-of_read c.args.request answer.status answer.text.items bytes asked written.0 file they
-    old new
-    (subst (λ limit. IfSome file (λ input. bytes ≡ take (limit + 1) input)) c.longest_file-limit.ensures
-    c.in_ok-bytes.ensures.read) c.in_ok-asked.ensures.asked
-    (subst (λ limit. Report limit bytes c.args.request asked answer.status answer.text.items)
-    c.longest_file-limit.ensures
-    (subst (λ xs. Report c.longest_file-limit.result xs c.args.request asked answer.status answer.text.items)
-    c.as_slice-file.ensures.value
-    (subst (λ xs. Report c.longest_file-limit.result c.as_slice-file.result.now c.args.request xs answer.status
-    answer.text.items) c.as_slice-addresses.ensures.value c.in_ok-answer.ensures)))
-    (subst (λ text. Appends old new (take written.0 text)) c.as_slice-text.ensures.value written.1)
 
 pub returns-clause-written : goal.returns-clause-written
 returns-clause-written g c =
     let file = g.R.Source.remaining c.args.reader.now in
-    let they = asked_from c.args.request c.args.given.items (g.I.Source.remaining c.args.input.now) in
-    let answer = c.in_ok-answer.answer in
-    let bytes = c.in_ok-bytes.bytes.items in
-    let asked = c.in_ok-asked.asked.items in
+    let input = g.I.Source.remaining c.args.input.now in
     let old = g.W.Sink.contents c.args.writer.now in
-    let new = g.W.Sink.contents c.write_text.new.writer in
-    WritesReport-of_read c.args.request answer.status answer.text.items bytes asked file they
-    old new
-    (subst (λ limit. IfSome file (λ input. bytes ≡ take (limit + 1) input)) c.longest_file-limit.ensures
-    c.in_ok-bytes.ensures.read) c.in_ok-asked.ensures.asked
-    (subst (λ limit. Report limit bytes c.args.request asked answer.status answer.text.items)
-    c.longest_file-limit.ensures
-    (subst (λ xs. Report c.longest_file-limit.result xs c.args.request asked answer.status answer.text.items)
-    c.as_slice-file.ensures.value
-    (subst (λ xs. Report c.longest_file-limit.result c.as_slice-file.result.now c.args.request xs answer.status
-    answer.text.items) c.as_slice-addresses.ensures.value c.in_ok-answer.ensures)))
-    (subst (λ text. Appends old new text) c.as_slice-text.ensures.value c.in_ok-write_text.ensures.ok)
+    let new = g.W.Sink.contents c.handle.new.writer in
+    let read = subst (λ limit. IfSome file (λ all. c.in_ok-file.file.items ≡ take (limit + 1) all))
+    c.longest_file-limit.ensures c.in_ok-file.ensures.read in
+    subst (λ given. IfOk c.handle.result (λ status. IfKnown file (asked_from c.args.request given input)
+    (WritesReport c.args.request status old new))) c.as_slice-asked.ensures.value
+    (written_of_read g.W.Sink.contents c.args.request c.as_slice-asked.result.now c.as_slice-bytes.result.now input
+    c.args.writer.now c.handle.new.writer file c.handle.result
+    (subst (λ bytes. IfSome file (λ all. bytes ≡ take (4294967296 + 1) all)) (sym c.as_slice-bytes.ensures.value) read)
+    c.handle.ensures.written)
+
+pub returns-clause-read_failed : goal.returns-clause-read_failed
+returns-clause-read_failed g c = λ failed.
+    let file = g.R.Source.remaining c.args.reader.now in
+    let input = g.I.Source.remaining c.args.input.now in
+    let rest = g.I.Source.remaining c.handle.new.input in
+    let read = subst (λ limit. IfSome file (λ all. c.in_ok-file.file.items ≡ take (limit + 1) all))
+    c.longest_file-limit.ensures c.in_ok-file.ensures.read in
+    subst (λ given. IsStopped g.W.Sink.contents c.args.request given file input rest c.args.writer.now
+    c.handle.new.writer) c.as_slice-asked.ensures.value
+    (stopped_of_read g.W.Sink.contents c.args.request c.as_slice-asked.result.now c.as_slice-bytes.result.now input
+    c.args.writer.now c.handle.new.writer file rest
+    (subst (λ bytes. IfSome file (λ all. bytes ≡ take (4294967296 + 1) all)) (sym c.as_slice-bytes.ensures.value) read)
+    (c.handle.ensures.read_failed failed))
+
+pub returns-clause-memory : goal.returns-clause-memory
+returns-clause-memory g c = λ failed.
+    let file = g.R.Source.remaining c.args.reader.now in
+    let input = g.I.Source.remaining c.args.input.now in
+    let read = subst (λ limit. IfSome file (λ all. c.in_ok-file.file.items ≡ take (limit + 1) all))
+    c.longest_file-limit.ensures c.in_ok-file.ensures.read in
+    let (rest, stopped) = c.handle.ensures.memory failed in (
+      rest,
+      subst (λ given. IsStopped g.W.Sink.contents c.args.request given file input rest c.args.writer.now
+          c.handle.new.writer) c.as_slice-asked.ensures.value
+          (stopped_of_read g.W.Sink.contents c.args.request c.as_slice-asked.result.now c.as_slice-bytes.result.now
+          input c.args.writer.now c.handle.new.writer file rest
+          (subst (λ bytes. IfSome file (λ all. bytes ≡ take (4294967296 + 1) all)) (sym c.as_slice-bytes.ensures.value)
+          read) stopped),
+    )
+
+pub returns-clause-write_failed : goal.returns-clause-write_failed
+returns-clause-write_failed g c = λ failed.
+    let file = g.R.Source.remaining c.args.reader.now in
+    let input = g.I.Source.remaining c.args.input.now in
+    let read = subst (λ limit. IfSome file (λ all. c.in_ok-file.file.items ≡ take (limit + 1) all))
+    c.longest_file-limit.ensures c.in_ok-file.ensures.read in
+    subst (λ given. IsCut g.W.Sink.contents c.args.request given file input c.args.writer.now
+    c.handle.new.writer) c.as_slice-asked.ensures.value
+    (cut_of_read g.W.Sink.contents c.args.request c.as_slice-asked.result.now c.as_slice-bytes.result.now input
+    c.args.writer.now c.handle.new.writer file
+    (subst (λ bytes. IfSome file (λ all. bytes ≡ take (4294967296 + 1) all)) (sym c.as_slice-bytes.ensures.value) read)
+    (c.handle.ensures.write_failed failed))
