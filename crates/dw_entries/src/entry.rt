@@ -128,6 +128,7 @@ impl<'a> Entries<'a> {
 
     /// The value of an entry's attribute, if it has that attribute. Its unit is looked up only where its declaration
     /// has the attribute.
+    #[inline(always)]
     pub fn value(&self, id: EntryId, attribute: Attribute) -> Option<Value<'a>>
         requires { id < length (all_entries self.now) }
         ensures { option_map view result ≡ value_at_entry (entry_of (all_entries self.now) id) attribute }

@@ -3,7 +3,7 @@
 ghost use Rattle.std.specs.Prelude.{IfNone, IfSome, true, ◌≡◌};
 ghost use Rattle.dw_forms.specs.LeadingWalks.{IsFirstStep};
 ghost use Rattle.dw_forms.specs.Suffixes.{numbered};
-ghost use Rattle.dw_forms.specs.declared.attribute_lists.Lead.TheVariants.{Passed};
+ghost use Rattle.dw_forms.specs.declared.attribute_lists.Lead.TheVariants.{Other, Passed};
 
 use crate::led::{Led, led_by};
 use crate::values::Values;
@@ -38,7 +38,18 @@ impl<'a> Leading<'_, 'a> {
         led_by(lead, attribute, value)
     }
 
-    /// Takes the next value, if one is left. It may lead elsewhere.
+    /// Takes the next value, whose lead does not tell its form. Compilers write few such values: it is out of line.
+    #[inline(never)]
+    fn take_other(&mut self) -> Led<'a>
+        requires { next_lead self.old ≡ Other }
+        ensures next { IsNextOf DoesNotLead (leading_left self.old) (item_of result) (leading_left self.new) }
+        ensures led { LeadsNext result (leading_specs self.old) (leading_specs self.new) }
+    {
+        self.take_in(Lead::Other, None)
+    }
+
+    /// Takes the next value, if one is left. It may lead elsewhere. References have one arm: with one for each of their
+    /// leads, this grows so large that the compiler leaves it out of line.
     #[inline(always)]
     fn take_next(&mut self) -> Option<Led<'a>>
         requires { next_lead self.old ≡ Passed → ⊥ }
@@ -49,15 +60,12 @@ impl<'a> Leading<'_, 'a> {
     {
         match self.step.lead {
             Lead::Nothing | Lead::Passed => None,
-            Lead::TypeEntry => Some(self.take_in(Lead::TypeEntry, Some(Form::Ref4))),
-            Lead::Sibling => Some(self.take_in(Lead::Sibling, Some(Form::Ref4))),
-            Lead::Specification => Some(self.take_in(Lead::Specification, Some(Form::Ref4))),
-            Lead::Entry => Some(self.take_in(Lead::Entry, Some(Form::Ref4))),
             Lead::Text => Some(self.take_in(Lead::Text, Some(Form::Strp))),
             Lead::Index1 => Some(self.take_in(Lead::Index1, Some(Form::Strx1))),
             Lead::Index2 => Some(self.take_in(Lead::Index2, Some(Form::Strx2))),
             Lead::Address => Some(self.take_in(Lead::Address, Some(Form::Addrx))),
-            Lead::Other => Some(self.take_in(Lead::Other, None)),
+            Lead::Other => Some(self.take_other()),
+            lead => Some(self.take_in(lead, Some(Form::Ref4))),
         }
     }
 
