@@ -22,7 +22,7 @@ use Rattle.dw_entries.proofs.HeadLaws.{all_get}
 use Rattle.dw_entries.specs.EntryRules.{values_of}
 use Rattle.dw_entries.specs.Grammar.{Head}
 use Rattle.dw_forms.specs.Codes.{DW_AT_language}
-use Rattle.dw_links.specs.Bases.{section_offset_in, base_in, bases_in}
+use Rattle.dw_links.specs.Bases.{kept_base, section_offset_in, base_in, bases_in}
 use Rattle.dw_links.specs.Constants.{constant_of, language_of}
 use Rattle.dw_links.specs.declared.constant.Constant.{Constant}
 use Rattle.dw_links.specs.Tables.{target_of_type, AreTables}
@@ -59,11 +59,10 @@ kept_target entries tables id number found are below same read =
     (read ∙ ap (λ (n : ℕ). get_or tables.types.items n found) same)
 
 -- the base that is kept of a unit
-pub kept_base : (entries : List Entry) (units : List PlacedUnit) (attribute : ℕ) (bases : List (Option ℕ)) (number : ℕ)
-    (p : PlacedUnit) (found : Option ℕ) → bases ≡ bases_in entries units attribute → slice_get units number ≡ Some p
-    → found ≡ option_and_then (λ base. base) (slice_get bases number)
-    → found ≡ base_in entries p attribute
-kept_base entries units attribute bases number p found all is read = search (rules, slice_get-map)
+pub kept_is : (entries : List Entry) (units : List PlacedUnit) (attribute : ℕ) (bases : List (Option ℕ)) (number : ℕ)
+    (p : PlacedUnit) → bases ≡ bases_in entries units attribute → slice_get units number ≡ Some p
+    → kept_base bases number ≡ base_in entries p attribute
+kept_is entries units attribute bases number p all is = search (rules, slice_get-map)
 
 -- one item more
 pub map_one_more : {X Y : Type 0} (f : X → Y) (xs : List X) (ys : List Y) (i : ℕ) (x : X) (y : Y)

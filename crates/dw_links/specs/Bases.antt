@@ -24,3 +24,7 @@ base_in entries unit attribute =
 -- the bases of all units under an attribute
 abbrev pub bases_in : List Entry → List PlacedUnit → (attribute : ℕ) → List (Option ℕ)
 bases_in entries units attribute = map (λ unit. base_in entries unit attribute) units
+
+-- the base of the unit with this number, among those of all units
+abbrev pub kept_base : (bases : List (Option ℕ)) → (number : ℕ) → Option ℕ
+kept_base bases number = option_and_then (λ base. base) (slice_get bases number)

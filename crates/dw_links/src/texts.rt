@@ -1,13 +1,14 @@
 //! The texts and addresses of attributes (DWARF 5, sections 7.26 and 7.27), and where a text is.
 
-ghost use Rattle.std.specs.Prelude.{◌≡◌, ℕ, ◌+◌, ◌*◌, ◌<◌, ◌≤◌, length, slice_get, Some, IfSome, option_copied};
-ghost use Rattle.std.specs.Prelude.{option_map, option_and_then};
+ghost use Rattle.std.specs.Prelude.{◌≡◌, ℕ, ◌+◌, ◌*◌, ◌<◌, ◌≤◌, length, Some, IfSome, option_copied};
+ghost use Rattle.std.specs.Prelude.{option_map};
 ghost use Rattle.dw_forms.specs.Value.{view};
 ghost use Rattle.dw_entries.specs.ByNumber.{entry_of};
 ghost use Rattle.dw_entries.specs.Lookups.{value_at_entry};
 ghost use Rattle.dw_entries.specs.ValuePlaces.{end_of};
 ghost use Rattle.dw_entries.specs.Views.{sections_of, all_entries, all_units, units_of};
 ghost use Rattle.dw_entries.specs.Failures.{HasNone};
+ghost use Rattle.dw_links.specs.Bases.{kept_base};
 ghost use Rattle.dw_links.specs.Contributions.{string_at, slot_at};
 ghost use Rattle.dw_links.specs.Slots.{IsTextPlace, BeginsString, AddressLies, TextLies};
 ghost use Rattle.dw_links.specs.ValueTexts.{text_there, text_of_value, text_place_of, address_of};
@@ -70,21 +71,33 @@ fn slot(section: &[u8], size: u8, base: u32, index: u64) -> u64
     number(section, base as usize + size * index as usize, size)
 }
 
-/// Where the text of the value of an entry's attribute is, if that is a string.
+/// The base of an entry's unit, among those of all units.
+fn base_of(bases: &[Option<u32>], entries: &Entries<'_>, id: EntryId) -> Option<u32>
+    requires { id < length (all_entries entries.now) }
+    ensures { result ≡ kept_base bases.now (entry_of (all_entries entries.now) id).unit }
+{
+    *bases.get(entries.unit_of(id))?
+}
+
+/// Where the text of the value of an entry's attribute is, if that is a string. The base of the entry's unit, among
+/// those of all units, is looked up only for an index.
+#[inline(always)]
 fn place_of_value(
     entries: &Entries<'_>,
     id: EntryId,
     attribute: Attribute,
-    base: Option<u32>,
+    bases: &[Option<u32>],
     value: Value<'_>,
 ) -> Option<TextPlace>
     requires id { id < length (all_entries entries.now) }
     requires value { value_at_entry (entry_of (all_entries entries.now) id) attribute ≡ Some (view value) }
-    requires lies { TextLies (sections_of entries.now) base (view value) }
-    ensures text { option_map (text_there (sections_of entries.now)) result
-        ≡ text_of_value (sections_of entries.now) base (view value.entry) }
+    requires lies { TextLies (sections_of entries.now)
+        (kept_base bases.now (entry_of (all_entries entries.now) id).unit) (view value) }
+    ensures text { option_map (text_there (sections_of entries.now)) result ≡ text_of_value (sections_of entries.now)
+        (kept_base bases.now (entry_of (all_entries entries.now) id).unit) (view value.entry) }
     ensures place { (end : ℕ) → end_of (entry_of (all_entries entries.now) id) attribute ≡ Some end
-        → result ≡ text_place_of (sections_of entries.now) base (view value.entry) end }
+        → result ≡ text_place_of (sections_of entries.now)
+        (kept_base bases.now (entry_of (all_entries entries.now) id).unit) (view value.entry) end }
     ensures begins { IfSome result (BeginsString (sections_of entries.now)) }
 {
     match value {
@@ -95,7 +108,8 @@ fn place_of_value(
         Value::Str(offset) => Some(TextPlace::Str(offset as usize)),
         Value::LineStr(offset) => Some(TextPlace::LineStr(offset as usize)),
         Value::StrIndex(index) => {
-            let offset = slot(entries.sections().str_offsets, 4, base?, index);
+            let base = base_of(bases, entries, id)?;
+            let offset = slot(entries.sections().str_offsets, 4, base, index);
             Some(TextPlace::Str(offset as usize))
         }
         _ => None,
@@ -119,17 +133,9 @@ fn address_of_value(
     }
 }
 
-/// The base of an entry's unit, among those of all units.
-fn base_of(bases: &[Option<u32>], entries: &Entries<'_>, id: EntryId) -> Option<u32>
-    requires { id < length (all_entries entries.now) }
-    ensures { result ≡ option_and_then (λ base. base)
-        (slice_get bases.now (entry_of (all_entries entries.now) id).unit) }
-{
-    *bases.get(entries.unit_of(id))?
-}
-
 impl LinkTables {
     /// Where the text of an entry's attribute is. None if the attribute is absent or no string.
+    #[inline(always)]
     pub fn text_place(
         &self,
         entries: &Entries<'_>,
@@ -147,8 +153,7 @@ impl LinkTables {
         ensures begins { IfSome result (BeginsString (sections_of entries.now)) }
     {
         let value = entries.value(id, attribute)?;
-        let base = base_of(self.str_bases.as_slice(), entries, id);
-        place_of_value(entries, id, attribute, base, value)
+        place_of_value(entries, id, attribute, self.str_bases.as_slice(), value)
     }
 
     /// The text of an entry's attribute. None if the attribute is absent or no string.

@@ -5,6 +5,7 @@ use Rattle.dw_entries.specs.ByNumber.{entry_of}
 use Rattle.dw_entries.specs.OwnBytes.{EndsAt}
 use Rattle.dw_entries.specs.Views.{all_entries, sections_of}
 use Rattle.dw_entries.proofs.ValuePlaceLaws.{has_end}
+use Rattle.dw_links.specs.Bases.{kept_base}
 use Rattle.dw_links.specs.ValueTexts.{text_of_value}
 use Rattle.dw_links.proofs.EndLemmas.{text_begins}
 use Rattle.dw_links.proofs.TextLemmas.{text_before, text_is}
@@ -29,8 +30,9 @@ returns-in_err-end-in-Text-clause-text c =
 pub returns-in_ok-end-in-Text-clause-text : goal.returns-in_ok-end-in-Text-clause-text
 returns-in_ok-end-in-Text-clause-text c =
     let s = sections_of c.args.entries.now in
+    let base = kept_base c.args.bases.now (entry_of (all_entries c.args.entries.now) c.args.id).unit in
     ap Some (text_is s.info.now c.in_ok-end-in-Text.end c.in-Text.bytes.now (ends c))
-    ∙ ap (λ (v : Value). text_of_value s c.args.base (view v)) (sym c.in-Text.is)
+    ∙ ap (λ (v : Value). text_of_value s base (view v)) (sym c.in-Text.is)
 
 pub returns-in_ok-end-in-Text-clause-begins : goal.returns-in_ok-end-in-Text-clause-begins
 returns-in_ok-end-in-Text-clause-begins c =

@@ -8,7 +8,7 @@ use Rattle.dw_entries.specs.Views.{sections_of, units_of}
 use Rattle.dw_entries.specs.Lookups.{unit_head, value_at_entry}
 use Rattle.dw_links.specs.AttributeTexts.{address_at}
 use Rattle.dw_links.proofs.ClassLemmas.{in_units}
-use Rattle.dw_links.proofs.TableLemmas.{sized, entry_unit, kept_base}
+use Rattle.dw_links.proofs.TableLemmas.{sized, entry_unit, kept_is}
 use Rattle.dw_links.proofs.UnitToAll.{unit_below}
 use Rattle.dw_links.proofs.SlotLemmas.{address_lies}
 use Rattle.dw_links.proofs.tables.LinkTables.address.Goals as goal
@@ -26,8 +26,8 @@ address_of_value-requires c =
     let told : c.unit.result ≡ unit_head p =
     c.unit.ensures ∙ ap (λ (n : ℕ). unit_head (placed_of (placed us) n)) c.unit_of.ensures in
     let value : Some (view c.in_ok-value.value) ≡ value_at_entry e c.args.attribute = c.in_ok-value.ensures in
-    let base = kept_base (entries_of us) (placed us) DW_AT_addr_base _ e.unit p c.base_of-base.result
-    c.requires.tables.addr_bases is_p (rw c.as_slice.ensures.value at c.base_of-base.ensures) in
+    let base = (rw c.as_slice.ensures.value at c.base_of-base.ensures)
+    ∙ kept_is (entries_of us) (placed us) DW_AT_addr_base _ e.unit p c.requires.tables.addr_bases is_p in
     let is = slice_get-get_or (entries_of us) c.args.id no_entry c.requires.id in
     let size = sized _ _ us e.unit p c.args.entries.now.scanned.1.spells
     (in_units _ _ us c.args.id e c.args.entries.now.scanned.1.spells is) is_p in
@@ -45,8 +45,8 @@ returns c =
     let told : c.unit.result ≡ unit_head p =
     c.unit.ensures ∙ ap (λ (n : ℕ). unit_head (placed_of (placed us) n)) c.unit_of.ensures in
     let value : Some (view c.in_ok-value.value) ≡ value_at_entry e c.args.attribute = c.in_ok-value.ensures in
-    let base = kept_base (entries_of us) (placed us) DW_AT_addr_base _ e.unit p c.base_of-base.result
-    c.requires.tables.addr_bases is_p (rw c.as_slice.ensures.value at c.base_of-base.ensures) in
+    let base = (rw c.as_slice.ensures.value at c.base_of-base.ensures)
+    ∙ kept_is (entries_of us) (placed us) DW_AT_addr_base _ e.unit p c.requires.tables.addr_bases is_p in
     rw (is_p, ← value, ← base) (rw (c.sections.ensures, told) at c.address_of_value.ensures)
 
 pub returns-in_err-value : goal.returns-in_err-value
