@@ -1,19 +1,22 @@
 -- How a walk begins, and what holds at its end, also where it goes on past cycles: the nodes that are given up reach
 -- one, and those that have ranks reach none.
-use Rattle.std.proofs.Common.{rules, ◌≡◌, ◌≢◌, ℕ, ◌^◌, ◌+◌, ◌<◌, ◌⊎◌, ◌∙◌, true, false, [], length, get_or, replicate, set, inl, inr, arith, refl, sym, ap, sum, count_by, cond, zero, suc, ◌-◌, List, subst}
+use Rattle.std.proofs.Common.{rules, ◌≡◌, ◌≢◌, ℕ, ◌^◌, ◌+◌, ◌<◌, ◌⊎◌, ◌∙◌, true, false, [], ◌∷◌, ◌++◌, length, get_or, replicate, set, inl, inr, arith, refl, sym, ap, sum, count_by, cond, zero, suc, ◌-◌, List, subst}
 use Rattle.std.proofs.lemmas.Bool.{cases_lt}
-use Rattle.std.proofs.lemmas.List.{length-replicate, get_or-replicate, get_or_past, get_or_default}
+use Rattle.std.proofs.lemmas.List.{length-replicate, length_push, get_or-replicate, get_or_past, get_or_default, set-set}
 use Rattle.std.proofs.lemmas.List.Sums.{sum_by-cons}
 use Rattle.std.specs.Prelude.{Contains}
 use Rattle.dw_types.specs.Paths.{ReachesCycle, Leads}
 use Rattle.dw_types.specs.Cycles.{AreClear}
 use Rattle.dw_types.specs.declared.walk.Mark.{Mark}
 use Rattle.dw_types.specs.declared.walk.Mark.TheVariants.{Fresh, Open, Ranked}
-use Rattle.dw_types.specs.Graphs.{Graph, FallsAlong, IsStep, FollowsSteps, step_at}
+use Rattle.dw_types.specs.Graphs.{Graph, FallsAlong, IsStep, FollowsSteps, step_at, steps_of}
 use Rattle.dw_types.specs.Orders.{IsOrderOf}
 use Rattle.dw_types.specs.Walks.{HasStack, IsKept, IsWalk, KeepsTaken, is_taken, IsAtCycle}
-use Rattle.dw_types.specs.WalkStates.{Kept, WalkState, counted, given_up, mark_in, mark_of, without_stack}
+use Rattle.dw_types.specs.RanksListed.{ranks_listed}
+use Rattle.dw_types.specs.WalkStates.{Kept, WalkState, counted, given_up, mark_in, mark_of, opened, ranked, without_stack}
+use Rattle.dw_types.proofs.HandLemmas.{first-ranked}
 use Rattle.dw_types.proofs.ListLemmas.{at_set}
+use Rattle.dw_types.proofs.RankLemmas.{ranks_listed-push}
 use Rattle.dw_types.proofs.WalkLemmas.{in-graph, turns-all}
 
 pub get_or-same : {X : Type 0} (n k : ℕ) (x : X) → get_or (replicate n x) k x ≡ x
@@ -33,18 +36,22 @@ count-fresh (suc n) =
     let first = sum_by-cons (λ (m : Mark). cond {A = ℕ} (is_taken m) 1 0) Fresh (replicate n Fresh) in
     let rest = count-fresh n in omega arith
 
--- what a walk keeps before its first turn
-abbrev pub start : ℕ → Kept
-start n =
+-- what a walk keeps once some nodes have their ranks, and no other was taken up
+abbrev pub begun : ℕ → List Mark → List ℕ → Kept
+begun nodes marks by_rank =
     record {
-      marks = replicate n Fresh;
-      ranks = replicate n 0;
-      by_rank = [];
+      marks = marks;
+      ranks = ranks_listed nodes by_rank;
+      by_rank = by_rank;
       stack = [];
       looked = [];
-      turns = 0;
+      turns = length by_rank;
       gave_up = false;
     }
+
+-- what it keeps before its first turn
+abbrev start : ℕ → Kept
+start n = begun n (replicate n Fresh) []
 
 start-walk : (graph : Graph) → length graph < 2 ^ 64
     → IsWalk graph (counted (start (length graph)) (replicate (length graph) 0))
@@ -58,6 +65,16 @@ start-kept graph few =
       long = refl;
       looked = λ k below. absurd (omega arith);
     }
+
+-- one more node, which has no steps, has its rank
+pub begun-more : (graph : Graph) (nodes : ℕ) (marks : List Mark) (by_rank : List ℕ) (node : ℕ)
+    → IsKept graph (begun nodes marks by_rank) → node < length graph → mark_in marks node ≡ Fresh
+    → length (steps_of graph node) ≡ 0 → IsKept graph (begun nodes (set marks node Ranked) (by_rank ++ node ∷ []))
+begun-more graph nodes marks by_rank node h inside fresh none =
+    let same : ranked (opened (begun nodes marks by_rank) node) node
+    ≡ begun nodes (set marks node Ranked) (by_rank ++ node ∷ []) =
+    rw (set-set marks node Open Ranked, ranks_listed-push nodes by_rank node, length_push by_rank node) refl in
+    subst (IsKept graph) same (first-ranked graph (begun nodes marks by_rank) node h refl inside fresh none)
 
 -- with an empty stack, a node that was taken up was ranked, or given up
 end-by_mark : (graph : Graph) (s : WalkState) (node : ℕ) → IsWalk graph s → s.stack ≡ [] → mark_of s node ≢ Fresh

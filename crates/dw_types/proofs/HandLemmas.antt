@@ -8,7 +8,7 @@ use Rattle.dw_types.specs.declared.walk.Hand.{Hand}
 use Rattle.dw_types.specs.declared.walk.Mark.{Mark}
 use Rattle.dw_types.specs.declared.walk.Mark.TheVariants.{Fresh, Open, Ranked}
 use Rattle.dw_types.specs.Graphs.{Graph, IsStep, LeadsToNodes, step_at, step_count, steps_of}
-use Rattle.dw_types.specs.Walks.{GoToRanked, HasWalked, IsAtCycle, IsCoherent, IsFirstOther, IsKept, IsWalk, KeepsTaken, LooksOn}
+use Rattle.dw_types.specs.Walks.{GoToRanked, IsAtCycle, IsCoherent, IsFirstOther, IsKept, IsWalk, KeepsTaken, LooksOn}
 use Rattle.dw_types.specs.WalkStates.{Kept, counted, mark_in, opened, ranked, turned, with_hand}
 use Rattle.dw_types.proofs.ListLemmas.{at_push, at_set}
 use Rattle.dw_types.proofs.RankLemmas.{done-walk, take-push}
@@ -304,12 +304,11 @@ module _ (graph : Graph) (old : Kept) (hand : Hand) (looked : ℕ) (small : look
 -- a fresh node without steps is taken up and ranked
 pub first-ranked : (graph : Graph) (it : Kept) (node : ℕ) → IsKept graph it → it.stack ≡ []
     → node < length graph → mark_in it.marks node ≡ Fresh → length (steps_of graph node) ≡ 0
-    → HasWalked graph (opened it node) (ranked (opened it node) node) None
+    → IsKept graph (ranked (opened it node) node)
 first-ranked graph it node h empty inside fresh none =
     let first = opened it node in
     let same : it.turns + 1 ≡ it.turns + 1 + (0 - 0) = omega arith in
-    let on = goes-ranked graph first (record { node = node; looked = 0 }) 0 (omega arith)
+    (goes-ranked graph first (record { node = node; looked = 0 }) 0 (omega arith)
     (first-kept graph it node h empty inside fresh) (ranked first node) None
     (sym none, (λ k from below. absurd (omega arith)))
-    (empty, ap (λ (turns : ℕ). ranked (record first { turns = turns }) node) same) in
-    record { comes = on.kept; taken = on.taken; gave_up = on.gave_up }
+    (empty, ap (λ (turns : ℕ). ranked (record first { turns = turns }) node) same)).kept.0

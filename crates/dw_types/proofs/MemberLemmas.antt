@@ -6,7 +6,7 @@ use Rattle.std.proofs.lemmas.List.{get_or_append_left}
 use Rattle.std.proofs.Math.Seq.{get_or-append_right}
 use Rattle.std.proofs.lemmas.List.Elements.{All-contains, Contains-get_or}
 use Rattle.dw_forms.specs.Codes.{is_type_tag}
-use Rattle.dw_entries.specs.Entries.{Entry, entries_of}
+use Rattle.dw_entries.specs.Entries.{entries_of}
 use Rattle.dw_entries.specs.Units.{DebugUnit}
 use Rattle.dw_types.specs.Children.{children_of, IsChildOf}
 use Rattle.dw_types.specs.Entries.{entry_in, signature_target, type_target}
@@ -16,7 +16,7 @@ use Rattle.dw_types.specs.Shapes.{is_defined_member, is_plain}
 use Rattle.dw_types.specs.Steps.{member_step, steps_by_value, targets_if}
 use Rattle.dw_types.proofs.RoleLemmas.{untyped-declared, untyped-members, untyped-passes}
 use Rattle.dw_types.proofs.SiblingLemmas.{children-all}
-use Rattle.dw_types.proofs.StepLemmas.{flat_map-none, no-signature_step, step-to_entry, steps-from}
+use Rattle.dw_types.proofs.StepLemmas.{flat_map-none, step-to_entry, steps-from}
 
 pub and-by : (a b c : Bool) → b ≡ c → (a && b) ≡ (a && c)
 and-by a b c same = rw same refl
@@ -28,9 +28,6 @@ and-true false = refl
 pub and-false : (a : Bool) → (a && false) ≡ false
 and-false true = refl
 and-false false = refl
-
-no-passes : (entry : Entry) → has_members entry ≡ true → passes_type_on entry ≡ false
-no-passes entry is = grind arith
 
 module _ (us : List DebugUnit) (node : ℕ) where
   -- a child is in a structure if its parent is one
@@ -49,11 +46,6 @@ module _ (us : List DebugUnit) (node : ℕ) where
   no-member none child is =
       ap (λ (plain : Bool). targets_if plain (type_target us child))
       (and-by _ _ false (in-members child is ∙ none) ∙ and-false (is_defined_member (entry_in us child)))
-
-  -- the row of a structure
-  pub members-row : has_members (entry_in us node) ≡ true
-      → flat_map (member_step us) (children_of (entries_of us) node) ≡ steps_by_value us node
-  members-row members = search (rules, no-signature_step, no-passes, append-nil)
 
   no-members : has_members (entry_in us node) ≡ false
       → flat_map (member_step us) (children_of (entries_of us) node) ≡ []

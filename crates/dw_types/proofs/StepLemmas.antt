@@ -1,18 +1,18 @@
 -- The graph of steps by value has exactly the steps by value, and the steps of one entry.
-use Rattle.std.proofs.Common.{rules, ◌≡◌, ℕ, ◌+◌, ◌<◌, ◌≤◌, Bool, true, false, List, [], ◌∷◌, ◌++◌, Option, Some, None, length, get_or, inl, inr, arith, refl, ap, ◌∙◌, suc, zero, not}
+use Rattle.std.proofs.Common.{rules, ◌≡◌, ℕ, ◌+◌, ◌<◌, ◌≤◌, Bool, true, false, List, [], ◌∷◌, ◌++◌, Option, Some, None, length, get_or, inl, inr, arith, refl, ap, ◌∙◌, suc, zero}
 use Rattle.std.specs.List.{flat_map, range_with_len, Contains}
-use Rattle.std.proofs.lemmas.Bool.{cases_lt, and_right, and_parts}
+use Rattle.std.proofs.lemmas.Bool.{cases_lt}
 use Rattle.std.proofs.lemmas.List.{length-map, get_or-map, get_or_past, get_or_default}
 use Rattle.std.proofs.lemmas.List.Elements.{All-contains, Contains-append_left, Contains-append_right, Contains-append_cases}
 use Rattle.std.proofs.lemmas.List.FromFn.{length-range_with_len, get_or-range_with_len}
 use Rattle.dw_entries.specs.ByNumber.{no_entry}
-use Rattle.dw_entries.specs.Entries.{Entry, entries_of}
+use Rattle.dw_entries.specs.Entries.{entries_of}
 use Rattle.dw_entries.specs.Units.{DebugUnit}
 use Rattle.dw_links.proofs.TableLemmas.{target_within}
 use Rattle.dw_types.specs.Children.{children_of, IsChildOf}
 use Rattle.dw_types.specs.Entries.{entry_in, entry_numbers, signature_target, type_target}
 use Rattle.dw_types.specs.Graphs.{steps_of, IsStep, step_at, LeadsToNodes}
-use Rattle.dw_types.specs.Kinds.{passes_type_on, is_declared_type, has_members}
+use Rattle.dw_types.specs.Kinds.{passes_type_on, is_declared_type}
 use Rattle.dw_types.specs.Shapes.{is_plain}
 use Rattle.dw_types.specs.Steps.{IsStepByValue, by_type, by_member, by_signature, targets_if, member_step, steps_by_value, by_value}
 use Rattle.dw_types.proofs.SiblingLemmas.{child-in, children-all, parent-first}
@@ -138,15 +138,6 @@ pub flat_map-none : (f : ℕ → List ℕ) (xs : List ℕ) → ((k : ℕ) → k 
 flat_map-none f [] none = refl
 flat_map-none f (x ∷ xs) none =
     rw (none 0 (omega arith), flat_map-none f xs (λ k below. none (suc k) (omega arith))) refl
-
-not-true : (b : Bool) → not b ≡ true → b ≡ false
-not-true true e = cc
-not-true false e = refl
-
--- a structure with members has no step by signature
-pub no-signature_step : (entry : Entry) (target : Option ℕ) → has_members entry ≡ true
-    → targets_if (is_declared_type entry) target ≡ []
-no-signature_step entry target has = search (rules, and_parts, and_right, not-true)
 
 -- a step by value leads to an entry
 pub step-to_entry : (us : List DebugUnit) (from to : ℕ) → IsStepByValue us from to → to < length (entries_of us)

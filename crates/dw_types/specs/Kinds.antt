@@ -24,6 +24,12 @@ use Rattle.dw_types.specs.Entries.{entry_in}
 abbrev pub alias_tags : List ℕ
 alias_tags = DW_TAG_typedef ∷ DW_TAG_const_type ∷ DW_TAG_volatile_type ∷ DW_TAG_restrict_type ∷ DW_TAG_atomic_type ∷ []
 
+-- the types that contain their type: typedefs, const, volatile, restrict and atomic types, arrays and enumerations
+abbrev pub passing_tags : List ℕ
+passing_tags =
+    DW_TAG_typedef ∷ DW_TAG_const_type ∷ DW_TAG_volatile_type ∷ DW_TAG_restrict_type ∷ DW_TAG_atomic_type
+    ∷ DW_TAG_array_type ∷ DW_TAG_enumeration_type ∷ []
+
 -- structures and unions
 abbrev pub container_tags : List ℕ
 container_tags = DW_TAG_structure_type ∷ DW_TAG_union_type ∷ []
@@ -43,9 +49,7 @@ own_sized_tags =
 
 -- a typedef, const, volatile, restrict, atomic, array or enumeration
 abbrev pub passes_type_on : Entry → Bool
-passes_type_on entry =
-    is_one_of (DW_TAG_typedef ∷ DW_TAG_const_type ∷ DW_TAG_volatile_type ∷ DW_TAG_restrict_type ∷ DW_TAG_atomic_type
-    ∷ DW_TAG_array_type ∷ DW_TAG_enumeration_type ∷ []) entry.head.decl.tag
+passes_type_on entry = is_one_of passing_tags entry.head.decl.tag
 
 -- a structure or union that is not declared
 abbrev pub has_members : Entry → Bool

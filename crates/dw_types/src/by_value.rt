@@ -15,43 +15,40 @@ ghost use Rattle.dw_types.specs.Shapes.{ShapeFailures};
 ghost use Rattle.dw_types.specs.Steps.{by_value, member_step, steps_by_value, targets_if, IsStepByValue};
 
 use crate::graph::{Packed, StepGraph};
-use crate::kind::{has_members, is_declared_type, passes_type_on};
+use crate::kind::{is_container, is_declarable, passes_type_on};
 use crate::linked::LinkedEntries;
 use crate::numbers::Numbers;
 use crate::shape_rules::{broken_shape, is_defined_member};
-use dw_entries::{Entries, EntryAt, EntryId, Fault, Stop};
+use dw_entries::constants::Tag;
+use dw_entries::{Entries, EntryId, Fault, Stop};
 use dw_links::Links;
 use std::alloc::{AllocError, Global};
 
-/// The step of an entry to its type.
+/// The step of an entry with this tag to its type.
 #[inline(always)]
-fn type_step(
-    entries: &LinkedEntries<'_, '_>,
-    id: EntryId,
-    entry: &EntryAt<'_, '_>,
-) -> Option<EntryId>
-    requires { id < length (entries_held entries.now) }
-    ensures { option_to_list result ≡ targets_if (passes_type_on entry.now) (type_target (units_held entries.now) id) }
+fn type_step(entries: &LinkedEntries<'_, '_>, id: EntryId, tag: Tag) -> Option<EntryId>
+    requires id { id < length (entries_held entries.now) }
+    requires tag { tag ≡ (entry_in (units_held entries.now) id).head.decl.tag }
+    ensures { option_to_list result ≡ targets_if (passes_type_on (entry_in (units_held entries.now) id))
+        (type_target (units_held entries.now) id) }
 {
-    if passes_type_on(entry) {
+    if passes_type_on(tag) {
         entries.type_target(id)
     } else {
         None
     }
 }
 
-/// The step of an entry by its signature.
+/// The step of an entry with this tag by its signature.
 #[inline(always)]
-fn signature_step(
-    entries: &LinkedEntries<'_, '_>,
-    id: EntryId,
-    entry: &EntryAt<'_, '_>,
-) -> Option<EntryId>
-    requires { id < length (entries_held entries.now) }
-    ensures { option_to_list result
-        ≡ targets_if (is_declared_type entry.now) (signature_target (units_held entries.now) id) }
+fn signature_step(entries: &mut LinkedEntries<'_, '_>, id: EntryId, tag: Tag) -> Option<EntryId>
+    requires id { id < length (entries_held entries.old) }
+    requires tag { tag ≡ (entry_in (units_held entries.old) id).head.decl.tag }
+    ensures same { units_held entries.new ≡ units_held entries.old }
+    ensures step { option_to_list result ≡ targets_if (is_declared_type (entry_in (units_held entries.old) id))
+        (signature_target (units_held entries.old) id) }
 {
-    if is_declared_type(entry) {
+    if is_declarable(tag) && entries.is_declared(id) {
         entries.signature_target(id)
     } else {
         None
@@ -90,23 +87,24 @@ fn push_members(
     Ok(())
 }
 
-/// Adds the steps of an entry.
+/// Adds the steps of an entry with this tag.
 #[inline(always)]
 fn push_row(
     entries: &mut LinkedEntries<'_, '_>,
     steps: &mut Numbers,
     id: EntryId,
+    tag: Tag,
 ) -> Result<(), AllocError>
-    requires { id < length (entries_held entries.old) }
+    requires id { id < length (entries_held entries.old) }
+    requires tag { tag ≡ (entry_in (units_held entries.old) id).head.decl.tag }
     ensures same { OnOk result (units_held entries.new ≡ units_held entries.old) }
     ensures steps { OnOk result (steps.new ≡ steps.old ++ steps_by_value (units_held entries.old) id) }
 {
-    let entry = entries.at(id);
-    if has_members(&entry) {
+    if is_container(tag) && !entries.is_declared(id) {
         return push_members(entries, steps, id);
     }
-    push_to(steps, type_step(entries, id, &entry))?;
-    push_to(steps, signature_step(entries, id, &entry))
+    push_to(steps, type_step(entries, id, tag))?;
+    push_to(steps, signature_step(entries, id, tag))
 }
 
 /// The steps by value of each entry, and how many entries are types.
@@ -137,18 +135,21 @@ impl ByValue {
         let count = linked.count();
         let mut steps = Numbers::with_room(alloc, count / 2)?;
         let mut ends = Numbers::with_room(alloc, count)?;
+        let mut end = 0;
         let mut types = 0;
         for node in 0..count {
             let id = linked.id(node);
             let decl = linked.decl(id);
-            if let Some(rule) = broken_shape(alloc, &mut linked, id, decl.tag())? {
+            let is_type = decl.is_type();
+            if let Some(rule) = broken_shape(alloc, &mut linked, id, decl)? {
                 return Err(linked.fault(alloc, id, rule));
             }
-            if decl.is_type() {
+            if is_type {
                 types += 1;
-                push_row(&mut linked, &mut steps, id)?;
+                push_row(&mut linked, &mut steps, id, decl.tag())?;
+                end = steps.len();
             }
-            ends.push(steps.len())?;
+            ends.push(end)?;
         }
         let packed = Packed::from_rows(steps, ends);
         Ok(ByValue { packed, types })

@@ -104,7 +104,7 @@ impl StepGraph for Packed {
     }
 
     fn steps(&self, node: usize) -> usize {
-        self.ends.get(node) - self.begin(node)
+        self.ends.rise(node)
     }
 
     fn step(&self, node: usize, k: usize) -> usize {

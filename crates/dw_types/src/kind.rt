@@ -3,9 +3,9 @@
 ghost use Rattle.std.specs.Prelude.{◌≡◌};
 ghost use Rattle.dw_links.specs.Classes.{is_one_of};
 ghost use Rattle.dw_links.specs.References.{is_declared};
-ghost use Rattle.dw_types.specs.Kinds.{container_tags, has_members, is_array, is_declared_type};
+ghost use Rattle.dw_types.specs.Kinds.{container_tags, declarable_tags, has_members, is_array, is_declared_type};
 ghost use Rattle.dw_types.specs.Kinds.{is_enumeration, is_subrange};
-ghost use Rattle.dw_types.specs.Kinds.{kind_of, passes_type_on};
+ghost use Rattle.dw_types.specs.Kinds.{kind_of, passing_tags};
 
 use dw_entries::constants::*;
 use dw_entries::{EntryAt, Value};
@@ -61,13 +61,13 @@ pub(crate) fn kind_of(entry: &EntryAt<'_, '_>) -> Kind
     }
 }
 
-/// Whether an entry is a typedef, const, volatile, restrict, atomic, array or enumeration.
+/// Whether entries with this tag are typedefs, const, volatile, restrict or atomic types, arrays or enumerations.
 #[inline(always)]
-pub(crate) fn passes_type_on(entry: &EntryAt<'_, '_>) -> bool
-    ensures { result ≡ passes_type_on entry.now }
+pub(crate) fn passes_type_on(tag: Tag) -> bool
+    ensures { result ≡ is_one_of passing_tags tag }
 {
     matches!(
-        entry.tag(),
+        tag,
         DW_TAG_typedef
             | DW_TAG_const_type
             | DW_TAG_volatile_type
@@ -94,15 +94,23 @@ pub(crate) fn has_members(entry: &EntryAt<'_, '_>) -> bool
     is_container(entry.tag()) && !is_declared(entry)
 }
 
-/// Whether it is a declared structure, union or enumeration.
+/// Whether entries with this tag are structures, unions or enumerations.
 #[inline(always)]
-pub(crate) fn is_declared_type(entry: &EntryAt<'_, '_>) -> bool
-    ensures { result ≡ is_declared_type entry.now }
+pub(crate) fn is_declarable(tag: Tag) -> bool
+    ensures { result ≡ is_one_of declarable_tags tag }
 {
     matches!(
-        entry.tag(),
+        tag,
         DW_TAG_structure_type | DW_TAG_union_type | DW_TAG_enumeration_type
-    ) && is_declared(entry)
+    )
+}
+
+/// Whether it is a declared structure, union or enumeration.
+#[inline(always)]
+fn is_declared_type(entry: &EntryAt<'_, '_>) -> bool
+    ensures { result ≡ is_declared_type entry.now }
+{
+    is_declarable(entry.tag()) && is_declared(entry)
 }
 
 /// Whether it is an array.

@@ -1,6 +1,6 @@
 //! Vectors of numbers in four bytes each, while all of them fit.
 
-ghost use Rattle.std.specs.Prelude.{◌≡◌, ◌+◌, ◌-◌, ◌<◌, [], ◌∷◌, ◌++◌, ℕ, List, length, replicate, slice_index};
+ghost use Rattle.std.specs.Prelude.{◌≡◌, ◌+◌, ◌-◌, ◌<◌, ◌≤◌, [], ◌∷◌, ◌++◌, ℕ, List, length, replicate, slice_index};
 ghost use Rattle.std.specs.Prelude.{slice_set, take, IfOk, MatchOption, OnOk};
 
 use std::alloc::{AllocError, Global};
@@ -38,6 +38,16 @@ impl Numbers {
             small: Vec::with_capacity(alloc, count)?,
             large: Vec::new(alloc),
         })
+    }
+
+    /// Numbers of four bytes.
+    pub(crate) fn from_small(alloc: Global, small: Vec<u32>) -> Self
+        ensures { result ≡ small.items }
+    {
+        Numbers {
+            small,
+            large: Vec::new(alloc),
+        }
     }
 
     /// The number 0 so many times.
@@ -79,6 +89,22 @@ impl Numbers {
         } else {
             self.large[place - small]
         }
+    }
+
+    /// How much larger a number is than the one before it, or than 0 if it is the first.
+    #[inline(always)]
+    pub(crate) fn rise(&self, place: usize) -> usize
+        requires place { place < length self.now }
+        requires rises { slice_index (0 ∷ self.now) place ≤ slice_index self.now place }
+        ensures { result ≡ slice_index self.now place - slice_index (0 ∷ self.now) place }
+    {
+        if place == 0 {
+            return self.get(0);
+        }
+        if place < self.small.len() {
+            return (self.small[place] - self.small[place - 1]) as usize;
+        }
+        self.get(place) - self.get(place - 1)
     }
 
     /// Adds a number at the end.

@@ -43,7 +43,7 @@ pub fn order<G: StepGraph>(alloc: Global, graph: &G) -> Result<Order, OrderFault
     ensures err { IfErr result (IsOrderFault (G.graph graph.now)) }
 {
     let nodes = graph.nodes();
-    let mut walk = Walk::new(alloc, nodes)?;
+    let mut walk = Walk::new(alloc, graph)?;
     for start in 0..nodes {
         if let Mark::Fresh = walk.mark(start) {
             if let Some(to) = walk_from(graph, &mut walk, start)? {
@@ -61,7 +61,7 @@ pub fn clear_nodes<G: StepGraph>(alloc: Global, graph: &G) -> Result<Numbers, Al
     ensures { IfOk result (AreClear (G.graph graph.now)) }
 {
     let nodes = graph.nodes();
-    let mut walk = Walk::new(alloc, nodes)?;
+    let mut walk = Walk::new(alloc, graph)?;
     for start in 0..nodes {
         if let Mark::Fresh = walk.mark(start) {
             if let Some(_) = walk_from(graph, &mut walk, start)? {
@@ -120,7 +120,7 @@ fn one_above<G: StepGraph>(graph: &G, counts: &Numbers, node: usize) -> usize
 }
 
 /// Takes up a fresh node, and walks on until each node that was taken up has its rank, or until a step closes a cycle.
-/// Then it returns the node that the step leads to. A node without steps gets its rank at once.
+/// Then it returns the node that the step leads to.
 #[inline(always)]
 fn walk_from<G: StepGraph>(
     graph: &G,
@@ -134,10 +134,6 @@ fn walk_from<G: StepGraph>(
     ensures { IfOk result (HasWalked (G.graph graph.now) (opened walk.old start) walk.new) }
 {
     let hand = walk.take_up(start);
-    if graph.steps(start) == 0 {
-        walk.rank(start)?;
-        return Ok(None);
-    }
     walk_on(graph, walk, hand)
 }
 

@@ -1,6 +1,7 @@
 //! The rules on the types of arrays and members and on counts (DWARF 5, 5.5, 5.7.6 and 5.13).
 
 ghost use Rattle.std.specs.Prelude.{◌≡◌, ◌<◌, true, length, IfOk, OnOk};
+ghost use Rattle.dw_forms.specs.KeptDecls.{decl_view};
 ghost use Rattle.dw_entries.specs.Failures.{IsLeast};
 ghost use Rattle.dw_types.specs.Entries.{entry_in};
 ghost use Rattle.dw_types.specs.Held.{entries_held, units_held};
@@ -12,6 +13,7 @@ use crate::kind::is_array;
 use crate::linked::LinkedEntries;
 use dw_entries::constants::*;
 use dw_entries::{EntryAt, EntryId, Rule};
+use dw_forms::DeclAt;
 use dw_links::Constant;
 use std::alloc::{AllocError, Global};
 
@@ -91,23 +93,27 @@ fn has_bad_count(entries: &mut LinkedEntries<'_, '_>, id: EntryId, tag: Tag) -> 
     matches!(count_of(entries, id, &entry), Some(n) if n < 0) && entries.is_in_array(id)
 }
 
-/// The rule on shapes that an entry with this tag violates: the one with the least number.
+/// The rule on shapes that an entry with this declaration violates: the one with the least number. None but types and
+/// members are looked at.
 #[inline(always)]
 pub(crate) fn broken_shape(
     alloc: Global,
     entries: &mut LinkedEntries<'_, '_>,
     id: EntryId,
-    tag: Tag,
+    decl: DeclAt<'_>,
 ) -> Result<Option<Rule>, AllocError>
     requires id { id < length (entries_held entries.old) }
-    requires tag { tag ≡ (entry_in (units_held entries.old) id).head.decl.tag }
+    requires decl { decl_view decl ≡ (entry_in (units_held entries.old) id).head.decl }
     ensures same { OnOk result (units_held entries.new ≡ units_held entries.old) }
     ensures least { IfOk result (IsLeast (λ rule. fails_shape (units_held entries.old) id rule ≡ true)) }
 {
-    if misses_type(alloc, entries, id, tag)? {
+    if !decl.is_type() && !matches!(decl.tag(), DW_TAG_member) {
+        return Ok(None);
+    }
+    if misses_type(alloc, entries, id, decl.tag())? {
         return Ok(Some(Rule::MissingType));
     }
-    if has_bad_count(entries, id, tag) {
+    if has_bad_count(entries, id, decl.tag()) {
         return Ok(Some(Rule::BadCount));
     }
     Ok(None)

@@ -1,9 +1,10 @@
 //! The state of a walk over a graph.
 
-ghost use Rattle.std.specs.Prelude.{◌≡◌, ◌+◌, ◌^◌, ◌<◌, [], false, length, replicate, IfOk, MatchOption, OnOk};
+ghost use Rattle.std.specs.Prelude.{◌≡◌, ◌+◌, ◌^◌, ◌<◌, [], false, length, IfOk, MatchOption, OnOk};
+ghost use Rattle.dw_types.specs.Walks.{IsKept};
 ghost use Rattle.dw_types.specs.WalkStates.{mark_in, opened, ranked, turned, with_hand, without_stack};
 
-use crate::graph::Order;
+use crate::graph::{Order, StepGraph};
 use crate::numbers::Numbers;
 use std::alloc::{AllocError, Global};
 use std::marker::Model;
@@ -58,26 +59,31 @@ impl Model for Walk {
 }
 
 impl Walk {
-    /// The walk before its first turn.
-    pub(crate) fn new(alloc: Global, nodes: usize) -> Result<Self, AllocError>
-        ensures { IfOk result (λ walk. walk
-            ≡ record {
-              marks = replicate nodes Mark.Fresh;
-              ranks = replicate nodes 0;
-              by_rank = [];
-              stack = [];
-              looked = [];
-              turns = 0;
-              gave_up = false;
-            }) }
+    /// The walk before it takes up a node with steps. Each node without steps whose number has four bytes has its rank
+    /// already, which took one turn.
+    pub(crate) fn new<G: StepGraph>(alloc: Global, graph: &G) -> Result<Self, AllocError>
+        ensures kept { IfOk result (IsKept (G.graph graph.now)) }
+        ensures empty { IfOk result (λ walk. walk.stack ≡ []) }
+        ensures gave_up { IfOk result (λ walk. walk.gave_up ≡ false) }
     {
+        let nodes = graph.nodes();
+        let small = nodes.min(1 << 32);
+        let mut marks = vec![in alloc; Mark::Fresh; nodes]?;
+        let mut by_rank = Vec::with_capacity(alloc, small)?;
+        for node in 0..small {
+            if graph.steps(node) == 0 {
+                marks[node] = Mark::Ranked;
+                by_rank.push_reserved(node as u32);
+            }
+        }
+        let turns = by_rank.len() as u128;
         Ok(Walk {
-            marks: vec![in alloc; Mark::Fresh; nodes]?,
+            marks,
             nodes,
-            by_rank: Numbers::with_room(alloc, nodes)?,
+            by_rank: Numbers::from_small(alloc, by_rank),
             stack: Numbers::with_room(alloc, 0)?,
             looked: Numbers::with_room(alloc, 0)?,
-            turns: 0,
+            turns,
             gave_up: false,
         })
     }

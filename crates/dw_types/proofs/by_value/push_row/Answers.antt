@@ -1,9 +1,6 @@
 use Rattle.std.proofs.Common.{rules, append_assoc}
-use Rattle.dw_types.proofs.MemberLemmas.{members-row, own-row}
+use Rattle.dw_types.proofs.MemberLemmas.{own-row}
 use Rattle.dw_types.proofs.by_value.push_row.Goals as goal
-
-pub returns-then-has_members-clause-steps : goal.returns-then-has_members-clause-steps
-returns-then-has_members-clause-steps c = search (rules, members-row)
 
 pub returns-clause-steps : goal.returns-clause-steps
 returns-clause-steps c = search (rules, own-row, append_assoc)

@@ -1,11 +1,8 @@
-use Rattle.std.proofs.Common.{rules, ◌<◌, below_more, length, arith, refl, ◌∙◌}
+use Rattle.std.proofs.Common.{◌<◌, below_more, length, arith, refl, ◌∙◌}
 use Rattle.dw_types.specs.WalkStates.{counted}
-use Rattle.dw_types.proofs.EndLemmas.{clear-at_end, start-kept, taken-more, without_stack-kept}
+use Rattle.dw_types.proofs.EndLemmas.{clear-at_end, taken-more, without_stack-kept}
 use Rattle.dw_types.proofs.ordering.clear_nodes.Goals as goal
 use Rattle.dw_types.proofs.ordering.clear_nodes.Goals.{in-Fresh+in_ok-walk_from+in-Some, in-Fresh+in_ok-walk_from+in_default-2, in_default}
-
-pub loop-start-init : goal.loop-start-init
-loop-start-init g c = search (rules, start-kept)
 
 pub loop-start-preserved : goal.loop-start-preserved
 loop-start-preserved g c =

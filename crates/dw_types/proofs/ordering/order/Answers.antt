@@ -1,11 +1,8 @@
-use Rattle.std.proofs.Common.{rules, ◌<◌, below_more, length, arith, ◌∙◌}
+use Rattle.std.proofs.Common.{◌<◌, below_more, length, arith, ◌∙◌}
 use Rattle.dw_types.proofs.CycleLemmas.{no_cycle-from_falls}
-use Rattle.dw_types.proofs.EndLemmas.{on-stack, order-at_end, start-kept, taken-more}
+use Rattle.dw_types.proofs.EndLemmas.{on-stack, order-at_end, taken-more}
 use Rattle.dw_types.proofs.ordering.order.Goals as goal
 use Rattle.dw_types.proofs.ordering.order.Goals.{in-Fresh+in_ok-to+in_default-2, in_default}
-
-pub loop-start-init : goal.loop-start-init
-loop-start-init g c = search (rules, start-kept)
 
 pub cycle_to-requires-clause-on_stack : goal.cycle_to-requires-clause-on_stack
 cycle_to-requires-clause-on_stack g c =

@@ -1,6 +1,6 @@
-use Rattle.std.proofs.Common.{arith, ◌∙◌, sym}
+use Rattle.std.proofs.Common.{arith}
 use Rattle.dw_types.specs.WalkStates.{counted}
-use Rattle.dw_types.proofs.HandLemmas.{first-kept, first-ranked}
+use Rattle.dw_types.proofs.HandLemmas.{first-kept}
 use Rattle.dw_types.proofs.WalkLemmas.{turns-room}
 use Rattle.dw_types.proofs.ordering.walk_from.Goals as goal
 
@@ -16,9 +16,3 @@ walk_on-requires g c =
     rw (c.take_up-hand.ensures.state, c.take_up-hand.ensures.hand)
     (first-kept (g.G.StepGraph.graph c.args.graph.now) c.args.walk.now c.args.start c.requires.kept c.requires.empty
     c.requires.start c.requires.fresh)
-
-pub returns-then-steps-eq0 : goal.returns-then-steps-eq0
-returns-then-steps-eq0 g c =
-    rw (c.in_ok-rank.ensures, c.take_up-hand.ensures.state)
-    (first-ranked (g.G.StepGraph.graph c.args.graph.now) c.args.walk.now c.args.start c.requires.kept c.requires.empty
-    c.requires.start c.requires.fresh (sym c.steps.ensures ∙ c.if-steps-eq0.true))

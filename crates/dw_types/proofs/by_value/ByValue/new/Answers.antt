@@ -31,25 +31,27 @@ loop-node-preserved c =
     let test : Entry → Bool = λ entry. is_type_tag entry.head.decl.tag in
     let below : node < length (entries_of us) = rw (← c.new-linked.ensures.same, ← c.count-count.ensures)
     c.loop-node-test.true in
-    let is : c.is_type.result ≡ is_type_tag (entry_in us node).head.decl.tag =
-    c.is_type.ensures ∙ rw (c.loop-node.invariant.2, c.id-id.ensures) at
+    let is : c.is_type-is_type.result ≡ is_type_tag (entry_in us node).head.decl.tag =
+    c.is_type-is_type.ensures ∙ rw (c.loop-node.invariant.2, c.id-id.ensures) at
     (ap (λ d. is_type_tag d.tag) c.decl-decl.ensures) in
     let row = steps_by_value us node in
     let turn : (c.if-is_type.steps ≡ steps ++ row) × (units_held c.if-is_type.linked ≡ us)
-    × (c.if-is_type.types ≡ count_of_types (take (node + 1) (entries_of us))) = elim c.if-is_type.branch [
+    × (c.if-is_type.types ≡ count_of_types (take (node + 1) (entries_of us)))
+    × (c.if-is_type.end ≡ length c.if-is_type.steps) = elim c.if-is_type.branch [
       | then-is_type+in_ok-push_row w ↦ search (rules, count_by_more_yes)
       | else-is_type w ↦ search (rules, append-nil, untyped-row, count_by_more_no)
     ] in
     let at : get_or (by_value us) node [] ≡ row = by_value-at us node below in
     let more = rw at at (packs-more (by_value us) steps c.loop-node.ends node
     (let long = length-by_value us in omega arith) c.loop-node.invariant.0) in
-    let end : c.len.result ≡ length (steps ++ row) = c.len.ensures ∙ ap (λ (xs : List ℕ). length xs) turn.0 in (
+    let end : c.if-is_type.end ≡ length (steps ++ row) = turn.3 ∙ ap (λ (xs : List ℕ). length xs) turn.0 in (
       rw (c.in_ok-push.ensures, end, turn.0) more,
       rw turn.0 (leads-row us node steps c.loop-node.invariant.1),
       turn.1,
       pass-more (fails_shape us) node c.loop-node.invariant.3
           (rw (c.loop-node.invariant.2, c.id-id.ensures, c.in_default.is) at c.in_ok-rule.ensures.least),
       turn.2,
+      turn.3,
     )
 
 pub returns-in-Some-clause-fault : goal.returns-in-Some-clause-fault

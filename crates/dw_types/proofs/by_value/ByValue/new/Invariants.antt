@@ -16,3 +16,4 @@ invariant-loop-node l =
     × (units_held l.linked ≡ units_of l.fn.entries)
     × NoneFailsBefore (fails_shape (units_of l.fn.entries)) l.node
     × (l.types ≡ count_of_types (take l.node (all_entries l.fn.entries)))
+    × (l.end ≡ length l.steps)

@@ -3,14 +3,15 @@ use Rattle.std.proofs.Common.{arith}
 use Rattle.dw_types.specs.PackingLaws.{length-cut, cut-length}
 use Rattle.dw_types.proofs.graph.PackedStepGraph.steps.Goals as goal
 
-pub get-requires : goal.get-requires
-get-requires c = let p = c.args.self.now in let all = length-cut p.steps 0 p.ends in omega (arith, c.requires)
+pub rise-requires-clause-place : goal.rise-requires-clause-place
+rise-requires-clause-place c =
+    let p = c.args.self.now in let all = length-cut p.steps 0 p.ends in omega (arith, c.requires)
 
-pub begin-requires : goal.begin-requires
-begin-requires c = let p = c.args.self.now in let all = length-cut p.steps 0 p.ends in omega (arith, c.requires)
-
-pub overflow_sub-result : goal.overflow_sub-result
-overflow_sub-result c = search (rules, length-cut)
+pub rise-requires-clause-rises : goal.rise-requires-clause-rises
+rise-requires-clause-rises c =
+    let p = c.args.self.now in
+    let all = length-cut p.steps 0 p.ends in
+    (p.in_order c.args.node (omega (arith, c.requires))).0
 
 pub returns : goal.returns
 returns c = search (rules, length-cut, cut-length)
