@@ -10,3 +10,4 @@ pub mod LinkedLemmas
 pub mod FrontLemmas
 pub mod SpanLemmas
 pub mod UnitLemmas
+pub mod TargetLemmas

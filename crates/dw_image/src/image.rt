@@ -163,6 +163,7 @@ impl<'a> Image<'a> {
 
     /// The value of an entry's attribute, if it has that attribute.
     #[tactic(auto, unfolding(crate::specs::Images::units_in))]
+    #[inline(always)]
     pub fn value(&self, id: EntryId, attribute: Attribute) -> Option<Value<'a>>
         requires { id < length (entries_in self.now) }
         ensures { option_map view result ≡ value_at_entry (entry_of (entries_in self.now) id) attribute }
@@ -183,6 +184,7 @@ impl<'a> Image<'a> {
 
     /// Where the text of an entry's DW_AT_name is. None if the entry has no name.
     #[tactic(auto, unfolding(crate::specs::Images::units_in))]
+    #[inline(always)]
     pub fn name_place(&self, id: EntryId) -> Option<TextPlace>
         requires { id < length (entries_in self.now) }
         ensures text { option_map (text_there (sections_in self.now)) result

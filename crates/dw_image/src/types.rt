@@ -62,15 +62,15 @@ impl Image<'_> {
         }
     }
 
-    /// The type that an entry's DW_AT_type reaches (DWARF 5, section 2.2).
-    #[tactic(auto, unfolding(crate::specs::Images::units_in, crate::specs::Images::type_in))]
+    /// The type that an entry's DW_AT_type reaches (DWARF 5, section 2.2). No rule fails, so what it reaches is a type.
+    #[tactic(auto, unfolding(crate::specs::Images::units_in))]
     pub fn type_of(&self, id: EntryId) -> Option<TypeId>
         requires { id < length (entries_in self.now) }
         ensures exact { result ≡ type_in self.now (entry_of (entries_in self.now) id) }
         ensures within { IfSome result (λ it. it < length (entries_in self.now)) }
     {
         let to = self.tables.target(&self.entries, id, DW_AT_type)?;
-        self.type_at(to)
+        Some(TypeId::new(to))
     }
 
     /// The size of a type in bytes, below 2^63. None if its size is not known.
