@@ -7,7 +7,7 @@ use Rattle.std.proofs.lemmas.List.{take_more, get_or-set_same, get_or-set_other}
 use Rattle.std.proofs.lemmas.List.Elements.{Contains-push, Contains-append_left, Contains-push_cases, All-weaker}
 use Rattle.dw_cprint.specs.Declarations.{term_at, term_by}
 use Rattle.dw_cprint.specs.Shapes.{Qualifier, TypeAt, ShapeOf, qualified, view_shape}
-use Rattle.dw_cprint.specs.Steps.{entries_among, types_reached}
+use Rattle.dw_cprint.specs.Steps.{types_reached}
 use Rattle.dw_cprint.specs.Lengths.{IsLength, base_kind}
 use Rattle.dw_cprint.specs.Summaries.{TypeKind, Summary, AreFindings, IsBase, IsSummary, known_of, KnowsType, AreNodes, HaveSummaries, summary_at}
 use Rattle.dw_cprint.specs.Terms.{Term, Void}

@@ -3,8 +3,8 @@ use Rattle.std.specs.Prelude.{ℕ, ℤ, zero, suc, ◌==◌, Bool, true, false, 
 use Rattle.std.specs.Prelude.{option_map, option_and_then, bytes_eq, if◌then◌else◌}
 use Rattle.std.specs.List.{find, list_any, slice_split}
 use Rattle.dw_cprint.specs.Legible.{is_identifier}
-use Rattle.dw_cprint.specs.Terms.{TypeWord, Constant, Valued, Term, Void, Named, Basic, Tagged, Body, Enumeration, Qualified}
-use Rattle.dw_cprint.specs.Terms.{Pointer, Array as ArrayTerm, Function, Unprototyped, Prototyped, Parameters}
+use Rattle.dw_cprint.specs.Terms.{TypeWord, Constant, Valued, Term, Void, Named, Basic, Tagged, Body, Enumeration}
+use Rattle.dw_cprint.specs.Terms.{Qualified, Pointer, Array as ArrayTerm, Function, Unprototyped, Prototyped, Parameters}
 use Rattle.dw_cprint.specs.Terms.{NoParameter, Parameter as ParameterTerm, Members, NoMember, Member as MemberTerm}
 use Rattle.dw_cprint.specs.Terms.{CDeclaration, Typedef, Variable, Aggregate, Constants, Declared}
 use Rattle.dw_cprint.specs.Tokens.{type_word_spelling, type_words}

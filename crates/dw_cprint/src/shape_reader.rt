@@ -1,6 +1,6 @@
 //! The shapes of entries, and the entry that is declared, read from an image.
 
-ghost use Rattle.std.specs.Prelude.{◌≡◌, ◌<◌, ℕ, length, map, IfOk, Some, option_map};
+ghost use Rattle.std.specs.Prelude.{◌≡◌, ◌<◌, ◌≤◌, ℕ, length, map, IfOk, Some, option_map};
 ghost use Rattle.dw_image.specs.Images.{entries_in};
 ghost use Rattle.dw_cprint.specs.Children.{AreKept, TellsAny};
 ghost use Rattle.dw_cprint.specs.EntryShapes.{dimension_counts, defined_in, has_stride_at, is_odd, is_strange};
@@ -21,6 +21,9 @@ use dw_entries::constants::*;
 use dw_image::{EntryId, Image};
 use std::alloc::{AllocError, Global};
 
+/// For how many children there is room before the first is read.
+const FEW: usize = 16;
+
 /// Whether one of the children of an entry passes a test.
 fn any_child<F: Fn(EntryId) -> bool>(image: &Image<'_>, id: EntryId, test: F) -> bool
     requires within { id < length (entries_in image.now) }
@@ -35,6 +38,21 @@ fn any_child<F: Fn(EntryId) -> bool>(image: &Image<'_>, id: EntryId, test: F) ->
     false
 }
 
+/// How many children an entry has, counted up to a few.
+fn count_few(image: &Image<'_>, id: EntryId) -> usize
+    requires { id < length (entries_in image.now) }
+    ensures { result ≤ 16 }
+{
+    let mut count = 0;
+    for _child in image.children(id) {
+        if count >= FEW {
+            return FEW;
+        }
+        count += 1;
+    }
+    count
+}
+
 /// What is read of the children of an entry, in rising offset. Of some nothing is read.
 fn read_children<T: Drop, F: Fn(EntryId) -> Option<T>>(
     alloc: Global,
@@ -46,7 +64,7 @@ fn read_children<T: Drop, F: Fn(EntryId) -> Option<T>>(
     requires callable { (child : ℕ) → child < length (entries_in image.now) → F.pre read child }
     ensures { IfOk result (λ kept. AreKept (F.post read) (children_at image.now id) kept.items) }
 {
-    let mut kept = Vec::new(alloc);
+    let mut kept = Vec::with_capacity(alloc, count_few(image, id))?;
     for child in image.children(id) {
         if let Some(one) = read(child) {
             kept.push(one)?;

@@ -89,6 +89,7 @@ pub fn tag_at(image: &Image<'_>, id: EntryId) -> Tag
 
 /// The value of an entry's attribute.
 #[tactic(auto, unfolding(crate::specs::LookUps::attribute_value_at))]
+#[inline(always)]
 pub fn value_at<'a>(image: &Image<'a>, id: EntryId, attribute: Attribute) -> Option<Value<'a>>
     requires { id < length (entries_in image.now) }
     ensures { option_map view result ≡ attribute_value_at image.now id attribute }
@@ -119,6 +120,7 @@ pub fn type_at(image: &Image<'_>, id: EntryId) -> TypeAt
 }
 
 /// Whether a flag of an entry is there and true.
+#[inline(always)]
 pub fn flag_at(image: &Image<'_>, id: EntryId, attribute: Attribute) -> bool
     requires { id < length (entries_in image.now) }
     ensures { result ≡ flag_at image.now id attribute }
@@ -127,6 +129,7 @@ pub fn flag_at(image: &Image<'_>, id: EntryId, attribute: Attribute) -> bool
 }
 
 /// The number under an attribute of an entry. This project's choice: the form data16 gives none.
+#[inline(always)]
 pub fn integer_at(image: &Image<'_>, id: EntryId, attribute: Attribute) -> Option<i128>
     requires { id < length (entries_in image.now) }
     ensures { result ≡ integer_at image.now id attribute }

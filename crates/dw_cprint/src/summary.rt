@@ -120,16 +120,15 @@ fn base_of(survey: &Survey<'_>, shape: &Shape<'_>) -> TypeKind
     }
 }
 
-/// The summary of a shape, by those of the types that it names.
-fn summary_of(alloc: Global, survey: &Survey<'_>, shape: &Shape<'_>) -> Result<Summary, AllocError>
-    ensures { IfOk result (λ known. (shapes : ℕ → ShapeOf) (entry : ℕ) → shapes entry ≡ view_shape shape.now
+/// The summary of a shape, by those of the types that it names. `types` are those that it leads to.
+fn summary_of(survey: &Survey<'_>, shape: &Shape<'_>, types: &[TypeAt]) -> Summary
+    requires { types.now ≡ types_reached (view_shape shape.now) }
+    ensures { (shapes : ℕ → ShapeOf) (entry : ℕ) → shapes entry ≡ view_shape shape.now
         → All (KnowsType shapes survey.now) (types_reached (view_shape shape.now))
-        → IsSummary shapes (Some entry) known) }
+        → IsSummary shapes (Some entry) result }
 {
-    let mut types = Vec::new(alloc);
-    put_reached_types(&mut types, shape)?;
-    let all = wrong_in_shape(survey, shape, &types).with(findings_under(survey, &types));
-    Ok(Summary {
+    let all = wrong_in_shape(survey, shape, types).with(findings_under(survey, types));
+    Summary {
         kind: kind_of(shape),
         base: base_of(survey, shape),
         findings: Findings {
@@ -137,7 +136,7 @@ fn summary_of(alloc: Global, survey: &Survey<'_>, shape: &Shape<'_>) -> Result<S
             ..all
         },
         length: length_of(survey, shape) as u32,
-    })
+    }
 }
 
 /// Adds the summaries of the nodes that reach no cycle. Each is given after those that its steps lead to.
@@ -155,9 +154,13 @@ fn summarize<'a>(
         → AreRight all found clear.now it) }
 {
     survey.summaries = vec![in alloc; None; survey.shapes.len()]?;
+    let mut types = Vec::new(alloc);
     for rank in 0..clear.len() {
         let node = clear.get(rank);
-        let summary = summary_of(alloc, &survey, &survey.shapes[node])?;
+        let shape = &survey.shapes[node];
+        types.clear();
+        put_reached_types(&mut types, shape)?;
+        let summary = summary_of(&survey, shape, &types);
         survey.summaries[node] = Some(summary);
     }
     Ok(survey)

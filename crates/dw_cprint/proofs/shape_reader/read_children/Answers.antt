@@ -10,8 +10,8 @@ read-requires g c =
     c.requires.callable c.in-Some.child
     (child_within _ c.in-Some.ensures.steps c.loop-child.invariant.within)
 
-pub loop-child-preserved-in-Continue-1 : goal.loop-child-preserved-in-Continue-1
-loop-child-preserved-in-Continue-1 g c = record {
+pub loop-child-preserved-in-Continue-branch-2 : goal.loop-child-preserved-in-Continue-branch-2
+loop-child-preserved-in-Continue-branch-2 g c = record {
   within =
       children_rest _ c.in-Some.ensures.steps c.loop-child.invariant.within;
   so_far =

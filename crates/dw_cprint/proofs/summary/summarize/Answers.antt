@@ -4,9 +4,12 @@ use Rattle.std.proofs.lemmas.List.{take_all}
 use Rattle.std.proofs.lemmas.Option.{slice_get_read}
 use Rattle.dw_cprint.specs.Shapes.{ShapeOf}
 use Rattle.dw_cprint.specs.Steps.{types_reached}
-use Rattle.dw_cprint.specs.Summaries.{IsSummary, KnowsType}
+use Rattle.dw_cprint.specs.Summaries.{HaveSummaries, IsSummary, KnowsType}
 use Rattle.dw_cprint.proofs.SummaryLemmas.{known_by, have_more, all_known, right_more}
 use Rattle.dw_cprint.proofs.summary.summarize.Goals as goal
+
+pub summary_of-summary-requires : goal.summary_of-summary-requires
+summary_of-summary-requires c = search rules
 
 pub loop-rank-preserved : goal.loop-rank-preserved
 loop-rank-preserved c =
@@ -15,15 +18,15 @@ loop-rank-preserved c =
     let shapes = c.args.survey.shapes.items in
     let places = c.args.survey.places.items in
     let nodes = c.loop-rank.survey.summaries.items in
-    let s = c.in_ok-summary.summary in
+    let s = c.summary_of-summary.result in
     let node = get_or clear i 0 in
-    let shape = c.index.result.now in
+    let shape = c.index-shape.result.now in
     let below : i < length clear = rw (← c.len-rank-end.ensures) c.loop-rank-test.true in
     let in_shapes : node < length shapes = c.requires i 0 below in
     let there : node < length nodes = omega (arith, c.loop-rank.invariant.len) in
     let is : slice_get shapes node
     ≡ Some shape = slice_get_read shapes (length shapes) node shape refl in_shapes
-    (rw (c.get-node.ensures, c.loop-rank.invariant.shapes) at c.index.ensures) in
+    (rw (c.get-node.ensures, c.loop-rank.invariant.shapes) at c.index-shape.ensures) in
     rw c.get-node.ensures (record {
       places = c.loop-rank.invariant.places;
       shapes = c.loop-rank.invariant.shapes;
@@ -40,11 +43,15 @@ loop-rank-preserved c =
           (subst P (sym c.loop-rank.invariant.places)
           (all_known all places found shapes clear are nodes i below right)) in
           right_more all places found shapes clear are nodes i s below there right
-          (c.in_ok-summary.ensures all entry (sym says) known);
+          (c.summary_of-summary.ensures all entry (sym says) known);
     })
 
 pub returns-clause-clear : goal.returns-clause-clear
-returns-clause-clear c = search (rules, take_all)
+returns-clause-clear c =
+    let over : length c.args.clear.now
+    ≤ c.loop-rank.rank = rw (← c.len-rank-end.ensures) c.loop-rank-test.false in
+    subst (λ nodes. HaveSummaries nodes c.loop-rank.survey.summaries.items)
+    (take_all c.loop-rank.rank c.args.clear.now over) c.loop-rank.invariant.have
 
 pub returns-clause-right : goal.returns-clause-right
 returns-clause-right c = λ all found are i lower.

@@ -1,4 +1,4 @@
-use Rattle.std.proofs.Common.{◌≡◌, List, subst, arith, rules}
+use Rattle.std.proofs.Common.{List, subst, arith}
 use Rattle.std.specs.Prelude.{All}
 use Rattle.dw_cprint.specs.Declarations.{term_at}
 use Rattle.dw_cprint.specs.Shapes.{TypeAt, view_shape}
@@ -13,9 +13,8 @@ pub returns : goal.returns
 returns c = λ shapes entry is known.
     let s = c.args.survey.now in
     let shape = view_shape c.args.shape.now in
-    let same : c.deref-2.result.now ≡ types_reached shape = search rules in
     let P : List TypeAt → Type 0 = λ ts. All (KnowsType shapes s) ts → AreFindings shapes ts c.findings_under.result in
-    let rest : AreFindings shapes (types_reached shape) c.findings_under.result = subst P same
+    let rest : AreFindings shapes (types_reached shape) c.findings_under.result = subst P c.requires
     (c.findings_under.ensures shapes) known in
     let both = c.with-all.ensures.either in
     entry_summary shapes entry shape _ is c.kind_of.ensures (c.base_of.ensures.under shapes entry is known)
