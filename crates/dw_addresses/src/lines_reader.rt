@@ -15,8 +15,8 @@ use dw_lines::LineSections;
 use std::alloc::Global;
 
 /// Reads the lines of a file, where `code` are the areas of the program's code. Each program that units name is read
-/// once for each size of an address in these units. Returns the first rule that is violated: first those on programs, in
-/// rising offset, and then F1, in the order of the entries.
+/// once for each size of an address in these units. Returns the first rule that is violated: first those on programs,
+/// in rising offset, and then F1, in the order of the entries.
 pub fn lines_of_file<'a>(
     alloc: Global,
     sections: &LineSections<'a>,

@@ -52,8 +52,8 @@ module _ (s : FileSources) where
   FunctionsViolate =
       FileViolates s.parts.lists s.areas.items s.image.entries (budget_of (sections_in s.image) s.parts.lists)
 
--- the first rule that a file violates: of the file, of its entries, of the file where its other sections are looked for,
--- of its lines, or of its ranges
+-- the first rule that a file violates: of the file, of its entries, of the file where its other sections are looked
+-- for, of its lines, or of its ranges
 pub data FileFails (bytes : List ℕ) : FirstFault → Type 0 where
   of_file : (f : ElfFault) → IsFault bytes f → FileFails bytes (File f)
   of_entries : (s : Sections) (f : EntryFault) → ChecksPass bytes → AreSections bytes s → IsFaultOf s f

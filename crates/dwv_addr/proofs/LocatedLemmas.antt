@@ -1,8 +1,8 @@
 -- The answers for addresses, one after another, and that their objects have no floats.
-use Rattle.std.proofs.Common.{◌≡◌, ℕ, ◌==◌, Bool, true, List, [], ◌∷◌, ◌++◌, Option, Some, None, false, map, refl, sym, ap, ◌∙◌, append_assoc}
+use Rattle.std.proofs.Common.{◌≡◌, ℕ, ◌==◌, Bool, true, List, [], ◌∷◌, ◌++◌, Option, Some, None, false, map, refl, sym, ap, ◌∙◌, append_assoc, subst}
 use Rattle.std.specs.Prelude.{if◌then◌else◌}
 use Rattle.std.proofs.lemmas.List.{append-nil}
-use Rattle.serde_json.specs.Data.{Data, null, number, unsigned}
+use Rattle.serde_json.specs.Data.{null, number, unsigned}
 use Rattle.serde_json.specs.View.{items_of}
 use Rattle.serde_json.specs.Written.{has_float, items_have_float}
 use Rattle.dw_ranges.specs.Functions.{Known as KnownUnit}
@@ -13,20 +13,26 @@ use Rattle.dwv_addr.specs.AnswerObjects.{frame_object, number_or_null, text_or_n
 use Rattle.dwv_addr.specs.Located.{AreAnswers, IsAnswer, object_at}
 
 module _ (json : Bool) (known : Known) (units : List KnownUnit) where
-  -- the answers for some, and then the answer for one more
+  -- the answers for some addresses, and then for others
+  pub answers_append : (asked others : List (Option ℕ)) (text more : List ℕ)
+      → AreAnswers json known units asked text → AreAnswers json known units others more
+      → AreAnswers json known units (asked ++ others) (text ++ more)
+  answers_append [] others text more are also =
+      subst (AreAnswers json known units others) (sym (ap (λ (t : List ℕ). t ++ more) are)) also
+  answers_append (one ∷ asked) others text more (first, rest, first_is, rest_are, same) also = (
+    first,
+    rest ++ more,
+    first_is,
+    answers_append asked others rest more rest_are also,
+    ap (λ (t : List ℕ). t ++ more) same ∙ append_assoc first rest more,
+  )
+
+  -- and then the answer for one more
   pub answers_more : (asked : List (Option ℕ)) (other : Option ℕ) (text more : List ℕ)
       → AreAnswers json known units asked text → IsAnswer json known units other more
       → AreAnswers json known units (asked ++ other ∷ []) (text ++ more)
-  answers_more [] other text more are is =
-      (more, [], is, refl, ap (λ (t : List ℕ). t ++ more) are ∙ sym (append-nil more))
-  answers_more (one ∷ asked) other text more are is =
-      let (first, rest, first_is, rest_are, same) = are in (
-        first,
-        rest ++ more,
-        first_is,
-        answers_more asked other rest more rest_are is,
-        ap (λ (t : List ℕ). t ++ more) same ∙ append_assoc first rest more,
-      )
+  answers_more asked other text more are is =
+      answers_append asked (other ∷ []) text more are (more, [], is, refl, sym (append-nil more))
 
 no_float_choice : (b : Bool) (n : ℕ) → has_float (if b then null else number (unsigned n)) ≡ false
 no_float_choice true n = refl

@@ -1,5 +1,5 @@
 -- The answers that a writer has taken, one part after another.
-use Rattle.std.proofs.Common.{◌≡◌, ℕ, ◌+◌, Bool, true, List, [], ◌∷◌, ◌++◌, length, take, Option, Some, None, IfSome, refl, sym, ap, ap₂, ◌∙◌, append_assoc, append-nil, subst}
+use Rattle.std.proofs.Common.{◌≡◌, ℕ, ◌+◌, Bool, true, List, [], ◌++◌, length, take, Option, Some, None, IfSome, refl, sym, ap, ap₂, ◌∙◌, append-nil, subst}
 use Rattle.std.specs.Prelude.{◌&&◌}
 use Rattle.std.specs.List.{list_all}
 use Rattle.std.specs.Option.{is_some}
@@ -7,11 +7,10 @@ use Rattle.std.specs.Io.KnownBytes.{Appends, Consumes, IsAtEnd}
 use Rattle.std.proofs.KnownBytes.{Appends-nil, Appends-trans, Consumes-nil, Consumes-trans, Consumes-whole}
 use Rattle.std.proofs.lemmas.List.Folds.{list_all-append}
 use Rattle.std.proofs.Math.Seq.{take-append-add, take-length}
-use Rattle.dw_ranges.specs.Functions.{Known as KnownUnit}
 use Rattle.dw_lookup.specs.declared.known.Known.{Known}
 use Rattle.dwv_addr.specs.Addresses.{HasStarted, asked_by, asked_so_far, ended_lines}
-use Rattle.dwv_addr.specs.Located.{AreAnswers}
 use Rattle.dwv_addr.specs.Streams.{HasTaken, TakesAnswers, TakesFirst, TakesSome}
+use Rattle.dwv_addr.proofs.LocatedLemmas.{answers_append}
 use Rattle.dwv_addr.proofs.StreamLemmas.{asked_first, asked_more, asked_whole, none_in_both, started_more, started_whole}
 
 -- at the end of an input a read returns nothing more
@@ -22,19 +21,6 @@ read_end input mid rest part chunk n zero read last =
     (Consumes-trans input mid rest part (take n chunk) read last)
 
 module _ (json : Bool) (known : Known) where
-  answers_append : (units : List KnownUnit) (asked others : List (Option ℕ)) (text more : List ℕ)
-      → AreAnswers json known units asked text → AreAnswers json known units others more
-      → AreAnswers json known units (asked ++ others) (text ++ more)
-  answers_append units [] others text more are also =
-      subst (AreAnswers json known units others) (sym (ap (λ (t : List ℕ). t ++ more) are)) also
-  answers_append units (one ∷ asked) others text more (first, rest, first_is, rest_are, same) also = (
-    first,
-    rest ++ more,
-    first_is,
-    answers_append units asked others rest more rest_are also,
-    ap (λ (t : List ℕ). t ++ more) same ∙ append_assoc first rest more,
-  )
-
   -- the answers for no address
   pub takes_none : (old : Option (List ℕ)) → TakesAnswers json known [] old old
   takes_none old = ([], Appends-nil old, λ units index. refl)
@@ -46,7 +32,8 @@ module _ (json : Bool) (known : Known) where
   takes_more asked others old mid new (text, taken, are) (more, also, they) = (
     text ++ more,
     Appends-trans old mid new text more taken also,
-    λ units index. answers_append units asked others text more (are units index) (they units index),
+    λ units index.
+        answers_append json known units asked others text more (are units index) (they units index),
   )
 
   -- the answers for some addresses, and then a prefix of those for others
@@ -58,7 +45,8 @@ module _ (json : Bool) (known : Known) where
     length text + n,
     subst (Appends old new) (sym (take-append-add text more n))
         (Appends-trans old mid new text (take n more) taken also),
-    λ units index. answers_append units asked others text more (are units index) (they units index),
+    λ units index.
+        answers_append json known units asked others text more (are units index) (they units index),
   )
 
   -- the lines that end in what was read of an input are its first lines

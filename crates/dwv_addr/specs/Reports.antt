@@ -1,4 +1,5 @@
--- Chapter: what is returned and written of a file: the first rule that it violates, or what is requested of a sound one.
+-- Chapter: what is returned and written of a file: the first rule that it violates, or what is requested of a sound
+-- one.
 use Rattle.std.specs.Prelude.{ℕ, ◌<◌, ◌≤◌, Bool, true, false, List, length, Option, if◌then◌else◌}
 use Rattle.std.specs.List.{list_all}
 use Rattle.std.specs.Option.{is_some}

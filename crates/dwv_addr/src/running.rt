@@ -103,7 +103,8 @@ pub fn run<R: Source, I: Source, W: Sink>(
     requires inputs { I.failures input.old < u64.MAX }
     requires writes { W.failures writer.old < u64.MAX }
 
-    // What is written is the report of what the reader returns, to its end or one byte past the limit, for the addresses.
+    // What is written is the report of what the reader returns, to its end or one byte past the limit, for the
+    // addresses.
     ensures written { IfOk result (λ status. IfKnown (R.remaining reader.old)
         (asked_from request given.items (I.remaining input.old))
         (WritesReport request status (W.contents writer.old) (W.contents writer.new))) }

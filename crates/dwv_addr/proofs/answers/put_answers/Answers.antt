@@ -1,4 +1,4 @@
-use Rattle.std.proofs.Common.{Option, None, List, ℕ, ◌++◌, get_or, ap, sym, ◌∙◌, append_assoc, subst, take, length, ◌<◌, arith}
+use Rattle.std.proofs.Common.{Option, None, List, ℕ, ◌++◌, get_or, ap, sym, ◌∙◌, append_assoc, subst, take}
 use Rattle.std.proofs.lemmas.List.{take_more}
 use Rattle.dwv_addr.specs.Located.{AreAnswers}
 use Rattle.dwv_addr.proofs.LocatedLemmas.{answers_more}
