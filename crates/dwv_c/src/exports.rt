@@ -284,8 +284,8 @@ fn put_known(
 }
 
 /// Checks a file, and writes a row for each frame at each address of a sound one, with the names of functions and the
-/// paths of files: all of it and SOUND, or none of it and TOO_SHORT, FAULT or NO_MEMORY. `counts` says how many rows and
-/// bytes there are.
+/// paths of files: all of it and SOUND, or none of it and TOO_SHORT, FAULT or NO_MEMORY. `counts` says how many rows
+/// and bytes there are.
 #[unsafe(no_mangle)]
 pub extern "C" fn dwv_frames(
     alloc: Global,
