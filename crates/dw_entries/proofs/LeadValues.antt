@@ -2,8 +2,8 @@
 use Rattle.std.proofs.Common.{◌≡◌, ℕ, Bool, true, false, List, length, Some, Result, Ok, Err, refl, sym, ap, subst, ◌∙◌}
 use Rattle.std.specs.Prelude.{⊤, nat_lt}
 use Rattle.std.specs.Bool.{OnTrue}
-use Rattle.dw_forms.specs.declared.attribute_lists.Lead.{Lead}
-use Rattle.dw_forms.specs.declared.attribute_lists.Lead.TheVariants as lead
+use Rattle.dw_forms.specs.declared.leading_steps.Lead.{Lead}
+use Rattle.dw_forms.specs.declared.leading_steps.Lead.TheVariants as lead
 use Rattle.dw_forms.specs.declared.abbrev.AttributeSpec.{AttributeSpec}
 use Rattle.dw_forms.specs.declared.form.Form.{Form}
 use Rattle.dw_forms.specs.declared.form.Form.TheVariants.{Ref4, Strp, Strx1, Strx2, Addrx}

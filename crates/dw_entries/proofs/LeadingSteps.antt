@@ -4,8 +4,8 @@ use Rattle.std.proofs.lemmas.Bool.{ltb-false}
 use Rattle.std.proofs.lemmas.List.{take-append-drop}
 use Rattle.dw_forms.specs.declared.attributes.Attributes.{Attributes}
 use Rattle.dw_forms.specs.declared.abbrev.AttributeSpec.{AttributeSpec}
-use Rattle.dw_forms.specs.declared.attribute_lists.Lead.TheVariants as lead
-use Rattle.dw_forms.specs.declared.attribute_lists.Step.{Step}
+use Rattle.dw_forms.specs.declared.leading_steps.Lead.TheVariants as lead
+use Rattle.dw_forms.specs.declared.leading_steps.Step.{Step}
 use Rattle.dw_forms.specs.AttributeLists.{specs_of, numbered_in}
 use Rattle.dw_forms.specs.Chains.{Numbered, items_of}
 use Rattle.dw_forms.specs.KnownValues.{known_sum, rest_beyond}

@@ -5,9 +5,9 @@ use Rattle.std.proofs.lemmas.Bool.{or_parts}
 use Rattle.std.specs.List.{list_any}
 use Rattle.dw_forms.specs.declared.abbrev.AttributeSpec.{AttributeSpec}
 use Rattle.dw_forms.specs.declared.attributes.Attributes.{Attributes}
-use Rattle.dw_forms.specs.declared.attribute_lists.Lead.{Lead}
-use Rattle.dw_forms.specs.declared.attribute_lists.Lead.TheVariants as lead
-use Rattle.dw_forms.specs.declared.attribute_lists.Step.{Step}
+use Rattle.dw_forms.specs.declared.leading_steps.Lead.{Lead}
+use Rattle.dw_forms.specs.declared.leading_steps.Lead.TheVariants as lead
+use Rattle.dw_forms.specs.declared.leading_steps.Step.{Step}
 use Rattle.dw_forms.specs.declared.form.Form.{Form}
 use Rattle.dw_forms.specs.LeadingWalks.{does_lead, lead_of, IsFirstStep}
 use Rattle.dw_forms.specs.Suffixes.{Ends, nodes_of, numbered, specs_in}

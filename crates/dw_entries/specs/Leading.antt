@@ -4,8 +4,8 @@ use Rattle.std.specs.List.{list_any}
 use Rattle.dw_forms.specs.declared.abbrev.AttributeSpec.{AttributeSpec}
 use Rattle.dw_forms.specs.declared.form.Form.{Form}
 use Rattle.dw_forms.specs.declared.form.Form.TheVariants.{Ref4, Strp, Strx1, Strx2, Addrx}
-use Rattle.dw_forms.specs.declared.attribute_lists.Lead.{Lead}
-use Rattle.dw_forms.specs.declared.attribute_lists.Lead.TheVariants as lead
+use Rattle.dw_forms.specs.declared.leading_steps.Lead.{Lead}
+use Rattle.dw_forms.specs.declared.leading_steps.Lead.TheVariants as lead
 use Rattle.dw_forms.specs.Suffixes.{specs_in}
 use Rattle.dw_forms.specs.Value.{Datum}
 use Rattle.dw_forms.specs.LeadingWalks.{does_lead, lead_of}

@@ -3,7 +3,7 @@
 ghost use Rattle.std.specs.Prelude.{IfNone, IfSome, true, ◌≡◌};
 ghost use Rattle.dw_forms.specs.LeadingWalks.{IsFirstStep};
 ghost use Rattle.dw_forms.specs.Suffixes.{numbered};
-ghost use Rattle.dw_forms.specs.declared.attribute_lists.Lead.TheVariants.{Other, Passed};
+ghost use Rattle.dw_forms.specs.declared.leading_steps.Lead.TheVariants.{Other, Passed};
 
 use crate::led::{Led, led_by};
 use crate::values::Values;

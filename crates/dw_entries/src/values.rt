@@ -6,7 +6,7 @@ ghost use Rattle.dw_forms.specs.Chains.{Numbered};
 ghost use Rattle.dw_forms.specs.Suffixes.{Ends, numbered, specs_in};
 ghost use Rattle.dw_forms.specs.LeadingWalks.{IsFirstStep};
 ghost use Rattle.dw_forms.specs.declared.abbrev.AttributeSpec.{AttributeSpec as SpecData};
-ghost use Rattle.dw_forms.specs.declared.attribute_lists.Lead.TheVariants.{Nothing as NoLead, Passed};
+ghost use Rattle.dw_forms.specs.declared.leading_steps.Lead.TheVariants.{Nothing as NoLead, Passed};
 ghost use Rattle.dw_entries.specs.Choices.{size_unique};
 ghost use Rattle.dw_entries.specs.Header.{IsSize};
 ghost use Rattle.dw_entries.specs.OwnBytes.{IsRest};

@@ -5,8 +5,8 @@ use Rattle.std.proofs.lemmas.Bool.{eqb-true, eqb-false}
 use Rattle.dw_forms.specs.declared.abbrev.AttributeSpec.{AttributeSpec}
 use Rattle.dw_forms.specs.declared.form.Form.{Form}
 use Rattle.dw_forms.specs.declared.form.Form.TheVariants.{Ref4, Strp, Strx1, Strx2, Addrx}
-use Rattle.dw_forms.specs.declared.attribute_lists.Lead.{Lead}
-use Rattle.dw_forms.specs.declared.attribute_lists.Lead.TheVariants as lead
+use Rattle.dw_forms.specs.declared.leading_steps.Lead.{Lead}
+use Rattle.dw_forms.specs.declared.leading_steps.Lead.TheVariants as lead
 use Rattle.dw_forms.specs.Codes.{DW_AT_type, DW_AT_sibling, DW_AT_specification, DW_AT_import, DW_AT_signature}
 use Rattle.dw_forms.specs.LeadingWalks.{does_lead, lead_by, lead_of}
 

@@ -1,10 +1,10 @@
 -- The first step in a list with one attribute more.
 use Rattle.std.proofs.Common.{rules, ◌≡◌, ℕ, ◌+◌, ◌-◌, ◌*◌, ◌≤◌, ◌⊎◌, true, false, List, ◌∷◌, refl, inl, inr, arith}
 use Rattle.dw_forms.specs.declared.abbrev.AttributeSpec.{AttributeSpec}
-use Rattle.dw_forms.specs.declared.attribute_lists.Step.{Step}
+use Rattle.dw_forms.specs.declared.leading_steps.Step.{Step}
 use Rattle.dw_forms.specs.Chains.{Numbered}
 use Rattle.dw_forms.specs.KnownValues.{known_size}
-use Rattle.dw_forms.specs.declared.attribute_lists.Lead.{Lead}
+use Rattle.dw_forms.specs.declared.leading_steps.Lead.{Lead}
 use Rattle.dw_forms.specs.LeadingWalks.{stops_at, step_in, skip_in, lead_of, lead_in, IsFirstStep}
 
 -- what the values take that a step passes

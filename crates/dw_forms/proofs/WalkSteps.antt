@@ -6,11 +6,11 @@ use Rattle.std.proofs.lemmas.Bool.{ne_eqb, or_parts}
 use Rattle.std.proofs.lemmas.List.Sums.{sum_by-cons}
 use Rattle.dw_forms.specs.declared.abbrev.AttributeSpec.{AttributeSpec}
 use Rattle.dw_forms.specs.declared.attribute_lists.Node.{Node}
-use Rattle.dw_forms.specs.declared.attribute_lists.Step.{Step}
+use Rattle.dw_forms.specs.declared.leading_steps.Step.{Step}
 use Rattle.dw_forms.specs.AttributeLists.{spec_of, numbered_in, varies, IsKnown, AreKnown, EndsWith}
 use Rattle.dw_forms.specs.Chains.{Numbered, items_of}
 use Rattle.dw_forms.specs.KnownValues.{does_vary, known_size, known_sum}
-use Rattle.dw_forms.specs.declared.attribute_lists.Lead.TheVariants.{Nothing}
+use Rattle.dw_forms.specs.declared.leading_steps.Lead.TheVariants.{Nothing}
 use Rattle.dw_forms.specs.LeadingWalks.{does_lead, stops_at, step_in, skip_in, lead_of, lead_in, IsFirstStep}
 use Rattle.dw_forms.proofs.ChainLaws.{chain_none}
 use Rattle.dw_forms.proofs.LeadLaws.{lead_says}

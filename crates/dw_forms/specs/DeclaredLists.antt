@@ -7,7 +7,7 @@ use Rattle.std.specs.List.{list_any}
 use Rattle.dw_forms.specs.declared.abbrev.AttributeSpec.{AttributeSpec}
 use Rattle.dw_forms.specs.declared.known_places.KnownPlace.{KnownPlace}
 use Rattle.dw_forms.specs.declared.attribute_lists.Node.{Node}
-use Rattle.dw_forms.specs.declared.attribute_lists.Step.{Step}
+use Rattle.dw_forms.specs.declared.leading_steps.Step.{Step}
 use Rattle.dw_forms.specs.AttributeBits.{bit_of, AreBitsOf}
 use Rattle.dw_forms.specs.AttributeLists.{has_this, list_in, numbered_in, varies}
 use Rattle.dw_forms.specs.Chains.{Numbered, items_of, number_where}

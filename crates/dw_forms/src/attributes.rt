@@ -12,9 +12,10 @@ ghost use Rattle.dw_forms.specs.ValueReading.{Gives};
 ghost use Rattle.dw_forms.specs.LeadingWalks.{IsFirstStep, skip_in};
 
 use crate::abbrev::AttributeSpec;
-use crate::attribute_lists::{AttributeLists, Node, Step};
+use crate::attribute_lists::{AttributeLists, Node};
 use crate::constants::Attribute;
 use crate::form::Form;
+use crate::leading_steps::Step;
 use crate::value::{Value, ValueFault};
 use crate::value_reader::{read_any, skip_long};
 

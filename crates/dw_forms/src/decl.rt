@@ -10,11 +10,12 @@ ghost use Rattle.dw_forms.specs.Codes.{is_type_tag};
 
 use crate::abbrev::AttributeSpec;
 use crate::attribute_bits::{OWN_BITS, bit_of, count_below, mask_of};
-use crate::attribute_lists::{AttributeLists, Step};
+use crate::attribute_lists::AttributeLists;
 use crate::attributes::{Attributes, cut_at};
 use crate::code::{Attribute, Tag};
 use crate::form::Form;
 use crate::known_places::KnownPlace;
+use crate::leading_steps::Step;
 use crate::value::{Value, ValueFault};
 
 /// A declaration that is kept.

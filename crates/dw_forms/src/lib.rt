@@ -20,6 +20,7 @@ mod known_places;
 mod labels;
 mod laws;
 mod layout_reader;
+mod leading_steps;
 mod leb;
 mod list_reader;
 mod offsets;
@@ -32,7 +33,7 @@ pub use abbrev::{AbbrevTable, AttributeSpec, Decl};
 pub use abbrev_reader::{code_of, form_with_number, pair_of, read_table, tag_and_children};
 pub use abbrev_tables::AbbrevTables;
 pub use attribute_class::{is_allowed_in, is_open};
-pub use attribute_lists::{AttributeLists, Lead, Node, Step};
+pub use attribute_lists::{AttributeLists, Node};
 pub use attributes::Attributes;
 pub use class::{Class, class_of_value};
 pub use code::{Attribute, Language, Tag};
@@ -43,6 +44,7 @@ pub use laws::{
     fixed_values_take_their_sum, signed_numbers_are_apart, tables_are_apart,
     tables_are_read_by_grammar, unsigned_numbers_are_apart, values_are_apart,
 };
+pub use leading_steps::{Lead, Step};
 pub use leb::{NumberFault, read_sleb, read_uleb};
 pub use rule::Rule;
 pub use value::{Value, ValueFault};

@@ -1,6 +1,6 @@
 use Rattle.std.proofs.Common.{refl, arith}
 use Rattle.dw_forms.specs.LeadingWalks.{step_in, skip_in, lead_in}
-use Rattle.dw_forms.proofs.attribute_lists.no_step.Goals as goal
+use Rattle.dw_forms.proofs.leading_steps.no_step.Goals as goal
 
 pub returns : goal.returns
 unfolding step_in skip_in lead_in

@@ -1,6 +1,6 @@
 use Rattle.std.proofs.Common.{sym, ◌∙◌}
 use Rattle.dw_forms.proofs.StepLaws.{step_here, step_past}
-use Rattle.dw_forms.proofs.attribute_lists.step_before.Goals as goal
+use Rattle.dw_forms.proofs.leading_steps.step_before.Goals as goal
 
 pub returns-then-stops_at : goal.returns-then-stops_at
 returns-then-stops_at c list is =
