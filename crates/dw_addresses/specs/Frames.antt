@@ -5,10 +5,11 @@ use Rattle.std.specs.Option.{unwrap_or}
 use Rattle.dw_entries.specs.ByNumber.{entry_of}
 use Rattle.dw_entries.specs.Entries.{Entry}
 use Rattle.dw_entries.specs.Lookups.{value_at_entry}
+use Rattle.dw_forms.specs.Codes.{DW_AT_call_file}
 use Rattle.dw_lines.specs.declared.row.Row.{Row}
 use Rattle.dw_ranges.specs.Files.{AreFunctionsAt}
 use Rattle.dw_ranges.specs.Functions.{Known}
-use Rattle.dw_addresses.specs.Lines.{DW_AT_call_file, number_in, row_in}
+use Rattle.dw_addresses.specs.Lines.{number_in, row_in}
 use Rattle.dw_addresses.specs.declared.frame.Frame.{Frame}
 use Rattle.dw_addresses.specs.declared.frame.Place.{Place}
 use Rattle.dw_addresses.specs.declared.lines.FileLines.{FileLines}

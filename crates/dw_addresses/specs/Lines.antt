@@ -7,6 +7,7 @@ use Rattle.dw_entries.specs.Entries.{Entry}
 use Rattle.dw_entries.specs.Lookups.{value_at_entry}
 use Rattle.dw_entries.specs.Views.{all_entries, units_of}
 use Rattle.dw_entries.specs.declared.entries.Entries.{Entries}
+use Rattle.dw_forms.specs.Codes.{DW_AT_call_file, DW_AT_decl_file}
 use Rattle.dw_forms.specs.Value.{Datum, unsigned, signed}
 use Rattle.dw_lines.specs.Addresses.{row_at}
 use Rattle.dw_lines.specs.Files.{has_file, may_be_named}
@@ -21,13 +22,6 @@ use Rattle.dw_lines.specs.declared.sections.LineSections.{LineSections}
 use Rattle.dw_addresses.specs.LinePrograms.{Holds, Names, ProgramsFail, offset_named}
 use Rattle.dw_addresses.specs.declared.fault.LinesFault.{LinesFault}
 use Rattle.dw_addresses.specs.declared.lines.FileLines.{FileLines}
-
--- the codes of attributes (7.5.4, Table 7.5)
-abbrev pub DW_AT_decl_file : ℕ
-DW_AT_decl_file = 0x3a
-
-abbrev pub DW_AT_call_file : ℕ
-DW_AT_call_file = 0x58
 
 -- the program of the unit with a number
 abbrev pub program_of : FileLines → ℕ → Option LineIndex

@@ -8,13 +8,9 @@ ghost use Rattle.dw_addresses.specs.Lines.{no_file_in as no_file_of_unit, number
 
 use crate::fault::LinesFault;
 use crate::lines::FileLines;
+use dw_entries::constants::{DW_AT_call_file, DW_AT_decl_file};
 use dw_entries::{Attribute, Entries, EntryAt, Value};
 use dw_lines::{Files, LineFault, LineIndex, LineRule};
-
-/// DW_AT_decl_file
-const DW_AT_DECL_FILE: Attribute = Attribute(0x3a);
-/// DW_AT_call_file
-const DW_AT_CALL_FILE: Attribute = Attribute(0x58);
 
 /// The number that a value is.
 pub(crate) fn number_of(value: Value<'_>) -> Option<u64>
@@ -50,11 +46,11 @@ fn is_file(files: &Files<'_>, value: Option<Value<'_>>) -> bool
 fn no_file(files: &Files<'_>, entry: &EntryAt<'_, '_>) -> Option<Attribute>
     ensures { result ≡ no_file_of files.now entry.now }
 {
-    if !is_file(files, entry.value(DW_AT_DECL_FILE)) {
-        return Some(DW_AT_DECL_FILE);
+    if !is_file(files, entry.value(DW_AT_decl_file)) {
+        return Some(DW_AT_decl_file);
     }
-    if !is_file(files, entry.value(DW_AT_CALL_FILE)) {
-        return Some(DW_AT_CALL_FILE);
+    if !is_file(files, entry.value(DW_AT_call_file)) {
+        return Some(DW_AT_call_file);
     }
     None
 }

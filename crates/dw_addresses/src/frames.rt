@@ -11,6 +11,7 @@ ghost use Rattle.dw_addresses.specs.Frames.{row_place as place_of_address};
 use crate::files::number_of;
 use crate::frame::{Frame, Place};
 use crate::lines::FileLines;
+use dw_entries::constants::DW_AT_call_file;
 use dw_entries::{Attribute, Entries};
 use dw_lines::Row;
 use dw_ranges::FileFunctions;
@@ -18,8 +19,6 @@ use std::alloc::{AllocError, AllocFailed};
 
 /// DW_AT_call_column
 const DW_AT_CALL_COLUMN: Attribute = Attribute(0x57);
-/// DW_AT_call_file
-const DW_AT_CALL_FILE: Attribute = Attribute(0x58);
 /// DW_AT_call_line
 const DW_AT_CALL_LINE: Attribute = Attribute(0x59);
 
@@ -47,7 +46,7 @@ fn call_place(entries: &Entries<'_>, function: usize) -> Place
     ensures { result ≡ place_of_call (all_entries entries.now) function }
 {
     Place {
-        file: number_at(entries, function, DW_AT_CALL_FILE),
+        file: number_at(entries, function, DW_AT_call_file),
         line: number_at(entries, function, DW_AT_CALL_LINE).unwrap_or(0),
         column: number_at(entries, function, DW_AT_CALL_COLUMN).unwrap_or(0),
     }

@@ -8,7 +8,7 @@ use Rattle.std.proofs.lemmas.Nat.{pow_pos}
 use Rattle.std.proofs.lemmas.Nat.Bits.{bit_at_or, bit_at-pow_same, bit_at-pow_other, bit_at-zero, bit_at-lt, and_pow}
 use Rattle.dw_forms.specs.declared.abbrev.AttributeSpec.{AttributeSpec}
 use Rattle.dw_forms.specs.AbbrevReading.{has_attribute}
-use Rattle.dw_forms.specs.AttributeBits.{place_from, bit_of, asked, AreBitsOf}
+use Rattle.dw_forms.specs.AttributeBits.{place_from, bit_of, asked, own_bits, AreBitsOf}
 use Rattle.dw_forms.proofs.BitLaws.{eq_true, differ}
 use Rattle.dw_forms.specs.Keys.{lacks_from, lacks_test}
 
@@ -65,11 +65,11 @@ own_place k code other (c ∷ codes) less same = elim (cases_eq code c) [
   ]
 ]
 
-pub own_bit : (code other : ℕ) → bit_of code < 21 → bit_of other ≡ bit_of code → other ≡ code
+pub own_bit : (code other : ℕ) → bit_of code < own_bits → bit_of other ≡ bit_of code → other ≡ code
 unfolding bit_of
 own_bit code other less same = own_place 0 code other asked less same
 
-same_test : (code other : ℕ) → bit_of code < 21 → (bit_of other == bit_of code) ≡ (other == code)
+same_test : (code other : ℕ) → bit_of code < own_bits → (bit_of other == bit_of code) ≡ (other == code)
 same_test code other own = elim (cases_eq other code) [
   | inl same ↦ eq_true (bit_of other) (bit_of code) (ap bit_of same) ∙ sym (eq_true other code same)
   | inr differs ↦ differ (bit_of other) (bit_of code) (λ same. differs (own_bit code other own same))
@@ -98,7 +98,7 @@ pub more_bits : (bits bit : ℕ) (spec : AttributeSpec) (specs : List AttributeS
 more_bits bits bit spec specs is are i = rw (is, or_one bits (bit_of spec.attribute) i, are i) refl
 
 -- the same test of codes and of their bits
-any_own : (code : ℕ) (specs : List AttributeSpec) → bit_of code < 21
+any_own : (code : ℕ) (specs : List AttributeSpec) → bit_of code < own_bits
     → list_any (λ (spec : AttributeSpec). bit_of spec.attribute == bit_of code) specs ≡ has_attribute code specs
 any_own code [] own = refl
 any_own code (spec ∷ specs) own = rw (same_test code spec.attribute own, any_own code specs own) refl
@@ -128,7 +128,7 @@ module _ (bits mask code : ℕ) (specs : List AttributeSpec) (are : AreBitsOf sp
         (λ k d within same. lacks k d within (ap bit_of same))
 
     -- where a bit of its own is set, one has it
-    pub own_bit_set : bit_of code < 21 → bit_and bits mask ≢ 0 → has_attribute code specs ≡ true
+    pub own_bit_set : bit_of code < own_bits → bit_and bits mask ≢ 0 → has_attribute code specs ≡ true
     own_bit_set own some =
         sym (any_own code specs own) ∙ sym (are (bit_of code)) ∙ ap (λ (b : ℕ). b == 1) (set_bit bits mask code is some)
 

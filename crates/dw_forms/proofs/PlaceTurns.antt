@@ -12,7 +12,7 @@ use Rattle.dw_forms.specs.declared.abbrev.AttributeSpec.{AttributeSpec}
 use Rattle.dw_forms.specs.declared.attribute_lists.Node.{Node}
 use Rattle.dw_forms.specs.declared.decl.KeptDecl.{KeptDecl}
 use Rattle.dw_forms.specs.declared.known_places.KnownPlace.{KnownPlace}
-use Rattle.dw_forms.specs.AttributeBits.{bit_of}
+use Rattle.dw_forms.specs.AttributeBits.{bit_of, own_bits}
 use Rattle.dw_forms.specs.AttributeLists.{numbered_in}
 use Rattle.dw_forms.specs.Chains.{Numbered}
 use Rattle.dw_forms.specs.DeclaredLists.{IsPlaced, HavePlacesBelow, HavePlaces}
@@ -99,7 +99,7 @@ module _ (list : List (Numbered AttributeSpec)) (bits : ℕ) (old : List KnownPl
       pub placing_next : bit_and bits mask ≡ 0 → Placing list bits (place + 1) old places
       placing_next none = next (sym (ap (bit_at bits) bit) ∙ zero_bit bits mask code mask_is none)
 
-      pub placing_one : place < 21 → bit_and bits mask ≢ 0 → (p : KnownPlace) → IsPlaced list code p
+      pub placing_one : place < own_bits → bit_and bits mask ≢ 0 → (p : KnownPlace) → IsPlaced list code p
           → Placing list bits (place + 1) old (places ++ p ∷ [])
       placing_one less some p is =
           one (sym (ap (bit_at bits) bit) ∙ set_bit bits mask code mask_is some) p
@@ -112,7 +112,7 @@ pub all_places_stay : (nodes : List Node) (kept : List KeptDecl) (old new : List
     → HaveAllPlaces nodes old kept → HaveAllPlaces nodes new kept
 all_places_stay nodes kept old new stay have k d less =
     let x = get_or kept k d in
-    places_stay (numbered_in nodes x.first) 21 x.bits x.first_place old new stay (have k d less)
+    places_stay (numbered_in nodes x.first) own_bits x.bits x.first_place old new stay (have k d less)
 
 pub all_lists_stay : (old new : List Node) (kept : List KeptDecl) (places : List KnownPlace) → Stay old new
     → AreWithin old kept → HaveAllPlaces old places kept → HaveAllPlaces new places kept

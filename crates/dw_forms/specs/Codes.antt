@@ -170,6 +170,12 @@ DW_AT_byte_size = 0x0b
 abbrev pub DW_AT_bit_size : ℕ
 DW_AT_bit_size = 0x0d
 
+abbrev pub DW_AT_low_pc : ℕ
+DW_AT_low_pc = 0x11
+
+abbrev pub DW_AT_high_pc : ℕ
+DW_AT_high_pc = 0x12
+
 abbrev pub DW_AT_language : ℕ
 DW_AT_language = 0x13
 
@@ -200,6 +206,9 @@ DW_AT_count = 0x37
 abbrev pub DW_AT_data_member_location : ℕ
 DW_AT_data_member_location = 0x38
 
+abbrev pub DW_AT_decl_file : ℕ
+DW_AT_decl_file = 0x3a
+
 abbrev pub DW_AT_declaration : ℕ
 DW_AT_declaration = 0x3c
 
@@ -214,6 +223,12 @@ DW_AT_type = 0x49
 
 abbrev pub DW_AT_byte_stride : ℕ
 DW_AT_byte_stride = 0x51
+
+abbrev pub DW_AT_ranges : ℕ
+DW_AT_ranges = 0x55
+
+abbrev pub DW_AT_call_file : ℕ
+DW_AT_call_file = 0x58
 
 abbrev pub DW_AT_signature : ℕ
 DW_AT_signature = 0x69

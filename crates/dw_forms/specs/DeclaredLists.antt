@@ -8,7 +8,7 @@ use Rattle.dw_forms.specs.declared.abbrev.AttributeSpec.{AttributeSpec}
 use Rattle.dw_forms.specs.declared.known_places.KnownPlace.{KnownPlace}
 use Rattle.dw_forms.specs.declared.attribute_lists.Node.{Node}
 use Rattle.dw_forms.specs.declared.leading_steps.Step.{Step}
-use Rattle.dw_forms.specs.AttributeBits.{bit_of, AreBitsOf}
+use Rattle.dw_forms.specs.AttributeBits.{bit_of, own_bits, AreBitsOf}
 use Rattle.dw_forms.specs.AttributeLists.{has_this, list_in, numbered_in, varies}
 use Rattle.dw_forms.specs.Chains.{Numbered, items_of, number_where}
 use Rattle.dw_forms.specs.Codes.{DW_AT_declaration}
@@ -44,7 +44,7 @@ HavePlacesBelow end list bits first places =
 
 -- the attributes with bits of their own that are set have places from this one on, in the order of the bits
 abbrev pub HavePlaces : List (Numbered AttributeSpec) → ℕ → ℕ → List KnownPlace → Type 0
-HavePlaces list bits first places = HavePlacesBelow 21 list bits first places
+HavePlaces list bits first places = HavePlacesBelow own_bits list bits first places
 
 -- the list of this number is kept, this is the first step in it, these are the bits of its attributes, and so much is
 -- known of DW_AT_declaration and of the size of all values where addresses have 8 bytes

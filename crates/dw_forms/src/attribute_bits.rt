@@ -1,12 +1,12 @@
 //! The bits of attributes in a list.
 
 ghost use Rattle.std.specs.Prelude.{◌≡◌, ◌<◌, ◌^◌, ◌%◌, count_ones};
-ghost use Rattle.dw_forms.specs.AttributeBits.{bit_of};
+ghost use Rattle.dw_forms.specs.AttributeBits.{bit_of, own_bits};
 
 use crate::constants::*;
 
 /// How many attributes have a bit of their own.
-pub(crate) const OWN_BITS: u32 = 21;
+pub(crate) const OWN_BITS: u32 = 26;
 
 /// The place of an attribute's bit. The attributes that rules and declarations look for have bits of their own. The
 /// others share the rest by their codes.
@@ -38,14 +38,19 @@ pub(crate) fn bit_of(attribute: Attribute) -> u32
         DW_AT_data_bit_offset => 18,
         DW_AT_str_offsets_base => 19,
         DW_AT_addr_base => 20,
-        _ => OWN_BITS + u32::from(attribute.0 % 11),
+        DW_AT_low_pc => 21,
+        DW_AT_high_pc => 22,
+        DW_AT_ranges => 23,
+        DW_AT_decl_file => 24,
+        DW_AT_call_file => 25,
+        _ => OWN_BITS + u32::from(attribute.0 % 6),
     }
 }
 
 /// The attribute whose own bit is at this place.
 #[tactic(auto, unfolding(crate::specs::AttributeBits::bit_of))]
 pub(crate) fn attribute_of(place: u32) -> Attribute
-    requires { place < 21 }
+    requires { place < own_bits }
     ensures { bit_of result ≡ place }
 {
     match place {
@@ -69,7 +74,12 @@ pub(crate) fn attribute_of(place: u32) -> Attribute
         17 => DW_AT_signature,
         18 => DW_AT_data_bit_offset,
         19 => DW_AT_str_offsets_base,
-        _ => DW_AT_addr_base,
+        20 => DW_AT_addr_base,
+        21 => DW_AT_low_pc,
+        22 => DW_AT_high_pc,
+        23 => DW_AT_ranges,
+        24 => DW_AT_decl_file,
+        _ => DW_AT_call_file,
     }
 }
 

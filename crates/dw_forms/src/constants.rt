@@ -139,6 +139,8 @@ pub const DW_AT_bit_size: Attribute = Attribute(0x0d);
 
 pub const DW_AT_low_pc: Attribute = Attribute(0x11);
 
+pub const DW_AT_high_pc: Attribute = Attribute(0x12);
+
 pub const DW_AT_language: Attribute = Attribute(0x13);
 
 pub const DW_AT_import: Attribute = Attribute(0x18);
@@ -159,6 +161,8 @@ pub const DW_AT_count: Attribute = Attribute(0x37);
 
 pub const DW_AT_data_member_location: Attribute = Attribute(0x38);
 
+pub const DW_AT_decl_file: Attribute = Attribute(0x3a);
+
 pub const DW_AT_declaration: Attribute = Attribute(0x3c);
 
 pub const DW_AT_encoding: Attribute = Attribute(0x3e);
@@ -168,6 +172,10 @@ pub const DW_AT_specification: Attribute = Attribute(0x47);
 pub const DW_AT_type: Attribute = Attribute(0x49);
 
 pub const DW_AT_byte_stride: Attribute = Attribute(0x51);
+
+pub const DW_AT_ranges: Attribute = Attribute(0x55);
+
+pub const DW_AT_call_file: Attribute = Attribute(0x58);
 
 pub const DW_AT_signature: Attribute = Attribute(0x69);
 

@@ -3,7 +3,7 @@
 ghost use Rattle.std.specs.Prelude.{◌≡◌, ◌≢◌, ◌<◌, ◌≤◌, ◌⊎◌, ◌↔◌, Some, All, IsTrue, length, map, slice_get};
 ghost use Rattle.std.specs.Int.{bit_at};
 ghost use Rattle.dw_forms.specs.ValueReading.{Gives};
-ghost use Rattle.dw_forms.specs.AttributeBits.{bit_of};
+ghost use Rattle.dw_forms.specs.AttributeBits.{bit_of, own_bits};
 ghost use Rattle.dw_forms.specs.AttributeLists.{numbered_in, spec_of};
 ghost use Rattle.dw_forms.specs.DeclaredLists.{HasList, HavePlaces, IsPlaced};
 ghost use Rattle.dw_forms.specs.Codes.{is_type_tag};
@@ -179,7 +179,7 @@ impl<'a> DeclAt<'a> {
     /// The place of an attribute that the declaration has, and which has a bit of its own.
     #[inline(always)]
     fn place(&self, attribute: Attribute) -> KnownPlace
-        requires own { bit_of attribute < 21 }
+        requires own { bit_of attribute < own_bits }
         requires some { bit_at self.now.kept.now.bits (bit_of attribute) ≡ 1 }
         ensures { IsPlaced (numbered_of self.now) attribute result }
     {

@@ -7,14 +7,14 @@ use Rattle.dw_entries.specs.Lookups.{value_at_entry}
 use Rattle.dw_entries.specs.Views.{sections_of}
 use Rattle.dw_entries.specs.declared.entries.Entries.{Entries}
 use Rattle.dw_forms.specs.Codes.{DW_AT_addr_base}
+use Rattle.dw_forms.specs.Codes.{DW_AT_high_pc, DW_AT_low_pc, DW_AT_ranges}
 use Rattle.dw_forms.specs.Formats.{Format, and_then, as_other, choose, failing, renamed}
 use Rattle.dw_forms.specs.Steps.{◌>>=◌, on_option}
 use Rattle.dw_forms.specs.Value.{Datum, unsigned, signed, sec_offset, rng_index}
 use Rattle.dw_ranges.specs.Addresses.{based, bounded, indexed}
 use Rattle.dw_ranges.specs.Bounds.{address_of, list_of, listed_ranges, range_between, range_up, ranges_of, rule_of}
 use Rattle.dw_ranges.specs.Contributions.{indexed_list}
-use Rattle.dw_ranges.specs.EntryRanges.{AreAddressesOf, DW_AT_high_pc, DW_AT_low_pc, DW_AT_ranges, base_address}
-use Rattle.dw_ranges.specs.EntryRanges.{entry_ranges, first_value, offset_in, slots_in}
+use Rattle.dw_ranges.specs.EntryRanges.{AreAddressesOf, base_address, entry_ranges, first_value, offset_in, slots_in}
 use Rattle.dw_ranges.specs.ListEntries.{entry}
 use Rattle.dw_ranges.specs.RangeLists.{known, list_at, meaning, meant, placed, ranges_from, ranges_with}
 use Rattle.dw_ranges.specs.declared.addresses.UnitAddresses.{UnitAddresses}

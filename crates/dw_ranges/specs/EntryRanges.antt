@@ -1,6 +1,6 @@
 -- Chapter: the ranges of an entry (DWARF 5, 2.17), and what the first entry of its unit says of addresses (3.1.1).
 use Rattle.std.specs.Prelude.{◌≡◌, ℕ, List, [], Option, None, Some, Result, Ok, Err, option_and_then}
-use Rattle.dw_forms.specs.Codes.{DW_AT_addr_base}
+use Rattle.dw_forms.specs.Codes.{DW_AT_addr_base, DW_AT_high_pc, DW_AT_low_pc, DW_AT_ranges}
 use Rattle.dw_forms.specs.Formats.{as_other}
 use Rattle.dw_forms.specs.Value.{Datum, sec_offset}
 use Rattle.dw_entries.specs.ByNumber.{placed_of, entry_of}
@@ -17,16 +17,7 @@ use Rattle.dw_ranges.specs.declared.bounds.RangeSections.{RangeSections}
 use Rattle.dw_ranges.specs.declared.fault.RangeFault.{RangeFault}
 use Rattle.dw_ranges.specs.declared.range.Range.{Range}
 
--- the codes of attributes (7.5.4, Table 7.5)
-abbrev pub DW_AT_low_pc : ℕ
-DW_AT_low_pc = 0x11
-
-abbrev pub DW_AT_high_pc : ℕ
-DW_AT_high_pc = 0x12
-
-abbrev pub DW_AT_ranges : ℕ
-DW_AT_ranges = 0x55
-
+-- the code of an attribute (7.5.4, Table 7.5)
 abbrev pub DW_AT_rnglists_base : ℕ
 DW_AT_rnglists_base = 0x74
 

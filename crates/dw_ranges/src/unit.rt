@@ -12,13 +12,9 @@ use crate::bounds::{RangeSections, address_of, ranges_of_values};
 use crate::contribution::contribution_at;
 use crate::fault::RangeFault;
 use crate::range::Range;
-use dw_entries::constants::{DW_AT_addr_base, DW_AT_low_pc};
+use dw_entries::constants::{DW_AT_addr_base, DW_AT_high_pc, DW_AT_low_pc, DW_AT_ranges};
 use dw_entries::{Attribute, Entries, EntryAt, Stop, Value};
 
-/// DW_AT_high_pc
-const DW_AT_HIGH_PC: Attribute = Attribute(0x12);
-/// DW_AT_ranges
-const DW_AT_RANGES: Attribute = Attribute(0x55);
 /// DW_AT_rnglists_base
 const DW_AT_RNGLISTS_BASE: Attribute = Attribute(0x74);
 
@@ -96,8 +92,8 @@ pub fn ranges_of_entry(
     ensures unchanged { OnErr result (ranges.new.items ≡ ranges.old.items) }
 {
     let low = entry.value(DW_AT_low_pc);
-    let high = entry.value(DW_AT_HIGH_PC);
-    let list = entry.value(DW_AT_RANGES);
+    let high = entry.value(DW_AT_high_pc);
+    let list = entry.value(DW_AT_ranges);
     match ranges_of_values(sections, unit, low, high, list, ranges) {
         Ok(bytes) => Ok(bytes),
         Err(Stop::Memory) => Err(Stop::Memory),
