@@ -37,9 +37,11 @@ pub(crate) fn address(bytes: &[u8], size: u8) -> Result<u64, ValueFault>
     }
 }
 
-/// The number in an offset of 4 bytes.
+/// Reads the offset at the front, which has four bytes, the lowest first: the bytes of a value of DW_FORM_strp or
+/// DW_FORM_ref4. Bytes may follow it. The error is `Cut` if there are fewer.
+#[inline(always)]
 #[tactic(auto, unfolding(crate::specs::BaseFormats::taken_at))]
-pub(crate) fn offset(bytes: &[u8]) -> Result<u32, ValueFault>
+pub fn read_offset(bytes: &[u8]) -> Result<u32, ValueFault>
     ensures within { IfOk result (λ _. 4 ≤ length bytes.now) }
     ensures exact { Gives (λ n. (n, drop 4 bytes.now)) result (fixed_at 4 bytes.now) }
 {

@@ -44,6 +44,7 @@ pub use laws::{
     fixed_values_take_their_sum, signed_numbers_are_apart, tables_are_apart,
     tables_are_read_by_grammar, unsigned_numbers_are_apart, values_are_apart,
 };
+pub use layout_reader::read_offset;
 pub use leading_steps::{Lead, Step};
 pub use leb::{NumberFault, read_sleb, read_uleb};
 pub use rule::Rule;

@@ -12,7 +12,8 @@ ghost use Rattle.dw_forms.specs.ValueReading.{Gives, GivesIn, named_at, value_at
 
 use crate::form::Form;
 use crate::layout_reader::{
-    address, block, counted, counted_block, fixed, leb_block, leb_counted, leb_signed, offset, text,
+    address, block, counted, counted_block, fixed, leb_block, leb_counted, leb_signed, read_offset,
+    text,
 };
 use crate::leb::{read_sleb, read_uleb};
 use crate::value::{Value, ValueFault};
@@ -44,12 +45,12 @@ fn plain(form: Form, address_size: u8, bytes: &[u8]) -> Result<(Value<'_>, usize
         Form::Data1 => Ok((Value::Unsigned(fixed(bytes, 1)?), 1)),
         Form::Flag => Ok((Value::Flag(fixed(bytes, 1)? != 0), 1)),
         Form::Sdata => leb_signed(bytes),
-        Form::Strp => Ok((Value::Str(offset(bytes)?), 4)),
+        Form::Strp => Ok((Value::Str(read_offset(bytes)?), 4)),
         Form::Udata => {
             let (number, len) = read_uleb(bytes)?;
             Ok((Value::Unsigned(number), len))
         }
-        Form::RefAddr => Ok((Value::RefInfo(offset(bytes)?), 4)),
+        Form::RefAddr => Ok((Value::RefInfo(read_offset(bytes)?), 4)),
         Form::Ref1 => Ok((Value::RefUnit(fixed(bytes, 1)?), 1)),
         Form::Ref2 => Ok((Value::RefUnit(fixed(bytes, 2)?), 2)),
         Form::Ref4 => Ok((Value::RefUnit(fixed(bytes, 4)?), 4)),
@@ -59,7 +60,7 @@ fn plain(form: Form, address_size: u8, bytes: &[u8]) -> Result<(Value<'_>, usize
             Ok((Value::RefUnit(number), len))
         }
         Form::Indirect => Err(ValueFault::BadIndirect),
-        Form::SecOffset => Ok((Value::SecOffset(offset(bytes)?), 4)),
+        Form::SecOffset => Ok((Value::SecOffset(read_offset(bytes)?), 4)),
         Form::Exprloc => {
             let (content, len) = leb_counted(bytes)?;
             Ok((Value::Expr(content), len))
@@ -74,7 +75,7 @@ fn plain(form: Form, address_size: u8, bytes: &[u8]) -> Result<(Value<'_>, usize
             Ok((Value::AddrIndex(number), len))
         }
         Form::Data16 => Ok((Value::Wide(block(bytes, 16)?), 16)),
-        Form::LineStrp => Ok((Value::LineStr(offset(bytes)?), 4)),
+        Form::LineStrp => Ok((Value::LineStr(read_offset(bytes)?), 4)),
         Form::RefSig8 => Ok((Value::RefSig(fixed(bytes, 8)?), 8)),
         Form::ImplicitConst(number) => Ok((Value::Signed(number), 0)),
         Form::Loclistx => {
@@ -145,11 +146,11 @@ pub(crate) fn read_any(
     ensures exact { Gives (λ x. (view x.0, drop x.1 bytes.now)) result (value_at version form address_size bytes.now) }
 {
     match form {
-        Form::Strp => match offset(bytes) {
+        Form::Strp => match read_offset(bytes) {
             Ok(at) => Ok((Value::Str(at), 4)),
             Err(fault) => Err(fault),
         },
-        Form::Ref4 => match offset(bytes) {
+        Form::Ref4 => match read_offset(bytes) {
             Ok(at) => Ok((Value::RefUnit(u64::from(at)), 4)),
             Err(fault) => Err(fault),
         },
