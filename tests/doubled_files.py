@@ -9,7 +9,7 @@ import struct
 
 from common import uleb, unit
 
-# A file at two sizes: `make` of the count, and of half of it.
+# A file at two sizes: `make` of the count, and of a quarter of it.
 Doubled = collections.namedtuple("Doubled", "name command make count")
 # Seconds, bytes of memory for each byte of the file, and how the time may grow where the size doubles.
 Limits = collections.namedtuple("Limits", "seconds memory growth")

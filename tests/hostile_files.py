@@ -8,8 +8,7 @@ For each the program must print the stated line, or `types` its whole text, with
 may crash. The lines of `show` of a deep tree are far more bytes than the memory that it may have: it must say so, and
 write nothing. The script prints one line a run with the seconds it took, and ends with 'N passed, N failed, N skipped'.
 With --list it runs nothing, and prints each file with its limits, and what must not be slow, or large, in it. With
---only it runs those with such a name. The files of doubled_files.py are run beside those of half the size, and the time
-may grow by 2.3.
+--only it runs those with such a name. The files of doubled_files.py are run beside those of a quarter of the size.
 """
 import argparse
 import os
@@ -108,13 +107,17 @@ REFERRING_MEMORY = 60
 
 # Seconds of processor time that one of doubled_files may take, twice those of a quiet machine, and bytes of memory for
 # each byte of the file, besides those of the program. How the time may grow where the size doubles (that of a square
-# grows four times), the least time that is compared, and how often one is measured.
+# grows four times), the least time that is compared, and how often one is measured. Two doublings are seen together,
+# because the one at which a file outgrows a cache costs more than the other.
 DOUBLED = doubled_files.Limits(seconds=3, memory=60, growth=2.7)
 LEAST_TIME, TRIES = 0.05, 5
-# Those that may take more: the loads of each type (some of each code) miss the caches.
+# Those that may take more: the loads of each type, or some of each code, miss the caches.
+OF_CODES = DOUBLED._replace(growth=3)
 DOUBLED_MORE = {
     "a random chain of typedefs": DOUBLED._replace(seconds=8, growth=3),
-    "entries with codes of ten bytes, found last": DOUBLED._replace(growth=3),
+    "a table with codes of ten bytes, and the first again": OF_CODES,
+    "entries with codes of ten bytes, found last": OF_CODES,
+    "entries with codes of ten bytes, in another order than before": OF_CODES,
 }
 
 
@@ -1044,21 +1047,21 @@ def taken(command, path):
     return text, used.ru_utime + used.ru_stime, used.ru_maxrss << 10
 
 
-def doubling(command, want, half, want_of_half, limits):
-    """What returns AS_WANTED, or what a command says of a file or of one of half the size that is not wanted, or what
-    is wrong with what it takes: its seconds, its memory, or how its time grows from the file of half the size."""
+def doubling(command, want, quarter, want_of_quarter, limits):
+    """What returns AS_WANTED, or what a command says of a file or of one of a quarter of the size that is not wanted,
+    or what is wrong with what it takes: its seconds, its memory, or how its time grows from the quarter's."""
     def ask(path):
-        beside = path.with_name("half")
-        beside.write_bytes(half)
+        beside = path.with_name("quarter")
+        beside.write_bytes(quarter)
         least = {path: LIMIT + 1, beside: LIMIT + 1}
         for _ in range(TRIES):
             for it in (beside, path):
                 text, took, had = taken(command, it)
                 least[it] = min(least[it], took)
-                if not text.startswith(want if it is path else want_of_half):
-                    return f"{text[:200]!r} of {'half ' if it is beside else ''}the size"
+                if not text.startswith(want if it is path else want_of_quarter):
+                    return f"{text[:200]!r} of {'a quarter of ' if it is beside else ''}the size"
                 memory = had if it is path else 0
-            growth = least[path] / max(least[beside], LEAST_TIME / 2)
+            growth = (least[path] / max(least[beside], LEAST_TIME / 4)) ** 0.5
             # No other work makes a time several times as long.
             if least[path] <= limits.seconds and growth <= limits.growth or least[path] > 3 * limits.seconds:
                 break
@@ -1075,11 +1078,11 @@ def doubling(command, want, half, want_of_half, limits):
 
 
 def doubled():
-    """Each file of doubled_files, beside the one of half its size."""
+    """Each file of doubled_files, beside the one of a quarter of its size."""
     for it in doubled_files.files():
-        (whole, want), (half, want_of_half) = it.make(it.count), it.make(it.count // 2)
+        (whole, want), (quarter, want_of_quarter) = it.make(it.count), it.make(it.count // 4)
         command = COUNT_ALONE if it.command == "table" else (DWV, it.command)
-        ask = doubling(command, want, elf(half), want_of_half, DOUBLED_MORE.get(it.name, DOUBLED))
+        ask = doubling(command, want, elf(quarter), want_of_quarter, DOUBLED_MORE.get(it.name, DOUBLED))
         yield f"{it.command} of {it.name}", elf(whole), ask, AS_WANTED
 
 
