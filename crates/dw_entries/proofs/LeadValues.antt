@@ -18,7 +18,7 @@ use Rattle.dw_forms.specs.ValueFormats.{laid_out}
 use Rattle.dw_forms.specs.ValueReading.{layout_at, fixed_at, uleb_then}
 use Rattle.dw_forms.specs.LeadingWalks.{lead_of}
 use Rattle.dw_forms.proofs.LeadLaws.{lead_says}
-use Rattle.dw_entries.specs.Led.{IsMade, IsRead, is_index_lead, leads_on}
+use Rattle.dw_entries.specs.Led.{IsMade, IsRead, is_index_lead, is_offset_lead, leads_on}
 use Rattle.dw_entries.specs.Leading.{form_of_lead}
 use Rattle.dw_forms.specs.WithBytes.{ok_pair}
 use Rattle.dw_entries.specs.Values.{IsCutValue}
@@ -62,12 +62,6 @@ leb_made of bytes behind d e = by_read (uleb_then bytes) e
     by_read (Ok x) e = (x.0, (ok_pair {E = ValueFault} d (of x.0) behind x.1 (sym e)).0)
     by_read (Err f) e = absurd cc
 
-text_made : (d : Datum) → IsMade Strp d → (m : ℕ) × (d ≡ str m)
-text_made d made = fixed_made 4 str made.bytes made.behind d made.reads
-
-reference_made : (d : Datum) → IsMade Ref4 d → (m : ℕ) × (d ≡ ref_unit m)
-reference_made d made = fixed_made 4 ref_unit made.bytes made.behind d made.reads
-
 index1_made : (d : Datum) → IsMade Strx1 d → (m : ℕ) × (d ≡ str_index m)
 index1_made d made = fixed_made 1 str_index made.bytes made.behind d made.reads
 
@@ -77,10 +71,6 @@ index2_made d made = fixed_made 2 str_index made.bytes made.behind d made.reads
 address_made : (d : Datum) → IsMade Addrx d → (m : ℕ) × (d ≡ addr_index m)
 address_made d made = leb_made addr_index made.bytes made.behind d made.reads
 
-reference_value : (v : Value) (m : ℕ) → view v ≡ ref_unit m → v ≡ value.RefUnit m
-reference_value (value.RefUnit x) m e = let same : x ≡ m = cc in ap (λ (n : ℕ). value.RefUnit n) same
-reference_value _ m e = absurd cc
-
 index_value : (v : Value) (m : ℕ) → view v ≡ str_index m → v ≡ value.StrIndex m
 index_value (value.StrIndex x) m e = let same : x ≡ m = cc in ap (λ (n : ℕ). value.StrIndex n) same
 index_value _ m e = absurd cc
@@ -89,25 +79,14 @@ address_value : (v : Value) (m : ℕ) → view v ≡ addr_index m → v ≡ valu
 address_value (value.AddrIndex x) m e = let same : x ≡ m = cc in ap (λ (n : ℕ). value.AddrIndex n) same
 address_value _ m e = absurd cc
 
-str_value : (v : Value) (m : ℕ) → view v ≡ str m → v ≡ value.Str m
-str_value (value.Str x) m e = let same : x ≡ m = cc in ap (λ (n : ℕ). value.Str n) same
-str_value _ m e = absurd cc
-
 -- ---- the value, by the lead
 
 -- a value that has this lead is one of these
 abbrev pub HoldsBy : Lead → Datum → Type 0
-HoldsBy lead.TypeEntry v = (m : ℕ) × (v ≡ ref_unit m)
-HoldsBy lead.Sibling v = (m : ℕ) × (v ≡ ref_unit m)
-HoldsBy lead.Specification v = (m : ℕ) × (v ≡ ref_unit m)
-HoldsBy lead.Entry v = (m : ℕ) × (v ≡ ref_unit m)
-HoldsBy lead.Text v = (m : ℕ) × (v ≡ str m)
 HoldsBy lead.Index1 v = (m : ℕ) × (v ≡ str_index m)
 HoldsBy lead.Index2 v = (m : ℕ) × (v ≡ str_index m)
 HoldsBy lead.Address v = (m : ℕ) × (v ≡ addr_index m)
-HoldsBy lead.Other v = ⊤
-HoldsBy lead.Nothing v = ⊥
-HoldsBy lead.Passed v = ⊥
+HoldsBy _ v = ⊤
 
 -- the form of an attribute that has this lead
 pub lead_form : (l : Lead) (f : Form) (spec : AttributeSpec) → form_of_lead l ≡ Some f → lead_of spec ≡ l
@@ -122,47 +101,23 @@ lead_form lead.Index2 f spec e is = (lead_says spec lead.Index2 is).0 ∙ form_i
 lead_form lead.Address f spec e is = (lead_says spec lead.Address is).0 ∙ form_is e
 lead_form _ f spec e is = absurd cc
 
-pub holds_by : (l : Lead) (spec : AttributeSpec) (item : ℕ × Datum) → leads_on l ≡ true → lead_of spec ≡ l
-    → IsRead spec item → HoldsBy l item.1
-holds_by l spec item on is read = by_lead l on (λ f e. subst (λ (g : Form). IsMade g item.1) (lead_form l f spec e is)
+pub holds_by : (l : Lead) (spec : AttributeSpec) (item : ℕ × Datum) → lead_of spec ≡ l → IsRead spec item
+    → HoldsBy l item.1
+holds_by l spec item is read = by_lead l (λ f e. subst (λ (g : Form). IsMade g item.1) (lead_form l f spec e is)
     read.made)
   where
-    by_lead : (l : Lead) → leads_on l ≡ true → ((f : Form) → form_of_lead l ≡ Some f → IsMade f item.1)
-        → HoldsBy l item.1
-    by_lead lead.TypeEntry on made = reference_made item.1 (made Ref4 refl)
-    by_lead lead.Sibling on made = reference_made item.1 (made Ref4 refl)
-    by_lead lead.Specification on made = reference_made item.1 (made Ref4 refl)
-    by_lead lead.Entry on made = reference_made item.1 (made Ref4 refl)
-    by_lead lead.Text on made = text_made item.1 (made Strp refl)
-    by_lead lead.Index1 on made = index1_made item.1 (made Strx1 refl)
-    by_lead lead.Index2 on made = index2_made item.1 (made Strx2 refl)
-    by_lead lead.Address on made = address_made item.1 (made Addrx refl)
-    by_lead lead.Other on made = tt
-    by_lead _ on made = absurd cc
+    by_lead : (l : Lead) → ((f : Form) → form_of_lead l ≡ Some f → IsMade f item.1) → HoldsBy l item.1
+    by_lead lead.Index1 made = index1_made item.1 (made Strx1 refl)
+    by_lead lead.Index2 made = index2_made item.1 (made Strx2 refl)
+    by_lead lead.Address made = address_made item.1 (made Addrx refl)
+    by_lead _ made = tt
 
--- which leaves no lead but `Other`
-pub other_reference : (l : Lead) (offset : ℕ) → HoldsBy l (ref_unit offset) → (l ≡ lead.TypeEntry → ⊥)
-    → (l ≡ lead.Sibling → ⊥) → (l ≡ lead.Specification → ⊥) → (l ≡ lead.Entry → ⊥) → l ≡ lead.Other
-other_reference lead.TypeEntry offset h a b c d = absurd (a refl)
-other_reference lead.Sibling offset h a b c d = absurd (b refl)
-other_reference lead.Specification offset h a b c d = absurd (c refl)
-other_reference lead.Entry offset h a b c d = absurd (d refl)
-other_reference lead.Other offset h a b c d = refl
-other_reference lead.Nothing offset h a b c d = absurd h
-other_reference lead.Passed offset h a b c d = absurd h
-other_reference _ offset h a b c d = absurd (let no = h.1 in cc)
-
-pub other_value : (l : Lead) (v : Value) → HoldsBy l (view v) → ((m : ℕ) → v ≡ value.RefUnit m → ⊥)
-    → ((m : ℕ) → v ≡ value.Str m → l ≡ lead.Text → ⊥) → ((m : ℕ) → v ≡ value.StrIndex m → is_index_lead l ≡ true → ⊥)
+-- which leaves no lead but `Other`, where it is no offset
+pub other_value : (l : Lead) (v : Value) → leads_on l ≡ true → is_offset_lead l ≡ false → HoldsBy l (view v)
+    → ((m : ℕ) → v ≡ value.StrIndex m → is_index_lead l ≡ true → ⊥)
     → ((m : ℕ) → v ≡ value.AddrIndex m → l ≡ lead.Address → ⊥) → l ≡ lead.Other
-other_value lead.TypeEntry v h a b c d = absurd (a h.0 (reference_value v h.0 h.1))
-other_value lead.Sibling v h a b c d = absurd (a h.0 (reference_value v h.0 h.1))
-other_value lead.Specification v h a b c d = absurd (a h.0 (reference_value v h.0 h.1))
-other_value lead.Entry v h a b c d = absurd (a h.0 (reference_value v h.0 h.1))
-other_value lead.Text v h a b c d = absurd (b h.0 (str_value v h.0 h.1) refl)
-other_value lead.Index1 v h a b c d = absurd (c h.0 (index_value v h.0 h.1) refl)
-other_value lead.Index2 v h a b c d = absurd (c h.0 (index_value v h.0 h.1) refl)
-other_value lead.Address v h a b c d = absurd (d h.0 (address_value v h.0 h.1) refl)
-other_value lead.Other v h a b c d = refl
-other_value lead.Nothing v h a b c d = absurd h
-other_value lead.Passed v h a b c d = absurd h
+other_value lead.Index1 v on other h c d = absurd (c h.0 (index_value v h.0 h.1) refl)
+other_value lead.Index2 v on other h c d = absurd (c h.0 (index_value v h.0 h.1) refl)
+other_value lead.Address v on other h c d = absurd (d h.0 (address_value v h.0 h.1) refl)
+other_value lead.Other v on other h c d = refl
+other_value _ v on other h c d = absurd cc

@@ -1,4 +1,5 @@
 pub mod NumberOrder
+pub mod OffsetSteps
 pub mod StopLaws
 pub mod ItemLaws
 pub mod FaultLaws

@@ -53,6 +53,20 @@ pub record LeadsNext (it : Led) (specs behind : List AttributeSpec) : Type 0 whe
   pub none_leads : list_any does_lead passed ≡ false
   pub is_led : IsLedBy it spec
 
+-- the lead is that of an offset of four bytes
+abbrev pub is_offset_lead : Lead → Bool
+is_offset_lead lead.TypeEntry = true
+is_offset_lead lead.Sibling = true
+is_offset_lead lead.Specification = true
+is_offset_lead lead.Entry = true
+is_offset_lead lead.Text = true
+is_offset_lead _ = false
+
+-- the value that an offset is, as its lead says
+abbrev pub offset_by : Lead → ℕ → Datum
+offset_by lead.Text offset = str offset
+offset_by _ offset = ref_unit offset
+
 -- values that have this lead may lead elsewhere
 abbrev pub leads_on : Lead → Bool
 leads_on lead.Nothing = false

@@ -1,11 +1,11 @@
 //! The attributes of an entry whose values may lead elsewhere.
 
-ghost use Rattle.std.specs.Prelude.{IfNone, IfSome, true, ◌≡◌};
+ghost use Rattle.std.specs.Prelude.{IfNone, IfSome, false, true, ◌≡◌};
 ghost use Rattle.dw_forms.specs.LeadingWalks.{IsFirstStep};
 ghost use Rattle.dw_forms.specs.Suffixes.{numbered};
 ghost use Rattle.dw_forms.specs.declared.leading_steps.Lead.TheVariants.{Other, Passed};
 
-use crate::led::{Led, led_by};
+use crate::led::{Led, led_by, led_to};
 use crate::values::Values;
 use dw_forms::{Form, Lead, Step};
 
@@ -21,15 +21,29 @@ pub struct Leading<'e, 'a> {
 
 impl<'a> Leading<'_, 'a> {
     ghost use Rattle.dw_entries.specs.PassedAttributes.{ArePassed, IsNextOf};
-    ghost use Rattle.dw_entries.specs.Led.{LeadsNext, item_of, leads_on};
+    ghost use Rattle.dw_entries.specs.Led.{LeadsNext, is_offset_lead, item_of, leads_on};
     ghost use Rattle.dw_entries.specs.Leading.{DoesNotLead, form_of_lead, leading_left, leading_specs, next_lead};
 
-    /// Takes the next value, which has this lead and, if one is given, this form.
+    /// Takes the next value, which is an offset of four bytes and has this lead.
+    #[inline(always)]
+    fn take_offset(&mut self, lead: Lead) -> Led<'a>
+        requires lead { next_lead self.old ≡ lead }
+        requires offset { is_offset_lead lead ≡ true }
+        ensures next { IsNextOf DoesNotLead (leading_left self.old) (item_of result) (leading_left self.new) }
+        ensures led { LeadsNext result (leading_specs self.old) (leading_specs self.new) }
+    {
+        let ((attribute, offset), after) = self.values.step_to_offset(self.step);
+        self.step = after;
+        led_to(lead, attribute, offset)
+    }
+
+    /// Takes the next value, which has this lead and, if one is given, this form. It is no offset of four bytes.
     #[inline(always)]
     fn take_in(&mut self, lead: Lead, form: Option<Form>) -> Led<'a>
         requires lead { next_lead self.old ≡ lead }
         requires form { form ≡ form_of_lead lead }
         requires on { leads_on lead ≡ true }
+        requires other { is_offset_lead lead ≡ false }
         ensures next { IsNextOf DoesNotLead (leading_left self.old) (item_of result) (leading_left self.new) }
         ensures led { LeadsNext result (leading_specs self.old) (leading_specs self.new) }
     {
@@ -48,8 +62,8 @@ impl<'a> Leading<'_, 'a> {
         self.take_in(Lead::Other, None)
     }
 
-    /// Takes the next value, if one is left. It may lead elsewhere. References have one arm: with one for each of their
-    /// leads, this grows so large that the compiler leaves it out of line.
+    /// Takes the next value, if one is left. It may lead elsewhere. Each lead has its own arm. (The arms must be small:
+    /// the compiler leaves a function that grows very large out of line.)
     #[inline(always)]
     fn take_next(&mut self) -> Option<Led<'a>>
         requires { next_lead self.old ≡ Passed → ⊥ }
@@ -60,12 +74,15 @@ impl<'a> Leading<'_, 'a> {
     {
         match self.step.lead {
             Lead::Nothing | Lead::Passed => None,
-            Lead::Text => Some(self.take_in(Lead::Text, Some(Form::Strp))),
+            Lead::Text => Some(self.take_offset(Lead::Text)),
+            Lead::TypeEntry => Some(self.take_offset(Lead::TypeEntry)),
+            Lead::Sibling => Some(self.take_offset(Lead::Sibling)),
+            Lead::Specification => Some(self.take_offset(Lead::Specification)),
+            Lead::Entry => Some(self.take_offset(Lead::Entry)),
             Lead::Index1 => Some(self.take_in(Lead::Index1, Some(Form::Strx1))),
             Lead::Index2 => Some(self.take_in(Lead::Index2, Some(Form::Strx2))),
             Lead::Address => Some(self.take_in(Lead::Address, Some(Form::Addrx))),
             Lead::Other => Some(self.take_other()),
-            lead => Some(self.take_in(lead, Some(Form::Ref4))),
         }
     }
 

@@ -1,10 +1,10 @@
 //! What a value of an entry leads to.
 
-ghost use Rattle.std.specs.Prelude.{true, ◌≡◌};
+ghost use Rattle.std.specs.Prelude.{false, true, ◌≡◌};
 ghost use Rattle.dw_forms.specs.LeadingWalks.{lead_of};
 ghost use Rattle.dw_forms.specs.Value.{view};
 ghost use Rattle.dw_forms.specs.declared.abbrev.AttributeSpec.{AttributeSpec as SpecData};
-ghost use Rattle.dw_entries.specs.Led.{HasLead, IsRead, is_index_lead, item_of, leads_on};
+ghost use Rattle.dw_entries.specs.Led.{HasLead, IsRead, is_index_lead, is_offset_lead, item_of, leads_on, offset_by};
 
 use dw_forms::constants::*;
 use dw_forms::{Attribute, Lead, Value};
@@ -57,23 +57,33 @@ fn is_index(lead: Lead) -> bool
     lead == Lead::Index1 || lead == Lead::Index2
 }
 
-/// What a value that has this lead leads to.
+/// What the offset of an attribute that has this lead leads to.
+#[inline(always)]
+pub(crate) fn led_to<'a>(lead: Lead, attribute: Attribute, offset: u32) -> Led<'a>
+    requires offset { is_offset_lead lead ≡ true }
+    requires read { (spec : SpecData) × (lead_of spec ≡ lead) × (spec.attribute ≡ attribute) }
+    ensures item { item_of result ≡ (attribute, offset_by lead offset) }
+    ensures lead { HasLead result lead }
+{
+    match lead {
+        Lead::TypeEntry => Led::Type(u64::from(offset)),
+        Lead::Sibling => Led::Sibling(u64::from(offset)),
+        Lead::Specification => Led::Specification(u64::from(offset)),
+        Lead::Text => Led::Text(attribute, offset),
+        _ => Led::Entry(attribute, u64::from(offset)),
+    }
+}
+
+/// What a value that has this lead, and is no offset of four bytes, leads to.
 #[inline(always)]
 pub(crate) fn led_by<'a>(lead: Lead, attribute: Attribute, value: Value<'a>) -> Led<'a>
     requires on { leads_on lead ≡ true }
+    requires other { is_offset_lead lead ≡ false }
     requires read { (spec : SpecData) × (lead_of spec ≡ lead) × IsRead spec (attribute, view value) }
     ensures item { item_of result ≡ (attribute, view value.entry) }
     ensures lead { HasLead result lead }
 {
     match value {
-        Value::RefUnit(offset) => match lead {
-            Lead::TypeEntry => Led::Type(offset),
-            Lead::Sibling => Led::Sibling(offset),
-            Lead::Specification => Led::Specification(offset),
-            Lead::Entry => Led::Entry(attribute, offset),
-            _ => Led::Other(attribute, value),
-        },
-        Value::Str(offset) if lead == Lead::Text => Led::Text(attribute, offset),
         Value::StrIndex(index) if is_index(lead) => Led::Index(attribute, index),
         Value::AddrIndex(index) if lead == Lead::Address => Led::Address(attribute, index),
         _ => Led::Other(attribute, value),

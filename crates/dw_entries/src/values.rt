@@ -19,7 +19,7 @@ use crate::id::EntryId;
 use crate::item::read_code;
 use crate::records::Record;
 use crate::units::unit_number;
-use dw_forms::{Attribute, Attributes, Form, Step, Value, read_value, skip_value};
+use dw_forms::{Attribute, Attributes, Form, Step, Value, read_offset, read_value, skip_value};
 
 /// Whether the bytes end inside a value of this form, which takes four bytes.
 fn is_cut(form: Form, bytes: &[u8]) -> bool
@@ -55,7 +55,7 @@ impl<'e, 'a> Values<'e, 'a> {
     ghost use Rattle.dw_entries.specs.ValuesLeft.{Takes, info_of, placed_left, specs_left, values_left, viewed};
     ghost use Rattle.dw_entries.specs.Leading.{BeginsWithForm, BeginsWithLead, DoesNotLead, PassesOver, ReadsFirst};
     ghost use Rattle.dw_entries.specs.Leading.{StepsTo, form_of_lead};
-    ghost use Rattle.dw_entries.specs.Led.{leads_on};
+    ghost use Rattle.dw_entries.specs.Led.{is_offset_lead, leads_on, offset_by};
     ghost use Rattle.dw_entries.specs.OwnBytes.{EndsAt, Leaves};
     ghost use Rattle.dw_entries.specs.PassedAttributes.{IsNotOpen, ArePassed, IsNextOf, TakesFirst};
 
@@ -159,6 +159,32 @@ impl<'e, 'a> Values<'e, 'a> {
         match self.take_by(form) {
             Some(found) => found,
             None => unreachable!(),
+        }
+    }
+
+    /// The attribute that a step goes to, its value, which is an offset of four bytes, and the step from those after it.
+    /// Values before it are skipped.
+    #[inline(always)]
+    pub(crate) fn step_to_offset(&mut self, step: &Step) -> ((Attribute, u32), &'e Step)
+        requires step { IsFirstStep (numbered self.old.attributes) step.now }
+        requires offset { is_offset_lead step.now.lead ≡ true }
+        ensures next { IsNextOf DoesNotLead (values_left self.old)
+            (result.0.0, offset_by step.now.lead result.0.1) (values_left self.new) }
+        ensures declared { StepsTo step.now.lead (specs_left self.old) (specs_left self.new)
+            (result.0.0, offset_by step.now.lead result.0.1) }
+        ensures step { IsFirstStep (numbered self.new.attributes) result.1.now }
+    {
+        self.go(step);
+        let Some((spec, rest, next)) = self.attributes.split_step() else {
+            unreachable!();
+        };
+        match read_offset(self.bytes) {
+            Ok(offset) => {
+                self.attributes = rest;
+                self.bytes = &self.bytes[4..];
+                ((spec.attribute, offset), next)
+            }
+            Err(_) => unreachable!(),
         }
     }
 
