@@ -1,9 +1,9 @@
 //! The attributes of an entry whose values may lead elsewhere.
 
-ghost use Rattle.std.specs.Prelude.{IfNone, IfSome, false, true, ◌≡◌};
+ghost use Rattle.std.specs.Prelude.{IfNone, IfSome, Some, false, true, ◌≡◌};
 ghost use Rattle.dw_forms.specs.LeadingWalks.{IsFirstStep};
 ghost use Rattle.dw_forms.specs.Suffixes.{numbered};
-ghost use Rattle.dw_forms.specs.declared.leading_steps.Lead.TheVariants.{Other, Passed};
+ghost use Rattle.dw_forms.specs.declared.leading_steps.Lead.TheVariants.{Passed};
 
 use crate::led::{Led, led_by, led_to};
 use crate::values::Values;
@@ -37,11 +37,11 @@ impl<'a> Leading<'_, 'a> {
         led_to(lead, attribute, offset)
     }
 
-    /// Takes the next value, which has this lead and, if one is given, this form. It is no offset of four bytes.
+    /// Takes the next value, which has this lead and this form. It is no offset of four bytes.
     #[inline(always)]
-    fn take_in(&mut self, lead: Lead, form: Option<Form>) -> Led<'a>
+    fn take_in(&mut self, lead: Lead, form: Form) -> Led<'a>
         requires lead { next_lead self.old ≡ lead }
-        requires form { form ≡ form_of_lead lead }
+        requires form { Some form ≡ form_of_lead lead }
         requires on { leads_on lead ≡ true }
         requires other { is_offset_lead lead ≡ false }
         ensures next { IsNextOf DoesNotLead (leading_left self.old) (item_of result) (leading_left self.new) }
@@ -52,18 +52,23 @@ impl<'a> Leading<'_, 'a> {
         led_by(lead, attribute, value)
     }
 
-    /// Takes the next value, whose lead does not tell its form. Compilers write few such values: it is out of line.
-    #[inline(never)]
-    fn take_other(&mut self) -> Led<'a>
-        requires { next_lead self.old ≡ Other }
+    /// Takes the next value, which has this lead. It is no offset of four bytes, and is read out of line.
+    #[inline(always)]
+    fn take_seldom(&mut self, lead: Lead) -> Led<'a>
+        requires lead { next_lead self.old ≡ lead }
+        requires on { leads_on lead ≡ true }
+        requires other { is_offset_lead lead ≡ false }
         ensures next { IsNextOf DoesNotLead (leading_left self.old) (item_of result) (leading_left self.new) }
         ensures led { LeadsNext result (leading_specs self.old) (leading_specs self.new) }
     {
-        self.take_in(Lead::Other, None)
+        let ((attribute, value), after) = self.values.step_to_seldom(self.step);
+        self.step = after;
+        led_by(lead, attribute, value)
     }
 
-    /// Takes the next value, if one is left. It may lead elsewhere. Each lead has its own arm. (The arms must be small:
-    /// the compiler leaves a function that grows very large out of line.)
+    /// Takes the next value, if one is left. It may lead elsewhere. Usual leads have arms of their own, and none hands
+    /// over the walk itself, which so stays in registers. (The arms are small because the compiler leaves a function
+    /// that grows very large out of line.)
     #[inline(always)]
     fn take_next(&mut self) -> Option<Led<'a>>
         requires { next_lead self.old ≡ Passed → ⊥ }
@@ -79,10 +84,9 @@ impl<'a> Leading<'_, 'a> {
             Lead::Sibling => Some(self.take_offset(Lead::Sibling)),
             Lead::Specification => Some(self.take_offset(Lead::Specification)),
             Lead::Entry => Some(self.take_offset(Lead::Entry)),
-            Lead::Index1 => Some(self.take_in(Lead::Index1, Some(Form::Strx1))),
-            Lead::Index2 => Some(self.take_in(Lead::Index2, Some(Form::Strx2))),
-            Lead::Address => Some(self.take_in(Lead::Address, Some(Form::Addrx))),
-            Lead::Other => Some(self.take_other()),
+            Lead::Index1 => Some(self.take_in(Lead::Index1, Form::Strx1)),
+            Lead::Index2 => Some(self.take_in(Lead::Index2, Form::Strx2)),
+            lead => Some(self.take_seldom(lead)),
         }
     }
 

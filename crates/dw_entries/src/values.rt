@@ -1,7 +1,11 @@
 //! The attributes of an entry, each value decoded on demand.
 
 ghost use Rattle.std.specs.Bool.{OnTrue};
-ghost use Rattle.std.specs.Prelude.{IfNone, IfSome, List, MatchOption, OnSome, [], drop, length, true, ◌<◌, ◌∷◌, ◌≡◌};
+ghost use Rattle.std.specs.Prelude.{IfNone, IfOk, IfSome, IsTrue, List, MatchOption, OnSome, Some, [], drop, length};
+ghost use Rattle.std.specs.Prelude.{true, ◌<◌, ◌≤◌, ◌∷◌, ◌≡◌};
+ghost use Rattle.dw_forms.specs.FormCodes.{is_allowed};
+ghost use Rattle.dw_forms.specs.Value.{view};
+ghost use Rattle.dw_forms.specs.ValueReading.{Gives, value_at};
 ghost use Rattle.dw_forms.specs.Chains.{Numbered};
 ghost use Rattle.dw_forms.specs.Suffixes.{Ends, numbered, specs_in};
 ghost use Rattle.dw_forms.specs.LeadingWalks.{IsFirstStep};
@@ -19,7 +23,9 @@ use crate::id::EntryId;
 use crate::item::read_code;
 use crate::records::Record;
 use crate::units::unit_number;
-use dw_forms::{Attribute, Attributes, Form, Step, Value, read_offset, read_value, skip_value};
+use dw_forms::{
+    Attribute, Attributes, Form, Step, Value, ValueFault, read_offset, read_value, skip_value,
+};
 
 /// Whether the bytes end inside a value of this form, which takes four bytes.
 fn is_cut(form: Form, bytes: &[u8]) -> bool
@@ -30,6 +36,22 @@ fn is_cut(form: Form, bytes: &[u8]) -> bool
         Form::Ref4 => bytes.len() < 4,
         _ => false,
     }
+}
+
+/// The value at the front, as `read_value` reads it. It is out of line, for values of forms that are seldom read.
+#[inline(never)]
+fn read_seldom(
+    version: u16,
+    form: Form,
+    address_size: u8,
+    bytes: &[u8],
+) -> Result<(Value<'_>, usize), ValueFault>
+    requires allowed { IsTrue (is_allowed version form) }
+    requires size { IsSize address_size }
+    ensures within { IfOk result (λ x. x.1 ≤ length bytes.now) }
+    ensures exact { Gives (λ x. (view x.0, drop x.1 bytes.now)) result (value_at version form address_size bytes.now) }
+{
+    read_value(version, form, address_size, bytes)
 }
 
 /// The attributes of an entry that are left, in their order, and the section that their values are in.
@@ -140,23 +162,19 @@ impl<'e, 'a> Values<'e, 'a> {
         }
     }
 
-    /// The attribute that a step goes to, which has this form if one is given, and the step from those after it. Values
-    /// before it are skipped.
+    /// The attribute that a step goes to, which has this form, and the step from those after it. Values before it are
+    /// skipped.
     #[inline(always)]
-    pub(crate) fn step_to(
-        &mut self,
-        step: &Step,
-        form: Option<Form>,
-    ) -> ((Attribute, Value<'a>), &'e Step)
+    pub(crate) fn step_to(&mut self, step: &Step, form: Form) -> ((Attribute, Value<'a>), &'e Step)
         requires step { IsFirstStep (numbered self.old.attributes) step.now }
-        requires form { form ≡ form_of_lead step.now.lead }
+        requires form { Some form ≡ form_of_lead step.now.lead }
         requires on { leads_on step.now.lead ≡ true }
         ensures next { IsNextOf DoesNotLead (values_left self.old) (viewed result.0) (values_left self.new) }
         ensures declared { StepsTo step.now.lead (specs_left self.old) (specs_left self.new) (viewed result.0) }
         ensures step { IsFirstStep (numbered self.new.attributes) result.1.now }
     {
         self.go(step);
-        match self.take_by(form) {
+        match self.take_by(Some(form)) {
             Some(found) => found,
             None => unreachable!(),
         }
@@ -183,6 +201,30 @@ impl<'e, 'a> Values<'e, 'a> {
                 self.attributes = rest;
                 self.bytes = &self.bytes[4..];
                 ((spec.attribute, offset), next)
+            }
+            Err(_) => unreachable!(),
+        }
+    }
+
+    /// The attribute that a step goes to, its value, which is read out of line, and the step from those after it. Values
+    /// before it are skipped.
+    #[inline(always)]
+    pub(crate) fn step_to_seldom(&mut self, step: &Step) -> ((Attribute, Value<'a>), &'e Step)
+        requires step { IsFirstStep (numbered self.old.attributes) step.now }
+        requires on { leads_on step.now.lead ≡ true }
+        ensures next { IsNextOf DoesNotLead (values_left self.old) (viewed result.0) (values_left self.new) }
+        ensures declared { StepsTo step.now.lead (specs_left self.old) (specs_left self.new) (viewed result.0) }
+        ensures step { IsFirstStep (numbered self.new.attributes) result.1.now }
+    {
+        self.go(step);
+        let Some((spec, rest, next)) = self.attributes.split_step() else {
+            unreachable!();
+        };
+        match read_seldom(self.version, spec.form, self.address_size, self.bytes) {
+            Ok((value, len)) => {
+                self.attributes = rest;
+                self.bytes = &self.bytes[len..];
+                ((spec.attribute, value), next)
             }
             Err(_) => unreachable!(),
         }

@@ -1,3 +1,4 @@
+use Rattle.std.proofs.Common.{Some}
 use Rattle.dw_entries.specs.ValuesLeft.{values_left, specs_left}
 use Rattle.dw_entries.proofs.OverLaws.{on_some, form_fits, some_first, next_over, steps_over}
 use Rattle.dw_entries.proofs.values.Values.step_to.Goals as goal
@@ -7,7 +8,7 @@ go-requires-clause-some c = on_some c.args.step.now.lead c.requires.on
 
 pub take_by-requires : goal.take_by-requires
 take_by-requires c =
-    form_fits c.args.form c.args.step.now.lead (specs_left c.go.new.self) c.requires.form c.go.ensures.first
+    form_fits (Some c.args.form) c.args.step.now.lead (specs_left c.go.new.self) c.requires.form c.go.ensures.first
 
 pub unreachable-requires : goal.unreachable-requires
 unreachable-requires c =
