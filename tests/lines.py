@@ -27,7 +27,7 @@ RULES = set(re.findall(r'"([LM]\d+)"', (common.TOP / "crates/dw_lines/src/rule.r
 FLAGS = ("is_stmt", "basic_block", "prologue_end", "epilogue_begin", "end_sequence")
 FIELDS = ("line", "column", "file", "isa", "discriminator", "op_index")
 WORDS = ("-O0", "-O2", "-gdwarf-2 -gstrict-dwarf", "-gdwarf-3", "-gdwarf-4", "-gdwarf-5",
-         "-O2 -ffunction-sections -Wl,--gc-sections", "-O2 -flto", "-O2 -gdwarf-4 -gno-column-info")
+         "-O2 -ffunction-sections -Wl,--gc-sections", "-O2 -flto -rdynamic", "-O2 -gdwarf-4 -gno-column-info")
 OLD = re.compile(r"(?m)^Address .* Discriminator Flags$")
 # A directory or a file by its number, as line_rows and as llvm-dwarfdump print it.
 OWN_TABLES = re.compile(r'(?m)^(?:directory (\d+) "(.*)"|file (\d+) (\d+) "(.*)")$')
