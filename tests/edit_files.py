@@ -83,13 +83,14 @@ def functions_of(crate, file, text):
             block = block if open_at else ""
         if function and not open_at:
             indent, name = function.groups()
-            open_at, has_body = True, line.endswith("{")
+            open_at, has_body, depth = True, line.endswith("{"), 0
         elif not open_at and (not line or line.endswith(("{", "}", ";"))):
             free = number + 1  # the line of the comment and the attributes of what follows
         if open_at:
             has_body = has_body or line == indent + "{"
+            depth += line.count("{") - line.count("}")
             is_end = line.startswith((indent + "}", indent + "{}")) or line.endswith("{}") and not has_body
-            if is_end or line.endswith(";") and not has_body:
+            if is_end or line.endswith(";") and not has_body and not depth:
                 owner = [block] if indent else []
                 found.append(Function(short("::".join([crate.name, *module, *owner, name])), free, number))
                 open_at, free = None, number + 1
