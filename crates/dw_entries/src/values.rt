@@ -180,8 +180,8 @@ impl<'e, 'a> Values<'e, 'a> {
         }
     }
 
-    /// The attribute that a step goes to, its value, which is an offset of four bytes, and the step from those after it.
-    /// Values before it are skipped.
+    /// The attribute that a step goes to, its value, which is an offset of four bytes, and the step from those after
+    /// it. Values before it are skipped.
     #[inline(always)]
     pub(crate) fn step_to_offset(&mut self, step: &Step) -> ((Attribute, u32), &'e Step)
         requires step { IsFirstStep (numbered self.old.attributes) step.now }
@@ -206,8 +206,8 @@ impl<'e, 'a> Values<'e, 'a> {
         }
     }
 
-    /// The attribute that a step goes to, its value, which is read out of line, and the step from those after it. Values
-    /// before it are skipped.
+    /// The attribute that a step goes to, its value, which is read out of line, and the step from those after it.
+    /// Values before it are skipped.
     #[inline(always)]
     pub(crate) fn step_to_seldom(&mut self, step: &Step) -> ((Attribute, Value<'a>), &'e Step)
         requires step { IsFirstStep (numbered self.old.attributes) step.now }
