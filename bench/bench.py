@@ -33,6 +33,8 @@ PICTURE = HERE.parent / "docs/performance.svg"
 ROUNDS, ENOUGH = 9, 20
 # The seconds of processor time after which a run is stopped.
 LIMIT = 60
+# How many times a file with the sections of lines alone has its line programs.
+REPEATED = 16
 
 # The programs by name: the language, the megabytes of .debug_info, and the words that compile it.
 GCC, CLANG = ["gcc", "-gdwarf-5", "-O0", "-w"], ["clang", "-gdwarf-5", "-O0", "-w"]
@@ -151,7 +153,8 @@ def entries(program):
 
 
 def run(words, given=os.devnull):
-    """Processor seconds and peak megabytes of one run, or None if it is stopped at the limit. It reads a file."""
+    """Processor seconds and peak megabytes of one run, and the seconds without those of the system, or None if it is
+    stopped at the limit. It reads a file."""
     with open(given) as opened:
         child = subprocess.Popen(words, stdin=opened, stdout=subprocess.DEVNULL, stderr=subprocess.DEVNULL)
     resource.prlimit(child.pid, resource.RLIMIT_CPU, (LIMIT, LIMIT + 1))
@@ -160,7 +163,7 @@ def run(words, given=os.devnull):
         if os.WTERMSIG(status) != signal.SIGXCPU:
             print(f"bench: {' '.join(map(str, words))} crashed", file=sys.stderr)
         return None
-    return used.ru_utime + used.ru_stime, used.ru_maxrss / 1024
+    return used.ru_utime + used.ru_stime, used.ru_maxrss / 1024, used.ru_utime
 
 
 def measure(commands, given=os.devnull):
@@ -187,29 +190,34 @@ def reading(tools, program):
 
 
 def lines(tools, names, programs):
-    """Prints how many rows of line programs dw_lines and gimli read in a second. Both have to have the same rows."""
+    """Prints how many rows of line programs dw_lines and gimli read in a second, without the time that the system takes
+    to read the file. Both have to have the same rows."""
     print("| program | rows | dw_lines, million rows a second | gimli | dw_lines to gimli |")
     print("|---|---|---|---|---|")
     for name in names:
-        commands = {"dw_lines": [LINE_ROWS, "--count"], "gimli": [tools[WALK][0], "--lines"]}
-        commands = {tool: [*words, lines_alone(programs[name])] for tool, words in commands.items()}
+        alone = lines_alone(programs[name])
+        commands = {"dw_lines": [LINE_ROWS, "--count", alone], "gimli": [tools[WALK][0], "--lines", alone]}
         count, other = (counted(words) for words in commands.values())
         if count != other:
             sys.exit(f"bench: {name}: dw_lines has {count} rows and sums of lines, and gimli {other}")
-        rates = [count[0] / best[0] / 1e6 for best in measure(commands).values()]
+        rates = [count[0] / best[2] / 1e6 for best in measure(commands).values()]
         print(f"| {name} | {count[0]} | {rates[0]:.0f} | {rates[1]:.0f} | {rates[0] / rates[1]:.2f} |", flush=True)
     print()
 
 
 def lines_alone(program):
-    """A copy of a program with the sections of lines alone, so that little of the time goes into reading the file. Of
-    .debug_info and .debug_str, which have to be there, it has a byte."""
-    copy, byte = program.with_name("lines"), program.with_name("byte")
+    """A copy of a program with the sections of lines alone, and its line programs many times, so that little of the time
+    goes into starting and into other bytes. Of .debug_info and .debug_str, which have to be there, it has a byte."""
+    copy, byte, section = (program.with_name(name) for name in ("lines", "byte", "section"))
     byte.write_bytes(bytes(1))
     kept = [word for name in (".debug_line", ".debug_line_str") for word in ("-j", name)]
     added = [word for name in (".debug_info", ".debug_str") for word in ("--add-section", f"{name}={byte}")]
-    for words in ([*kept, program], [*added, copy]):
-        subprocess.run(["objcopy", *words, copy], check=True, stderr=subprocess.DEVNULL)
+    dumped = ["-O", "binary", "-j", ".debug_line", "--set-section-flags", ".debug_line=alloc"]
+    for words in ([*kept, program, copy], [*added, copy, copy], [*dumped, copy, section]):
+        subprocess.run(["objcopy", *words], check=True, stderr=subprocess.DEVNULL)
+    section.write_bytes(section.read_bytes() * REPEATED)
+    words = ["--update-section", f".debug_line={section}", copy]
+    subprocess.run(["objcopy", *words], check=True, stderr=subprocess.DEVNULL)
     return copy
 
 
