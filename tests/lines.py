@@ -27,7 +27,10 @@ RULES = set(re.findall(r'"([LM]\d+)"', (common.TOP / "crates/dw_lines/src/rule.r
 FLAGS = ("is_stmt", "basic_block", "prologue_end", "epilogue_begin", "end_sequence")
 FIELDS = ("line", "column", "file", "isa", "discriminator", "op_index")
 WORDS = ("-O0", "-O2", "-gdwarf-2 -gstrict-dwarf", "-gdwarf-3", "-gdwarf-4", "-gdwarf-5",
-         "-O2 -ffunction-sections -Wl,--gc-sections", "-O2 -flto -rdynamic", "-O2 -gdwarf-4 -gno-column-info")
+         "-O2 -ffunction-sections -Wl,--gc-sections", "-O2 -flto -rdynamic", "-O2 -gdwarf-4 -gno-column-info",
+         "-ffunction-sections -fuse-ld=lld -Wl,--gc-sections,-z,dead-reloc-in-nonalloc=.debug_line=0xffffffffffffffff")
+# Rows from here on are of code that the linker left out. Each reader prints others of them, or none.
+TOMBSTONE = 2**64 - 2
 OLD = re.compile(r"(?m)^Address .* Discriminator Flags$")
 # A directory or a file by its number, as line_rows and as llvm-dwarfdump print it.
 OWN_TABLES = re.compile(r'(?m)^(?:directory (\d+) "(.*)"|file (\d+) (\d+) "(.*)")$')
@@ -42,6 +45,7 @@ def programs_of(text):
     found = {}
     for part in re.split(r"(?m)^debug_line\[", text)[1:]:
         rows = [line.split() for line in part.splitlines() if line.startswith("0x") and line[18:19] == " "]
+        rows = [row for row in rows if int(row[0], 16) < TOMBSTONE]
         fault = re.search(r"(?m)^fault (.*)$", part)
         found[int(part[:10], 16)] = rows, fault and fault[1]
     return found
@@ -81,7 +85,7 @@ def elftools_programs(path):
                 # Some versions of pyelftools lack this form, which clang gives checksums.
                 unit.structs.Dwarf_dw_form.setdefault("DW_FORM_data16", StaticField("", 16))
                 entries = dwarf.line_program_for_CU(unit).get_entries()
-                found[at.value] = [words_of(it.state) for it in entries if it.state]
+                found[at.value] = [words_of(it.state) for it in entries if it.state and it.state.address < TOMBSTONE]
     return found
 
 

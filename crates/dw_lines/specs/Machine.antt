@@ -1,7 +1,7 @@
 -- Chapter: the machine that a line program runs on: its registers, what each opcode does to them, and the rows of the
 -- line number table (DWARF 5, 6.2.2 and 6.2.5).
 use Rattle.std.specs.Prelude.{ℕ, List, ◌+◌, ◌-◌, ◌*◌, ◌/◌, ◌%◌, ◌^◌, Option, Some, None, Result, Ok, Err, unwrap_or}
-use Rattle.std.specs.Prelude.{Bool, true, false, nat_lt, ℤ, pos, negsuc, ◌+ℤ◌, if◌then◌else◌, not, ◌||◌}
+use Rattle.std.specs.Prelude.{Bool, true, false, nat_le, nat_lt, ℤ, pos, negsuc, ◌+ℤ◌, if◌then◌else◌, not, ◌||◌}
 use Rattle.dw_forms.specs.Formats.{Format}
 use Rattle.dw_forms.specs.Steps.{◌>>=◌, on_option}
 use Rattle.dw_lines.specs.Files.{has_file}
@@ -30,11 +30,16 @@ start default_is_stmt = record {
   discriminator = 0;
 }
 
--- the address is so many bytes greater, and op_index is this; an address has 64 bits
+-- whether an address is one that linkers write for code that they left out: the greatest, or one less
+abbrev pub is_tombstone : ℕ → Bool
+is_tombstone address = nat_le (2 ^ 64 - 2) address
+
+-- the address is so many bytes greater, and op_index is this. An address has 64 bits; the registers stay as they are
+-- where a tombstone would have more (this project's choice)
 unfoldable pub moved : ℕ → ℕ → Row → Result Row LineRule
 moved bytes op_index r =
     if nat_lt (r.address + bytes) (2 ^ 64) then Ok (record r { address = r.address + bytes; op_index = op_index })
-    else Err RowAddress
+    else if is_tombstone r.address then Ok r else Err RowAddress
 
 -- an operation advance of n (6.2.5.1)
 unfoldable pub advanced : Parameters → ℕ → Row → Result Row LineRule

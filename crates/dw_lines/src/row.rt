@@ -67,7 +67,7 @@ impl Row {
         }
     }
 
-    /// Makes the address this many bytes greater.
+    /// Makes the address this many bytes greater. A tombstone stays where that has more than 64 bits.
     #[inline(always)]
     #[tactic(auto, unfolding(crate::specs::Machine::moved))]
     fn add_bytes(&mut self, bytes: u128, op_index: u8) -> Result<(), LineRule>
@@ -80,6 +80,7 @@ impl Row {
                 self.op_index = op_index;
                 Ok(())
             }
+            Err(_) if self.address >= u64::MAX - 1 => Ok(()),
             Err(_) => Err(LineRule::RowAddress),
         }
     }
