@@ -5,12 +5,20 @@ use Rattle.std.specs.Prelude.{All, if◌then◌else◌}
 use Rattle.std.specs.List.{list_any, find, AllWithin}
 use Rattle.std.specs.List.Sorted.{IsNonDecreasingBy, IsPartitionPoint}
 use Rattle.std.proofs.lemmas.Bool.{and_from, and_parts, cases_lt, cases_order, both_ways, le-leb, leb-true, lt-leb}
-use Rattle.std.proofs.lemmas.Bool.{false_from_ne_true, lt-ltb, ltb-true}
+use Rattle.std.proofs.lemmas.Bool.{false_from_ne_true, leb-false, lt-ltb, ltb-true}
 use Rattle.std.proofs.lemmas.List.Recursion.{or_is}
 use Rattle.dw_lines.specs.Addresses.{AreAreas, encloses, row_up_to}
 use Rattle.dw_lines.specs.Index.{has, reaches_from}
 use Rattle.dw_lines.specs.declared.row.Row.{Row}
 use Rattle.dw_lines.specs.declared.sequence.Sequence.{Sequence}
+
+-- ---- how many have a key or a smaller one, by the test that is given to partition_point
+
+pub point_up_to : {X : Type 0} (key : X → ℕ) (a : ℕ) (xs : List X) (n : ℕ)
+    → IsPartitionPoint (λ x. leb (key x) a ≡ true) (λ x. leb (key x) a ≡ false) xs n
+    → IsPartitionPoint (λ x. key x ≤ a) (λ x. a < key x) xs n
+point_up_to key a xs n point =
+    (λ k d low high. leb-true _ a (point.0 k d low high), λ k d low high. leb-false _ a (point.1 k d low high))
 
 -- ---- areas of code
 

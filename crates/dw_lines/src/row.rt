@@ -136,19 +136,19 @@ impl Row {
             2 => {
                 let (operations, rest) = unsigned(LineRule::OpcodeCut, bytes)?;
                 self.advance(parameters, operations)?;
-                Ok(rest)
+                return Ok(rest);
             }
             // DW_LNS_advance_line
             3 => {
                 let (lines, rest) = signed(bytes)?;
                 self.add_lines(lines)?;
-                Ok(rest)
+                return Ok(rest);
             }
             // DW_LNS_set_file
             4 => {
                 let (file, rest) = unsigned(LineRule::OpcodeCut, bytes)?;
                 self.file = file;
-                Ok(rest)
+                return Ok(rest);
             }
             // DW_LNS_set_column
             5 => {
@@ -157,48 +157,36 @@ impl Row {
                     Ok(column) => self.column = column,
                     Err(_) => return Err(LineRule::RowLine),
                 }
-                Ok(rest)
+                return Ok(rest);
             }
             // DW_LNS_negate_stmt
-            6 => {
-                self.is_stmt = !self.is_stmt;
-                Ok(bytes)
-            }
+            6 => self.is_stmt = !self.is_stmt,
             // DW_LNS_set_basic_block
-            7 => {
-                self.basic_block = true;
-                Ok(bytes)
-            }
+            7 => self.basic_block = true,
             // DW_LNS_const_add_pc
             8 => {
                 let adjusted = 255 - parameters.opcode_base;
                 self.advance(parameters, u64::from(adjusted / parameters.line_range))?;
-                Ok(bytes)
             }
             // DW_LNS_fixed_advance_pc
             9 => {
                 let (advance, rest) = fixed(LineRule::OpcodeCut, 2, bytes)?;
                 self.add_bytes(u128::from(advance), 0)?;
-                Ok(rest)
+                return Ok(rest);
             }
             // DW_LNS_set_prologue_end
-            10 => {
-                self.prologue_end = true;
-                Ok(bytes)
-            }
+            10 => self.prologue_end = true,
             // DW_LNS_set_epilogue_begin
-            11 => {
-                self.epilogue_begin = true;
-                Ok(bytes)
-            }
+            11 => self.epilogue_begin = true,
             // DW_LNS_set_isa
             12 => {
                 let (isa, rest) = unsigned(LineRule::OpcodeCut, bytes)?;
                 self.isa = isa;
-                Ok(rest)
+                return Ok(rest);
             }
             // One that the standard does not define does nothing.
-            _ => skip_others(lengths, code, bytes),
+            _ => return skip_others(lengths, code, bytes),
         }
+        Ok(bytes)
     }
 }

@@ -2,7 +2,7 @@
 
 ghost use Rattle.std.specs.Prelude.{◌≡◌, ◌<◌, ◌≤◌, ◌-◌, ◌+◌, length, IfOk, IsPermutation};
 ghost use Rattle.std.specs.List.{AllAdjacentBelow, find};
-ghost use Rattle.std.specs.List.Sorted.{IsNonDecreasingBy, IsPartitionPoint};
+ghost use Rattle.std.specs.List.Sorted.{IsNonDecreasingBy};
 ghost use Rattle.dw_lines.specs.Addresses.{AreAreas, is_live as live, row_up_to as row_up_to_in};
 ghost use Rattle.dw_lines.specs.Index.{AreLive, IsSequence, IsUpTo, has, reaches_from, rows_of as sequence_rows};
 
@@ -22,15 +22,6 @@ pub(crate) struct Sequence {
     pub(crate) end: usize,
 }
 
-/// How many areas start at an address or below it.
-fn areas_up_to(code: &[(u64, u64)], address: u64) -> usize
-    requires { IsNonDecreasingBy (λ x. x.0) code.now }
-    ensures within { result ≤ length code.now }
-    ensures up_to { IsPartitionPoint (λ x. x.0 ≤ address) (λ x. address < x.0) code.now result }
-{
-    code.partition_point(|area| area.0 <= address)
-}
-
 /// Whether an area has each address from `low` on and below `high`, and there is one.
 fn is_live(code: &[(u64, u64)], low: u64, high: u64) -> bool
     requires { AreAreas code.now }
@@ -39,7 +30,7 @@ fn is_live(code: &[(u64, u64)], low: u64, high: u64) -> bool
     if low >= high {
         return false;
     }
-    let after = areas_up_to(code, low);
+    let after = code.partition_point(|area| area.0 <= low);
     after > 0 && high <= code[after - 1].1
 }
 
@@ -104,15 +95,6 @@ pub(crate) fn rows_of(rows: &[Row], sequence: Sequence) -> &[Row]
     &rows[sequence.first..sequence.end + 1]
 }
 
-/// How many reaches are at an address or below it.
-fn reaches_up_to(reaches: &[u64], address: u64) -> usize
-    requires { IsNonDecreasingBy (λ x. x) reaches.now }
-    ensures within { result ≤ length reaches.now }
-    ensures up_to { IsPartitionPoint (λ x. x ≤ address) (λ x. address < x) reaches.now result }
-{
-    reaches.partition_point(|reach| *reach <= address)
-}
-
 /// The first sequence that has an address.
 pub(crate) fn sequence_with(
     sequences: &[Sequence],
@@ -123,20 +105,11 @@ pub(crate) fn sequence_with(
     requires reaches { reaches.now ≡ reaches_from 0 sequences.now }
     ensures { result ≡ find (has address) sequences.now }
 {
-    let before = reaches_up_to(reaches, address);
+    let before = reaches.partition_point(|reach| *reach <= address);
     if before < sequences.len() && sequences[before].low <= address {
         return Some(sequences[before]);
     }
     None
-}
-
-/// How many rows have an address or a smaller one.
-fn rows_up_to(rows: &[Row], address: u64) -> usize
-    requires { IsNonDecreasingBy (λ r. r.address) rows.now }
-    ensures within { result ≤ length rows.now }
-    ensures up_to { IsPartitionPoint (λ r. r.address ≤ address) (λ r. address < r.address) rows.now result }
-{
-    rows.partition_point(|row| row.address <= address)
 }
 
 /// The last row with an address or a smaller one.
@@ -144,7 +117,7 @@ pub(crate) fn row_up_to(rows: &[Row], address: u64) -> Option<Row>
     requires { IsNonDecreasingBy (λ r. r.address) rows.now }
     ensures { result ≡ row_up_to_in address rows.now }
 {
-    let after = rows_up_to(rows, address);
+    let after = rows.partition_point(|row| row.address <= address);
     if after == 0 {
         return None;
     }
