@@ -1,12 +1,12 @@
 -- What a pass over enumerators or dimensions finds, one after another.
 use Rattle.std.proofs.Common.{arith, ◌≡◌, ℕ, ◌+◌, Bool, true, false, List, [], ◌∷◌, Option, Some, None, refl, sym, ◌∙◌, ap}
-use Rattle.std.specs.Prelude.{◌&&◌, ◌||◌, if◌then◌else◌}
+use Rattle.std.specs.Prelude.{◌&&◌, ◌||◌, is_none, if◌then◌else◌}
 use Rattle.std.specs.List.{cons_option, list_any}
 use Rattle.std.proofs.lemmas.List.Sums.{sum_by-cons}
-use Rattle.dw_cprint.specs.Counted.{lacks_identifier, AreEnumerators, IsEnumeratorsStart, is_wrong_with, bytes_with, EnumeratorsSoFar, is_unknown, count_bytes, AreDimensions, IsDimensionsStart, starts_open_with, is_miscounted_with, DimensionsSoFar}
-use Rattle.dw_cprint.specs.Lengths.{capped, enumerator_bytes}
+use Rattle.dw_cprint.specs.Counted.{AreEnumerators, is_wrong_with, bytes_with, EnumeratorsSoFar, AreDimensions, starts_open_with, is_miscounted_with, DimensionsSoFar}
+use Rattle.dw_cprint.specs.Lengths.{capped, count_bytes, enumerator_bytes}
 use Rattle.dw_cprint.specs.Shapes.{EnumeratorOf}
-use Rattle.dw_cprint.specs.Wrong.{lacks_value, starts_open}
+use Rattle.dw_cprint.specs.Wrong.{lacks_identifier, lacks_value, starts_open}
 use Rattle.dw_cprint.specs.declared.dimensions.DimensionTally.{DimensionTally}
 use Rattle.dw_cprint.specs.declared.enumerators.EnumeratorTally.{EnumeratorTally}
 
@@ -21,20 +21,10 @@ or_none false = refl
 -- ---- enumerators
 
 -- none is found, and all are left
-pub enumerators_start : (all : List EnumeratorOf) (found : EnumeratorTally) → IsEnumeratorsStart found
-    → EnumeratorsSoFar all found all
-enumerators_start [] found is = record {
-  nameless = rw is.nameless refl;
-  wrong = sym is.wrong;
-  long = ap capped (sym is.long);
-  short = omega (arith, is.long);
-}
-enumerators_start (e ∷ es) found is = record {
-  nameless = rw is.nameless refl;
-  wrong = rw is.none refl;
-  long = rw is.none refl;
-  short = omega (arith, is.long);
-}
+pub enumerators_start : (all : List EnumeratorOf)
+    → EnumeratorsSoFar all (record { some = false; nameless = false; wrong = true; length = 4 }) all
+enumerators_start [] = record { nameless = refl; wrong = refl; long = refl; short = omega arith }
+enumerators_start (e ∷ es) = record { nameless = refl; wrong = refl; long = refl; short = omega arith }
 
 -- one is found that was left
 pub enumerators_more : (all left : List EnumeratorOf) (e : EnumeratorOf) (found new : EnumeratorTally)
@@ -77,26 +67,16 @@ enumerators_all all found so_far = record {
 -- ---- dimensions
 
 -- none is found, and all are left
-pub dimensions_start : (all : List (Option ℕ)) (found : DimensionTally) → IsDimensionsStart found
-    → DimensionsSoFar all found all
-dimensions_start [] found is = record {
-  first = sym is.first;
-  wrong = sym is.wrong;
-  long = omega (arith, is.long);
-  short = omega (arith, is.long);
-}
-dimensions_start (c ∷ counts) found is = record {
-  first = rw is.none refl;
-  wrong = rw is.none refl;
-  long = omega (arith, is.long);
-  short = omega (arith, is.long);
-}
+pub dimensions_start : (all : List (Option ℕ))
+    → DimensionsSoFar all (record { some = false; first_unknown = false; wrong = true; length = 0 }) all
+dimensions_start [] = record { first = refl; wrong = refl; long = omega arith; short = omega arith }
+dimensions_start (c ∷ counts) = record { first = refl; wrong = refl; long = omega arith; short = omega arith }
 
 -- the next child is a dimension
 pub dimensions_more : (all left : List (Option ℕ)) (count : Option ℕ) (found new : DimensionTally)
     → DimensionsSoFar all found (cons_option (Some count) left) → new.some ≡ true
-    → new.first_unknown ≡ (if found.some then found.first_unknown else is_unknown count)
-    → new.wrong ≡ (found.some && (found.wrong || is_unknown count))
+    → new.first_unknown ≡ (if found.some then found.first_unknown else is_none count)
+    → new.wrong ≡ (found.some && (found.wrong || is_none count))
     → new.length ≡ capped (found.length + count_bytes count)
     → DimensionsSoFar all new left
 dimensions_more all left count found new so_far some first wrong long = record {
@@ -104,13 +84,13 @@ dimensions_more all left count found new so_far some first wrong long = record {
       so_far.first ∙ ap (λ (b : Bool). if found.some then found.first_unknown else b) (first_unknown count) ∙ sym first
       ∙ sym (open_of left);
   wrong =
-      so_far.wrong ∙ by_some found.some found.wrong (is_unknown count) (list_any is_unknown left)
-      ∙ ap (λ (b : Bool). b || list_any is_unknown left) (sym wrong) ∙ sym (wrong_of left);
+      so_far.wrong ∙ by_some found.some found.wrong (is_none count) (list_any is_none left)
+      ∙ ap (λ (b : Bool). b || list_any is_none left) (sym wrong) ∙ sym (wrong_of left);
   long = so_far.long ∙ omega (arith, long, sum_by-cons count_bytes count left);
   short = omega (arith, long);
 }
   where
-    first_unknown : (count : Option ℕ) → starts_open (count ∷ left) ≡ is_unknown count
+    first_unknown : (count : Option ℕ) → starts_open (count ∷ left) ≡ is_none count
     first_unknown None = refl
     first_unknown (Some n) = refl
 
@@ -118,7 +98,7 @@ dimensions_more all left count found new so_far some first wrong long = record {
     open_of [] = refl
     open_of (x ∷ left) = rw some refl
 
-    wrong_of : (left : List (Option ℕ)) → is_miscounted_with new left ≡ (new.wrong || list_any is_unknown left)
+    wrong_of : (left : List (Option ℕ)) → is_miscounted_with new left ≡ (new.wrong || list_any is_none left)
     wrong_of [] = sym (or_none new.wrong)
     wrong_of (x ∷ left) = rw some refl
 

@@ -9,7 +9,7 @@ use Rattle.dw_cprint.specs.Legible.{is_identifier, IsIdentifier, IsQualifiable, 
 use Rattle.dw_cprint.specs.Shapes.{Parameter, Typed, More, Name, TypeAt, MemberOf, EnumeratorOf, ShapeOf, base, typedef, qualified, pointer, array, function, tagged, nameless, body, enumeration, foreign, other}
 use Rattle.dw_cprint.specs.Steps.{parameter_types, member_types, types_reached, steps_reached, StepsTo}
 use Rattle.dw_cprint.specs.Terms.{TypeWord, Constant, Valued, Term, Named, Basic, Body, Enumeration, Qualified, Pointer, Function, Unprototyped, Prototyped, Parameters}
-use Rattle.dw_cprint.specs.Wrong.{lacks_name, lacks_base_name, HasBadName, is_foreign, lacks_value, is_wrong_enumeration, IsUnspeakable, wrong}
+use Rattle.dw_cprint.specs.Wrong.{lacks_identifier, lacks_name, lacks_base_name, HasBadName, is_foreign, lacks_value, is_wrong_enumeration, IsUnspeakable, wrong}
 use Rattle.dw_cprint.proofs.KindLemmas.{all-types, first-of, others-of}
 use Rattle.dw_cprint.proofs.NameLemmas.{words-length}
 use Rattle.dw_cprint.proofs.OptionLemmas.{map_some, then_some, unless_some, not_refuted, or_left, or_right}
@@ -63,10 +63,6 @@ pub record IsFine (shapes : ℕ → ShapeOf) (s : ShapeOf) : Type 0 where
   pub ours : is_foreign s ≡ true → ⊥
   pub speakable : IsUnspeakable shapes s → ⊥
 
--- an enumerator without an identifier
-abbrev pub nameless_at : EnumeratorOf → Bool
-nameless_at e = lacks_name e.name
-
 -- one without a number
 pub unvalued : (es : List EnumeratorOf) → list_any lacks_value es ≡ true → is_wrong_enumeration es ≡ true
 unvalued [] w = refl
@@ -75,17 +71,17 @@ unvalued (e ∷ es) w = w
 value_some : (e : EnumeratorOf) → (lacks_value e ≡ true → ⊥) → IsSome e.value
 value_some e h = search (rules)
 
-pub constants_some : (es : List EnumeratorOf) → (list_any nameless_at es ≡ true → ⊥)
+pub constants_some : (es : List EnumeratorOf) → (list_any lacks_identifier es ≡ true → ⊥)
     → (list_any lacks_value es ≡ true → ⊥)
     → IsSome (constants_of es)
 constants_some [] named valued = refl
 constants_some (e ∷ es) named valued =
     let rest = constants_some es
-    (λ w. named (or_right (nameless_at e) (list_any nameless_at es) w))
+    (λ w. named (or_right (lacks_identifier e) (list_any lacks_identifier es) w))
     (λ w. valued (or_right (lacks_value e) (list_any lacks_value es) w)) in
     then_some (λ (name : List ℕ). option_and_then
     (λ (value : ℤ). option_map (λ (cs : List Constant). Valued name value ∷ cs) (constants_of es)) e.value) e.name
-    (name_some e.name (λ w. named (or_left (nameless_at e) (list_any nameless_at es) w)))
+    (name_some e.name (λ w. named (or_left (lacks_identifier e) (list_any lacks_identifier es) w)))
     (λ name. then_some (λ (value : ℤ). option_map (λ (cs : List Constant). Valued name value ∷ cs) (constants_of es))
     e.value
     (value_some e (λ w. valued (or_left (lacks_value e) (list_any lacks_value es) w)))
@@ -111,7 +107,6 @@ module _ (term : TypeAt → Option Term) where
   shape_some : (shapes : ℕ → ShapeOf) (s : ShapeOf) → IsFine shapes s
       → All HasTerm (types_reached s) → IsSome (term_by term s)
   shape_some shapes (base name) fine h = base_some name term fine.named
-  shape_some shapes (typedef None) fine h = absurd (fine.named refl)
   shape_some shapes (typedef (Some n)) fine h = refl
   shape_some shapes (qualified q at) fine h = map_some (Qualified q) (term at) (first-of HasTerm at [] h)
   shape_some shapes (pointer at) fine h = map_some Pointer (term at) (first-of HasTerm at [] h)
@@ -129,13 +124,13 @@ module _ (term : TypeAt → Option Term) where
       (λ t. map_some (λ (us : Parameters). Function t (Prototyped us (has_more ps))) (parameters_by term ps)
       (parameters_some ps (others-of HasTerm at (parameter_types ps) h))))
   shape_some shapes (tagged word name) fine h = refl
-  shape_some shapes (nameless word) fine h = absurd (fine.named refl)
   shape_some shapes (body word odd ms) fine h = map_some (Body word) (members_by term ms) (members_some ms h)
   shape_some shapes (enumeration odd es) fine h =
       map_some Enumeration (constants_of es)
       (constants_some es fine.named (λ w. fine.speakable (wrong (unvalued es w))))
   shape_some shapes foreign fine h = absurd (fine.ours refl)
   shape_some shapes other fine h = absurd (fine.ours refl)
+  shape_some shapes _ fine h = absurd (fine.named refl)
 
 -- some entries, each with those that its steps lead to
 pub record AreKept (shapes : ℕ → ShapeOf) (Good : ℕ → Type 0) : Type 0 where

@@ -19,7 +19,7 @@ use Rattle.dw_cprint.specs.Kept.{WritesDeclaration}
 use Rattle.dw_cprint.specs.Refusals.{PrintFault, AppendsDeclaration, Refuses, IsPrinted}
 use Rattle.dw_cprint.specs.Shapes.{ShapeOf, SubjectOf, TypeAt}
 use Rattle.dw_cprint.specs.Steps.{entries_among, first_steps, types_declared}
-use Rattle.dw_cprint.specs.Surveys.{AreAmong, BySurvey, IsSurveyOf}
+use Rattle.dw_cprint.specs.Summaries.{AreAmong, BySurvey, IsSurveyOf}
 use Rattle.dw_cprint.specs.declared.survey.Survey.{Survey}
 use Rattle.dw_cprint.proofs.RefusalLemmas.{one-rule, printed-or-refused, writes-printed}
 use Rattle.dw_cprint.proofs.NumberLemmas.{kept-there, picked-of, picked-pairs, picked-there, range-rising, range-there}

@@ -8,13 +8,13 @@ use Rattle.dw_cprint.specs.Legible.{is_identifier, IsIdentifier, IsName, AreCons
 use Rattle.dw_cprint.specs.Shapes.{Parameter, Typed, More, Name, TypeAt, MemberOf, EnumeratorOf, ShapeOf, base, typedef, Qualifier, Restrict, qualified, pointer, array, function, tagged, body, enumeration, SubjectOf, typedef_subject, variable_subject, aggregate_subject, enumeration_subject, declared_subject, other_subject}
 use Rattle.dw_cprint.specs.Steps.{parameter_types, member_types, types_declared, types_reached, root, further, IsReached, HasPath}
 use Rattle.dw_cprint.specs.Terms.{Constant, Term, Void, Named, Tagged, Body, Enumeration, Qualified, Pointer, Function, Unprototyped, Prototyped, Parameters, NoParameter, Parameter as ParameterTerm, Members, NoMember, Member as MemberTerm, CDeclaration, Typedef, Variable, Aggregate, Constants, Declared}
-use Rattle.dw_cprint.specs.Wrong.{TypeKind, StandsUnder, nothing, itself, IsVoidLike, is_bracketed, is_wrong_row, kind_at, kind_in, lacks_member_name, row, void_object, has_own_bad_name, wrong_enumeration}
+use Rattle.dw_cprint.specs.Wrong.{TypeKind, StandsUnder, nothing, itself, IsVoidLike, is_bracketed, is_wrong_row, kind_at, kind_in, lacks_identifier, lacks_member_name, row, void_object, has_own_bad_name, wrong_enumeration}
 use Rattle.dw_cprint.specs.Refusals.{other_kind, own_name, own_shape, name_reached, foreign_reached, shape_reached, HoldsNoneBelow, NotPrintable, BadName, Foreign, Unspeakable}
 use Rattle.dw_cprint.specs.declared.shape.TypeKind.TheVariants as kind
 use Rattle.dw_cprint.proofs.KindLemmas.{all-types, first-of, others-of}
 use Rattle.dw_cprint.proofs.OptionLemmas.{both_hold, map_holds, map_inverted, then_inverted, unless_holds, unless_inverted, not_refuted, or_left, or_right, map_some}
 use Rattle.dw_cprint.proofs.ItemWriterLemmas.{more-constants}
-use Rattle.dw_cprint.proofs.HasTermLemmas.{AreKept, IsBaseTerm, IsFine, any_here, base_is, name_there, nameless_at, HasTerm, constants_some, entry_some, members_some, unvalued}
+use Rattle.dw_cprint.proofs.HasTermLemmas.{AreKept, IsBaseTerm, IsFine, any_here, base_is, name_there, HasTerm, constants_some, entry_some, members_some, unvalued}
 
 -- ---- an entry that is not wrong is legible
 
@@ -27,15 +27,16 @@ member_legible k bits (Some n) h = not_refuted (is_identifier n) h
 abbrev pub nameless_member : (ℕ → ShapeOf) → MemberOf → Bool
 nameless_member shapes m = lacks_member_name (kind_at shapes m.type_at) m.bits m.name
 
-pub constants_legible : (es : List EnumeratorOf) → (list_any nameless_at es ≡ true → ⊥)
+pub constants_legible : (es : List EnumeratorOf) → (list_any lacks_identifier es ≡ true → ⊥)
     → (cs : List Constant) → constants_of es ≡ Some cs → AreConstants cs
 constants_legible [] named cs e = let same : [] ≡ cs = cc in subst AreConstants same tt
 constants_legible (x ∷ es) named cs e =
     let m = more-constants x es cs e in
-    let there = name_there x.name (λ w. named (or_left (nameless_at x) (list_any nameless_at es) w)) in
+    let there = name_there x.name (λ w. named (or_left (lacks_identifier x) (list_any lacks_identifier es) w)) in
     subst AreConstants m.is (
       subst IsIdentifier (same_Some there.0 m.name (sym there.1 ∙ m.is_name)) there.2,
-      constants_legible es (λ w. named (or_right (nameless_at x) (list_any nameless_at es) w)) m.others m.are_others,
+      constants_legible es (λ w. named (or_right (lacks_identifier x) (list_any lacks_identifier es) w)) m.others
+          m.are_others,
     )
 
 module _ (term : TypeAt → Option Term) where
@@ -223,24 +224,20 @@ subject_some k shapes subject none short =
     by_subject : (s : SubjectOf) → HoldsNoneBelow 5 shapes s
         → All (HasTerm (term_at (suc k) shapes)) (types_declared s)
         → IsSome (declaration_by (term_at (suc k) shapes) s)
-    by_subject (typedef_subject None at) none h = absurd (none BadName (omega arith) (own_name refl))
     by_subject (typedef_subject (Some n) at) none h =
         map_some (Typedef n) (term_at (suc k) shapes at) (first-of (HasTerm (term_at (suc k) shapes)) at [] h)
-    by_subject (variable_subject None at) none h = absurd (none BadName (omega arith) (own_name refl))
     by_subject (variable_subject (Some n) at) none h =
         map_some (Variable n) (term_at (suc k) shapes at) (first-of (HasTerm (term_at (suc k) shapes)) at [] h)
-    by_subject (aggregate_subject word None odd ms) none h = absurd (none BadName (omega arith) (own_name refl))
     by_subject (aggregate_subject word (Some n) odd ms) none h =
         map_some (Aggregate word n) (members_by (term_at (suc k) shapes) ms)
         (members_some (term_at (suc k) shapes) ms h)
-    by_subject (enumeration_subject None odd es) none h = absurd (none BadName (omega arith) (own_name refl))
     by_subject (enumeration_subject (Some n) odd es) none h =
         map_some (Constants n) (constants_of es)
         (constants_some es (λ w. none BadName (omega arith) (own_name (or_right _ _ w)))
         (λ w. none Unspeakable (omega arith) (own_shape (wrong_enumeration (unvalued es w)))))
-    by_subject (declared_subject word None) none h = absurd (none BadName (omega arith) (own_name refl))
     by_subject (declared_subject word (Some n)) none h = refl
     by_subject other_subject none h = absurd (none NotPrintable (omega arith) (other_kind refl))
+    by_subject _ none h = absurd (none BadName (omega arith) (own_name refl))
 
 -- where nothing is wrong, the declaration can be read back
 pub subject_legible : (k : ℕ) (shapes : ℕ → ShapeOf) (subject : SubjectOf) → HoldsNoneBelow 5 shapes subject

@@ -6,11 +6,12 @@ use Rattle.std.proofs.lemmas.Bool.{cases_lt, eqb-true}
 use Rattle.std.proofs.lemmas.List.{get_or_append_left, get_or_push, length-append}
 use Rattle.std.proofs.lemmas.List.Elements.{filter_map-append}
 use Rattle.dw_forms.specs.Codes.{DW_TAG_typedef, DW_TAG_variable}
+use Rattle.dw_links.specs.References.{is_declared}
 use Rattle.dw_image.specs.declared.image.Image.{Image}
 use Rattle.dw_image.specs.Images.{entries_in}
 use Rattle.dw_cprint.specs.EntryShapes.{defined_in, members_in, subject_in, tag_in, tag_word}
 use Rattle.dw_cprint.specs.Listings.{AreNamedTypes, IsNamedType, is_named_type, named_number}
-use Rattle.dw_cprint.specs.LookUps.{is_declared_at, name_at, tag_at, type_at}
+use Rattle.dw_cprint.specs.LookUps.{entry_by, name_at, tag_at, type_at}
 use Rattle.dw_cprint.specs.Judgements.{AreNames, IsNameOf}
 use Rattle.dw_cprint.specs.Shapes.{AggregateKeyword, TagKeyword, OfAggregate, Enum, SubjectOf, declared_subject, typedef_subject, variable_subject}
 use Rattle.dw_cprint.specs.Steps.{member_types, types_declared}
@@ -43,7 +44,7 @@ module _ (image : Image) (id : ℕ) where
   chosen_is true b (Some word) none is = (let clash = none refl in absurd (cc))
   chosen_is false true o none is = absurd (cc)
   chosen_is false false None none is = absurd (cc)
-  chosen_is false false (Some word) none is = whole (is_declared_at image id) word is
+  chosen_is false false (Some word) none is = whole (is_declared (entry_by image id)) word is
     where
       whole : (declared : Bool) (word : TagKeyword)
           → is_named_type
@@ -55,10 +56,10 @@ module _ (image : Image) (id : ℕ) where
       whole false word is = refl
 
   chosen_word : (a b : Bool) (word : TagKeyword) → (a ≡ true → Some word ≡ None) → (b ≡ true → Some word ≡ None)
-      → is_named_type (chosen a b (Some word)) ≡ (not (is_declared_at image id) && is_some (name_at image id))
+      → is_named_type (chosen a b (Some word)) ≡ (not (is_declared (entry_by image id)) && is_some (name_at image id))
   chosen_word true b word none other = (let clash = none refl in absurd (cc))
   chosen_word false true word none other = (let clash = other refl in absurd (cc))
-  chosen_word false false word none other = whole (is_declared_at image id) word
+  chosen_word false false word none other = whole (is_declared (entry_by image id)) word
     where
       whole : (declared : Bool) (word : TagKeyword)
           → is_named_type
@@ -76,7 +77,7 @@ module _ (image : Image) (id : ℕ) where
   -- ---- whether an entry is one
 
   pub with_word : (word : TagKeyword) (b : Bool) → tag_word (tag_at image id) ≡ Some word
-      → b ≡ not (is_declared_at image id)
+      → b ≡ not (is_declared (entry_by image id))
       → is_named_type (subject_in image id) ≡ (b && is_some (name_at image id))
   unfolding subject_in
   with_word word b is declared =

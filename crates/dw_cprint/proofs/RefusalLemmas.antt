@@ -8,8 +8,7 @@ use Rattle.dw_cprint.specs.Listings.{text_if}
 use Rattle.dw_cprint.specs.Refusals.{PrintFault, NotPrintable, TooDeep, TooLong, Memory, IsLonger, Holds, other_kind, cycle, deep, long, AppendsDeclaration, HoldsNoneBelow, Refuses, IsPrinted, number_of}
 use Rattle.dw_cprint.specs.Shapes.{ShapeOf, SubjectOf, other_subject, view_subject}
 use Rattle.dw_cprint.specs.Steps.{first_steps, types_declared, ReachACycle}
-use Rattle.dw_cprint.specs.Summaries.{KnowsType, known_of}
-use Rattle.dw_cprint.specs.Surveys.{AreAmong, IsSurveyOf}
+use Rattle.dw_cprint.specs.Summaries.{KnowsType, known_of, AreAmong, IsSurveyOf}
 use Rattle.dw_cprint.specs.Terms.{CDeclaration}
 use Rattle.dw_cprint.specs.Writing.{written}
 use Rattle.dw_cprint.specs.declared.shape.Subject.{Subject}

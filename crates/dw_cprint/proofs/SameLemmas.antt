@@ -10,7 +10,7 @@ use Rattle.dw_cprint.specs.Steps.{AreSameFor, parameter_types, member_types, typ
 use Rattle.dw_cprint.specs.Terms.{Term, Qualified, Pointer, Function, Unprototyped, Body, Typedef, Variable, Aggregate}
 use Rattle.dw_cprint.specs.Wrong.{shape_of, StandsUnder, nothing, itself, below, HasBadName, is_wrong_row, kind_at, kind_in, object_types, IsVoidLike, IsUnspeakable, wrong, void_object, row, IsOwnUnspeakable, void_variable, unspeakable, wrong_enumeration, declared_enumeration}
 use Rattle.dw_cprint.specs.Kept.{kept}
-use Rattle.dw_cprint.specs.Surveys.{AreAmong, IsSurveyOf}
+use Rattle.dw_cprint.specs.Summaries.{AreAmong, IsSurveyOf}
 use Rattle.dw_cprint.specs.declared.survey.Survey.{Survey}
 use Rattle.dw_cprint.proofs.KindLemmas.{all-types, first-of, others-of, names-alike, own-names-alike, wrong-alike}
 use Rattle.dw_cprint.proofs.FaultLemmas.{objects-of}

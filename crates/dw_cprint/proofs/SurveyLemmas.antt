@@ -10,12 +10,11 @@ use Rattle.std.proofs.lemmas.List.Folds.{Any-from_list_any, list_any-from_Any}
 use Rattle.dw_types.specs.Paths.{Leads, ReachesCycle}
 use Rattle.dw_types.specs.Graphs.{Graph, steps_of, step_at, IsStep}
 use Rattle.dw_types.specs.Cycles.{AreClear}
-use Rattle.dw_cprint.specs.Kept.{kept}
+use Rattle.dw_cprint.specs.Kept.{found_at, kept}
 use Rattle.dw_cprint.specs.Reach.{IsReachOf}
 use Rattle.dw_cprint.specs.Shapes.{ShapeOf, other, view_shape}
 use Rattle.dw_cprint.specs.Steps.{entries_among, steps_reached, IsReachedFrom, root, further, ReachACycle, StepsTo}
-use Rattle.dw_cprint.specs.Summaries.{KnowsType, AreNodes, AreRight}
-use Rattle.dw_cprint.specs.Surveys.{found_at, AreAmong, HaveSummaries, lacks_summary, IsSurveyOf}
+use Rattle.dw_cprint.specs.Summaries.{KnowsType, AreNodes, AreRight, AreAmong, HaveSummaries, lacks_summary, IsSurveyOf}
 use Rattle.dw_cprint.specs.declared.shape.Shape.{Shape}
 use Rattle.dw_cprint.specs.declared.survey.Survey.{Survey}
 use Rattle.dw_cprint.specs.declared.survey.Summary.{Summary}
@@ -235,11 +234,6 @@ type-among (Some x ∷ types) entry (zero, w, e) = (0, (omega arith), ap (λ (n 
 type-among (Some x ∷ types) entry (suc k, w, e) =
     Contains-append_right (Some x ∷ []) types (Some entry) (type-among types entry (k, (omega arith), e))
 
--- a test that one of the types passes
-any-type : (test : Option ℕ → Bool) (types : List (Option ℕ)) (at : Option ℕ) → Contains types at → test at ≡ true
-    → list_any test types ≡ true
-any-type test types at (k, w, e) t = list_any-from_Any test types (k, at, w, e, t)
-
 module _ (shapes : ℕ → ShapeOf) (roots : List ℕ) (s : Survey) (survey : IsSurveyOf shapes roots s)
     (types : List (Option ℕ)) (among : AreAmong (entries_among types) roots) where
   cycle-from : (entry : ℕ) → Contains (entries_among types) entry → lacks_summary s (Some entry) ≡ true
@@ -260,8 +254,9 @@ module _ (shapes : ℕ → ShapeOf) (roots : List ℕ) (s : Survey) (survey : Is
       back : ReachACycle shapes (entries_among types) → list_any (lacks_summary s) types ≡ true
       back (entry, r, cycle) =
           let (from, n, has, led) = reached-from-one r in
-          any-type (lacks_summary s) types (Some from) (type-among types from has)
-          ((survey.clear from (root (among from has))).1 (n, entry, led, cycle))
+          let (k, w, e) = type-among types from has in
+          list_any-from_Any (lacks_summary s) types
+          (k, Some from, w, e, (survey.clear from (root (among from has))).1 (n, entry, led, cycle))
 
   clear-there : (entry : ℕ) → Contains (entries_among types) entry → (ReachACycle shapes (entries_among types) → ⊥)
       → lacks_summary s (Some entry) ≡ false

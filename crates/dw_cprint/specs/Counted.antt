@@ -1,33 +1,20 @@
 -- State: what a pass over enumerators or dimensions finds. They are not kept, but read again where they are written.
-use Rattle.std.specs.Prelude.{◌≡◌, ℕ, ◌+◌, ◌≤◌, Bool, true, false, ◌&&◌, ◌||◌, not, List, [], Option, is_some}
-use Rattle.std.specs.Prelude.{sum_by, if◌then◌else◌}
+use Rattle.std.specs.Prelude.{◌≡◌, ℕ, ◌+◌, ◌≤◌, Bool, ◌&&◌, ◌||◌, List, [], Option, is_none, sum_by, if◌then◌else◌}
 use Rattle.std.specs.List.{list_any}
 use Rattle.dw_cprint.specs.Declarations.{is_miscounted}
 use Rattle.dw_cprint.specs.Enumerators.{EnumeratorOf}
-use Rattle.dw_cprint.specs.Lengths.{byte_count, capped, enumerator_bytes, enumerators_bytes}
-use Rattle.dw_cprint.specs.Writing.{count_tokens}
-use Rattle.dw_cprint.specs.Wrong.{is_wrong_enumeration, lacks_name, lacks_value, starts_open}
+use Rattle.dw_cprint.specs.Lengths.{capped, count_bytes, enumerator_bytes, enumerators_bytes}
+use Rattle.dw_cprint.specs.Wrong.{is_wrong_enumeration, lacks_identifier, lacks_value, starts_open}
 use Rattle.dw_cprint.specs.declared.dimensions.DimensionTally.{DimensionTally}
 use Rattle.dw_cprint.specs.declared.enumerators.EnumeratorTally.{EnumeratorTally}
 
 -- ---- enumerators
-
--- the enumerator has no identifier
-abbrev pub lacks_identifier : EnumeratorOf → Bool
-lacks_identifier e = lacks_name e.name
 
 -- what is found of enumerators
 pub record AreEnumerators (es : List EnumeratorOf) (found : EnumeratorTally) : Type 0 where
   pub nameless : found.nameless ≡ list_any lacks_identifier es
   pub wrong : found.wrong ≡ is_wrong_enumeration es
   pub long : found.length ≡ capped (enumerators_bytes es)
-
--- what is found of none
-pub record IsEnumeratorsStart (found : EnumeratorTally) : Type 0 where
-  pub none : found.some ≡ false
-  pub nameless : found.nameless ≡ false
-  pub wrong : found.wrong ≡ true
-  pub long : found.length ≡ 4
 
 -- C has no enumeration of those that were found and those that are left
 abbrev pub is_wrong_with : EnumeratorTally → List EnumeratorOf → Bool
@@ -49,26 +36,11 @@ pub record EnumeratorsSoFar (all : List EnumeratorOf) (found : EnumeratorTally) 
 
 -- ---- dimensions
 
--- a count is unknown
-abbrev pub is_unknown : Option ℕ → Bool
-is_unknown count = not (is_some count)
-
--- the bytes of the brackets of a dimension
-abbrev pub count_bytes : Option ℕ → ℕ
-count_bytes count = byte_count (count_tokens count)
-
 -- what is found of the counts of dimensions
 pub record AreDimensions (counts : List (Option ℕ)) (found : DimensionTally) : Type 0 where
   pub first : found.first_unknown ≡ starts_open counts
   pub wrong : found.wrong ≡ is_miscounted counts
   pub long : found.length ≡ capped (sum_by count_bytes counts)
-
--- what is found of none
-pub record IsDimensionsStart (found : DimensionTally) : Type 0 where
-  pub none : found.some ≡ false
-  pub first : found.first_unknown ≡ false
-  pub wrong : found.wrong ≡ true
-  pub long : found.length ≡ 0
 
 -- the first of those that were found and those that are left is unknown
 abbrev pub starts_open_with : DimensionTally → List (Option ℕ) → Bool
@@ -78,7 +50,7 @@ starts_open_with found left = if found.some then found.first_unknown else starts
 -- there is none, or one after the first is unknown
 abbrev pub is_miscounted_with : DimensionTally → List (Option ℕ) → Bool
 is_miscounted_with found [] = found.wrong
-is_miscounted_with found left = if found.some then found.wrong || list_any is_unknown left else is_miscounted left
+is_miscounted_with found left = if found.some then found.wrong || list_any is_none left else is_miscounted left
 
 -- all of some counts are those that were found and those that are left
 pub record DimensionsSoFar (all : List (Option ℕ)) (found : DimensionTally) (left : List (Option ℕ)) : Type 0 where

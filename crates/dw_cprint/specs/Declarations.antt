@@ -1,5 +1,5 @@
 -- Chapter: the declaration of an entry as a term, by the shapes of the entries that it reaches.
-use Rattle.std.specs.Prelude.{ℕ, ℤ, zero, suc, ◌==◌, Bool, true, false, not, List, [], ◌∷◌, Option, Some, None, is_some}
+use Rattle.std.specs.Prelude.{ℕ, ℤ, zero, suc, ◌==◌, Bool, true, false, not, List, [], ◌∷◌, Option, Some, None, is_none}
 use Rattle.std.specs.Prelude.{option_map, option_and_then, bytes_eq, if◌then◌else◌}
 use Rattle.std.specs.List.{find, list_any, slice_split}
 use Rattle.dw_cprint.specs.Legible.{is_identifier}
@@ -44,7 +44,7 @@ nested_arrays (count ∷ counts) element = ArrayTerm count (nested_arrays counts
 -- a count after the first is unknown, or there is none
 abbrev pub is_miscounted : List (Option ℕ) → Bool
 is_miscounted [] = true
-is_miscounted (count ∷ counts) = list_any (λ (c : Option ℕ). not (is_some c)) counts
+is_miscounted (count ∷ counts) = list_any is_none counts
 
 -- the enumerators, where each has a name and a number
 abbrev pub constants_of : List EnumeratorOf → Option (List Constant)

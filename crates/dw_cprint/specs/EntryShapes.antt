@@ -1,66 +1,55 @@
 -- Chapter: the shape of each entry of an image, by its tag, its attributes and its children (DWARF 5, chapter 5).
-use Rattle.std.specs.Prelude.{ℕ, pos, Bool, ◌==◌, ◌&&◌, ◌||◌, not, List, Option, Some, None}
-use Rattle.std.specs.Prelude.{if◌then◌else◌}
+use Rattle.std.specs.Prelude.{ℕ, Bool, ◌==◌, ◌&&◌, ◌||◌, List, Option, Some, None, unwrap_or, if◌then◌else◌}
 use Rattle.std.specs.List.{list_any, filter_map}
-use Rattle.dw_forms.specs.Codes.{DW_AT_bit_size, DW_AT_bit_stride, DW_AT_byte_stride, DW_AT_const_value}
-use Rattle.dw_forms.specs.Codes.{DW_AT_prototyped, DW_TAG_array_type, DW_TAG_atomic_type, DW_TAG_base_type}
-use Rattle.dw_forms.specs.Codes.{DW_TAG_const_type, DW_TAG_enumeration_type, DW_TAG_enumerator, DW_TAG_formal_parameter}
-use Rattle.dw_forms.specs.Codes.{DW_TAG_generic_subrange, DW_TAG_inheritance, DW_TAG_member, DW_TAG_pointer_type}
-use Rattle.dw_forms.specs.Codes.{DW_TAG_restrict_type, DW_TAG_structure_type, DW_TAG_subrange_type}
-use Rattle.dw_forms.specs.Codes.{DW_TAG_subroutine_type, DW_TAG_typedef, DW_TAG_union_type}
-use Rattle.dw_forms.specs.Codes.{DW_TAG_unspecified_parameters, DW_TAG_variable, DW_TAG_variant_part}
-use Rattle.dw_forms.specs.Codes.{DW_TAG_volatile_type, is_type_tag}
-use Rattle.dw_forms.specs.Value.{Datum, unsigned, signed}
+use Rattle.dw_forms.specs.Codes.{DW_AT_bit_size, DW_AT_const_value, DW_AT_prototyped, DW_TAG_array_type}
+use Rattle.dw_forms.specs.Codes.{DW_TAG_atomic_type, DW_TAG_base_type, DW_TAG_const_type, DW_TAG_enumeration_type}
+use Rattle.dw_forms.specs.Codes.{DW_TAG_enumerator, DW_TAG_formal_parameter, DW_TAG_inheritance, DW_TAG_pointer_type}
+use Rattle.dw_forms.specs.Codes.{DW_TAG_restrict_type, DW_TAG_structure_type, DW_TAG_subroutine_type, DW_TAG_typedef}
+use Rattle.dw_forms.specs.Codes.{DW_TAG_union_type, DW_TAG_unspecified_parameters, DW_TAG_variable}
+use Rattle.dw_forms.specs.Codes.{DW_TAG_variant_part, DW_TAG_volatile_type, is_type_tag}
+use Rattle.dw_links.specs.Constants.{constant_at, is_present, natural_of, number_of_constant}
+use Rattle.dw_links.specs.References.{is_declared}
+use Rattle.dw_links.specs.declared.constant.Constant.{Constant}
+use Rattle.dw_types.specs.Counts.{count_at}
+use Rattle.dw_types.specs.Kinds.{is_subrange}
+use Rattle.dw_types.specs.Shapes.{is_defined_member}
+use Rattle.dw_types.specs.Sizes.{has_stride, is_other_index}
 use Rattle.dw_image.specs.declared.image.Image.{Image}
-use Rattle.dw_cprint.specs.LookUps.{tag_at, attribute_value_at, name_at, type_at, children_at, count_in, has_at}
-use Rattle.dw_cprint.specs.LookUps.{flag_at}
-use Rattle.dw_cprint.specs.LookUps.{is_declared_at, integer_at}
+use Rattle.dw_image.specs.Images.{units_in}
+use Rattle.dw_cprint.specs.LookUps.{entry_by, tag_at, name_at, type_at, children_at, flag_at}
 use Rattle.dw_cprint.specs.Shapes.{Const, Volatile, Restrict, Atomic, TagKeyword, OfAggregate, Struct, Union, Enum}
 use Rattle.dw_cprint.specs.Shapes.{Parameter, Typed, More, Name, MemberOf, EnumeratorOf, ShapeOf, base}
 use Rattle.dw_cprint.specs.Shapes.{typedef, qualified, pointer, array, function, tagged, nameless, body, enumeration}
 use Rattle.dw_cprint.specs.Shapes.{foreign, other, SubjectOf, typedef_subject, variable_subject, aggregate_subject}
 use Rattle.dw_cprint.specs.Shapes.{enumeration_subject, declared_subject, other_subject}
 
--- an entry has one of two tags
-abbrev pub has_tag : Image → (one other : ℕ) → ℕ → Bool
-has_tag image one another id = tag_at image id == one || tag_at image id == another
+-- no body of C has the child: it is an inheritance or a variant part
+abbrev pub is_odd_child : Image → ℕ → Bool
+is_odd_child image id = tag_at image id == DW_TAG_inheritance || tag_at image id == DW_TAG_variant_part
 
--- a child with one of two tags is there
-abbrev pub has_child : Image → (one another : ℕ) → ℕ → Bool
-has_child image one another id = list_any (has_tag image one another) (children_at image id)
-
--- a child that no body of C has
+-- a child is one that no body of C has
 abbrev pub is_odd : Image → ℕ → Bool
-is_odd image id = has_child image DW_TAG_inheritance DW_TAG_variant_part id
+is_odd image id = list_any (is_odd_child image) (children_at image id)
 
 -- ---- arrays (DWARF 5, 5.5)
 
--- a dimension of an array is a subrange
-abbrev pub is_dimension_at : Image → ℕ → Bool
-is_dimension_at image id = tag_at image id == DW_TAG_subrange_type
-
--- the entry has a stride in bytes or in bits
-abbrev pub has_stride_at : Image → ℕ → Bool
-has_stride_at image id = has_at image id DW_AT_byte_stride || has_at image id DW_AT_bit_stride
-
--- a dimension with a stride of its own
-abbrev pub is_strided_dimension : Image → ℕ → Bool
-is_strided_dimension image id = is_dimension_at image id && has_stride_at image id
-
--- the count of a child that is a dimension
+-- the known count of a child that is a dimension, or that it is unknown
 abbrev pub dimension_at : Image → ℕ → Option (Option ℕ)
-dimension_at image id = if is_dimension_at image id then Some (count_in image id) else None
+dimension_at image id = if is_subrange (entry_by image id) then Some (count_at (units_in image) id) else None
 
 -- the counts of the dimensions
 abbrev pub dimension_counts : Image → ℕ → List (Option ℕ)
 dimension_counts image id = filter_map (dimension_at image) (children_at image id)
 
--- a stride, or a dimension that is no subrange
+-- the child is an index of another kind, or a dimension with a stride of its own
+abbrev pub is_strange_child : Image → ℕ → Bool
+is_strange_child image id =
+    is_other_index (entry_by image id)
+    || (is_subrange (entry_by image id) && has_stride (entry_by image id))
+
+-- a stride, or a child that C has no word for
 abbrev pub is_strange : Image → ℕ → Bool
-is_strange image id =
-    has_stride_at image id
-    || (list_any (is_strided_dimension image) (children_at image id)
-    || has_child image DW_TAG_enumeration_type DW_TAG_generic_subrange id)
+is_strange image id = has_stride (entry_by image id) || list_any (is_strange_child image) (children_at image id)
 
 -- ---- subroutines (DWARF 5, 5.8)
 
@@ -79,20 +68,17 @@ parameters_in image id =
 -- ---- structures and unions (DWARF 5, 5.7)
 
 -- a size in bits, if there is one; 0 if it is no number of 1 or more
-abbrev pub bits_in : Option Datum → Option ℕ
-bits_in None = None
-bits_in (Some (unsigned n)) = Some n
-bits_in (Some (signed (pos n))) = Some n
-bits_in (Some _) = Some 0
+abbrev pub bits_in : Constant → Option ℕ
+bits_in size = if is_present size then Some (unwrap_or (natural_of size) 0) else None
 
 -- a child that is a member and not declared: its name, its type and its bit size
 abbrev pub member_at : Image → ℕ → Option MemberOf
 member_at image id =
-    if tag_at image id == DW_TAG_member && not (is_declared_at image id)
+    if is_defined_member (entry_by image id)
     then Some (record {
       name = name_at image id;
       type_at = type_at image id;
-      bits = bits_in (attribute_value_at image id DW_AT_bit_size);
+      bits = bits_in (constant_at (entry_by image id) DW_AT_bit_size);
     })
     else None
 
@@ -106,7 +92,10 @@ members_in image id = filter_map (member_at image) (children_at image id)
 abbrev pub enumerator_at : Image → ℕ → Option EnumeratorOf
 enumerator_at image id =
     if tag_at image id == DW_TAG_enumerator
-    then Some (record { name = name_at image id; value = integer_at image id DW_AT_const_value })
+    then Some (record {
+      name = name_at image id;
+      value = number_of_constant (constant_at (entry_by image id) DW_AT_const_value);
+    })
     else None
 
 -- the enumerators of an enumeration, in rising offset
@@ -123,7 +112,7 @@ body_in image id Enum = enumeration (is_odd image id) (enumerators_in image id)
 -- one that is printed by a name; without a name one that is only declared, or its body
 abbrev pub tag_shape : Image → ℕ → TagKeyword → Name → ShapeOf
 tag_shape image id word (Some name) = tagged word name
-tag_shape image id word None = if is_declared_at image id then nameless word else body_in image id word
+tag_shape image id word None = if is_declared (entry_by image id) then nameless word else body_in image id word
 
 -- an entry that is reached, by its tag
 abbrev pub shape_by : Image → ℕ → (tag : ℕ) → ShapeOf
@@ -164,7 +153,7 @@ tag_word tag =
 abbrev pub tag_in : Image → ℕ → Option TagKeyword → SubjectOf
 tag_in image id None = other_subject
 tag_in image id (Some word) =
-    if is_declared_at image id then declared_subject word (name_at image id)
+    if is_declared (entry_by image id) then declared_subject word (name_at image id)
     else defined_in image id word (name_at image id)
 
 -- the entry that is declared, by its tag

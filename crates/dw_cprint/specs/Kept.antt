@@ -13,11 +13,13 @@ use Rattle.dw_cprint.specs.Writing.{body_tokens, enumeration_tokens, spell, name
 use Rattle.dw_cprint.specs.Writing.{constant_tokens, constants, more_constants, signature_tokens, written}
 use Rattle.dw_cprint.specs.declared.survey.Survey.{Survey}
 
+-- what is listed for an entry, by the place of that entry
+abbrev pub found_at : {X : Type 0} → List ℕ → List X → ℕ → Option X
+found_at places xs entry = option_and_then (slice_get xs) (slice_get places entry)
+
 -- the shape that is kept of an entry; other where none is
 unfoldable pub kept : Survey → ℕ → ShapeOf
-kept s entry =
-    option_map_or view_shape
-    (option_and_then (slice_get s.shapes.items) (slice_get s.places.items entry)) other
+kept s entry = option_map_or view_shape (found_at s.places.items s.shapes.items entry) other
 
 -- the term of a type, by the shapes that are kept
 abbrev pub kept_term : Survey → ℕ → TypeAt → Option Term

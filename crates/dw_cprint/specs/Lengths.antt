@@ -67,6 +67,10 @@ value_bytes (Some value) = byte_count (value_tokens value)
 abbrev pub enumerator_bytes : EnumeratorOf → ℕ
 enumerator_bytes e = name_bytes e.name + 5 + value_bytes e.value
 
+-- the bytes of the brackets of a dimension
+abbrev pub count_bytes : Option ℕ → ℕ
+count_bytes count = byte_count (count_tokens count)
+
 -- the bytes of enumerators, in braces
 abbrev pub enumerators_bytes : List EnumeratorOf → ℕ
 enumerators_bytes [] = 4
@@ -106,8 +110,7 @@ module _ (known : TypeAt → Summary) where
   shape_bytes (typedef name) = name_bytes name
   shape_bytes (qualified q at) = (known at).length + qualifier_bytes (known at).kind (known at).base q false
   shape_bytes (pointer at) = bytes_around at + (if is_bracketed (known at).kind then 3 else 1)
-  shape_bytes (array counts strange at) =
-      bytes_around at + sum_by (λ (n : Option ℕ). byte_count (count_tokens n)) counts
+  shape_bytes (array counts strange at) = bytes_around at + sum_by count_bytes counts
   shape_bytes (function at None) = bytes_around at + 2
   shape_bytes (function at (Some ps)) = bytes_around at + parameters_bytes ps
   shape_bytes (tagged word name) = tag_bytes word (Some name)

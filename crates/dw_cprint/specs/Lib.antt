@@ -21,7 +21,6 @@ pub mod Declarators
 pub mod Reach
 pub mod Lengths
 pub mod Counted
-pub mod Summaries
 pub mod Kept
-pub mod Surveys
+pub mod Summaries
 pub mod Judgements

@@ -13,8 +13,7 @@ use Rattle.dw_cprint.specs.Digits.{places}
 use Rattle.dw_cprint.specs.EntryShapes.{shape_in, subject_in}
 use Rattle.dw_cprint.specs.FaultTexts.{code_text, name_text}
 use Rattle.dw_cprint.specs.LookUps.{entry_offset}
-use Rattle.dw_cprint.specs.Refusals.{PrintFault}
-use Rattle.dw_cprint.specs.Refusals.{Refuses, IsPrinted}
+use Rattle.dw_cprint.specs.Refusals.{PrintFault, Refuses, IsPrinted}
 use Rattle.dw_cprint.specs.Shapes.{SubjectOf, typedef_subject, aggregate_subject, enumeration_subject}
 use Rattle.dw_cprint.specs.Steps.{first_steps}
 use Rattle.dw_cprint.specs.Terms.{CDeclaration}

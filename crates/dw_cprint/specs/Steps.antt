@@ -2,8 +2,7 @@
 -- steps of the same entry where it is reached.
 use Rattle.std.specs.Prelude.{◌≡◌, ℕ, zero, suc, List, [], ◌∷◌, Option, Some, None, Contains, map}
 use Rattle.dw_types.specs.Paths.{Leads, IsOnCycle}
-use Rattle.dw_cprint.specs.Shapes.{Parameter, Typed, More, MemberOf}
-use Rattle.dw_cprint.specs.Shapes.{ShapeOf, qualified, pointer, array, function, body}
+use Rattle.dw_cprint.specs.Shapes.{Parameter, Typed, More, MemberOf, ShapeOf, qualified, pointer, array, function, body}
 use Rattle.dw_cprint.specs.Shapes.{SubjectOf, typedef_subject, variable_subject, aggregate_subject}
 
 -- the entries among types; void is none

@@ -1,15 +1,17 @@
--- State: what a survey keeps of a type that reaches no cycle: its kind, what is wrong with it, how long the longest
--- path from it is, and how many bytes its text has.
+-- State: what a survey of some declarations keeps of each type that reaches no cycle: its kind, what is wrong with it,
+-- how long the longest path from it is, and how many bytes its text has.
 use Rattle.std.specs.Prelude.{◌≡◌, ℕ, ◌<◌, ◌≤◌, ◌↔◌, true, IsTrue, List, [], ◌∷◌, Option, Some}
 use Rattle.std.specs.Prelude.{None, length, slice_get, slice_index, slice_index_or, is_none, option_and_then, unwrap_or}
 use Rattle.std.specs.Prelude.{Contains, Bool, false, ◌||◌}
 use Rattle.std.specs.List.{list_any}
+use Rattle.dw_types.specs.Paths.{ReachesCycle}
 use Rattle.dw_cprint.specs.Declarations.{term_at}
+use Rattle.dw_cprint.specs.Kept.{found_at, kept}
 use Rattle.dw_cprint.specs.Lengths.{IsLength}
 use Rattle.dw_cprint.specs.Refusals.{Holds, BadName, Foreign, Unspeakable, TooDeep}
 use Rattle.dw_cprint.specs.Shapes.{Enum, TypeAt, MemberOf, ShapeOf, qualified, SubjectOf, variable_subject}
 use Rattle.dw_cprint.specs.Shapes.{aggregate_subject, enumeration_subject, declared_subject, view_shape}
-use Rattle.dw_cprint.specs.Steps.{entries_among, member_types, steps_reached, IsReachedFrom, HasPathFrom}
+use Rattle.dw_cprint.specs.Steps.{entries_among, member_types, steps_reached, StepsTo, IsReachedFrom, HasPathFrom}
 use Rattle.dw_cprint.specs.Terms.{Term}
 use Rattle.dw_cprint.specs.Wrong.{kind_at, StandsUnder, is_void, HasBadName, is_foreign, IsUnspeakable}
 use Rattle.dw_cprint.specs.Wrong.{is_wrong, is_wrong_enumeration, is_wrong_member, is_wrong_row, object_types}
@@ -75,10 +77,6 @@ pub record IsSummary (shapes : ℕ → ShapeOf) (at : TypeAt) (known : Summary) 
   pub are_found : AreFindings shapes (at ∷ []) known.findings
   pub is_length : (k : ℕ) (t : Term) → term_at k shapes at ≡ Some t → IsLength t known.kind known.base known.length
 
--- what is listed for an entry, by the place of that entry
-abbrev pub found_at : {X : Type 0} → List ℕ → List X → ℕ → Option X
-found_at places xs entry = option_and_then (slice_get xs) (slice_get places entry)
-
 -- exactly some nodes have summaries
 abbrev pub HaveSummaries : List ℕ → List (Option Summary) → Type 0
 HaveSummaries clear nodes = (node : ℕ) → Contains clear node ↔ (is_none (slice_index_or nodes node None) ≡ false)
@@ -139,3 +137,27 @@ pub record AreNodes (shapes : ℕ → ShapeOf) (places found : List ℕ) (kept :
 abbrev pub AreRight : (ℕ → ShapeOf) → (found clear : List ℕ) → Survey → Type 0
 AreRight shapes found clear s = (i : ℕ) → i < length clear
     → KnowsType shapes s (Some (slice_index found (slice_index clear i)))
+
+-- ---- surveys
+
+-- each of some entries is one of others
+abbrev pub AreAmong : List ℕ → List ℕ → Type 0
+AreAmong some all = (entry : ℕ) → Contains some entry → Contains all entry
+
+-- a type has no summary
+abbrev pub lacks_summary : Survey → TypeAt → Bool
+lacks_summary s at = is_none (summary_at VOID s.places.items s.summaries.items at)
+
+-- a survey of some entries and of all that they reach: their shapes, which of them reach a cycle, and what is known of
+-- the others
+pub record IsSurveyOf (shapes : ℕ → ShapeOf) (roots : List ℕ) (s : Survey) : Type 0 where
+  pub keeps : (entry : ℕ) → IsReachedFrom shapes roots entry → kept s entry ≡ shapes entry
+  pub clear : (entry : ℕ) → IsReachedFrom shapes roots entry
+      → (lacks_summary s (Some entry) ≡ true) ↔ ReachesCycle (StepsTo shapes) entry
+  pub known : (entry : ℕ) → IsReachedFrom shapes roots entry → lacks_summary s (Some entry) ≡ false
+      → KnowsType shapes s (Some entry)
+
+-- by the shapes of which this is a survey, if some entries are among those that it began with
+abbrev pub BySurvey : Survey → List ℕ → ((ℕ → ShapeOf) → Type 0) → Type 0
+BySurvey s entries P =
+    (shapes : ℕ → ShapeOf) (roots : List ℕ) → IsSurveyOf shapes roots s → AreAmong entries roots → P shapes

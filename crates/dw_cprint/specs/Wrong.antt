@@ -5,11 +5,10 @@ use Rattle.std.specs.List.{list_any}
 use Rattle.dw_cprint.specs.Declarations.{words_of, parts_of}
 pub use Rattle.dw_cprint.specs.Declarations.{is_miscounted, is_misplaced}
 use Rattle.dw_cprint.specs.Legible.{is_identifier}
-use Rattle.dw_cprint.specs.Shapes.{Qualifier, Restrict, AggregateKeyword, OfAggregate, Enum}
-use Rattle.dw_cprint.specs.Shapes.{Name, TypeAt, MemberOf, EnumeratorOf, ShapeOf, base, typedef}
-use Rattle.dw_cprint.specs.Shapes.{qualified, pointer, array, function, tagged, nameless, body, enumeration, foreign}
-use Rattle.dw_cprint.specs.Shapes.{other, SubjectOf, typedef_subject, variable_subject, aggregate_subject}
-use Rattle.dw_cprint.specs.Shapes.{enumeration_subject, declared_subject}
+use Rattle.dw_cprint.specs.Shapes.{Qualifier, Restrict, AggregateKeyword, OfAggregate, Enum, Name, TypeAt, MemberOf}
+use Rattle.dw_cprint.specs.Shapes.{EnumeratorOf, ShapeOf, base, typedef, qualified, pointer, array, function, tagged}
+use Rattle.dw_cprint.specs.Shapes.{nameless, body, enumeration, foreign, other, SubjectOf, typedef_subject}
+use Rattle.dw_cprint.specs.Shapes.{variable_subject, aggregate_subject, enumeration_subject, declared_subject}
 use Rattle.dw_cprint.specs.Steps.{parameter_types, member_types}
 pub use Rattle.dw_cprint.specs.declared.shape.TypeKind.{TypeKind}
 use Rattle.dw_cprint.specs.declared.shape.TypeKind.TheVariants as kind
@@ -110,6 +109,10 @@ abbrev pub lacks_name : Name → Bool
 lacks_name None = true
 lacks_name (Some name) = not (is_identifier name)
 
+-- the enumerator has no identifier
+abbrev pub lacks_identifier : EnumeratorOf → Bool
+lacks_identifier e = lacks_name e.name
+
 -- there is no name of a base type
 abbrev pub lacks_base_name : Name → Bool
 lacks_base_name None = true
@@ -131,7 +134,7 @@ has_bad_name kinds (typedef name) = lacks_name name
 has_bad_name kinds (tagged word name) = lacks_name (Some name)
 has_bad_name kinds (nameless word) = true
 has_bad_name kinds (body word odd members) = lack_names kinds members
-has_bad_name kinds (enumeration odd enumerators) = list_any (λ (e : EnumeratorOf). lacks_name e.name) enumerators
+has_bad_name kinds (enumeration odd enumerators) = list_any lacks_identifier enumerators
 has_bad_name kinds _ = false
 
 -- the same
@@ -143,8 +146,7 @@ abbrev pub has_own_bad_name : (TypeAt → TypeKind) → SubjectOf → Bool
 has_own_bad_name kinds (typedef_subject name at) = lacks_name name
 has_own_bad_name kinds (variable_subject name at) = lacks_name name
 has_own_bad_name kinds (aggregate_subject word name odd members) = lacks_name name || lack_names kinds members
-has_own_bad_name kinds (enumeration_subject name odd enumerators) =
-    lacks_name name || list_any (λ (e : EnumeratorOf). lacks_name e.name) enumerators
+has_own_bad_name kinds (enumeration_subject name odd enumerators) = lacks_name name || list_any lacks_identifier enumerators
 has_own_bad_name kinds (declared_subject word name) = lacks_name name
 has_own_bad_name kinds _ = false
 

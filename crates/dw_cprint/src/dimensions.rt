@@ -2,14 +2,14 @@
 //! entries that it is made from. Otherwise their counts are read from the image each time that they are written.
 
 ghost use Rattle.std.specs.Prelude.{◌≡◌, ◌<◌, ◌&&◌, ◌||◌, List, [], Option, ℕ, length, flat_map, sum_by, OnOk};
-ghost use Rattle.std.specs.Prelude.{if◌then◌else◌, IfOk, IfSome, nat_lt, is_some, not};
+ghost use Rattle.std.specs.Prelude.{if◌then◌else◌, IfOk, IfSome, nat_lt, is_none, is_some, not};
 ghost use Rattle.std.specs.List.{cons_option};
 ghost use Rattle.dw_image.specs.Images.{entries_in};
-ghost use Rattle.dw_cprint.specs.Counted.{AreDimensions, DimensionsSoFar, IsDimensionsStart, count_bytes, is_unknown};
+ghost use Rattle.dw_cprint.specs.Counted.{AreDimensions, DimensionsSoFar};
 ghost use Rattle.dw_cprint.specs.Declarations.{is_miscounted};
 ghost use Rattle.dw_cprint.specs.EntryShapes.{dimension_counts, dimension_at};
 ghost use Rattle.dw_cprint.specs.Kept.{Writes};
-ghost use Rattle.dw_cprint.specs.Lengths.{capped};
+ghost use Rattle.dw_cprint.specs.Lengths.{capped, count_bytes};
 ghost use Rattle.dw_cprint.specs.LookUps.{is_short};
 ghost use Rattle.dw_cprint.specs.Writing.{count_tokens};
 ghost use Rattle.dw_cprint.specs.Wrong.{starts_open};
@@ -23,6 +23,7 @@ use std::alloc::{AllocError, Global};
 use std::marker::Model;
 
 /// The count of a child that is a dimension.
+#[tactic(auto, unfolding(crate::specs::LookUps::tag_at))]
 fn dimension_at(image: &Image<'_>, id: EntryId) -> Option<Option<u128>>
     requires { id < length (entries_in image.now) }
     ensures { result ≡ dimension_at image.now id }
@@ -79,8 +80,9 @@ pub struct DimensionTally {
 
 impl DimensionTally {
     /// What is found of none.
+    #[tactic(auto, using(crate::proofs::CountLemmas::dimensions_start))]
     fn new() -> DimensionTally
-        ensures { IsDimensionsStart result }
+        ensures { (all : List (Option ℕ)) → DimensionsSoFar all result all }
     {
         DimensionTally {
             some: false,
@@ -92,7 +94,7 @@ impl DimensionTally {
 
     /// Whether the first count is unknown, with this one.
     fn first_with(self, count: Option<u128>) -> bool
-        ensures { result ≡ (if self.some then self.first_unknown else is_unknown count) }
+        ensures { result ≡ (if self.some then self.first_unknown else is_none count) }
     {
         if self.some {
             self.first_unknown
@@ -103,7 +105,7 @@ impl DimensionTally {
 
     /// Whether a count after the first is unknown, with this one.
     fn wrong_with(self, count: Option<u128>) -> bool
-        ensures { result ≡ (self.some && (self.wrong || is_unknown count)) }
+        ensures { result ≡ (self.some && (self.wrong || is_none count)) }
     {
         self.some && (self.wrong || count.is_none())
     }

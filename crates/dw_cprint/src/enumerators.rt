@@ -5,14 +5,14 @@ ghost use Rattle.std.specs.Prelude.{◌≡◌, ◌<◌, ◌+◌, ◌&&◌, ◌||
 ghost use Rattle.std.specs.Prelude.{if◌then◌else◌, IfSome, nat_lt, option_map, is_some, not};
 ghost use Rattle.std.specs.List.{cons_option, list_any};
 ghost use Rattle.dw_image.specs.Images.{entries_in};
-ghost use Rattle.dw_cprint.specs.Counted.{AreEnumerators, EnumeratorsSoFar, IsEnumeratorsStart, lacks_identifier};
+ghost use Rattle.dw_cprint.specs.Counted.{AreEnumerators, EnumeratorsSoFar};
 ghost use Rattle.dw_cprint.specs.EntryShapes.{enumerator_at, enumerators_in};
 ghost use Rattle.dw_cprint.specs.Kept.{EnumeratorsLeft, WritesDeclaration, WritesEnumerator, WritesEnumerators};
 ghost use Rattle.dw_cprint.specs.Lengths.{capped, enumerator_bytes, enumerators_bytes};
 ghost use Rattle.dw_cprint.specs.LookUps.{is_short};
 ghost use Rattle.dw_cprint.specs.Shapes.{EnumeratorOf, enumeration_subject, view_enumerator, view_name};
 ghost use Rattle.dw_cprint.specs.declared.survey.Survey.{Survey};
-ghost use Rattle.dw_cprint.specs.Wrong.{is_wrong_enumeration, lacks_name, lacks_value};
+ghost use Rattle.dw_cprint.specs.Wrong.{is_wrong_enumeration, lacks_identifier, lacks_value};
 
 use crate::names::lacks_name;
 use crate::source::{Source, integer_at, is_short, tag_at};
@@ -101,8 +101,9 @@ pub struct EnumeratorTally {
 
 impl EnumeratorTally {
     /// What is found of none.
+    #[tactic(auto, using(crate::proofs::CountLemmas::enumerators_start))]
     fn new() -> EnumeratorTally
-        ensures { IsEnumeratorsStart result }
+        ensures { (all : List EnumeratorOf) → EnumeratorsSoFar all result all }
     {
         EnumeratorTally {
             some: false,
@@ -283,7 +284,7 @@ impl<'a> Enumerators<'a> {
 
     /// Whether one lacks an identifier.
     pub fn lack_name(&self) -> bool
-        ensures { result ≡ list_any (λ e. lacks_name e.name) self.now }
+        ensures { result ≡ list_any lacks_identifier self.now }
     {
         self.tally.nameless
     }

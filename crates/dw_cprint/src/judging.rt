@@ -4,7 +4,7 @@ ghost use Rattle.std.specs.Prelude.{◌≡◌, IfOk};
 ghost use Rattle.dw_cprint.specs.Judgements.{IsRefusal, IsRefusalBelow};
 ghost use Rattle.dw_cprint.specs.Shapes.{view_subject};
 ghost use Rattle.dw_cprint.specs.Steps.{first_steps, types_declared};
-ghost use Rattle.dw_cprint.specs.Surveys.{BySurvey};
+ghost use Rattle.dw_cprint.specs.Summaries.{BySurvey};
 
 use crate::fault::PrintFault;
 use crate::lengths::length_declared;

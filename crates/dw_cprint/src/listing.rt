@@ -12,7 +12,7 @@ ghost use Rattle.dw_cprint.specs.Listings.{AreNamedTypes, IsListing, IsNamedType
 ghost use Rattle.dw_cprint.specs.Listings.{named_steps, refused_line, refused_line_in};
 ghost use Rattle.dw_cprint.specs.Refusals.{AppendsDeclaration, HasOneReading, IsPrinted, Refuses};
 ghost use Rattle.dw_cprint.specs.Shapes.{view_subject};
-ghost use Rattle.dw_cprint.specs.Surveys.{IsSurveyOf};
+ghost use Rattle.dw_cprint.specs.Summaries.{IsSurveyOf};
 ghost use Rattle.dw_cprint.specs.declared.fault.PrintFault.{PrintFault as PrintFaultOf};
 ghost use Rattle.dw_cprint.specs.declared.fault.PrintFault.TheVariants.{Memory};
 

@@ -175,6 +175,7 @@ fn shape_at<'a>(
 }
 
 /// The type of a child that is a plain member: one that is not declared.
+#[tactic(auto, unfolding(crate::specs::LookUps::tag_at))]
 fn member_type_at(image: &Image<'_>, id: EntryId) -> Option<TypeAt>
     requires { id < length (entries_in image.now) }
     ensures { result ≡ option_map (λ member. member.type_at) (member_at image.now id) }

@@ -3,16 +3,17 @@
 ghost use Rattle.std.specs.Prelude.{◌≡◌, ◌<◌, ◌≤◌, ℕ, length, map, IfOk, Some, option_map};
 ghost use Rattle.dw_image.specs.Images.{entries_in};
 ghost use Rattle.dw_cprint.specs.Children.{AreKept, TellsAny};
-ghost use Rattle.dw_cprint.specs.EntryShapes.{dimension_counts, defined_in, has_stride_at, is_odd, is_strange};
+ghost use Rattle.dw_types.specs.Sizes.{has_stride};
+ghost use Rattle.dw_cprint.specs.EntryShapes.{dimension_counts, defined_in, is_odd, is_strange, is_strange_child};
 ghost use Rattle.dw_cprint.specs.EntryShapes.{member_at, members_in, parameter_at, parameters_in, shape_in, subject_in};
 ghost use Rattle.dw_cprint.specs.EntryShapes.{tag_in, tag_shape, tag_word};
-ghost use Rattle.dw_cprint.specs.LookUps.{children_at, name_at, type_at};
+ghost use Rattle.dw_cprint.specs.LookUps.{children_at, entry_by, name_at, type_at};
 ghost use Rattle.dw_cprint.specs.Shapes.{array, function, view_member, view_name, view_shape, view_subject};
 
 use crate::dimensions::Dimensions;
 use crate::enumerators::Enumerators;
 use crate::shape::{Member, Parameter, Shape, Subject};
-use crate::source::{Source, bits_at, flag_at, tag_at, type_at, value_at};
+use crate::source::{Source, bits_at, flag_at, tag_at, type_at};
 use crate::words::AggregateKeyword::{Struct, Union};
 use crate::words::TagKeyword::OfAggregate;
 use crate::words::{Name, Qualifier, TagKeyword};
@@ -77,10 +78,22 @@ fn read_children<T: Drop, F: Fn(EntryId) -> Option<T>>(
 /// Whether an entry has a stride.
 fn has_stride(image: &Image<'_>, id: EntryId) -> bool
     requires { id < length (entries_in image.now) }
-    ensures { result ≡ has_stride_at image.now id }
+    ensures { result ≡ has_stride (entry_by image.now id) }
 {
-    value_at(image, id, DW_AT_byte_stride).is_some()
-        || value_at(image, id, DW_AT_bit_stride).is_some()
+    image.value(id, DW_AT_bit_stride).is_some() || image.value(id, DW_AT_byte_stride).is_some()
+}
+
+/// Whether a child of an array is an index of another kind than a dimension, or a dimension with a stride.
+#[tactic(auto, unfolding(crate::specs::LookUps::tag_at))]
+fn is_strange_child(image: &Image<'_>, id: EntryId) -> bool
+    requires { id < length (entries_in image.now) }
+    ensures { result ≡ is_strange_child image.now id }
+{
+    match tag_at(image, id) {
+        DW_TAG_enumeration_type | DW_TAG_generic_subrange => true,
+        DW_TAG_subrange_type => has_stride(image, id),
+        _ => false,
+    }
 }
 
 /// The shape of an array.
@@ -93,18 +106,10 @@ fn array_shape<'a>(
     ensures { IfOk result (λ shape. view_shape shape
         ≡ array (dimension_counts image.now id) (is_strange image.now id) (type_at image.now id)) }
 {
-    let strided = any_child(image, id, |child| {
-        tag_at(image, child) == DW_TAG_subrange_type && has_stride(image, child)
-    });
-    let other = any_child(image, id, |child| {
-        matches!(
-            tag_at(image, child),
-            DW_TAG_enumeration_type | DW_TAG_generic_subrange
-        )
-    });
+    let strange_child = any_child(image, id, |child| is_strange_child(image, child));
     Ok(Shape::Array {
         dimensions: Dimensions::read(alloc, image, id)?,
-        strange: has_stride(image, id) || strided || other,
+        strange: has_stride(image, id) || strange_child,
         element: type_at(image, id),
     })
 }
@@ -138,6 +143,7 @@ fn function_shape<'a>(
 }
 
 /// A child that is a plain member: one that is not declared.
+#[tactic(auto, unfolding(crate::specs::LookUps::tag_at))]
 fn member_at<'a>(source: &Source<'a>, id: EntryId) -> Option<Member<'a>>
     requires { id < length (entries_in source.now.image.now) }
     ensures { option_map view_member result ≡ member_at source.now.image.now id }

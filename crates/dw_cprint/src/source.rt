@@ -1,15 +1,14 @@
 //! What is declared is read from: an image, and its strings.
 
-ghost use Rattle.std.specs.Prelude.{◌≡◌, ◌<◌, ◌≤◌, ◌^◌, length, IfOk, IfSome, option_map};
-ghost use Rattle.dw_forms.specs.Value.{view};
+ghost use Rattle.std.specs.Prelude.{◌≡◌, ◌<◌, ◌≤◌, ◌^◌, length, IfOk, IfSome};
 ghost use Rattle.dw_forms.specs.Codes.{DW_AT_bit_size};
 ghost use Rattle.dw_image.specs.Contributions.{string_at};
 ghost use Rattle.dw_image.specs.Images.{entries_in, sections_in};
 ghost use Rattle.dw_image.specs.Slots.{IsTextPlace};
 ghost use Rattle.dw_image.specs.StringSpans.{IsSpan};
 ghost use Rattle.dw_image.specs.ValueTexts.{text_there};
-ghost use Rattle.dw_cprint.specs.LookUps.{name_at, tag_at, attribute_value_at, type_at, flag_at, integer_at};
-ghost use Rattle.dw_cprint.specs.LookUps.{bytes_at, is_short};
+ghost use Rattle.dw_links.specs.Constants.{constant_at, number_of_constant};
+ghost use Rattle.dw_cprint.specs.LookUps.{entry_by, name_at, tag_at, type_at, flag_at, bytes_at, is_short};
 ghost use Rattle.dw_cprint.specs.Shapes.{view_name};
 ghost use Rattle.dw_cprint.specs.EntryShapes.{bits_in};
 
@@ -87,16 +86,6 @@ pub fn tag_at(image: &Image<'_>, id: EntryId) -> Tag
     image.tag(id)
 }
 
-/// The value of an entry's attribute.
-#[tactic(auto, unfolding(crate::specs::LookUps::attribute_value_at))]
-#[inline(always)]
-pub fn value_at<'a>(image: &Image<'a>, id: EntryId, attribute: Attribute) -> Option<Value<'a>>
-    requires { id < length (entries_in image.now) }
-    ensures { option_map view result ≡ attribute_value_at image.now id attribute }
-{
-    image.value(id, attribute)
-}
-
 /// The number of the type that an entry has, if it has one.
 #[tactic(auto, unfolding(crate::specs::LookUps::type_at, dw_image::specs::Images::type_in))]
 fn type_number(image: &Image<'_>, id: EntryId) -> Option<u32>
@@ -125,16 +114,16 @@ pub fn flag_at(image: &Image<'_>, id: EntryId, attribute: Attribute) -> bool
     requires { id < length (entries_in image.now) }
     ensures { result ≡ flag_at image.now id attribute }
 {
-    matches!(value_at(image, id, attribute), Some(Value::Flag(true)))
+    matches!(image.value(id, attribute), Some(Value::Flag(true)))
 }
 
 /// The number under an attribute of an entry. This project's choice: the form data16 gives none.
 #[inline(always)]
 pub fn integer_at(image: &Image<'_>, id: EntryId, attribute: Attribute) -> Option<i128>
     requires { id < length (entries_in image.now) }
-    ensures { result ≡ integer_at image.now id attribute }
+    ensures { result ≡ number_of_constant (constant_at (entry_by image.now id) attribute) }
 {
-    match value_at(image, id, attribute) {
+    match image.value(id, attribute) {
         Some(Value::Unsigned(n)) => Some(i128::from(n)),
         Some(Value::Signed(n)) => Some(i128::from(n)),
         _ => None,
@@ -144,9 +133,9 @@ pub fn integer_at(image: &Image<'_>, id: EntryId, attribute: Attribute) -> Optio
 /// The size in bits of a member, if it has one. One that is no number of 1 or more gives 0.
 pub fn bits_at(image: &Image<'_>, id: EntryId) -> Option<u64>
     requires { id < length (entries_in image.now) }
-    ensures { result ≡ bits_in (attribute_value_at image.now id DW_AT_bit_size) }
+    ensures { result ≡ bits_in (constant_at (entry_by image.now id) DW_AT_bit_size) }
 {
-    match value_at(image, id, DW_AT_bit_size) {
+    match image.value(id, DW_AT_bit_size) {
         None => None,
         Some(Value::Unsigned(n)) => Some(n),
         Some(Value::Signed(n)) if n > 0 => Some(n as u64),

@@ -8,7 +8,7 @@ ghost use Rattle.dw_cprint.specs.Summaries.{AreFindings, AreFindingsOf, AreNodes
 ghost use Rattle.dw_cprint.specs.Summaries.{IsOwn, IsSummary, KnowsType, is_own_unspeakable, is_unspeakable};
 ghost use Rattle.dw_cprint.specs.Summaries.{kind_known, known_of};
 ghost use Rattle.dw_cprint.specs.Wrong.{has_bad_name, has_own_bad_name, is_foreign, is_own_foreign};
-ghost use Rattle.dw_cprint.specs.Surveys.{IsSurveyOf};
+ghost use Rattle.dw_cprint.specs.Summaries.{IsSurveyOf};
 ghost use Rattle.dw_image.specs.Images.{entries_in};
 ghost use Rattle.dw_cprint.specs.EntryShapes.{shape_in};
 

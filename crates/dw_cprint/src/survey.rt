@@ -5,7 +5,7 @@ ghost use Rattle.std.specs.Prelude.{◌≡◌, max, ℕ};
 ghost use Rattle.std.specs.List.{list_any};
 ghost use Rattle.dw_cprint.specs.Judgements.{IsRefusalBelow};
 ghost use Rattle.dw_cprint.specs.Summaries.{known_of, summary_at, AreFindingsOf, IsEither};
-ghost use Rattle.dw_cprint.specs.Surveys.{lacks_summary};
+ghost use Rattle.dw_cprint.specs.Summaries.{lacks_summary};
 ghost use Rattle.dw_cprint.specs.Refusals.{HoldsNoneBelow};
 ghost use Rattle.dw_cprint.specs.Shapes.{ShapeOf, SubjectOf};
 

@@ -7,7 +7,7 @@ use Rattle.dw_cprint.specs.Judgements.{IsPrintedNumber}
 use Rattle.dw_cprint.specs.Listings.{declared_line, named_steps}
 use Rattle.dw_cprint.specs.Refusals.{IsPrinted}
 use Rattle.dw_cprint.specs.Steps.{first_steps}
-use Rattle.dw_cprint.specs.Surveys.{AreAmong}
+use Rattle.dw_cprint.specs.Summaries.{AreAmong}
 use Rattle.dw_cprint.proofs.JudgementLemmas.{steps-among}
 use Rattle.dw_cprint.proofs.ListingLemmas.{entry-there, name-there}
 use Rattle.dw_cprint.proofs.RefusalLemmas.{writes-line}

@@ -4,7 +4,7 @@ use Rattle.dw_cprint.specs.EntryShapes.{subject_in}
 use Rattle.dw_cprint.specs.Judgements.{AreFirstRefusals, IsRefusal}
 use Rattle.dw_cprint.specs.Shapes.{SubjectOf}
 use Rattle.dw_cprint.specs.Steps.{first_steps}
-use Rattle.dw_cprint.specs.Surveys.{AreAmong, BySurvey}
+use Rattle.dw_cprint.specs.Summaries.{AreAmong, BySurvey}
 use Rattle.dw_cprint.proofs.JudgementLemmas.{no-refusals, refusals-more, steps-among}
 use Rattle.dw_cprint.proofs.ListingLemmas.{entry-there, name-there}
 use Rattle.dw_cprint.proofs.listing.refusals_of.Goals as goal

@@ -3,7 +3,7 @@ use Rattle.std.specs.List.{list_any}
 use Rattle.dw_cprint.specs.Refusals.{other_kind, cycle}
 use Rattle.dw_cprint.specs.Shapes.{view_subject}
 use Rattle.dw_cprint.specs.Steps.{ReachACycle, first_steps, types_declared}
-use Rattle.dw_cprint.specs.Surveys.{lacks_summary}
+use Rattle.dw_cprint.specs.Summaries.{lacks_summary}
 use Rattle.dw_cprint.proofs.RefusalLemmas.{is-other, none-first, printable}
 use Rattle.dw_cprint.proofs.SurveyLemmas.{cycle-told, types-known}
 use Rattle.dw_cprint.proofs.survey.Survey.refusal_by_types.Goals as goal
