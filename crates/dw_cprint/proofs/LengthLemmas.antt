@@ -5,7 +5,7 @@ use Rattle.std.proofs.lemmas.List.Sums.{sum_by-cons}
 use Rattle.dw_types.specs.Sizes.{has_elements}
 use Rattle.dw_cprint.specs.Declarations.{nested_arrays, constants_of, declaration_by, has_more, is_miscounted, members_by, term_by}
 use Rattle.dw_cprint.specs.Declarators.{gap, opening, closing, pointer_row, before, after, core}
-use Rattle.dw_cprint.specs.Lengths.{byte_count, capped, type_bytes, space, has_gap, qualifier_bytes, IsLength, tag_bytes, bytes_around, named_bytes, members_bytes, parameters_bytes, shape_bytes, base_kind, declared_bytes}
+use Rattle.dw_cprint.specs.Lengths.{byte_count, capped, count_bytes, type_bytes, space, has_gap, qualifier_bytes, IsLength, tag_bytes, bytes_around, named_bytes, members_bytes, parameters_bytes, shape_bytes, base_kind, declared_bytes}
 use Rattle.dw_cprint.specs.Shapes.{Qualifier, OfAggregate, Enum, TypeAt, ShapeOf, base, typedef, qualified, pointer, array, function, tagged, body, enumeration, SubjectOf, typedef_subject, variable_subject, aggregate_subject, enumeration_subject, declared_subject}
 use Rattle.dw_cprint.specs.Steps.{parameter_types, types_declared, types_reached}
 use Rattle.dw_cprint.specs.Summaries.{Summary}
@@ -16,16 +16,14 @@ use Rattle.dw_cprint.specs.Wrong.{TypeKind, is_bracketed, is_pointer, kind_in}
 use Rattle.dw_cprint.specs.declared.shape.TypeKind.TheVariants as kind
 use Rattle.dw_cprint.proofs.KindLemmas.{first-of, others-of}
 use Rattle.dw_cprint.proofs.OptionLemmas.{map_holds, map_inverted, unless_holds}
-use Rattle.dw_cprint.proofs.PartLengthLemmas.{count-append, count-cons, capped-plus, capped-twice, Tells, bare-length, bare-known, body-length, around-length, defined-length, named-length, signature-length, enumerators-length}
+use Rattle.dw_cprint.proofs.PartLengthLemmas.{count-append, count-cons, Tells, bare-length, bare-known, body-length, around-length, defined-length, named-length, signature-length, enumerators-length}
 use Rattle.dw_cprint.proofs.WriterLemmas.{IsSpecifier, specifier-of, base-core, before-arrays, after-arrays, function-parts}
 
 -- a specifier
 core-length : (t : Term) (k : TypeKind) (n : ℕ) → IsSpecifier t → byte_count (core t) ≡ n → is_bracketed k ≡ false
     → is_pointer k ≡ false → IsLength t k k (capped n)
 core-length t k n spec counted plain other = record {
-  bare =
-      bare-length t (capped n) (ap (λ (m : ℕ). capped m)
-      (omega (arith, front [] false, count-append (core t) (gap false), back, counted)));
+  bare = bare-length t (capped n) (omega (arith, front [] false, count-append (core t) (gap false), back, counted));
   around =
       rw (plain, other) (omega (
         arith,
@@ -65,10 +63,7 @@ void-length =
 qualified-length : (q : Qualifier) (u : Term) (k b : TypeKind) (n : ℕ) → IsLength u k b n
     → IsLength (Qualified q u) kind.Qualified b (capped (n + qualifier_bytes k b q false))
 qualified-length q u k b n is = record {
-  bare = bare-length (Qualified q u) _
-      (capped-plus n (qualifier_bytes k b q false) (type_bytes u false) (qualifier_bytes k b q false)
-      (ap (λ (m : ℕ). capped m) (bare-known u k b n is) ∙ capped-twice (type_bytes u false)) refl
-      ∙ ap (λ (m : ℕ). capped m) (omega (arith, is.qualifier q [] false)));
+  bare = bare-length (Qualified q u) _ (omega (arith, bare-known u k b n is, is.qualifier q [] false));
   around = by (is_bracketed b) (is_pointer k) refl refl;
   qualifier =
       λ r qs inside. is.qualifier r (qs ++ q ∷ []) inside
@@ -105,10 +100,7 @@ pointer-length : (u : Term) (k b : TypeKind) (n : ℕ) → IsLength u k b n
     → IsLength (Pointer u) kind.Pointer kind.Pointer
     (capped (n + space (has_gap k b) + (if is_bracketed k then 3 else 1)))
 pointer-length u k b n is = record {
-  bare = bare-length (Pointer u) _
-      (capped-plus (n + space (has_gap k b)) (if is_bracketed k then 3 else 1) (type_bytes u true)
-      (if is_bracketed k then 3 else 1) (around-length u k b n is) refl
-      ∙ ap (λ (m : ℕ). capped m) (sym (whole false)));
+  bare = bare-length (Pointer u) _ (omega (arith, around-length u k b n is, whole false));
   around = omega (arith, whole true, whole false);
   qualifier = row;
   parentheses = refl;
@@ -159,9 +151,7 @@ bracketed-length : (t u : Term) (k b m : TypeKind) (n more : ℕ) → IsLength u
     → byte_count (opening t) + byte_count (closing t) ≡ 2 → (bytes : ℕ)
     → capped bytes ≡ capped (n + space (has_gap k b) + more) → IsLength t m m (capped bytes)
 bracketed-length t u k b m n more is is_bracket same behind parens bytes counted = record {
-  bare = bare-length t _
-      (counted ∙ capped-plus (n + space (has_gap k b)) more (type_bytes u true) more (around-length u k b n is) refl
-      ∙ ap (λ (x : ℕ). capped x) (omega (arith, front [] false, behind)));
+  bare = bare-length t _ (omega (arith, counted, around-length u k b n is, front [] false, behind));
   around = rw is_bracket (omega (arith, front [] false, front [] true));
   qualifier = λ q qs inside. rw is_bracket (omega (arith, front (q ∷ qs) inside, front qs inside));
   parentheses = rw is_bracket parens;
@@ -183,12 +173,12 @@ written-count None = 0
 written-count (Some d) = length (written d)
 
 counts-length : (counts : List (Option ℕ))
-    → byte_count (flat_map count_tokens counts) ≡ sum_by (λ (n : Option ℕ). byte_count (count_tokens n)) counts
+    → byte_count (flat_map count_tokens counts) ≡ sum_by count_bytes counts
 counts-length [] = refl
 counts-length (c ∷ cs) =
     count-append (count_tokens c) (flat_map count_tokens cs)
     ∙ ap (λ (m : ℕ). byte_count (count_tokens c) + m) (counts-length cs)
-    ∙ sym (sum_by-cons (λ (n : Option ℕ). byte_count (count_tokens n)) c cs)
+    ∙ sym (sum_by-cons count_bytes c cs)
 
 module _ (term : TypeAt → Option Term) (known : TypeAt → Summary) where
   -- what is counted for a shape is right
@@ -216,7 +206,7 @@ module _ (term : TypeAt → Option Term) (known : TypeAt → Summary) where
       let P : Term → Type 0 = λ x. IsLength x m m (capped (shape_bytes known (array (c ∷ cs) strange at))) in
       unless_holds P (is_miscounted (c ∷ cs)) _ (λ placed. map_holds P (nested_arrays (c ∷ cs)) (term at) (λ u is.
       bracketed-length (nested_arrays (c ∷ cs) u) u (known at).kind (known at).base m (known at).length
-      (sum_by (λ (n : Option ℕ). byte_count (count_tokens n)) (c ∷ cs))
+      (sum_by count_bytes (c ∷ cs))
       (first-of (Tells term known) at [] all u is) refl (λ qs inside. before-arrays cs u)
       (omega (
         arith,
@@ -252,9 +242,7 @@ module _ (term : TypeAt → Option Term) (known : TypeAt → Summary) where
             (Close ∷ after f.result),
         count-cons Close (after f.result),
       ))
-      refl (shape_bytes known (function at (Some ps)))
-      (capped-plus (bytes_around known at) (parameters_bytes known ps) (bytes_around known at)
-      (byte_count signature + 2) refl counted))
+      refl (shape_bytes known (function at (Some ps))) (omega (arith, counted)))
   shape-length (tagged word name) t all e =
       core-length t kind.Other (tag_bytes word (Some name)) (specifier-of term (tagged word name) t refl e)
       (ap (λ (o : Option Term). core-count o) (sym e)
@@ -269,16 +257,9 @@ module _ (term : TypeAt → Option Term) (known : TypeAt → Summary) where
       let f = map_inverted (Body word) (members_by term ms) t e in
       let own = byte_count (core t) in
       let long = ap (λ (u : Term). byte_count (core u)) f.2 in
-      let tag = OfAggregate word in
+      let tag = count-cons (TagWord (OfAggregate word)) (Blank ∷ body_tokens f.0) in
       let same : capped (shape_bytes known (body word odd ms)) ≡ capped own =
-      capped-plus (tag_bytes tag None) (members_bytes known ms) (tag_bytes tag None) (byte_count (body_tokens f.0)) refl
-      (body-length term known ms f.0 all f.1)
-      ∙ ap (λ (n : ℕ). capped n) (omega (
-        arith,
-        count-cons (TagWord tag) (Blank ∷ body_tokens f.0),
-        count-cons Blank (body_tokens f.0),
-        long,
-      )) in
+      omega (arith, body-length term known ms f.0 all f.1, tag, long) in
       subst (λ (n : ℕ). IsLength t kind.UnnamedAggregate kind.UnnamedAggregate n) (sym same)
       (core-length t kind.UnnamedAggregate own (specifier-of term (body word odd ms) t refl e) refl refl refl)
   shape-length (enumeration odd es) t all e =
@@ -289,7 +270,6 @@ module _ (term : TypeAt → Option Term) (known : TypeAt → Summary) where
       (omega (
         arith,
         count-cons (TagWord Enum) (Blank ∷ enumeration_tokens f.0),
-        count-cons Blank (enumeration_tokens f.0),
         long,
         enumerators-length es f.0 f.1,
       )) refl refl
@@ -305,27 +285,22 @@ module _ (term : TypeAt → Option Term) (known : TypeAt → Summary) where
       let text = spell [] t (Identifier name ∷ []) in
       let own = named-length term known t at (Some name) (first-of (Tells term known) at [] all t is) in
       let a = count-append (TypedefWord ∷ Blank ∷ []) (text ++ Semicolon ∷ []) in
-      capped-plus (named_bytes known at (Some name)) 9 (byte_count text) 9 own refl
-      ∙ ap (λ (n : ℕ). capped n) (omega (arith, a, count-append text (Semicolon ∷ [])))) d e
+      omega (arith, own, a, count-append text (Semicolon ∷ []))) d e
   declared-length (variable_subject (Some name) at) d all e =
       map_holds (λ (d : CDeclaration). capped (declared_bytes known (variable_subject (Some name) at))
       ≡ capped (length (written d))) (Variable name) (term at) (λ t is.
       let text = spell [] t (Identifier name ∷ []) in
       let own = named-length term known t at (Some name) (first-of (Tells term known) at [] all t is) in
-      capped-plus (named_bytes known at (Some name)) 1 (byte_count text) 1 own refl
-      ∙ ap (λ (n : ℕ). capped n) (omega (arith, count-append text (Semicolon ∷ [])))) d e
+      omega (arith, own, count-append text (Semicolon ∷ []))) d e
   declared-length (aggregate_subject word (Some name) odd ms) d all e =
-      let front = tag_bytes (OfAggregate word) (Some name) + 2 in
       map_holds (λ (d : CDeclaration). capped (declared_bytes known (aggregate_subject word (Some name) odd ms))
       ≡ capped (length (written d))) (Aggregate word name) (members_by term ms) (λ us are.
-      capped-plus front (members_bytes known ms) front (byte_count (body_tokens us)) refl
-      (body-length term known ms us all are)
-      ∙ ap (λ (n : ℕ). capped n) (sym (defined-length (OfAggregate word) name (body_tokens us)))) d e
+      omega (arith, body-length term known ms us all are, defined-length (OfAggregate word) name (body_tokens us)))
+      d e
   declared-length (enumeration_subject (Some name) odd es) d all e =
       map_holds (λ (d : CDeclaration). capped (declared_bytes known (enumeration_subject (Some name) odd es))
       ≡ capped (length (written d))) (Constants name) (constants_of es) (λ cs are.
-      ap (λ (n : ℕ). capped n)
-      (omega (arith, enumerators-length es cs are, defined-length Enum name (enumeration_tokens cs)))) d e
+      omega (arith, enumerators-length es cs are, defined-length Enum name (enumeration_tokens cs))) d e
   declared-length (declared_subject word (Some name)) d all e =
       let a = count-cons (TagWord word) (Blank ∷ Identifier name ∷ Semicolon ∷ []) in
       ap (λ (n : ℕ). capped n) (omega

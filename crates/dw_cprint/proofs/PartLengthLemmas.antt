@@ -1,6 +1,6 @@
 -- The text of what a type lists, members, parameters or enumerators, has as many bytes as are counted for it, up to
 -- the limit.
-use Rattle.std.proofs.Common.{◌≡◌, ℕ, ◌+◌, true, false, List, [], ◌∷◌, ◌++◌, Option, Some, None, refl, sym, ap, subst, ◌∙◌, length, length-append, arith}
+use Rattle.std.proofs.Common.{◌≡◌, ℕ, ◌+◌, Bool, true, false, List, [], ◌∷◌, ◌++◌, Option, Some, None, refl, sym, ap, subst, ◌∙◌, length, length-append, arith}
 use Rattle.std.proofs.lemmas.Grind.{flat_map-append}
 use Rattle.std.specs.Prelude.{All, sum_by}
 use Rattle.std.proofs.lemmas.List.Sums.{sum_by-cons}
@@ -27,13 +27,6 @@ count-append a b = ap (λ (u : List ℕ). length u) (flat_map-append spelling a 
 pub count-cons : (x : Token) (ts : List Token) → byte_count (x ∷ ts) ≡ length (spelling x) + byte_count ts
 count-cons x ts = length-append (spelling x) (text_of ts)
 
--- equal numbers up to the limit have equal sums
-pub capped-plus : (a b c d : ℕ) → capped a ≡ capped c → capped b ≡ capped d → capped (a + b) ≡ capped (c + d)
-capped-plus a b c d one other = omega arith
-
-pub capped-twice : (n : ℕ) → capped (capped n) ≡ capped n
-capped-twice n = omega arith
-
 -- ---- the terms of what an entry names
 
 -- what is known of the length of a type is right, if it has a term
@@ -55,6 +48,19 @@ bare-known t k b n is = is.bare ∙ ap (λ (m : ℕ). capped m) (bare-bytes t)
 pub around-length : (t : Term) (k b : TypeKind) (n : ℕ) → IsLength t k b n
     → capped (n + space (has_gap k b)) ≡ capped (type_bytes t true)
 around-length t k b n is = omega (arith, bare-known t k b n is, is.around)
+
+-- a parameter with the comma and the space before it, and those after it
+more-bytes : (t : Term) (ps : Parameters) (variadic : Bool)
+    → byte_count (more_parameters (ParameterTerm t ps) ++ ellipsis variadic)
+    ≡ 2 + byte_count (spell [] t []) + (byte_count (more_parameters ps) + byte_count (ellipsis variadic))
+more-bytes t ps variadic =
+    let one = spell [] t [] ++ more_parameters ps in
+    omega (
+      arith,
+      count-append (Comma ∷ Blank ∷ one) (ellipsis variadic),
+      count-append (Comma ∷ Blank ∷ []) one,
+      count-append (spell [] t []) (more_parameters ps),
+    )
 
 module _ (term : TypeAt → Option Term) (known : TypeAt → Summary) where
   -- a type with a name, or with nothing
@@ -85,32 +91,28 @@ module _ (term : TypeAt → Option Term) (known : TypeAt → Summary) where
       (λ (t : Term). MemberTerm m.name t m.bits) (term m.type_at) (members_by term ms) (λ t is vs are.
       let inner = members-length ms vs (others-of (Tells term known) m.type_at (member_types ms) all) are in
       let here = named-length t m.type_at m.name (first-of (Tells term known) m.type_at (member_types ms) all t is) in
-      let name = spell [] t (name_tokens m.name) in
-      let bits = byte_count (bits_tokens m.bits) in
-      let one = capped-plus (named_bytes known m.type_at m.name) (bits + 2) (byte_count name) (bits + 2) here refl in
-      let both = capped-plus (named_bytes known m.type_at m.name + (bits + 2)) (sum_by (member_bytes known) ms)
-      (byte_count name + (bits + 2)) (byte_count (members_tokens vs)) one inner in
-      let a = count-append name (bits_tokens m.bits ++ Semicolon ∷ Blank ∷ members_tokens vs) in
-      let b = count-append (bits_tokens m.bits) (Semicolon ∷ Blank ∷ members_tokens vs) in
-      let left : sum_by (member_bytes known) (m ∷ ms)
-      ≡ named_bytes known m.type_at m.name + (bits + 2) + sum_by (member_bytes known) ms =
-      omega (arith, sum_by-cons (member_bytes known) m ms) in
-      let right : byte_count name + (bits + 2) + byte_count (members_tokens vs)
-      ≡ byte_count (members_tokens (MemberTerm m.name t m.bits vs)) =
-      omega (arith, a, b, count-cons Semicolon (Blank ∷ members_tokens vs), count-cons Blank (members_tokens vs)) in
-      ap (λ (n : ℕ). capped n) left ∙ both ∙ ap (λ (n : ℕ). capped n) right) us e
+      let end = Semicolon ∷ Blank ∷ members_tokens vs in
+      let text = count-append (spell [] t (name_tokens m.name)) (bits_tokens m.bits ++ end) in
+      omega (
+        arith,
+        here,
+        inner,
+        sum_by-cons (member_bytes known) m ms,
+        text,
+        count-append (bits_tokens m.bits) end,
+        count-append (Semicolon ∷ Blank ∷ []) (members_tokens vs),
+      )) us e
 
   -- the same in braces
   pub body-length : (ms : List MemberOf) (us : Members) → All (Tells term known) (member_types ms)
       → members_by term ms ≡ Some us → capped (members_bytes known ms) ≡ capped (byte_count (body_tokens us))
   body-length ms us all e =
-      capped-plus 3 (sum_by (member_bytes known) ms) 3 (byte_count (members_tokens us)) refl
-      (members-length ms us all e)
-      ∙ ap (λ (n : ℕ). capped n) (omega (
+      omega (
         arith,
+        members-length ms us all e,
         count-append (LeftBrace ∷ Blank ∷ []) (members_tokens us ++ RightBrace ∷ []),
         count-append (members_tokens us) (RightBrace ∷ []),
-      ))
+      )
 
   -- those after the first, and the dots
   parameters-length : (ps : List Parameter) (us : Parameters) → is_cut_short ps ≡ false
@@ -124,28 +126,14 @@ module _ (term : TypeAt → Option Term) (known : TypeAt → Summary) where
       (parameters_by term ps) (λ t is vs are.
       let inner = parameters-length ps vs placed (others-of (Tells term known) at (parameter_types ps) all) are in
       let here = named-length t at None (first-of (Tells term known) at (parameter_types ps) all t is) in
-      let rest = more_parameters vs ++ ellipsis (has_more ps) in
-      let one = capped-plus (known at).length 2 (byte_count (spell [] t [])) 2 here refl in
-      let both = capped-plus ((known at).length + 2) (sum_by (parameter_bytes known) ps)
-      (byte_count (spell [] t []) + 2) (byte_count rest) one inner in
-      let left : sum_by (parameter_bytes known) (Typed at ∷ ps)
-      ≡ (known at).length + 2 + sum_by (parameter_bytes known) ps = sum_by-cons (parameter_bytes known) (Typed at)
-      ps in
-      let a = count-append (Comma ∷ Blank ∷ (spell [] t [] ++ more_parameters vs)) (ellipsis (has_more ps)) in
-      let b = count-append (spell [] t []) (more_parameters vs) in
-      let c = count-append (more_parameters vs) (ellipsis (has_more ps)) in
-      let right : byte_count (spell [] t []) + 2 + byte_count rest
-      ≡ byte_count (more_parameters (ParameterTerm t vs) ++ ellipsis (has_more ps)) =
       omega (
         arith,
-        a,
-        b,
-        c,
-        count-cons Comma (Blank ∷ (spell [] t [] ++ more_parameters vs)),
-        count-cons Blank
-            (spell [] t [] ++ more_parameters vs),
-      ) in
-      ap (λ (n : ℕ). capped n) left ∙ both ∙ ap (λ (n : ℕ). capped n) right) us e
+        here,
+        inner,
+        sum_by-cons (parameter_bytes known) (Typed at) ps,
+        more-bytes t vs (has_more ps),
+        count-append (more_parameters vs) (ellipsis (has_more ps)),
+      )) us e
   parameters-length (More ∷ []) us placed all e =
       (let same : NoParameter ≡ us = cc in
       ap (λ (u : Parameters). capped (byte_count (more_parameters u ++ ellipsis true))) same)
@@ -163,20 +151,12 @@ module _ (term : TypeAt → Option Term) (known : TypeAt → Summary) where
       ∙ both_hold (λ (us : Parameters). capped (byte_count (more_parameters us ++ ellipsis (has_more ps)))
       ≡ capped (byte_count (signature_tokens (Prototyped us (has_more ps))) + 2)) ParameterTerm (term at)
       (parameters_by term ps) (λ t is vs are.
-      let a = count-append (Comma ∷ Blank ∷ (spell [] t [] ++ more_parameters vs)) (ellipsis (has_more ps)) in
-      let b = count-append (spell [] t []) (more_parameters vs) in
-      let c = count-append (more_parameters vs) (ellipsis (has_more ps)) in
-      let d = count-append (spell [] t []) (more_parameters vs ++ ellipsis (has_more ps)) in
-      ap (λ (n : ℕ). capped n) (omega (
+      omega (
         arith,
-        a,
-        b,
-        c,
-        d,
-        count-cons Comma (Blank ∷ (spell [] t [] ++ more_parameters vs)),
-        count-cons Blank
-            (spell [] t [] ++ more_parameters vs),
-      ))) us e
+        more-bytes t vs (has_more ps),
+        count-append (spell [] t []) (more_parameters vs ++ ellipsis (has_more ps)),
+        count-append (more_parameters vs) (ellipsis (has_more ps)),
+      )) us e
   signature-length (More ∷ ps) us placed all e = absurd (cc)
 
 constants-length : (es : List EnumeratorOf) (cs : List Constant) → constants_of es ≡ Some cs
@@ -194,8 +174,7 @@ constants-length (x ∷ es) cs e =
     omega (
       arith,
       sum_by-cons enumerator_bytes x es,
-      count-cons Comma (Blank ∷ (one ++ more_constants m.others)),
-      count-cons Blank (one ++ more_constants m.others),
+      count-append (Comma ∷ Blank ∷ []) (one ++ more_constants m.others),
       count-append one (more_constants m.others),
     )
 
@@ -203,12 +182,7 @@ constants-length (x ∷ es) cs e =
 more-length : (c : Constant) (cs : List Constant)
     → byte_count (more_constants (c ∷ cs)) ≡ byte_count (constants (c ∷ cs)) + 2
 more-length c cs =
-    omega (
-      arith,
-      count-cons Comma (Blank ∷ (constant_tokens c ++ more_constants cs)),
-      count-cons Blank
-          (constant_tokens c ++ more_constants cs),
-    )
+    omega (arith, count-append (Comma ∷ Blank ∷ []) (constant_tokens c ++ more_constants cs))
 
 pub enumerators-length : (es : List EnumeratorOf) (cs : List Constant) → constants_of es ≡ Some cs
     → enumerators_bytes es ≡ byte_count (enumeration_tokens cs)
@@ -232,12 +206,9 @@ pub defined-length : (tag : TagKeyword) (name : List ℕ) (body : List Token)
     → byte_count (TagWord tag ∷ Blank ∷ Identifier name ∷ Blank ∷ (body ++ Semicolon ∷ []))
     ≡ tag_bytes tag (Some name) + 2 + byte_count body
 defined-length tag name body =
-    let rest = Blank ∷ (body ++ Semicolon ∷ []) in
     omega (
       arith,
-      count-cons (TagWord tag) (Blank ∷ Identifier name ∷ rest),
-      count-cons Blank (Identifier name ∷ rest),
-      count-cons (Identifier name) rest,
-      count-cons Blank (body ++ Semicolon ∷ []),
+      count-cons (TagWord tag) (Blank ∷ Identifier name ∷ Blank ∷ (body ++ Semicolon ∷ [])),
+      count-cons (Identifier name) (Blank ∷ (body ++ Semicolon ∷ [])),
       count-append body (Semicolon ∷ []),
     )
