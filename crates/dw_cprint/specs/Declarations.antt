@@ -4,7 +4,8 @@ use Rattle.std.specs.Prelude.{option_map, option_and_then, bytes_eq, ifâ—Œthenâ—
 use Rattle.std.specs.List.{find, list_any, slice_split}
 use Rattle.dw_cprint.specs.Legible.{is_identifier}
 use Rattle.dw_cprint.specs.Terms.{TypeWord, Constant, Valued, Term, Void, Named, Basic, Tagged, Body, Enumeration}
-use Rattle.dw_cprint.specs.Terms.{Qualified, Pointer, Array as ArrayTerm, Function, Unprototyped, Prototyped, Parameters}
+use Rattle.dw_cprint.specs.Terms.{Qualified, Pointer, Array as ArrayTerm, Function, Unprototyped, Prototyped}
+use Rattle.dw_cprint.specs.Terms.{Parameters}
 use Rattle.dw_cprint.specs.Terms.{NoParameter, Parameter as ParameterTerm, Members, NoMember, Member as MemberTerm}
 use Rattle.dw_cprint.specs.Terms.{CDeclaration, Typedef, Variable, Aggregate, Constants, Declared}
 use Rattle.dw_cprint.specs.Tokens.{type_word_spelling, type_words}
