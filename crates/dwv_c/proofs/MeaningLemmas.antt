@@ -1,7 +1,6 @@
 -- What the values of entries of an image mean.
 use Rattle.std.proofs.Common.{◌≡◌, ℕ, ◌+◌, ◌<◌, ◌≤◌, List, [], ◌∷◌, ◌++◌, length, Option, Some, None, sym, ap, subst, ◌∙◌, arith}
 use Rattle.std.specs.Prelude.{slice_get}
-use Rattle.dw_elf.specs.Sections.{IsAt}
 use Rattle.dw_forms.specs.Codes.{DW_AT_str_offsets_base, DW_AT_addr_base}
 use Rattle.dw_forms.specs.Value.{Datum, address, text, str, line_str, str_index, ref_info, ref_unit, ref_sig, addr_index}
 use Rattle.dw_entries.specs.declared.entries.Entries.{Entries}
@@ -24,8 +23,8 @@ use Rattle.dwv_c.specs.declared.meaning.Meaning.TheVariants as means
 use Rattle.dwv_c.specs.declared.meaning.ValueRow.{ValueRow}
 use Rattle.dwv_c.specs.declared.places.Span.{Span}
 use Rattle.dw_image.specs.declared.unit_at_hand.UnitAtHand.{UnitAtHand}
-use Rattle.dwv_c.specs.Meanings.{HasSpan, IsSpan, IsTextSpan, MeansIn}
-use Rattle.dwv_c.specs.SectionPlaces.{Holders, held_in}
+use Rattle.dwv_c.specs.Meanings.{HasSpan, MeansIn}
+use Rattle.dwv_c.specs.SectionPlaces.{Holders, IsSpan, IsTextSpan}
 use Rattle.dw_image.specs.UnitsAtHand.{IsAtHand, place_at}
 use Rattle.dwv_c.specs.ValueRows.{TEXT, HasBytes, HasTextBytes, Says, SaysAddress, SaysTarget, SaysText, address_in, target_in, value_place, value_text}
 
@@ -33,32 +32,13 @@ use Rattle.dwv_c.specs.ValueRows.{TEXT, HasBytes, HasTextBytes, Says, SaysAddres
 
 text_row : (h : Holders) (t : List ℕ) (p : TextPlace) (s : Span) (r : ValueRow) → IsTextSpan h t p s → HasSpan TEXT s r
     → HasTextBytes h t p r
-text_row h t p s r is has = record {
-  kind_is = has.kind_is;
-  section_is = has.section_is ∙ is.section_is;
-  number_is = has.start ∙ is.start_is;
-  place =
-      subst (λ (n : ℕ). IsAt (held_in h r.section) n (t ++ 0 ∷ [])) (sym has.start)
-      (subst (λ (n : ℕ). IsAt (held_in h n) s.start (t ++ 0 ∷ [])) (sym has.section_is) is.place);
-  length_is = has.length_is ∙ is.length_is;
-}
+text_row h t p s r is has =
+    record { kind_is = has.kind_is; there = subst (IsTextSpan h t p) (sym has.span_is) is }
 
 pub span_row : (h : Holders) (kind section offset : ℕ) (bytes : List ℕ) (s : Span) (r : ValueRow)
     → IsSpan h section offset bytes s → HasSpan kind s r → HasBytes h kind section offset bytes r
-span_row h kind section offset bytes s r is has = record {
-  kind_is = has.kind_is;
-  section_is = has.section_is ∙ is.section_is;
-  number_is = has.start ∙ is.start_is;
-  length_is = has.length_is ∙ is.length_is;
-  place =
-      subst (λ (n : ℕ). IsAt (held_in h r.section) n bytes) (sym has.start)
-      (subst (λ (n : ℕ). IsAt (held_in h n) s.start bytes) (sym has.section_is) is.place);
-  within =
-      let held : length (held_in h r.section) ≡ length (held_in h s.section) =
-      ap (λ (n : ℕ). length (held_in h n)) has.section_is in
-      let inside = is.within in
-      omega (arith, inside, has.start, has.length_is, held);
-}
+span_row h kind section offset bytes s r is has =
+    record { kind_is = has.kind_is; there = subst (IsSpan h section offset bytes) (sym has.span_is) is }
 
 -- ---- the rows of texts, addresses and references
 

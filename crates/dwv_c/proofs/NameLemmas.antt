@@ -1,8 +1,8 @@
 -- Where texts of sections are in the file.
-use Rattle.std.proofs.Common.{◌≡◌, ℕ, zero, suc, ◌+◌, ◌-◌, ◌<◌, ◌≤◌, ◌==◌, ◌⊎◌, true, false, List, [], ◌∷◌, ◌++◌, get_or, length, length-drop, length-take, min, take, drop, sym, ap, subst, ◌∙◌, drop-drop, take-append-drop, take_at, append_assoc, refl, arith, inl, inr}
+use Rattle.std.proofs.Common.{◌≡◌, ℕ, zero, suc, ◌+◌, ◌-◌, ◌<◌, ◌≤◌, ◌==◌, true, false, List, [], ◌∷◌, ◌++◌, get_or, length, length-drop, length-take, min, take, drop, sym, ap, subst, ◌∙◌, drop-drop, take-append-drop, take_at, append_assoc, refl, arith, inl, inr}
 use Rattle.std.proofs.Math.Seq.{take-suc}
 use Rattle.std.proofs.lemmas.List.{drop-append-le, get_or-drop}
-use Rattle.std.proofs.lemmas.Bool.{ne_eqb}
+use Rattle.std.proofs.lemmas.Bool.{cases_lt, ne_eqb}
 use Rattle.std.proofs.lemmas.List.Sums.{fails_before_first, passes_at_first}
 use Rattle.std.specs.List.{before_first, position_or_len}
 use Rattle.dw_elf.specs.Sections.{IsAt}
@@ -28,7 +28,7 @@ first_zero : (xs : List ℕ) (k : ℕ) → k < length xs → get_or xs k 0 ≡ 0
     → take (suc (position_or_len (λ byte. byte == 0) xs)) xs ≡ before_first (λ byte. byte == 0) xs ++ 0 ∷ []
 first_zero xs k below is =
     let n : ℕ = position_or_len (λ byte. byte == 0) xs in
-    let no_later : n ≤ k = elim (below_or_not k n) [
+    let no_later : n ≤ k = elim (cases_lt k n) [
       | inl less ↦ absurd (zero_passes (get_or xs k 0) is (fails_before_first (λ byte. byte == 0) xs k 0 less))
       | inr le ↦ le
     ] in
@@ -36,9 +36,6 @@ first_zero xs k below is =
     let zero_there : get_or xs n 0 ≡ 0 = is_zero (get_or xs n 0) (passes_at_first (λ byte. byte == 0) xs 0 within) in
     take-suc xs n 0 within ∙ ap (λ (b : ℕ). take n xs ++ b ∷ []) zero_there
   where
-    below_or_not : (k n : ℕ) → (k < n) ⊎ (n ≤ k)
-    below_or_not k n = grind arith
-
     zero_passes : (b : ℕ) → b ≡ 0 → (b == 0) ≡ false → ⊥
     zero_passes zero is fails = absurd cc
     zero_passes (suc b) is fails = absurd cc

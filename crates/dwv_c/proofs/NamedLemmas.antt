@@ -1,6 +1,6 @@
 -- The name of an entry, by the rows of its values.
 use Rattle.std.proofs.Common.{rules, ◌≡◌, ℕ, Bool, true, false, List, [], ◌∷◌, ◌++◌, Option, Some, None, refl, sym, ap, subst, ◌∙◌}
-use Rattle.std.specs.Prelude.{◌==◌, option_map, slice_get}
+use Rattle.std.specs.Prelude.{◌==◌, option_map, slice_get, unwrap_or}
 use Rattle.std.specs.Option.{option_and_then, option_flatten}
 use Rattle.dw_forms.specs.Codes.{DW_AT_name, DW_AT_str_offsets_base}
 use Rattle.dw_forms.specs.Value.{Datum, address, block, unsigned, signed, wide, text, flag, str, line_str, str_index, ref_info, ref_unit, ref_sig, sec_offset, expr, addr_index, loc_index, rng_index}
@@ -17,14 +17,14 @@ use Rattle.dw_image.specs.Images.{entries_in, name_in, name_place_in, sections_i
 use Rattle.dwv_c.specs.declared.meaning.ValueRow.{ValueRow}
 use Rattle.dwv_c.specs.declared.places.Span.{Span}
 use Rattle.dwv_c.specs.Meanings.{named_after, text_span}
-use Rattle.dwv_c.specs.TableState.{IsNameSpan}
 use Rattle.dwv_c.specs.ValueRows.{ADDRESS, BLOCK, EXPRESSION, FLAG, LOCATION_LIST, RANGE_LIST, REFERENCE, SECTION_OFFSET, SIGNED, TEXT, UNSIGNED, WIDE, Says, SaysText, value_place, value_text}
-use Rattle.dwv_c.specs.SectionPlaces.{Holders}
+use Rattle.dwv_c.specs.SectionPlaces.{Holders, IsNameSpan, nowhere}
 
 -- what is known of a name: no value so far is under its attribute, or the value is the text that is there, or no text
 abbrev pub IsNamed : (h : Holders) → Image → Entry → Option PlacedValue → Option (Option Span) → Type 0
 IsNamed h i e None None = Unit {0}
-IsNamed h i e (Some p) (Some s) = IsNameSpan h (value_text i e p.value) (value_place i e p.end p.value) s
+IsNamed h i e (Some p) (Some s) =
+    IsNameSpan h (value_text i e p.value) (value_place i e p.end p.value) (unwrap_or s nowhere)
 IsNamed h i e _ _ = ⊥
 
 -- ---- the value of an attribute, among more
@@ -44,12 +44,12 @@ back_value (x ∷ xs) ys attribute is = search (rules, (back_value xs ys attribu
 module _ (h : Holders) (i : Image) (e : Entry) where
   no_text : (v : Datum) (r : ValueRow) (kind : ℕ) → r.kind ≡ kind → (kind == TEXT) ≡ false
       → ((base : Option ℕ) → text_of_value (sections_in i) base v ≡ None)
-      → (end : ℕ) → IsNameSpan h (value_text i e v) (value_place i e end v) (text_span r)
+      → (end : ℕ) → IsNameSpan h (value_text i e v) (value_place i e end v) (unwrap_or (text_span r) nowhere)
   no_text v r kind is other none end =
       let test : (r.kind == TEXT) ≡ false = ap (λ (k : ℕ). k == TEXT) is ∙ other in
-      subst (λ (t : Option (List ℕ)). IsNameSpan h t (value_place i e end v) (text_span r))
+      subst (λ (t : Option (List ℕ)). IsNameSpan h t (value_place i e end v) (unwrap_or (text_span r) nowhere))
       (sym (go (slice_get (placed (units_in i)) e.unit)))
-      (rw test tt)
+      (rw test refl)
     where
       go : (o : Option PlacedUnit) → option_and_then (λ (p : PlacedUnit).
           text_of_value (sections_in i) (base_in (entries_in i) p DW_AT_str_offsets_base) v) o ≡ None
@@ -57,36 +57,31 @@ module _ (h : Holders) (i : Image) (e : Entry) where
       go (Some p) = none (base_in (entries_in i) p DW_AT_str_offsets_base)
 
   some_text : (v : Datum) (r : ValueRow) (end : ℕ) → SaysText h i e end v r
-      → IsNameSpan h (value_text i e v) (value_place i e end v) (text_span r)
+      → IsNameSpan h (value_text i e v) (value_place i e end v) (unwrap_or (text_span r) nowhere)
   some_text v r end (t, p, is, at, has) =
       let test : (r.kind == TEXT) ≡ true = ap (λ (k : ℕ). k == TEXT) has.kind_is in
-      subst (λ (o : Option (List ℕ)). IsNameSpan h o (value_place i e end v) (text_span r)) (sym is)
-      (subst (λ (o : Option TextPlace). IsNameSpan h (Some t) o (text_span r)) (sym at)
-      (rw test (record {
-        section_is = has.section_is;
-        start_is = has.number_is;
-        length_is = has.length_is;
-        place = has.place;
-      })))
+      subst (λ (o : Option (List ℕ)). IsNameSpan h o (value_place i e end v) (unwrap_or (text_span r) nowhere)) (sym is)
+      (subst (λ (o : Option TextPlace). IsNameSpan h (Some t) o (unwrap_or (text_span r) nowhere)) (sym at)
+      (rw test has.there))
 
   told_text : (end : ℕ) (v : Datum) (r : ValueRow) → Says h i e end v r
-      → IsNameSpan h (value_text i e v) (value_place i e end v) (text_span r)
-  told_text end (unsigned n) r says = no_text (unsigned n) r UNSIGNED says.kind_is refl (λ base. refl) end
-  told_text end (signed z) r says = no_text (signed z) r SIGNED says.kind_is refl (λ base. refl) end
-  told_text end (flag b) r says = no_text (flag b) r FLAG says.kind_is refl (λ base. refl) end
-  told_text end (address n) r says = no_text (address n) r ADDRESS says.2.kind_is refl (λ base. refl) end
-  told_text end (addr_index k) r says = no_text (addr_index k) r ADDRESS says.2.kind_is refl (λ base. refl) end
+      → IsNameSpan h (value_text i e v) (value_place i e end v) (unwrap_or (text_span r) nowhere)
   told_text end (text t) r says = some_text (text t) r end says
   told_text end (str offset) r says = some_text (str offset) r end says
   told_text end (line_str offset) r says = some_text (line_str offset) r end says
   told_text end (str_index k) r says = some_text (str_index k) r end says
-  told_text end (block bytes) r says = no_text (block bytes) r BLOCK says.kind_is refl (λ base. refl) end
-  told_text end (expr bytes) r says = no_text (expr bytes) r EXPRESSION says.kind_is refl (λ base. refl) end
-  told_text end (wide bytes) r says = no_text (wide bytes) r WIDE says.kind_is refl (λ base. refl) end
+  told_text end (address n) r says = no_text (address n) r ADDRESS says.2.kind_is refl (λ base. refl) end
+  told_text end (addr_index k) r says = no_text (addr_index k) r ADDRESS says.2.kind_is refl (λ base. refl) end
   told_text end (ref_info offset) r says = no_text (ref_info offset) r REFERENCE says.2.kind_is refl (λ base. refl) end
   told_text end (ref_unit offset) r says = no_text (ref_unit offset) r REFERENCE says.2.kind_is refl (λ base. refl) end
   told_text end (ref_sig signature) r says =
       no_text (ref_sig signature) r REFERENCE says.2.kind_is refl (λ base. refl) end
+  told_text end (unsigned n) r says = no_text (unsigned n) r UNSIGNED says.kind_is refl (λ base. refl) end
+  told_text end (signed z) r says = no_text (signed z) r SIGNED says.kind_is refl (λ base. refl) end
+  told_text end (flag b) r says = no_text (flag b) r FLAG says.kind_is refl (λ base. refl) end
+  told_text end (block bytes) r says = no_text (block bytes) r BLOCK says.kind_is refl (λ base. refl) end
+  told_text end (expr bytes) r says = no_text (expr bytes) r EXPRESSION says.kind_is refl (λ base. refl) end
+  told_text end (wide bytes) r says = no_text (wide bytes) r WIDE says.kind_is refl (λ base. refl) end
   told_text end (sec_offset offset) r says =
       no_text (sec_offset offset) r SECTION_OFFSET says.kind_is refl (λ base. refl) end
   told_text end (loc_index k) r says = no_text (loc_index k) r LOCATION_LIST says.kind_is refl (λ base. refl) end
@@ -148,14 +143,15 @@ module _ (h : Holders) (i : Image) (e : Entry) where
 
   -- after all values of the entry
   pub named_all : (named : Option (Option Span)) → IsNamed h i e (name_among (placed_values e)) named
-      → IsNameSpan h (name_in i e) (name_place_in i e) (option_flatten named)
+      → IsNameSpan h (name_in i e) (name_place_in i e) (unwrap_or (option_flatten named) nowhere)
   named_all named is =
       rw (name_is, name_place_is, value_placed e DW_AT_name) (go (placed_value_at e DW_AT_name) named is)
     where
       go : (o : Option PlacedValue) (n : Option (Option Span)) → IsNamed h i e o n
           → IsNameSpan h (option_and_then (value_text i e) (option_map (λ (p : PlacedValue). p.value) o))
-          (option_and_then (λ (p : PlacedValue). value_place i e p.end p.value) o) (option_flatten n)
-      go None None is = tt
+          (option_and_then (λ (p : PlacedValue). value_place i e p.end p.value) o)
+          (unwrap_or (option_flatten n) nowhere)
+      go None None is = refl
       go None (Some s) is = absurd is
       go (Some v) None is = absurd is
       go (Some v) (Some s) is = is

@@ -1,8 +1,10 @@
 -- Rows that are written one after another, and the values of entries in their order.
 use Rattle.std.proofs.Common.{◌≡◌, ℕ, zero, suc, ◌+◌, ◌-◌, ◌<◌, ◌≤◌, ◌⊎◌, inl, inr, List, [], ◌∷◌, ◌++◌, length, take, drop, map, Option, Some, None, refl, sym, ap, subst, ◌∙◌, append_assoc, append-nil, length-append, drop-drop, drop_at, arith}
 use Rattle.std.proofs.lemmas.List.{drop-set-lt, length-map}
-use Rattle.std.proofs.lemmas.Option.{slice_get_within, slice_get-get_or, slice_get-map}
-use Rattle.std.specs.Prelude.{slice_get, slice_set, option_map}
+use Rattle.std.proofs.lemmas.Bool.{cases_lt}
+use Rattle.std.proofs.lemmas.Option.{same_Some, slice_get_within, slice_get-get_or, slice_get-map}
+use Rattle.std.proofs.Math.Seq.{take-length}
+use Rattle.std.specs.Prelude.{slice_get, slice_set, option_map, unwrap_or}
 use Rattle.std.specs.Option.{IsSomeAnd, option_flatten}
 use Rattle.dw_forms.specs.Value.{Datum}
 use Rattle.dw_entries.specs.EntryRules.{values_of}
@@ -18,8 +20,7 @@ use Rattle.dw_image.specs.declared.unit_at_hand.UnitAtHand.{UnitAtHand}
 use Rattle.dwv_c.specs.declared.places.Span.{Span}
 use Rattle.dwv_c.specs.Meanings.{HasMeaning, Means, named_after}
 use Rattle.dw_image.specs.UnitsAtHand.{HasValue}
-use Rattle.dwv_c.specs.TableState.{IsNameSpan}
-use Rattle.dwv_c.specs.SectionPlaces.{Holders}
+use Rattle.dwv_c.specs.SectionPlaces.{Holders, IsNameSpan, nowhere}
 use Rattle.dwv_c.specs.ValueRows.{IsValueRow, Told, told, values_from, values_in}
 use Rattle.dwv_c.specs.Tables.{HaveValues, value_count, values_before}
 use Rattle.dw_links.proofs.ListLookups.{there}
@@ -39,20 +40,14 @@ get_set_other (x ∷ xs) zero k y less = absurd (omega (arith, less))
 get_set_other (x ∷ xs) (suc n) zero y less = refl
 get_set_other (x ∷ xs) (suc n) (suc k) y less = get_set_other xs n k y (omega (arith, less))
 
-below_or_not : (k n : ℕ) → (k < n) ⊎ (n ≤ k)
-below_or_not k n = grind arith
-
 -- the rows of the first items of a list
 abbrev pub Have : {X R : Type 0} → (ℕ → X → R → Type 0) → List X → ℕ → List R → Type 0
 Have {X} P xs n rows = (k : ℕ) (x : X) → k < n → slice_get xs k ≡ Some x → IsSomeAnd (slice_get rows k) (P k x)
 
-some_same : {X : Type 0} (o : Option X) (x y : X) → o ≡ Some x → o ≡ Some y → x ≡ y
-some_same o x y p q = cc
-
 -- and that of the next one
 pub have_more : {X R : Type 0} (P : ℕ → X → R → Type 0) (xs : List X) (n : ℕ) (rows : List R) (r : R) → n < length rows
     → Have P xs n rows → ((x : X) → slice_get xs n ≡ Some x → P n x r) → Have P xs (n + 1) (slice_set rows n r)
-have_more {X} {R} P xs n rows r room so_far says k x below at = elim (below_or_not k n) [
+have_more {X} {R} P xs n rows r room so_far says k x below at = elim (cases_lt k n) [
   | inl less ↦ subst (λ (o : Option R). IsSomeAnd o (P k x)) (sym (get_set_other rows n k r less)) (so_far k x less at)
   | inr le ↦
       let same : k ≡ n = omega (arith, le, below) in
@@ -85,7 +80,7 @@ values_at : (n k m : ℕ) (es : List Entry) (e : Entry) → m ≡ n + k → slic
     ≡ map (told m e) (placed_values e) ++ values_from (suc m) (drop (suc k) es)
 values_at n k m [] e sum is = absurd cc
 values_at n zero m (x ∷ es) e sum is =
-    let same : x ≡ e = some_same (Some x) x e refl is in
+    let same : x ≡ e = same_Some x e is in
     let number : n ≡ m = omega (arith, sum) in
     subst (λ (y : Entry). values_from n (x ∷ es) ≡ map (told m y) (placed_values y) ++ values_from (suc m) es) same
     (subst (λ (p : ℕ). values_from n (x ∷ es) ≡ map (told p x) (placed_values x) ++ values_from (suc p) es) number
@@ -104,7 +99,7 @@ values_counted : (n k : ℕ) (es : List Entry) (e : Entry) → slice_get es k �
     → length (values_from n (take (suc k) es)) ≡ length (values_from n (take k es)) + length (values_of e.head)
 values_counted n k [] e is = absurd cc
 values_counted n zero (x ∷ es) e is =
-    let same : x ≡ e = some_same (Some x) x e refl is in
+    let same : x ≡ e = same_Some x e is in
     let own : length (values_from n (x ∷ [])) ≡ length (values_of x.head) =
     ap length (append-nil (map (told n x) (placed_values x))) ∙ length-map (placed_values x) (told n x)
     ∙ placed_long x in
@@ -120,12 +115,8 @@ values_counted n (suc k) (x ∷ es) e is =
     length-append own (values_from (suc n) (take k es)) in
     omega (arith, a, b, more)
 
-take_all : {X : Type 0} (xs : List X) → take (length xs) xs ≡ xs
-take_all [] = refl
-take_all (x ∷ xs) = ap (λ (l : List _). x ∷ l) (take_all xs)
-
 pub all_before : (i : Image) → values_before i (entry_count i) ≡ value_count i
-all_before i = ap (λ (es : List Entry). length (values_from 0 es)) (take_all (entries_in i))
+all_before i = ap (λ (es : List Entry). length (values_from 0 es)) (take-length (entries_in i))
 
 pub counted_at : (i : Image) (id : ℕ) (e : Entry) → slice_get (entries_in i) id ≡ Some e
     → values_before i (id + 1) ≡ values_before i id + length (values_of e.head)
@@ -187,13 +178,13 @@ module _ (h : Holders) (i : Image) (id at : ℕ) (item : PlacedValue) (left : Li
       drop_more at (values_in i) (told id (entry_of (entries_in i) id) item)
       (map (told id (entry_of (entries_in i) id)) left ++ w.tail) w.all
 
-  pub value_here : slice_get (values_in i) at ≡ Some (told id (entry_of (entries_in i) id) item)
+  value_here : slice_get (values_in i) at ≡ Some (told id (entry_of (entries_in i) id) item)
   value_here = here.0
 
-  pub at_within : at < value_count i
+  at_within : at < value_count i
   at_within = slice_get_within (values_in i) at (told id (entry_of (entries_in i) id) item) value_here
 
-  pub has_here : slice_get (values_of (entry_of (entries_in i) id).head) (length w.done)
+  has_here : slice_get (values_of (entry_of (entries_in i) id).head) (length w.done)
       ≡ Some (item.attribute, item.value)
   has_here =
       let e = entry_of (entries_in i) id in
@@ -215,6 +206,27 @@ module _ (h : Holders) (i : Image) (id at : ℕ) (item : PlacedValue) (left : Li
     name = named_more h i (entry_of (entries_in i) id) w.done item named row w.name attribute (means row has);
   }
 
+  -- the value at hand is one of the entry
+  pub value_of_entry : (u : UnitAtHand) → u.number ≡ (entry_of (entries_in i) id).unit → HasValue i u item.value
+  value_of_entry u unit = record {
+    id = id;
+    within = w.within;
+    in_unit = sym unit;
+    position = length w.done;
+    attribute = item.attribute;
+    has = has_here;
+  }
+
+  -- the rows of the values up to it and with it, by the row of its meaning
+  pub values_more : (rows : List ValueRow) (row : ValueRow) (m : Meaning) → value_count i ≤ length rows
+      → HaveValues h i at rows → row.entry ≡ id → row.attribute ≡ item.attribute → HasMeaning m row → row.zero ≡ 0
+      → Means h i (entry_of (entries_in i) id) item.end item.value m → HaveValues h i (at + 1) (slice_set rows at row)
+  values_more rows row m room so_far entry attribute has is_zero means =
+      have_more (λ k t r. IsValueRow h i t r) (values_in i) at rows row
+      (let below = at_within in omega (arith, below, room)) so_far
+      (λ t is. subst (λ (x : Told). IsValueRow h i x row) (same_Some _ t (sym value_here ∙ is))
+      (record { entry = entry; attribute_is = attribute; says = means row has; zero_is = is_zero }))
+
 pub at_last : (h : Holders) (i : Image) (id at : ℕ) (left : List PlacedValue) (named : Option (Option Span)) → left ≡ []
     → IsAtValue h i id at left named → at ≡ values_before i (id + 1)
 at_last h i id at left named none w = omega (arith, w.next, ap length none)
@@ -223,54 +235,12 @@ at_last h i id at left named none w = omega (arith, w.next, ap length none)
 pub name_at_last : (h : Holders) (i : Image) (id at : ℕ) (left : List PlacedValue) (named : Option (Option Span))
     → left ≡ [] → IsAtValue h i id at left named
     → IsNameSpan h (name_in i (entry_of (entries_in i) id)) (name_place_in i (entry_of (entries_in i) id))
-    (option_flatten named)
+    (unwrap_or (option_flatten named) nowhere)
 name_at_last h i id at left named none w =
     let e = entry_of (entries_in i) id in
     let all : w.done ≡ placed_values e =
     sym (append-nil w.done) ∙ ap (λ (l : List PlacedValue). w.done ++ l) (sym none) ∙ sym w.parts in
     named_all h i e named (subst (λ (l : List PlacedValue). IsNamed h i e (name_among h i e l) named) all w.name)
-
--- ---- the rows of values
-
--- the value at hand is one of the entry
-pub value_of_entry : (h : Holders) (i : Image) (u : UnitAtHand) (id at : ℕ) (item : PlacedValue)
-    (left : List PlacedValue) (named : Option (Option Span)) → IsAtValue h i id at (item ∷ left) named
-    → u.number ≡ (entry_of (entries_in i) id).unit → HasValue i u item.value
-value_of_entry h i u id at item left named w unit = record {
-  id = id;
-  within = w.within;
-  in_unit = sym unit;
-  position = length w.done;
-  attribute = item.attribute;
-  has = has_here h i id at item left named w;
-}
-
--- the row of its meaning is its row
-value_row_is : (h : Holders) (i : Image) (id at : ℕ) (item : PlacedValue) (left : List PlacedValue)
-    (named : Option (Option Span)) → IsAtValue h i id at (item ∷ left) named
-    → (row : ValueRow) (m : Meaning) → row.entry ≡ id → row.attribute ≡ item.attribute → HasMeaning m row → row.zero ≡ 0
-    → Means h i (entry_of (entries_in i) id) item.end item.value m
-    → (t : Told) → slice_get (values_in i) at ≡ Some t → IsValueRow h i t row
-value_row_is h i id at item left named w row m entry attribute has is_zero means t is =
-    let same : told id (entry_of (entries_in i) id) item
-    ≡ t =
-    some_same (slice_get (values_in i) at) (told id (entry_of (entries_in i) id) item) t
-    (value_here h i id at item left named w) is
-    in
-    subst (λ (x : Told). IsValueRow h i x row) same
-    (record { entry = entry; attribute_is = attribute; says = means row has; zero_is = is_zero })
-
--- so the rows of the values up to it and with it
-pub values_more : (h : Holders) (i : Image) (id at : ℕ) (item : PlacedValue) (left : List PlacedValue)
-    (named : Option (Option Span)) → IsAtValue h i id at (item ∷ left) named
-    → (rows : List ValueRow) (row : ValueRow) (m : Meaning) → value_count i ≤ length rows → HaveValues h i at rows
-    → row.entry ≡ id → row.attribute ≡ item.attribute → HasMeaning m row → row.zero ≡ 0
-    → Means h i (entry_of (entries_in i) id) item.end item.value m
-    → HaveValues h i (at + 1) (slice_set rows at row)
-values_more h i id at item left named w rows row m room so_far entry attribute has is_zero means =
-    have_more (λ k t r. IsValueRow h i t r) (values_in i) at rows row
-    (let below = at_within h i id at item left named w in omega (arith, below, room)) so_far
-    (value_row_is h i id at item left named w row m entry attribute has is_zero means)
 
 -- after the last value of an entry
 pub counted_to : (h : Holders) (i : Image) (id at from : ℕ) (left : List PlacedValue) (named : Option (Option Span))

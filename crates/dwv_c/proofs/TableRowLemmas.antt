@@ -1,10 +1,10 @@
 -- The rows of a table: that of an entry by what is told of it, and what a call returns.
 use Rattle.std.proofs.Common.{◌≡◌, ℕ, suc, ◌+◌, ◌-◌, ◌<◌, ◌≤◌, List, [], ◌∷◌, ◌++◌, length, min, Option, Some, None, Err, IfSome, refl, sym, ap, subst, ◌∙◌, arith}
-use Rattle.std.specs.Prelude.{slice_get, slice_set, option_map}
+use Rattle.std.specs.Prelude.{slice_get, slice_set, option_map, unwrap_or}
 use Rattle.std.specs.Option.{IsSomeAnd}
-use Rattle.std.proofs.lemmas.Option.{get_or_from_slice_get, slice_get-get_or}
+use Rattle.std.proofs.lemmas.Option.{get_or_from_slice_get, same_Some, slice_get-get_or}
 use Rattle.dw_elf.specs.Checks.{ChecksPass}
-use Rattle.dw_elf.specs.Sections.{AreSections, IsAt}
+use Rattle.dw_elf.specs.Sections.{AreSections}
 use Rattle.dw_elf.specs.declared.sections.Sections.{Sections}
 use Rattle.dw_entries.specs.EntryRules.{values_of}
 use Rattle.dw_entries.specs.Entries.{Entry}
@@ -14,7 +14,6 @@ use Rattle.dw_forms.specs.declared.fault.Stop.{Stop}
 use Rattle.dw_forms.specs.declared.fault.Stop.TheVariants.{Fault, Memory}
 use Rattle.dw_image.specs.declared.image.Image.{Image}
 use Rattle.dw_image.specs.Images.{entries_in, entry_count, name_in, name_place_in, sections_in, units_in}
-use Rattle.dw_links.specs.declared.texts.TextPlace.{TextPlace}
 use Rattle.dw_report.specs.Shown.{entry_size}
 use Rattle.dwv_c.specs.declared.places.Span.{Span}
 use Rattle.dwv_c.specs.declared.table_rows.Links.{Links}
@@ -24,15 +23,12 @@ use Rattle.dwv_c.specs.declared.table_rows.EntryRow.{EntryRow}
 use Rattle.dwv_c.specs.declared.table_rows.UnitRow.{UnitRow}
 use Rattle.dwv_c.specs.declared.verdict.Verdict.{Verdict}
 use Rattle.dwv_c.specs.Checked.{IsErrorOf, status_of, verdict_after}
-use Rattle.dwv_c.specs.Tables.{AreHolders, AreTable, Arrays, HasName, HasRoom, HasSize, HaveEntries, IsEntryRow, LacksRoom, PutsTable, arrays, counts_of, greatest, row_of, sound, fault, memory, short, values_before, whole}
-use Rattle.dwv_c.specs.TableState.{HasLinks, HasNameSpan, IsNameSpan, Puts, depth_by, filled}
+use Rattle.dwv_c.specs.Tables.{AreHolders, AreTable, Arrays, HasRoom, HasSize, HaveEntries, IsEntryRow, LacksRoom, PutsTable, arrays, counts_of, greatest, name_span, row_of, sound, fault, memory, short, values_before, whole}
+use Rattle.dwv_c.specs.TableState.{HasLinks, Puts, depth_by, filled}
 use Rattle.dwv_c.specs.TableState as state
-use Rattle.dwv_c.specs.SectionPlaces.{Holders, held_in}
+use Rattle.dwv_c.specs.SectionPlaces.{Holders, IsNameSpan, nowhere}
 use Rattle.dwv_c.specs.Verdicts.{Given, of_file, NO_MEMORY, SOUND, TOO_SHORT, IsFaultOfGiven, IsSound, of_image}
 use Rattle.dwv_c.proofs.TableLemmas.{have_more}
-
-some_is : {X : Type 0} {x y : X} → Some x ≡ Some y → x ≡ y
-some_is e = cc
 
 -- the depth by the parent's row is the entry's
 depth_told : (h : Holders) (i : Image) (k : ℕ) (e : Entry) (rows : List EntryRow) (d : ℕ)
@@ -44,39 +40,24 @@ depth_told h i k e rows d is so_far told = go e.parent refl told
         → IsSomeAnd o (IsEntryRow h i p above)
         → option_map (λ (r : EntryRow). min (suc r.depth) greatest) o ≡ Some d → d ≡ min e.depth greatest
     by_row p above None deeper row told = absurd row
-    by_row p above (Some r) deeper row told = omega (arith, some_is told, row.depth, deeper)
+    by_row p above (Some r) deeper row told = omega (arith, same_Some _ _ told, row.depth, deeper)
 
     go : (above : Option ℕ) → e.parent ≡ above → depth_by rows above ≡ Some d → d ≡ min e.depth greatest
-    go None top told = omega (arith, some_is told, no_depth (units_in i) k e is top)
+    go None top told = omega (arith, same_Some _ _ told, no_depth (units_in i) k e is top)
     go (Some p) under told =
         let (above, at, deeper, less) = one_deeper (units_in i) k p e is under in
         by_row p above (slice_get rows p) deeper (so_far p above less at) told
-
-has_name : (h : Holders) (name : Option (List ℕ)) (place : Option TextPlace) (s : Option Span) (r : EntryRow)
-    → IsNameSpan h name place s → HasNameSpan s r → HasName h name place r
-has_name h None place None r is has = has
-has_name h None place (Some s) r is has = absurd is
-has_name h (Some text) None None r is has = absurd is
-has_name h (Some text) None (Some s) r is has = absurd is
-has_name h (Some text) (Some place) None r is has = absurd is
-has_name h (Some text) (Some place) (Some s) r is has = record {
-  section_is = has.2 ∙ is.section_is;
-  name_is = has.0 ∙ is.start_is;
-  length_is = has.1 ∙ is.length_is;
-  place =
-      subst (λ (n : ℕ). IsAt (held_in h r.name_section) n (text ++ 0 ∷ [])) (sym has.0)
-      (subst (λ (n : ℕ). IsAt (held_in h n) s.start (text ++ 0 ∷ [])) (sym has.2) is.place);
-}
 
 -- what is told of an entry makes its row
 pub entry_told : (h : Holders) (i : Image) (k : ℕ) (rows : List EntryRow) (e : Entry) (offset tag : ℕ)
     (above : Option ℕ) (d : ℕ) (size : Option ℕ) (name : Option Span) (l : Links) (r : EntryRow)
     → slice_get (entries_in i) k ≡ Some e → HaveEntries h i k rows → offset ≡ e.at → tag ≡ e.head.decl.tag
     → above ≡ e.parent → depth_by rows above ≡ Some d → size ≡ entry_size i k e
-    → IsNameSpan h (name_in i e) (name_place_in i e) name
+    → IsNameSpan h (name_in i e) (name_place_in i e) (unwrap_or name nowhere)
     → l.first_value ≡ values_before i k → l.values ≡ length (values_of e.head) → l.unit ≡ e.unit
     → l.parent ≡ e.parent → l.next_sibling ≡ e.next
-    → r.offset ≡ offset → r.depth ≡ d → r.tag ≡ tag → HasSize size r → HasNameSpan name r → HasLinks l r
+    → r.offset ≡ offset → r.depth ≡ d → r.tag ≡ tag → HasSize size r → name_span r ≡ unwrap_or name nowhere
+    → HasLinks l r
     → IsEntryRow h i k e r
 entry_told h i k rows e offset tag above d size name l r at so_far is_offset is_tag is_above is_depth is_size is_name
     first values unit parent next r_offset r_depth r_tag r_size r_name r_links =
@@ -85,7 +66,7 @@ entry_told h i k rows e offset tag above d size name l r at so_far is_offset is_
       depth = r_depth ∙ depth_told h i k e rows d at so_far (ap (depth_by rows) (sym is_above) ∙ is_depth);
       tag = r_tag ∙ is_tag;
       size = subst (λ (s : Option ℕ). HasSize s r) is_size r_size;
-      name = has_name h (name_in i e) (name_place_in i e) name r is_name r_name;
+      name = subst (IsNameSpan h (name_in i e) (name_place_in i e)) (sym r_name) is_name;
       first_value = r_links.first_value ∙ first;
       values = r_links.values ∙ ap (λ (n : ℕ). min n greatest) values;
       unit = r_links.unit ∙ unit;

@@ -1,6 +1,5 @@
 -- State: what a value means before its row is written.
-use Rattle.std.specs.Prelude.{◌≡◌, ℕ, ◌+◌, ◌≤◌, List, [], ◌∷◌, ◌++◌, length, ◌==◌, Bool, true, false}
-use Rattle.std.specs.Prelude.{if◌then◌else◌}
+use Rattle.std.specs.Prelude.{◌≡◌, ℕ, ◌+◌, ◌≤◌, List, [], ◌∷◌, ◌++◌, length, ◌==◌, Bool, true, false, if◌then◌else◌}
 use Rattle.std.specs.Prelude.{Option, None, Some}
 use Rattle.std.specs.Int.{cast_unsigned, w64}
 use Rattle.dw_elf.specs.Checks.{ChecksPass}
@@ -20,9 +19,8 @@ use Rattle.dwv_c.specs.declared.meaning.ValueRow.{ValueRow}
 use Rattle.dw_image.specs.declared.unit_at_hand.UnitAtHand.{UnitAtHand}
 use Rattle.dw_links.specs.declared.texts.TextPlace.{TextPlace}
 use Rattle.dwv_c.specs.SectionPlaces.{AreInFile, AreInImage, Holders, held_in, offset_of, section_of, start_in}
-use Rattle.dwv_c.specs.ValueRows.{HasNumber, Says}
-use Rattle.dwv_c.specs.ValueRows.{UNSIGNED, SIGNED, FLAG, ADDRESS, TEXT, BLOCK, EXPRESSION, WIDE, REFERENCE}
-use Rattle.dwv_c.specs.ValueRows.{SECTION_OFFSET, LOCATION_LIST, RANGE_LIST}
+use Rattle.dwv_c.specs.ValueRows.{HasNumber, Says, row_span, UNSIGNED, SIGNED, FLAG, ADDRESS, TEXT, BLOCK, EXPRESSION}
+use Rattle.dwv_c.specs.ValueRows.{WIDE, REFERENCE, SECTION_OFFSET, LOCATION_LIST, RANGE_LIST}
 
 -- ---- places
 
@@ -42,21 +40,6 @@ pub record IsPartOfSection (section : List ℕ) (offset : ℕ) (bytes : List ℕ
   pub place : IsAt section offset bytes
   pub within : offset + length bytes ≤ length section
 
--- these bytes are there, at an offset of a section
-pub record IsSpan (h : Holders) (section offset : ℕ) (bytes : List ℕ) (s : Span) : Type 0 where
-  pub section_is : s.section ≡ section
-  pub start_is : s.start ≡ start_in h section + offset
-  pub length_is : s.length ≡ length bytes
-  pub place : IsAt (held_in h s.section) s.start bytes
-  pub within : s.start + s.length ≤ length (held_in h s.section)
-
--- this text is there, at this place of a section, and a zero byte follows it
-pub record IsTextSpan (h : Holders) (text : List ℕ) (p : TextPlace) (s : Span) : Type 0 where
-  pub section_is : s.section ≡ section_of p
-  pub start_is : s.start ≡ start_in h (section_of p) + offset_of p
-  pub length_is : s.length ≡ length text
-  pub place : IsAt (held_in h s.section) s.start (text ++ 0 ∷ [])
-
 -- what places are counted from
 abbrev pub AreOnGround : Ground → Image → Holders → Type 0
 AreOnGround (File file) i h = AreInFile file.now h
@@ -72,9 +55,7 @@ IsGround BySection i = Unit {0}
 -- a row has this kind, and these bytes
 pub record HasSpan (kind : ℕ) (s : Span) (r : ValueRow) : Type 0 where
   pub kind_is : r.kind ≡ kind
-  pub section_is : r.section ≡ s.section
-  pub start : r.number ≡ s.start
-  pub length_is : r.length ≡ s.length
+  pub span_is : row_span r ≡ s
 
 -- the row of a meaning
 abbrev pub HasMeaning : Meaning → ValueRow → Type 0
@@ -121,8 +102,7 @@ is_bytes _ = false
 
 -- where the text of a row is, if it has one
 abbrev pub text_span : ValueRow → Option Span
-text_span r =
-    if r.kind == TEXT then Some (record { section = r.section; start = r.number; length = r.length }) else None
+text_span r = if r.kind == TEXT then Some (row_span r) else None
 
 -- what is known of an entry's name after one more row of its values: where it is, or that it is no text
 abbrev pub named_after : Option (Option Span) → ValueRow → Option (Option Span)

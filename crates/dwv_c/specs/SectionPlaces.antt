@@ -1,14 +1,15 @@
 -- Chapter: where bytes of .debug_info, .debug_str and .debug_line_str are: counted from the start of a file, or from
 -- the start of each section.
-use Rattle.std.specs.Prelude.{◌≡◌, ℕ, ◌+◌, ◌==◌, List, [], if◌then◌else◌}
+use Rattle.std.specs.Prelude.{◌≡◌, ℕ, ◌+◌, ◌≤◌, ◌==◌, List, [], ◌∷◌, ◌++◌, length, Option, None, Some, if◌then◌else◌}
 use Rattle.dw_elf.specs.Names.{name_of}
-use Rattle.dw_elf.specs.Sections.{StartsAt}
+use Rattle.dw_elf.specs.Sections.{IsAt, StartsAt}
 use Rattle.dw_elf.specs.declared.sections.DebugSection.TheVariants as debug
 use Rattle.dw_elf.specs.declared.sections.Sections.{Sections}
 use Rattle.dw_image.specs.declared.image.Image.{Image}
 use Rattle.dw_image.specs.Images.{sections_in}
 use Rattle.dw_links.specs.declared.texts.TextPlace.{TextPlace}
 use Rattle.dw_links.specs.declared.texts.TextPlace.TheVariants.{Info, Str, LineStr}
+use Rattle.dwv_c.specs.declared.places.Span.{Span}
 
 -- bytes are in .debug_info
 abbrev pub INFO : ℕ
@@ -78,3 +79,30 @@ held_alone s = record {
 -- places are counted from the start of each section of an image
 abbrev pub AreInImage : Image → Holders → Type 0
 AreInImage i h = h ≡ held_alone (sections_in i)
+
+-- ---- bytes in the sections
+
+-- these bytes are there, at an offset of a section
+pub record IsSpan (h : Holders) (section offset : ℕ) (bytes : List ℕ) (s : Span) : Type 0 where
+  pub section_is : s.section ≡ section
+  pub start_is : s.start ≡ start_in h section + offset
+  pub length_is : s.length ≡ length bytes
+  pub place : IsAt (held_in h s.section) s.start bytes
+  pub within : s.start + s.length ≤ length (held_in h s.section)
+
+-- this text is there, at this place of a section, and a zero byte follows it
+pub record IsTextSpan (h : Holders) (text : List ℕ) (p : TextPlace) (s : Span) : Type 0 where
+  pub section_is : s.section ≡ section_of p
+  pub start_is : s.start ≡ start_in h (section_of p) + offset_of p
+  pub length_is : s.length ≡ length text
+  pub place : IsAt (held_in h s.section) s.start (text ++ 0 ∷ [])
+
+-- no bytes
+abbrev pub nowhere : Span
+nowhere = record { section = 0; start = 0; length = 0 }
+
+-- a name is there, at this place, or there is none
+abbrev pub IsNameSpan : (h : Holders) → Option (List ℕ) → Option TextPlace → Span → Type 0
+IsNameSpan h None place s = s ≡ nowhere
+IsNameSpan h (Some name) None s = ⊥
+IsNameSpan h (Some name) (Some place) s = IsTextSpan h name place s

@@ -4,15 +4,12 @@ use Rattle.dw_entries.specs.declared.cursor.Cursor.{Cursor}
 use Rattle.dw_entries.specs.ByNumber.{entry_of}
 use Rattle.dw_image.specs.declared.image.Image.{Image}
 use Rattle.dw_image.specs.Images.{entries_in}
-use Rattle.dw_links.specs.declared.texts.TextPlace.{TextPlace}
-use Rattle.dwv_c.specs.declared.places.Span.{Span}
 use Rattle.dwv_c.specs.declared.table_rows.Links.{Links}
 use Rattle.dwv_c.specs.declared.table_rows.TableCounts.{TableCounts}
 use Rattle.dwv_c.specs.declared.table_rows.EntryRow.{EntryRow}
 use Rattle.dwv_c.specs.declared.verdict.Verdict.{Verdict}
 use Rattle.dwv_c.specs.declared.meaning.ValueRow.{ValueRow}
 use Rattle.dw_image.specs.declared.unit_at_hand.UnitAtHand.{UnitAtHand}
-use Rattle.dwv_c.specs.Meanings.{IsTextSpan}
 use Rattle.dw_image.specs.UnitsAtHand.{IsAtHand}
 use Rattle.dwv_c.specs.Tables.{Arrays, FillsTable, HaveEntries, HaveValues, counts_of, greatest, row_of}
 use Rattle.dwv_c.specs.SectionPlaces.{Holders}
@@ -22,17 +19,6 @@ use Rattle.dwv_c.specs.Verdicts.{NO_MEMORY, of_image}
 abbrev pub depth_by : List EntryRow → Option ℕ → Option ℕ
 depth_by rows None = Some 0
 depth_by rows (Some p) = option_map (λ (r : EntryRow). min (suc r.depth) greatest) (slice_get rows p)
-
--- a name is there, at this place, or there is none
-abbrev pub IsNameSpan : (h : Holders) → Option (List ℕ) → Option TextPlace → Option Span → Type 0
-IsNameSpan h None place None = Unit {0}
-IsNameSpan h (Some name) (Some place) (Some s) = IsTextSpan h name place s
-IsNameSpan h _ _ _ = ⊥
-
--- a row has this name, or none
-abbrev pub HasNameSpan : Option Span → EntryRow → Type 0
-HasNameSpan None r = (r.name ≡ 0) × (r.name_length ≡ 0) × (r.name_section ≡ 0)
-HasNameSpan (Some s) r = (r.name ≡ s.start) × (r.name_length ≡ s.length) × (r.name_section ≡ s.section)
 
 -- a row has this place among the others, and these values
 pub record HasLinks (l : Links) (r : EntryRow) : Type 0 where

@@ -1,36 +1,31 @@
 -- Chapter: the units, the entries and the values of a sound file as rows in three arrays of the caller.
 use Rattle.std.specs.Prelude.{◌≡◌, ℕ, ◌+◌, ◌<◌, ◌≤◌, ◌⊎◌, List, [], ◌∷◌, ◌++◌, length, take, drop, min, slice_get}
-use Rattle.std.specs.Prelude.{Option, Some, None}
-use Rattle.std.specs.Prelude.{unwrap_or}
+use Rattle.std.specs.Prelude.{Option, Some, None, unwrap_or}
 use Rattle.std.specs.Option.{IsSomeAnd}
-use Rattle.dw_elf.specs.Sections.{IsAt}
 use Rattle.dw_forms.specs.Codes.{DW_AT_language}
 use Rattle.dw_entries.specs.EntryRules.{values_of}
 use Rattle.dw_entries.specs.Entries.{Entry, PlacedUnit, node_count, placed}
 use Rattle.dw_entries.specs.ByNumber.{entry_of}
 use Rattle.dw_entries.specs.Header.{code_of_type, version_of}
-use Rattle.dw_entries.specs.Lookups.{unit_head, value_at_entry}
+use Rattle.dw_entries.specs.Lookups.{unit_head}
 use Rattle.dw_links.specs.Bases.{section_offset_of}
-use Rattle.dw_links.specs.Constants.{constant_of, natural_of}
+use Rattle.dw_links.specs.Constants.{constant_at, natural_of}
+use Rattle.dw_ranges.specs.EntryRanges.{DW_AT_rnglists_base}
 use Rattle.dw_image.specs.declared.image.Image.{Image}
 use Rattle.dw_image.specs.Images.{entries_in, entry_count, name_in, name_place_in, unit_count, units_in}
-use Rattle.dw_links.specs.declared.texts.TextPlace.{TextPlace}
 use Rattle.dw_report.specs.Shown.{entry_size}
 use Rattle.dwv_c.specs.declared.meaning.ValueRow.{ValueRow}
+use Rattle.dwv_c.specs.declared.places.Span.{Span}
 use Rattle.dwv_c.specs.declared.table_rows.TableCounts.{TableCounts}
 use Rattle.dwv_c.specs.declared.table_rows.EntryRow.{EntryRow}
 use Rattle.dwv_c.specs.declared.table_rows.UnitRow.{UnitRow}
 use Rattle.dwv_c.specs.declared.verdict.Verdict.{Verdict}
-use Rattle.dwv_c.specs.SectionPlaces.{AreInFile, AreInImage, Holders, held_in, offset_of, section_of, start_in}
+use Rattle.dwv_c.specs.SectionPlaces.{AreInFile, AreInImage, Holders, IsNameSpan}
 use Rattle.dwv_c.specs.ValueRows.{IsValueRow, Told, values_from, values_in}
 use Rattle.dwv_c.specs.Verdicts.{Given, of_file, of_six, SOUND, FAULT, NO_MEMORY, TOO_SHORT, IsFaultOfGiven}
 use Rattle.dwv_c.specs.Verdicts.{IsSound, of_image}
 
--- where a unit's range lists are counted from in .debug_rnglists, and its location lists in .debug_loclists (DWARF 5,
--- table 7.5)
-abbrev pub DW_AT_rnglists_base : ℕ
-DW_AT_rnglists_base = 0x74
-
+-- where a unit's location lists are counted from in .debug_loclists (DWARF 5, table 7.5)
 abbrev pub DW_AT_loclists_base : ℕ
 DW_AT_loclists_base = 0x8c
 
@@ -53,7 +48,7 @@ values_before i number = length (values_from 0 (take number (entries_in i)))
 
 -- the number under an attribute of an entry, or 0 if there is none that is 0 or more
 abbrev pub number_under : Entry → ℕ → ℕ
-number_under e attribute = unwrap_or (natural_of (constant_of (value_at_entry e attribute))) 0
+number_under e attribute = unwrap_or (natural_of (constant_at e attribute)) 0
 
 -- the offset into a section under an attribute of an entry, or 0 if there is none
 abbrev pub offset_under : Entry → ℕ → ℕ
@@ -76,18 +71,9 @@ abbrev pub HasSize : Option ℕ → EntryRow → Type 0
 HasSize None r = (r.size ≡ 0) × (r.has_size ≡ 0)
 HasSize (Some n) r = (r.size ≡ n) × (r.has_size ≡ 1)
 
--- a row says where this name is: at this place of a section, and a zero byte follows it there
-pub record HasNameAt (h : Holders) (text : List ℕ) (p : TextPlace) (r : EntryRow) : Type 0 where
-  pub section_is : r.name_section ≡ section_of p
-  pub name_is : r.name ≡ start_in h (section_of p) + offset_of p
-  pub length_is : r.name_length ≡ length text
-  pub place : IsAt (held_in h r.name_section) r.name (text ++ 0 ∷ [])
-
--- a row says where this name is, or that there is none
-abbrev pub HasName : (h : Holders) → Option (List ℕ) → Option TextPlace → EntryRow → Type 0
-HasName h None place r = (r.name ≡ 0) × (r.name_length ≡ 0) × (r.name_section ≡ 0)
-HasName h (Some text) None r = ⊥
-HasName h (Some text) (Some place) r = HasNameAt h text place r
+-- the bytes of a row's name
+abbrev pub name_span : EntryRow → Span
+name_span r = record { section = r.name_section; start = r.name; length = r.name_length }
 
 -- the row of the entry with a number: its offset, its depth (or the greatest number, if it does not fit), its tag, its
 -- size, where its name is, and its place among the others
@@ -96,7 +82,7 @@ pub record IsEntryRow (h : Holders) (i : Image) (number : ℕ) (e : Entry) (r : 
   pub depth : r.depth ≡ min e.depth greatest
   pub tag : r.tag ≡ e.head.decl.tag
   pub size : HasSize (entry_size i number e) r
-  pub name : HasName h (name_in i e) (name_place_in i e) r
+  pub name : IsNameSpan h (name_in i e) (name_place_in i e) (name_span r)
   pub first_value : r.first_value ≡ values_before i number
   pub values : r.values ≡ min (length (values_of e.head)) greatest
   pub unit : r.unit ≡ e.unit

@@ -3,7 +3,6 @@ use Rattle.std.specs.Prelude.{◌≡◌, ℕ, suc, ◌+◌, ◌-◌, ◌≤◌, 
 use Rattle.std.specs.Prelude.{if◌then◌else◌}
 use Rattle.std.specs.Option.{option_and_then}
 use Rattle.std.specs.Int.{cast_unsigned, w64}
-use Rattle.dw_elf.specs.Sections.{IsAt}
 use Rattle.dw_forms.specs.Codes.{DW_AT_str_offsets_base, DW_AT_addr_base}
 use Rattle.dw_forms.specs.Value.{Datum, address, block, unsigned, signed, wide, text, flag, str, line_str, str_index}
 use Rattle.dw_forms.specs.Value.{ref_info, ref_unit, ref_sig, sec_offset, expr, addr_index, loc_index, rng_index}
@@ -16,7 +15,8 @@ use Rattle.dw_links.specs.Targets.{reach_of}
 use Rattle.dw_links.specs.ValueTexts.{address_of, text_of_value, text_place_of}
 use Rattle.dw_links.specs.declared.texts.TextPlace.{TextPlace}
 use Rattle.dwv_c.specs.declared.meaning.ValueRow.{ValueRow}
-use Rattle.dwv_c.specs.SectionPlaces.{Holders, INFO, held_in, offset_of, section_of, start_in}
+use Rattle.dwv_c.specs.declared.places.Span.{Span}
+use Rattle.dwv_c.specs.SectionPlaces.{Holders, INFO, IsSpan, IsTextSpan}
 
 -- ---- the kinds
 
@@ -77,22 +77,19 @@ pub record HasNumber (kind n : ℕ) (r : ValueRow) : Type 0 where
   pub no_bytes : r.length ≡ 0
   pub nowhere : r.section ≡ 0
 
+-- the bytes of a row
+abbrev pub row_span : ValueRow → Span
+row_span r = record { section = r.section; start = r.number; length = r.length }
+
 -- a row has this kind, and says where these bytes are: at an offset of a section
 pub record HasBytes (h : Holders) (kind section offset : ℕ) (bytes : List ℕ) (r : ValueRow) : Type 0 where
   pub kind_is : r.kind ≡ kind
-  pub section_is : r.section ≡ section
-  pub number_is : r.number ≡ start_in h section + offset
-  pub length_is : r.length ≡ length bytes
-  pub place : IsAt (held_in h r.section) r.number bytes
-  pub within : r.number + r.length ≤ length (held_in h r.section)
+  pub there : IsSpan h section offset bytes (row_span r)
 
 -- a row says where this text is: at this place of a section, and a zero byte follows it there
 pub record HasTextBytes (h : Holders) (t : List ℕ) (p : TextPlace) (r : ValueRow) : Type 0 where
   pub kind_is : r.kind ≡ TEXT
-  pub section_is : r.section ≡ section_of p
-  pub number_is : r.number ≡ start_in h (section_of p) + offset_of p
-  pub length_is : r.length ≡ length t
-  pub place : IsAt (held_in h r.section) r.number (t ++ 0 ∷ [])
+  pub there : IsTextSpan h t p (row_span r)
 
 -- the address of a value of an entry, if it is one
 abbrev pub address_in : Image → Entry → Datum → Option ℕ

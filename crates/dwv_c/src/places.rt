@@ -85,8 +85,8 @@ pub struct Places<'i, 'a> {
 }
 
 impl<'i, 'a> Places<'i, 'a> {
-    ghost use Rattle.dwv_c.specs.Meanings.{AreOnGround, IsGround, IsPartOfSection, IsSpan, IsTextSpan, holders_of};
-    ghost use Rattle.dwv_c.specs.SectionPlaces.{INFO as INFO_SECTION};
+    ghost use Rattle.dwv_c.specs.Meanings.{AreOnGround, IsGround, IsPartOfSection, holders_of};
+    ghost use Rattle.dwv_c.specs.SectionPlaces.{INFO as INFO_SECTION, IsSpan, IsTextSpan};
 
     /// Places in the sections of an image, counted from what is given.
     pub fn read(

@@ -1,6 +1,6 @@
 //! What sound sections say, as rows in three arrays of the caller.
 
-ghost use Rattle.std.specs.Prelude.{◌≡◌, ◌+◌, ◌<◌, ◌≤◌, length, drop};
+ghost use Rattle.std.specs.Prelude.{◌≡◌, ◌+◌, ◌<◌, ◌≤◌, length, drop, unwrap_or};
 ghost use Rattle.std.specs.Bool.{OnTrue, OnFalse};
 ghost use Rattle.dw_entries.specs.EntryRules.{values_of};
 ghost use Rattle.dw_entries.specs.ByNumber.{entry_of};
@@ -8,9 +8,9 @@ ghost use Rattle.dw_image.specs.Images.{entries_in, entry_count, name_in, name_p
 ghost use Rattle.dw_image.specs.Images.{unit_count};
 ghost use Rattle.dwv_c.specs.Meanings.{AreOnGround, IsGround, holders_of};
 ghost use Rattle.dwv_c.specs.Tables.{AreTable, HasRoom, HaveEntries, HaveUnits, HaveValues, IsEntryRow, LacksRoom};
-ghost use Rattle.dwv_c.specs.SectionPlaces.{Holders};
+ghost use Rattle.dwv_c.specs.SectionPlaces.{Holders, IsNameSpan, nowhere};
 ghost use Rattle.dwv_c.specs.Tables.{arrays, counts_of, value_count, values_before};
-ghost use Rattle.dwv_c.specs.TableState.{AreBefore, AreOf, IsNameSpan, IsUnitOf, Puts};
+ghost use Rattle.dwv_c.specs.TableState.{AreBefore, AreOf, IsUnitOf, Puts};
 ghost use Rattle.dwv_c.specs.Verdicts.{of_image};
 
 use crate::meaning::{ValueRow, named_after, value_row};
@@ -43,7 +43,7 @@ impl<'p, 'i, 'a> Resolver<'p, 'i, 'a> {
         ensures count { result.0 ≡ from + length (values_of (entry_of (entries_in self.now.image.now) id).head) }
         ensures name { IsNameSpan (holders_of self.now.places.now)
             (name_in self.now.image.now (entry_of (entries_in self.now.image.now) id))
-            (name_place_in self.now.image.now (entry_of (entries_in self.now.image.now) id)) result.1 }
+            (name_place_in self.now.image.now (entry_of (entries_in self.now.image.now) id)) (unwrap_or result.1 nowhere) }
         ensures rows { HaveValues (holders_of self.now.places.now) self.now.image.now result.0 values.new }
         ensures rest { drop result.0 values.new ≡ drop result.0 values.old }
     {
@@ -78,7 +78,7 @@ impl<'p, 'i, 'a> Resolver<'p, 'i, 'a> {
         requires next { next ≡ from + length (values_of (entry_of (entries_in self.now.image.now) id).head) }
         requires name { IsNameSpan (holders_of self.now.places.now)
             (name_in self.now.image.now (entry_of (entries_in self.now.image.now) id))
-            (name_place_in self.now.image.now (entry_of (entries_in self.now.image.now) id)) name }
+            (name_place_in self.now.image.now (entry_of (entries_in self.now.image.now) id)) (unwrap_or name nowhere) }
         ensures { IsEntryRow (holders_of self.now.places.now) self.now.image.now id
             (entry_of (entries_in self.now.image.now) id) result }
     {

@@ -1,11 +1,12 @@
 //! The rows of units and of entries.
 
-ghost use Rattle.std.specs.Prelude.{◌≡◌, ◌<◌, Some, length, min, IfSome};
+ghost use Rattle.std.specs.Prelude.{◌≡◌, ◌<◌, Some, length, min, IfSome, unwrap_or};
 ghost use Rattle.dw_entries.specs.ByNumber.{entry_of, placed_of};
 ghost use Rattle.dw_entries.specs.Entries.{placed};
 ghost use Rattle.dw_image.specs.Images.{entries_in, unit_count, units_in};
-ghost use Rattle.dwv_c.specs.Tables.{HasSize, greatest, IsUnitRow, number_under, offset_under, row_of};
-ghost use Rattle.dwv_c.specs.TableState.{HasLinks, HasNameSpan, depth_by};
+ghost use Rattle.dwv_c.specs.Tables.{HasSize, greatest, IsUnitRow, name_span, number_under, offset_under, row_of};
+ghost use Rattle.dwv_c.specs.SectionPlaces.{nowhere};
+ghost use Rattle.dwv_c.specs.TableState.{HasLinks, depth_by};
 
 use crate::places::Span;
 use dw_entries::constants::*;
@@ -182,7 +183,7 @@ pub fn row_with(
     ensures depth { result.depth ≡ depth }
     ensures tag { result.tag ≡ tag }
     ensures size { HasSize size result }
-    ensures name { HasNameSpan name result }
+    ensures name { name_span result ≡ unwrap_or name nowhere }
     ensures links { HasLinks links result }
 {
     let (size, has_size) = match size {
