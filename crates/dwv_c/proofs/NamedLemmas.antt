@@ -76,16 +76,7 @@ module _ (h : Holders) (i : Image) (e : Entry) where
   told_text end (ref_unit offset) r says = no_text (ref_unit offset) r REFERENCE says.2.kind_is refl (λ base. refl) end
   told_text end (ref_sig signature) r says =
       no_text (ref_sig signature) r REFERENCE says.2.kind_is refl (λ base. refl) end
-  told_text end (unsigned n) r says = no_text (unsigned n) r UNSIGNED says.kind_is refl (λ base. refl) end
-  told_text end (signed z) r says = no_text (signed z) r SIGNED says.kind_is refl (λ base. refl) end
-  told_text end (flag b) r says = no_text (flag b) r FLAG says.kind_is refl (λ base. refl) end
-  told_text end (block bytes) r says = no_text (block bytes) r BLOCK says.kind_is refl (λ base. refl) end
-  told_text end (expr bytes) r says = no_text (expr bytes) r EXPRESSION says.kind_is refl (λ base. refl) end
-  told_text end (wide bytes) r says = no_text (wide bytes) r WIDE says.kind_is refl (λ base. refl) end
-  told_text end (sec_offset offset) r says =
-      no_text (sec_offset offset) r SECTION_OFFSET says.kind_is refl (λ base. refl) end
-  told_text end (loc_index k) r says = no_text (loc_index k) r LOCATION_LIST says.kind_is refl (λ base. refl) end
-  told_text end (rng_index k) r says = no_text (rng_index k) r RANGE_LIST says.kind_is refl (λ base. refl) end
+  told_text end v r says = no_text v r _ says.kind_is refl (λ base. refl) end
 
   -- ---- the name
 
