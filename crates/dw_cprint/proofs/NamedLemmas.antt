@@ -6,7 +6,7 @@ use Rattle.std.proofs.lemmas.Bool.{cases_lt, eqb-true}
 use Rattle.std.proofs.lemmas.List.{get_or_append_left, get_or_push, length-append}
 use Rattle.std.proofs.lemmas.List.Elements.{filter_map-append}
 use Rattle.dw_forms.specs.Codes.{DW_TAG_typedef, DW_TAG_variable}
-use Rattle.dw_links.specs.References.{is_declared}
+use Rattle.dw_image.specs.References.{is_declared}
 use Rattle.dw_image.specs.declared.image.Image.{Image}
 use Rattle.dw_image.specs.Images.{entries_in}
 use Rattle.dw_cprint.specs.EntryShapes.{defined_in, members_in, subject_in, tag_in, tag_word}

@@ -5,7 +5,7 @@ use Rattle.std.specs.List.{cons_option, filter_map}
 use Rattle.std.proofs.lemmas.List.Elements.{All-nil, All-cons, All-append}
 use Rattle.std.proofs.lemmas.Option.{slice_get_within}
 use Rattle.dw_entries.specs.Entries.{Entry}
-use Rattle.dw_links.specs.References.{is_declared}
+use Rattle.dw_image.specs.References.{is_declared}
 use Rattle.dw_image.specs.declared.image.Image.{Image}
 use Rattle.dw_image.specs.Images.{entries_in, type_in}
 use Rattle.dw_image.specs.Lookups.{type_number}

@@ -7,9 +7,9 @@ use Rattle.dw_forms.specs.Codes.{DW_TAG_enumerator, DW_TAG_formal_parameter, DW_
 use Rattle.dw_forms.specs.Codes.{DW_TAG_restrict_type, DW_TAG_structure_type, DW_TAG_subroutine_type, DW_TAG_typedef}
 use Rattle.dw_forms.specs.Codes.{DW_TAG_union_type, DW_TAG_unspecified_parameters, DW_TAG_variable}
 use Rattle.dw_forms.specs.Codes.{DW_TAG_variant_part, DW_TAG_volatile_type, is_type_tag}
-use Rattle.dw_links.specs.Constants.{constant_at, is_present, natural_of, number_of_constant}
-use Rattle.dw_links.specs.References.{is_declared}
-use Rattle.dw_links.specs.declared.constant.Constant.{Constant}
+use Rattle.dw_entries.specs.Entries.{Entry}
+use Rattle.dw_image.specs.Constants.{constant_at, is_present, natural_of, number_of_constant}
+use Rattle.dw_image.specs.References.{is_declared}
 use Rattle.dw_types.specs.Counts.{count_at}
 use Rattle.dw_types.specs.Kinds.{is_subrange}
 use Rattle.dw_types.specs.Shapes.{is_defined_member}
@@ -68,8 +68,10 @@ parameters_in image id =
 -- ---- structures and unions (DWARF 5, 5.7)
 
 -- a size in bits, if there is one; 0 if it is no number of 1 or more
-abbrev pub bits_in : Constant → Option ℕ
-bits_in size = if is_present size then Some (unwrap_or (natural_of size) 0) else None
+abbrev pub bits_of : Entry → Option ℕ
+bits_of entry =
+    if is_present (constant_at entry DW_AT_bit_size)
+    then Some (unwrap_or (natural_of (constant_at entry DW_AT_bit_size)) 0) else None
 
 -- a child that is a member and not declared: its name, its type and its bit size
 abbrev pub member_at : Image → ℕ → Option MemberOf
@@ -78,7 +80,7 @@ member_at image id =
     then Some (record {
       name = name_at image id;
       type_at = type_at image id;
-      bits = bits_in (constant_at (entry_by image id) DW_AT_bit_size);
+      bits = bits_of (entry_by image id);
     })
     else None
 

@@ -146,7 +146,8 @@ abbrev pub has_own_bad_name : (TypeAt → TypeKind) → SubjectOf → Bool
 has_own_bad_name kinds (typedef_subject name at) = lacks_name name
 has_own_bad_name kinds (variable_subject name at) = lacks_name name
 has_own_bad_name kinds (aggregate_subject word name odd members) = lacks_name name || lack_names kinds members
-has_own_bad_name kinds (enumeration_subject name odd enumerators) = lacks_name name || list_any lacks_identifier enumerators
+has_own_bad_name kinds (enumeration_subject name odd enumerators) =
+    lacks_name name || list_any lacks_identifier enumerators
 has_own_bad_name kinds (declared_subject word name) = lacks_name name
 has_own_bad_name kinds _ = false
 

@@ -7,10 +7,10 @@ ghost use Rattle.dw_image.specs.Images.{entries_in, sections_in};
 ghost use Rattle.dw_image.specs.Slots.{IsTextPlace};
 ghost use Rattle.dw_image.specs.StringSpans.{IsSpan};
 ghost use Rattle.dw_image.specs.ValueTexts.{text_there};
-ghost use Rattle.dw_links.specs.Constants.{constant_at, number_of_constant};
+ghost use Rattle.dw_image.specs.Constants.{constant_at, number_of_constant};
 ghost use Rattle.dw_cprint.specs.LookUps.{entry_by, name_at, tag_at, type_at, flag_at, bytes_at, is_short};
 ghost use Rattle.dw_cprint.specs.Shapes.{view_name};
-ghost use Rattle.dw_cprint.specs.EntryShapes.{bits_in};
+ghost use Rattle.dw_cprint.specs.EntryShapes.{bits_of};
 
 use crate::words::{Name, Text};
 use dw_entries::constants::*;
@@ -133,7 +133,7 @@ pub fn integer_at(image: &Image<'_>, id: EntryId, attribute: Attribute) -> Optio
 /// The size in bits of a member, if it has one. One that is no number of 1 or more gives 0.
 pub fn bits_at(image: &Image<'_>, id: EntryId) -> Option<u64>
     requires { id < length (entries_in image.now) }
-    ensures { result ≡ bits_in (constant_at (entry_by image.now id) DW_AT_bit_size) }
+    ensures { result ≡ bits_of (entry_by image.now id) }
 {
     match image.value(id, DW_AT_bit_size) {
         None => None,
