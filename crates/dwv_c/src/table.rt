@@ -43,7 +43,8 @@ impl<'p, 'i, 'a> Resolver<'p, 'i, 'a> {
         ensures count { result.0 ≡ from + length (values_of (entry_of (entries_in self.now.image.now) id).head) }
         ensures name { IsNameSpan (holders_of self.now.places.now)
             (name_in self.now.image.now (entry_of (entries_in self.now.image.now) id))
-            (name_place_in self.now.image.now (entry_of (entries_in self.now.image.now) id)) (unwrap_or result.1 nowhere) }
+            (name_place_in self.now.image.now (entry_of (entries_in self.now.image.now) id))
+            (unwrap_or result.1 nowhere) }
         ensures rows { HaveValues (holders_of self.now.places.now) self.now.image.now result.0 values.new }
         ensures rest { drop result.0 values.new ≡ drop result.0 values.old }
     {
