@@ -1,6 +1,6 @@
 -- State: what is known of the calls of a reader or a writer: the bytes that it returned or took, and how many failed.
-use Rattle.std.specs.Prelude.{ℕ, ◌+◌, ◌==◌, ◌&&◌, nat_lt, if◌then◌else◌, Result, Ok, Err, Option, None, Some, List}
-use Rattle.std.specs.Prelude.{length, take}
+use Rattle.std.specs.Prelude.{ℕ, ◌≡◌, ◌+◌, ◌≤◌, ◌==◌, ◌&&◌, nat_lt, Bool, true, false, if◌then◌else◌, Result, Ok, Err}
+use Rattle.std.specs.Prelude.{Option, None, Some, List, length, take, IfSome}
 use Rattle.std.specs.Io.KnownBytes.{Consumes}
 
 -- the count after a read: one more at an error
@@ -17,3 +17,13 @@ after_write count (Err e) bytes = count + 1
 abbrev pub TakesInput : ℕ → Option (List ℕ) → Option (List ℕ) → Type 0
 TakesInput limit None new = Unit {0}
 TakesInput limit (Some input) new = Consumes (Some input) new (take (limit + 1) input)
+
+-- the bytes are all up to the end, if the last read returned none, or else all up to one byte past the limit
+abbrev pub IsWhole : (limit : ℕ) → (ended : Bool) → (given : List ℕ) → Type 0
+IsWhole limit true given = length given ≤ limit
+IsWhole limit false given = length given ≡ limit + 1
+
+-- a reader, whose bytes may be known, has given these, up to its end or up to one byte past the limit
+abbrev pub HasGiven : (limit : ℕ) → (input : Option (List ℕ)) → (ended : Bool) → (given : List ℕ) → Type 0
+HasGiven limit input ended given =
+    IsWhole limit ended given × IfSome input (λ bytes. given ≡ take (limit + 1) bytes)

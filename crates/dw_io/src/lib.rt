@@ -7,4 +7,4 @@ mod transfer;
 
 pub use arguments::{ArgumentFault, after_name};
 pub use device::{Device, Sink, Source};
-pub use transfer::{RunFault, read_input, write_text};
+pub use transfer::{RunFault, read_all, read_input, write_all, write_text};
