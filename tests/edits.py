@@ -202,6 +202,9 @@ def outcome_of(edit, report, is_alone):
         return None
     if report.status == 0:
         return Outcome(edit, False, "NOT REFUSED")
+    if not report.told:
+        # The borrow checker, for example, refuses a body that may be right.
+        return Outcome(edit, False, f"REFUSED AT NO GOAL: {report.lines[-1][:160]}")
     elsewhere = f"refused only in {', '.join(sorted(report.told))}: {goal} ({weight})"
     return Outcome(edit, weight != "name", elsewhere, True)
 
