@@ -1,6 +1,6 @@
 //! One request over a source and a sink: read, make the whole text, write, and how that ends.
 
-ghost use Rattle.std.specs.Prelude.{◌≡◌, ◌<◌, ◌↔◌, Err, length, take, IfOk, IfSome, OnOk, IsErrOf};
+ghost use Rattle.std.specs.Prelude.{◌≡◌, ◌<◌, ◌↔◌, false, Err, [], length, take, IfOk, IfSome, OnOk, IsErrOf};
 ghost use Rattle.std.specs.Io.KnownBytes.{Appends};
 ghost use Rattle.dw_io.specs.Devices.{HasGiven, TakesInput};
 ghost use Rattle.dw_report.specs.Reports.{Report, file_limit};
@@ -39,7 +39,8 @@ pub struct Transcript {
 impl Transcript {
     /// Nothing is read or written.
     pub fn new(alloc: Global) -> Transcript
-        ensures { result.taken ≡ 0 }
+        ensures given { (result.given.items ≡ []) × (result.ended ≡ false) }
+        ensures taken { (result.text.items ≡ []) × (result.taken ≡ 0) }
     {
         Transcript {
             given: Vec::new(alloc),
