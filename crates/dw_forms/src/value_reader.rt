@@ -131,8 +131,8 @@ fn indirect(version: u16, address_size: u8, bytes: &[u8]) -> Result<(Value<'_>, 
 }
 
 /// The value of any form, and how many bytes it has, whether the version allows its form or not. Most values that are
-/// read are offsets and short indexes of strings, references within a unit and numbers of one byte, which are read in
-/// place.
+/// read are offsets and short indexes of strings, references within a unit, numbers of one byte and those of
+/// declarations, which are read in place. What a call returns is taken apart, so that these stay in registers.
 #[inline(always)]
 #[tactic(auto, unfolding(crate::specs::ValueFormats::laid_out))]
 pub(crate) fn read_any(
@@ -166,8 +166,15 @@ pub(crate) fn read_any(
             Ok(index) => Ok((Value::StrIndex(index), 2)),
             Err(fault) => Err(fault),
         },
-        Form::Indirect => indirect(version, address_size, bytes),
-        _ => plain(form, address_size, bytes),
+        Form::ImplicitConst(number) => Ok((Value::Signed(number), 0)),
+        Form::Indirect => match indirect(version, address_size, bytes) {
+            Ok((value, len)) => Ok((value, len)),
+            Err(fault) => Err(fault),
+        },
+        _ => match plain(form, address_size, bytes) {
+            Ok((value, len)) => Ok((value, len)),
+            Err(fault) => Err(fault),
+        },
     }
 }
 
