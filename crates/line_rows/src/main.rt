@@ -53,37 +53,44 @@ fn print_fault<R: Print + AllocGlobal>(rt: &R, fault: LineFault) -> io::Result<(
     )
 }
 
-/// The lines of a program's rows, or of their count, and of the fault after them.
-fn print_rows<R: Print + AllocGlobal>(
-    rt: &R,
-    program: &Program<'_>,
-    shown: Shown,
-) -> io::Result<()> {
+/// The lines of a program's rows, and of the fault after them.
+fn print_rows<R: Print + AllocGlobal>(rt: &R, program: &Program<'_>) -> io::Result<()> {
+    let mut rows = program.rows();
+    // An opcode appends one row at most.
+    for _ in 0..=program.opcodes.len() {
+        match rows.next() {
+            Ok(Some(row)) => print_row(rt, row)?,
+            Ok(None) => break,
+            Err(fault) => return print_fault(rt, fault),
+        }
+    }
+    Ok(())
+}
+
+/// How many rows a program makes, the sum of their lines, and the fault after them.
+#[inline(never)]
+fn count_rows(program: &Program<'_>) -> (u64, u64, Option<LineFault>) {
     let mut rows = program.rows();
     let mut count = 0_u64;
     let mut lines = 0_u64;
-    let mut end = None;
-    // An opcode appends one row at most.
     for _ in 0..=program.opcodes.len() {
         match rows.next() {
             Ok(Some(row)) => {
                 count = count.saturating_add(1);
                 lines = lines.saturating_add(u64::from(row.line));
-                if shown != Shown::Count {
-                    print_row(rt, row)?;
-                }
             }
             Ok(None) => break,
-            Err(fault) => {
-                end = Some(fault);
-                break;
-            }
+            Err(fault) => return (count, lines, Some(fault)),
         }
     }
-    if shown == Shown::Count {
-        println!(rt; "{count} rows, lines {lines}")?;
-    }
-    match end {
+    (count, lines, None)
+}
+
+/// The lines of the count of a program's rows, and of the fault after them.
+fn print_count<R: Print + AllocGlobal>(rt: &R, program: &Program<'_>) -> io::Result<()> {
+    let (count, lines, fault) = count_rows(program);
+    println!(rt; "{count} rows, lines {lines}")?;
+    match fault {
         Some(fault) => print_fault(rt, fault),
         None => Ok(()),
     }
@@ -121,10 +128,14 @@ fn print_program<R: Print + AllocGlobal>(
     program: &Program<'_>,
     shown: Shown,
 ) -> io::Result<()> {
-    if shown == Shown::Tables {
-        print_tables(rt, program)?;
+    match shown {
+        Shown::Rows => print_rows(rt, program),
+        Shown::Tables => {
+            print_tables(rt, program)?;
+            print_rows(rt, program)
+        }
+        Shown::Count => print_count(rt, program),
     }
-    print_rows(rt, program, shown)
 }
 
 /// Whether addresses have 4 bytes, as a header of version 5 says. Otherwise they have 8.
