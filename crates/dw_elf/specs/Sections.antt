@@ -1,5 +1,5 @@
 -- Chapter: the bytes of a section by its name, and the six sections of a file.
-use Rattle.std.specs.Prelude.{◌≡◌, ◌⊎◌, ◌+◌, ◌-◌, List, [], ℕ, length, take, drop}
+use Rattle.std.specs.Prelude.{◌≡◌, ◌⊎◌, List, [], ℕ, length, take, drop}
 use Rattle.dw_elf.specs.declared.sections.Sections.{Sections}
 use Rattle.dw_elf.specs.declared.sections.DebugSection.TheVariants.{Abbrev, Info, Str, LineStr, StrOffsets, Addr}
 use Rattle.dw_elf.specs.Elf.{IsHeader, section_name, section_bytes, section_offset}
@@ -32,10 +32,10 @@ pub record AreSections (file : List ℕ) (s : Sections) : Type 0 where
   pub addr_is : IsSection file (name_of Addr) s.addr.now
   pub base_is : s.base ≡ 0
 
--- a part of sections: the bytes of .debug_info from an offset up to another, and all of the other sections
+-- a part of sections: .debug_info up to an offset, read from another one on, and all of the other sections
 pub record IsPart (s : Sections) (from to : ℕ) (part : Sections) : Type 0 where
-  pub info_is : part.info.now ≡ take (to - from) (drop from s.info.now)
-  pub base_is : part.base ≡ s.base + from
+  pub info_is : part.info.now ≡ take to s.info.now
+  pub base_is : part.base ≡ from
   pub abbrev_is : part.abbrev ≡ s.abbrev
   pub str_is : part.str ≡ s.str
   pub line_str_is : part.line_str ≡ s.line_str

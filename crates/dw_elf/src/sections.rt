@@ -69,7 +69,7 @@ impl OtherSection {
 pub struct Sections<'a> {
     /// .debug_abbrev: the abbreviation tables (DWARF 5, 7.5.3).
     pub abbrev: &'a [u8],
-    /// .debug_info: the units and their entries (7.5.1).
+    /// .debug_info: the units and their entries (7.5.1), up to the end of those that are read.
     pub info: &'a [u8],
     /// .debug_str: the strings that entries share (7.5.5).
     pub str: &'a [u8],
@@ -79,11 +79,11 @@ pub struct Sections<'a> {
     pub str_offsets: &'a [u8],
     /// .debug_addr: addresses, by index (7.27).
     pub addr: &'a [u8],
-    /// Where `info` starts in .debug_info: 0, unless `info` is some of its units. Offsets in form ref_addr count from
-    /// the start of .debug_info (7.5.5).
+    /// Where the units that are read begin in `info`: 0, unless they are some of those of .debug_info.
     pub base: u32,
     ghost abbrev_fits: { length «abbrev».now ≤ section_limit },
-    ghost info_fits: { base + length info.now ≤ section_limit },
+    ghost info_fits: { length info.now ≤ section_limit },
+    ghost base_within: { base ≤ length info.now },
     ghost str_fits: { length str.now ≤ section_limit },
     ghost line_str_fits: { length line_str.now ≤ section_limit },
     ghost str_offsets_fits: { length str_offsets.now ≤ section_limit },
@@ -134,7 +134,7 @@ impl<'a> Sections<'a> {
         })
     }
 
-    /// These sections with a part of .debug_info: its bytes from an offset up to another.
+    /// These sections with a part of .debug_info: its units from an offset up to another. Offsets stay what they are.
     pub fn part(&self, from: usize, to: usize) -> Sections<'a>
         requires order { from ≤ to }
         requires within { to ≤ length self.now.info.now }
@@ -142,12 +142,12 @@ impl<'a> Sections<'a> {
     {
         Sections {
             abbrev: self.abbrev,
-            info: &self.info[from..to],
+            info: &self.info[..to],
             str: self.str,
             line_str: self.line_str,
             str_offsets: self.str_offsets,
             addr: self.addr,
-            base: self.base + from as u32,
+            base: from as u32,
         }
     }
 }

@@ -92,17 +92,17 @@ taken t numbers kind at body old rest w a =
 pub along_next : (t : Context) (numbers : ℕ → ℕ) (kind : HeaderKind) (at : ℕ) (body : List ℕ) (old : List Record)
     (rest : List ℕ) (records : List Record) (outer : List Level) (own : Level) (v : Walk) (after : List ℕ)
     → Along t numbers kind at body old rest (walk_of records outer (Some own))
-    → (mapped (λ i. step numbers (at + (length body - length rest)) i (walk_of records outer (Some own)))
+    → (mapped (λ i. step numbers (at + length body - length rest) i (walk_of records outer (Some own)))
     (item t)).read rest ≡ Ok (v, after) → Along t numbers kind at body old after v
 along_next t numbers kind at body old rest records outer own v after a read =
     let w : Walk = walk_of records outer (Some own) in
     let more : w.levels ≢ [] = λ e. absurd cc in
-    let (i, is_step, parts, is_item) = item_takes (λ i. step numbers (at + (length body - length rest)) i w) t rest v
+    let (i, is_step, parts, is_item) = item_takes (λ i. step numbers (at + length body - length rest) i w) t rest v
     after read in
     let e = sym is_step in
     let is : List Item = entry a.first ∷ a.others in
     let o : at + length (items_bytes is)
-    ≡ at + (length body - length rest) = ap (λ (k : ℕ). at + k) (taken t numbers kind at body old rest w a) in
+    ≡ at + length body - length rest = omega (arith, ap length a.front.parts, length-append (items_bytes is) rest) in
     let spelled : body ≡ items_bytes (is ++ i ∷ []) ++ after =
     a.front.parts ∙ ap (λ (b : List ℕ). items_bytes is ++ b)
     (parts ∙ ap (λ (b : List ℕ). b ++ after) (sym (append-nil (item_bytes i))))
@@ -110,7 +110,7 @@ along_next t numbers kind at body old rest records outer own v after a read =
     ∙ ap (λ (b : List ℕ). b ++ after) (sym (items_bytes-append is (i ∷ []))) in
     let deep : tree_depth (is ++ i ∷ []) ≡ Some (length v.levels) =
     depth_along-append (root_depth a.first) (length w.levels) a.others (i ∷ []) a.front.at_depth
-    ∙ step_depth numbers (at + (length body - length rest)) i w.records w.levels more
+    ∙ step_depth numbers (at + length body - length rest) i w.records w.levels more
     ∙ ap (λ (x : Walk). Some (length x.levels)) e in
     record {
       first = a.first;
@@ -125,7 +125,7 @@ along_next t numbers kind at body old rest records outer own v after a read =
       walked =
           walk_along-append numbers at is (i ∷ []) (record { records = old; levels = [] })
           ∙ ap (λ (k : ℕ). step numbers k i (walk_along numbers at is (record { records = old; levels = [] }))) o
-          ∙ ap (step numbers (at + (length body - length rest)) i) a.walked ∙ e;
+          ∙ ap (step numbers (at + length body - length rest) i) a.walked ∙ e;
     }
 
 head_is : (n : Node) (zs : List (List ℕ)) (h : Head) (is : List Item) → node_items n ++ map null zs ≡ entry h ∷ is
@@ -194,11 +194,11 @@ pub turn_fault : (t : Context) (numbers : ℕ → ℕ) (kind : HeaderKind) (head
     (old : List Record) (rest : List ℕ) (records : List Record) (outer : List Level) (own : Level) (f : Failing)
     (fault : PlainFault) → start ≡ header + unit_header_size kind
     → Along t numbers kind start body old rest (walk_of records outer (Some own)) → (item t).Fails rest f
-    → fault ≡ in_unit f header (start + (length body - length rest)) → BodyFails t kind header body fault
+    → fault ≡ in_unit f header (start + length body - length rest) → BodyFails t kind header body fault
 turn_fault t numbers kind header start body old rest records outer own f fault s a stops e =
-    let here = taken t numbers kind start body old rest (walk_of records outer (Some own)) a in
-    let at : start + (length body - length rest)
-    ≡ header + unit_header_size kind + length (items_bytes (entry a.first ∷ a.others)) = omega (arith, s, here) in
+    let at : start + length body - length rest
+    ≡ header + unit_header_size kind + length (items_bytes (entry a.first ∷ a.others)) = omega
+    (arith, s, ap length a.front.parts, length-append (items_bytes (entry a.first ∷ a.others)) rest) in
     record {
       items = entry a.first ∷ a.others;
       rest = rest;

@@ -10,7 +10,7 @@ use Rattle.dw_entries.specs.Grammar.{head_bytes}
 use Rattle.dw_entries.specs.Header.{unit_header_size}
 use Rattle.dw_entries.specs.Tree.{Node, Nodes, leaf, parent, none, ◌then◌, node_bytes}
 use Rattle.dw_entries.specs.Units.{DebugUnit, unit_bytes}
-use Rattle.dw_entries.specs.Entries.{Entry, node_count, first_id, node_entries, nodes_entries, entries_from, entries_of}
+use Rattle.dw_entries.specs.Entries.{Entry, node_count, first_id, node_entries, nodes_entries, entries_from, start_of, entries_of}
 use Rattle.dw_entries.specs.ByNumber.{entry_of}
 use Rattle.dw_entries.specs.Scanned.{found_units, Scanned}
 use Rattle.dw_entries.proofs.EntryFacts.{length-node_entries, kept_get}
@@ -150,7 +150,7 @@ units_below unit id at (u ∷ us) k e is =
 pub no_depth : (us : List DebugUnit) (k : ℕ) (e : Entry) → slice_get (entries_of us) k ≡ Some e → e.parent ≡ None
     → e.depth ≡ 0
 unfolding IsBelow
-no_depth us k e is top = go (units_below 0 0 0 us k e is)
+no_depth us k e is top = go (units_below 0 0 (start_of us) us k e is)
   where
     go : IsBelow (entries_of us) 0 None 0 k e → e.depth ≡ 0
     go (inl outer) = outer.1
@@ -160,7 +160,7 @@ no_depth us k e is top = go (units_below 0 0 0 us k e is)
 pub one_deeper : (us : List DebugUnit) (k p : ℕ) (e : Entry) → slice_get (entries_of us) k ≡ Some e → e.parent ≡ Some p
     → (above : Entry) × (slice_get (entries_of us) p ≡ Some above) × (e.depth ≡ suc above.depth) × (p < k)
 unfolding IsBelow
-one_deeper us k p e is under = go (units_below 0 0 0 us k e is)
+one_deeper us k p e is under = go (units_below 0 0 (start_of us) us k e is)
   where
     go : IsBelow (entries_of us) 0 None 0 k e
         → (above : Entry) × (slice_get (entries_of us) p ≡ Some above) × (e.depth ≡ suc above.depth) × (p < k)

@@ -1,5 +1,5 @@
 -- What holds of the entries and of the units of a list: order, numbers in range, and where each unit begins.
-use Rattle.std.proofs.Common.{◌≡◌, ℕ, zero, suc, ◌+◌, ◌<◌, ◌≤◌, List, [], ◌∷◌, ◌++◌, length, Option, Some, None, refl, sym, ap, subst, ◌∙◌, arith, map, length-append}
+use Rattle.std.proofs.Common.{rules, ◌≡◌, ℕ, zero, suc, ◌+◌, ◌<◌, ◌≤◌, List, [], ◌∷◌, ◌++◌, length, Option, Some, None, refl, sym, ap, subst, ◌∙◌, arith, length-append}
 use Rattle.std.specs.Prelude.{slice_get}
 use Rattle.std.proofs.lemmas.Option.{slice_get-map}
 use Rattle.dw_entries.specs.declared.records.Record.{Record}
@@ -7,20 +7,11 @@ use Rattle.dw_entries.specs.Grammar.{head_bytes}
 use Rattle.dw_entries.specs.Header.{unit_header_size}
 use Rattle.dw_entries.specs.Tree.{Node, Nodes, leaf, parent, none, ◌then◌, node_bytes}
 use Rattle.dw_entries.specs.Units.{DebugUnit, head_of, unit_bytes, AreUnits, units_bytes}
-use Rattle.dw_entries.specs.Entries.{Entry, node_count, nodes_count, first_id, node_entries, nodes_entries, entries_from, entries_of, PlacedUnit, placed_from, placed}
-use Rattle.dw_entries.specs.UnitLaws.{with_base}
+use Rattle.dw_entries.specs.Entries.{Entry, node_count, nodes_count, first_id, node_entries, nodes_entries, entries_from, start_of, entries_of, PlacedUnit, placed_from, placed}
 use Rattle.dw_entries.specs.Records.{records_kept}
 use Rattle.dw_entries.specs.Scanned.{record_of, records_of}
 use Rattle.dw_entries.specs.EntryRules.{OffsetsRise}
 use Rattle.dw_entries.proofs.OrderLaws.{Rises, units_rise}
-
--- the entries of units do not depend on their base
-pub entries_based : (base unit id at : ℕ) (us : List DebugUnit)
-    → entries_from unit id at (map (with_base base) us) ≡ entries_from unit id at us
-entries_based base unit id at [] = refl
-entries_based base unit id at (u ∷ us) =
-    ap (λ (es : List Entry). node_entries unit None 0 None id (at + unit_header_size u.header.kind) u.root ++ es)
-    (entries_based base (suc unit) (id + node_count u.root) (at + length (unit_bytes u)) us)
 
 -- ---- the entries stand in rising offset
 
@@ -49,9 +40,20 @@ kept_get numbers us i e is = slice_get-map (record_of numbers) (entries_of us) i
 pub entries_rise : (a : List ℕ) (us : List DebugUnit) → AreUnits a us → OffsetsRise (entries_of us)
 entries_rise a us are i j d e lt is_d is_e =
     let any : ℕ → ℕ → ℕ = λ unit code. 0 in
-    rises_get 0 (0 + length (units_bytes us)) (records_of any us) i j (record_of any d) (record_of any e)
-    (subst (Rises 0 (0 + length (units_bytes us))) (sym (records_kept any us)) (units_rise a any 0 0 0 us are)) lt
+    let at : ℕ = start_of us in
+    rises_get at (at + length (units_bytes us)) (records_of any us) i j (record_of any d) (record_of any e)
+    (subst (Rises at (at + length (units_bytes us))) (sym (records_kept any us)) (units_rise a any 0 0 at us are)) lt
     (kept_get any us i d is_d) (kept_get any us j e is_e)
+
+-- no entry is before the first unit
+pub entry_past : (a : List ℕ) (us : List DebugUnit) → AreUnits a us → (i : ℕ) (e : Entry)
+    → slice_get (entries_of us) i ≡ Some e → start_of us ≤ e.at
+entry_past a us are i e is =
+    let any : ℕ → ℕ → ℕ = λ unit code. 0 in
+    let at : ℕ = start_of us in
+    rises_low at (at + length (units_bytes us)) (records_of any us) i (record_of any e)
+    (subst (Rises at (at + length (units_bytes us))) (sym (records_kept any us)) (units_rise a any 0 0 at us are))
+    (kept_get any us i e is)
 
 -- how many entries there are
 mutual
@@ -75,7 +77,7 @@ mutual
 
 -- ---- the units, each at its offset
 
-pub placed_get : (at first : ℕ) (us : List DebugUnit) (k : ℕ) (u : DebugUnit) → slice_get us k ≡ Some u
+placed_get : (at first : ℕ) (us : List DebugUnit) (k : ℕ) (u : DebugUnit) → slice_get us k ≡ Some u
     → (p : PlacedUnit) × (slice_get (placed_from at first us) k ≡ Some p) × (p.unit ≡ u)
 placed_get at first [] k u is = absurd cc
 placed_get at first (v ∷ us) zero u is =
@@ -83,10 +85,29 @@ placed_get at first (v ∷ us) zero u is =
 placed_get at first (v ∷ us) (suc k) u is =
     placed_get (at + length (unit_bytes v)) (first + node_count v.root) us k u is
 
-pub length-placed_from : (at first : ℕ) (us : List DebugUnit) → length (placed_from at first us) ≡ length us
+length-placed_from : (at first : ℕ) (us : List DebugUnit) → length (placed_from at first us) ≡ length us
 length-placed_from at first [] = refl
 length-placed_from at first (u ∷ us) =
     ap suc (length-placed_from (at + length (unit_bytes u)) (first + node_count u.root) us)
+
+pub unit_placed : (us : List DebugUnit) (k : ℕ) (u : DebugUnit) → slice_get us k ≡ Some u
+    → (p : PlacedUnit) × (slice_get (placed us) k ≡ Some p) × (p.unit ≡ u)
+unit_placed us = placed_get (start_of us) 0 us
+
+pub length-placed : (us : List DebugUnit) → length (placed us) ≡ length us
+length-placed us = length-placed_from (start_of us) 0 us
+
+placed_low : (at first : ℕ) (us : List DebugUnit) (k : ℕ) (p : PlacedUnit)
+    → slice_get (placed_from at first us) k ≡ Some p → at ≤ p.at
+placed_low at first [] k p is = absurd cc
+placed_low at first (u ∷ us) zero p is = search (rules)
+placed_low at first (u ∷ us) (suc k) p is =
+    let more = placed_low (at + length (unit_bytes u)) (first + node_count u.root) us k p is in omega (arith, more)
+
+-- no unit is before the first one
+pub placed_past : (us : List DebugUnit) (k : ℕ) (p : PlacedUnit) → slice_get (placed us) k ≡ Some p
+    → start_of us ≤ p.at
+placed_past us = placed_low (start_of us) 0 us
 
 -- this entry is the first of the unit with this number and place
 pub record IsFirstEntry (number : ℕ) (p : PlacedUnit) (e : Entry) : Type 0 where
@@ -166,7 +187,7 @@ first_from unit id at (u ∷ us) (suc k) p is =
 pub first_entry : (us : List DebugUnit) (k : ℕ) (p : PlacedUnit) → slice_get (placed us) k ≡ Some p
     → HasFirst (entries_of us) p.first k p
 first_entry us k p is =
-    let (j, first, has) = first_from 0 0 0 us k p is in
+    let (j, first, has) = first_from 0 0 (start_of us) us k p is in
     let e : j ≡ p.first = omega (arith, first) in
     let number : 0 + k ≡ k = omega arith in
     let P : ℕ → Type 0 = λ i. HasFirst (entries_of us) i (0 + k) p in

@@ -1,5 +1,5 @@
 -- One list of units at most, one fault at most, and never both.
-use Rattle.std.proofs.Common.{rules, ◌≡◌, ℕ, zero, suc, true, map, List, [], ◌∷◌, ◌++◌, length, Option, Some, inl, inr, refl, sym, ap, ◌∙◌, append_assoc, append-nil, arith, length-append}
+use Rattle.std.proofs.Common.{rules, ◌≡◌, ℕ, zero, suc, ◌+◌, true, map, List, [], ◌∷◌, ◌++◌, length, Option, Some, inl, inr, refl, sym, ap, ◌∙◌, append_assoc, append-nil, arith, length-append}
 use Rattle.std.specs.List.{AllByRecursion}
 use Rattle.dw_entries.specs.declared.fault.Failing.{Failing}
 use Rattle.dw_entries.specs.declared.fault.PlainFault.{PlainFault}
@@ -15,7 +15,7 @@ use Rattle.dw_entries.specs.Units.{DebugUnit, head_of, nulls_bytes, AreNulls, un
 use Rattle.dw_entries.specs.Faults.{FitsUnit, Stops, BodyFails, FailsHere, Fails}
 use Rattle.dw_entries.specs.Joined.{begins, append-is-nil}
 use Rattle.dw_entries.specs.ItemLaws.{item_some, item_to, item_unique, first_to}
-use Rattle.dw_entries.specs.UnitLaws.{IsBased, with_base, bytes_based, unit_header, units_begin}
+use Rattle.dw_entries.specs.UnitLaws.{IsBare, bare, bytes_bare, unit_header, units_begin}
 use Rattle.dw_entries.proofs.HeadLaws.{all-append}
 use Rattle.dw_entries.proofs.NullLaws.{fits_node}
 use Rattle.dw_entries.proofs.ItemLaws.{items_bytes-append, node_spelled, node_are_items, nulls_are_items, nulls_spelled, whole_depth, nothing_after}
@@ -96,20 +96,20 @@ pub unit_or_fault : (a : List ℕ) (header : ℕ) (rest : List ℕ) (f : PlainFa
 unit_or_fault a header rest f u x fails p e = search (rules, unit_header, node_or_fault)
 
 -- a fault, and units for all of the bytes: not both
-pub no_list : (a : List ℕ) (bytes : List ℕ) (us : List DebugUnit) (f : PlainFault) → Spells a us bytes → Fails a bytes f
-    → ⊥
-no_list a bytes us f p b =
+pub no_list : (a : List ℕ) (at : ℕ) (bytes : List ℕ) (us : List DebugUnit) (f : PlainFault) → Spells a us bytes
+    → Fails a at bytes f → ⊥
+no_list a at bytes us f p b =
     let e : units_bytes b.units ++ b.rest
     ≡ units_bytes us ++ [] = sym b.parts ∙ p.parts ∙ sym (append-nil (units_bytes us)) in
-    elim (units_begin 0 a b.units us b.rest [] b.are p.are e) [
+    elim (units_begin a b.units us b.rest [] b.are p.are e) [
       | inl g ↦ inside g.more g.are g.rest
       | inr g ↦ b.more (append-is-nil (units_bytes g.more) b.rest (sym g.rest))
     ]
   where
-    inside : (more : List DebugUnit) → AllByRecursion (IsBased 0 a) more → b.rest ≡ units_bytes more ++ [] → ⊥
+    inside : (more : List DebugUnit) → AllByRecursion (IsBare a) more → b.rest ≡ units_bytes more ++ [] → ⊥
     inside [] are rest = b.more rest
     inside (u ∷ more) are rest =
-        unit_or_fault a (length (units_bytes b.units)) b.rest f u (units_bytes more ++ []) b.fails are.0.0
+        unit_or_fault a (at + length (units_bytes b.units)) b.rest f u (units_bytes more ++ []) b.fails are.0.0
         (rest ∙ append_assoc (unit_bytes u) (units_bytes more) [])
 
 -- ---- one fault at most
@@ -145,20 +145,21 @@ one_here : (a : List ℕ) (header : ℕ) (rest : List ℕ) (f g : PlainFault) �
 one_here a header rest f g p q = search (rules, one_in_body)
 
 -- the units before a fault are all that stand there
-last_units : (a : List ℕ) (bytes : List ℕ) (f g : PlainFault) (b : Fails a bytes f) (c : Fails a bytes g)
-    (more : List DebugUnit) → AllByRecursion (IsBased 0 a) more
-    → map (with_base 0) c.units ≡ map (with_base 0) b.units ++ more → b.rest ≡ units_bytes more ++ c.rest → f ≡ g
-last_units a bytes f g b c [] are units rest =
-    let same : units_bytes c.units ≡ units_bytes b.units = sym (bytes_based 0 c.units)
-    ∙ ap units_bytes (units ∙ append-nil (map (with_base 0) b.units)) ∙ bytes_based 0 b.units in
-    one_here a (length (units_bytes b.units)) b.rest f g b.fails (rw (← same, rest) c.fails)
-last_units a bytes f g b c (u ∷ more) are units rest = search (rules, unit_or_fault, append_assoc)
+last_units : (a : List ℕ) (at : ℕ) (bytes : List ℕ) (f g : PlainFault) (b : Fails a at bytes f) (c : Fails a at bytes g)
+    (more : List DebugUnit) → AllByRecursion (IsBare a) more
+    → map bare c.units ≡ map bare b.units ++ more → b.rest ≡ units_bytes more ++ c.rest → f ≡ g
+last_units a at bytes f g b c [] are units rest =
+    let same : units_bytes c.units ≡ units_bytes b.units = sym (bytes_bare c.units)
+    ∙ ap units_bytes (units ∙ append-nil (map bare b.units)) ∙ bytes_bare b.units in
+    one_here a (at + length (units_bytes b.units)) b.rest f g b.fails (rw (← same, rest) c.fails)
+last_units a at bytes f g b c (u ∷ more) are units rest = search (rules, unit_or_fault, append_assoc)
 
 -- there is one fault at most
-pub one_fault : (a : List ℕ) (bytes : List ℕ) (f g : PlainFault) → Fails a bytes f → Fails a bytes g → f ≡ g
-one_fault a bytes f g b c =
+pub one_fault : (a : List ℕ) (at : ℕ) (bytes : List ℕ) (f g : PlainFault) → Fails a at bytes f → Fails a at bytes g
+    → f ≡ g
+one_fault a at bytes f g b c =
     let e : units_bytes b.units ++ b.rest ≡ units_bytes c.units ++ c.rest = sym b.parts ∙ c.parts in
-    elim (units_begin 0 a b.units c.units b.rest c.rest b.are c.are e) [
-      | inl on ↦ last_units a bytes f g b c on.more on.are on.items on.rest
-      | inr on ↦ sym (last_units a bytes g f c b on.more on.are on.items on.rest)
+    elim (units_begin a b.units c.units b.rest c.rest b.are c.are e) [
+      | inl on ↦ last_units a at bytes f g b c on.more on.are on.items on.rest
+      | inr on ↦ sym (last_units a at bytes g f c b on.more on.are on.items on.rest)
     ]

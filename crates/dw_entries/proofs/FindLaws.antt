@@ -1,5 +1,5 @@
 -- The entries and their records, by their offsets.
-use Rattle.std.proofs.Common.{◌≡◌, ℕ, ◌<◌, ◌^◌, List, length, Option, Some, None, refl, sym, ap, ◌∙◌, arith}
+use Rattle.std.proofs.Common.{◌≡◌, ℕ, ◌+◌, ◌<◌, ◌≤◌, ◌^◌, List, [], ◌∷◌, length, Option, Some, None, refl, sym, ap, ◌∙◌, arith}
 use Rattle.std.specs.Prelude.{IfSome, option_map, slice_get}
 use Rattle.std.proofs.lemmas.Option.{slice_get_within}
 use Rattle.std.proofs.lemmas.List.{length-map}
@@ -7,14 +7,20 @@ use Rattle.dw_forms.specs.KeptDecls.{Tables}
 use Rattle.dw_entries.specs.declared.records.Record.{Record}
 use Rattle.dw_entries.specs.declared.records.UnitRecord.{UnitRecord}
 use Rattle.dw_entries.specs.declared.starts.Block.{Block}
-use Rattle.dw_entries.specs.Entries.{entries_of}
+use Rattle.dw_entries.specs.Entries.{entries_of, start_of}
+use Rattle.dw_entries.specs.Units.{AreFrom, DebugUnit}
 use Rattle.dw_entries.specs.Scanned.{found_units, numbers_of, record_of, Scanned}
 use Rattle.dw_entries.specs.Starts.{AreInOrder, AreStarts, IsRecordAt, number_from}
 use Rattle.dw_entries.specs.EntriesAt.{IsEntryAt}
-use Rattle.dw_entries.proofs.EntryFacts.{entries_rise}
+use Rattle.dw_entries.proofs.EntryFacts.{entries_rise, entry_past, placed_past}
 use Rattle.dw_entries.proofs.HeadLaws.{stands_within}
-use Rattle.dw_entries.proofs.KeptLaws.{found_entry, kept_entry, record_is}
+use Rattle.dw_entries.proofs.KeptLaws.{found_entry, found_place, kept_entry, kept_unit, record_is}
 use Rattle.dw_entries.proofs.OrderLaws.{scanned_few}
+
+-- the first unit is where the units begin
+starts_at : (base number : ℕ) (us : List DebugUnit) → AreFrom base us → number < length us → start_of us ≡ base
+starts_at base number [] from within = absurd (omega (arith, within))
+starts_at base number (u ∷ us) from within = from.0
 
 module _ {base : ℕ} (a info : List ℕ) (tables : Tables) (rs : List UnitRecord) (records : List Record)
     (s : Scanned base a info tables rs records) where
@@ -49,9 +55,30 @@ module _ {base : ℕ} (a info : List ℕ) (tables : Tables) (rs : List UnitRecor
   record_at offset id found =
       ap (option_map (λ (r : Record). r.at)) (stands_at id found) ∙ ap (λ (n : ℕ). Some n) found.begins
 
+  -- no entry is before the base
+  pub past_base : (id offset : ℕ) → IsEntryAt (entries_of (found_units s)) offset id → base ≤ offset
+  past_base id offset found =
+      let k = kept_entry a info tables rs records s id found.within in
+      let start = starts_at base (found_entry s id).unit (found_units s) s.1.are_from k.stands.within in
+      let begins = found.begins in
+      let past = entry_past a (found_units s) s.1.spells.are id (found_entry s id) k.is_entry in
+      omega (arith, start, begins, past)
+
+  -- no unit is either
+  pub unit_past : (number : ℕ) → number < length (found_units s) → base ≤ (found_place s number).at
+  unit_past number within =
+      let k = kept_unit a info tables rs records s number within in
+      let start = starts_at base number (found_units s) s.1.are_from within in
+      let past = placed_past (found_units s) number (found_place s number) k.is_place in
+      omega (arith, start, past)
+
   -- the records are in the order of their entries
-  pub records_ordered : AreInOrder records (length info)
-  records_ordered = record { rise = rise; within = below }
+  pub records_ordered : AreInOrder records base (length info)
+  records_ordered = record {
+    rise = rise;
+    past = λ number offset at. past_base number offset (entry_at offset number at);
+    within = below;
+  }
     where
       rise : (i j offset after : ℕ) → i < j → IsRecordAt records offset i → IsRecordAt records after j → offset < after
       rise i j offset after less at_i at_j =
@@ -73,18 +100,19 @@ module _ {base : ℕ} (a info : List ℕ) (tables : Tables) (rs : List UnitRecor
           omega (arith, begins, w)
 
   -- what the blocks say of an offset is so
-  module _ (blocks : List Block) (starts : AreStarts records blocks) (offset : ℕ) where
-    pub found_from : (id : ℕ) → number_from blocks offset ≡ Some id
-        → IsEntryAt (entries_of (found_units s)) offset id
-    found_from id is = entry_at offset id ((starts offset id).0 is)
+  module _ (blocks : List Block) (starts : AreStarts records base blocks) (past : ℕ) where
+    pub found_from : (id : ℕ) → number_from blocks past ≡ Some id
+        → IsEntryAt (entries_of (found_units s)) (base + past) id
+    found_from id is = entry_at (base + past) id ((starts past id).0 is)
 
-    pub none_from : number_from blocks offset ≡ None → (id : ℕ) → IsEntryAt (entries_of (found_units s)) offset id → ⊥
-    none_from none id found = let some = (starts offset id).1 (record_at offset id found) in cc
+    pub none_from : number_from blocks past ≡ None → (id : ℕ)
+        → IsEntryAt (entries_of (found_units s)) (base + past) id → ⊥
+    none_from none id found = let some = (starts past id).1 (record_at (base + past) id found) in cc
 
-    pub few_from : length info < 2 ^ 32 → IfSome (number_from blocks offset) (λ n. n < 2 ^ 32)
-    few_from fits = go (number_from blocks offset) refl
+    pub few_from : length info < 2 ^ 32 → IfSome (number_from blocks past) (λ n. n < 2 ^ 32)
+    few_from fits = go (number_from blocks past) refl
       where
-        go : (o : Option ℕ) → number_from blocks offset ≡ o → IfSome o (λ n. n < 2 ^ 32)
+        go : (o : Option ℕ) → number_from blocks past ≡ o → IfSome o (λ n. n < 2 ^ 32)
         go None is = tt
         go (Some id) is =
             let within = (found_from id is).within in

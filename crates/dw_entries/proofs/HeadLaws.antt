@@ -1,7 +1,8 @@
 -- At each entry's offset is its head, in the context of its unit.
-use Rattle.std.proofs.Common.{◌≡◌, ℕ, zero, suc, ◌+◌, ◌<◌, List, [], ◌∷◌, ◌++◌, length, drop, Option, Some, None, Ok, refl, sym, ap, ◌∙◌, arith, length-append, length-drop, subst, append_assoc, append-nil, drop_at, drop-drop}
+use Rattle.std.proofs.Common.{◌≡◌, ℕ, zero, suc, ◌+◌, ◌<◌, List, [], ◌∷◌, ◌++◌, length, drop, Option, Some, None, Ok, refl, sym, ap, ◌∙◌, arith, length-append, length-drop, subst, append_assoc, append-nil, drop_at, drop-drop, replicate}
 use Rattle.std.specs.Prelude.{slice_get}
 use Rattle.std.specs.List.{flat_map, AllByRecursion}
+use Rattle.std.proofs.lemmas.List.{length-replicate}
 use Rattle.std.proofs.lemmas.Option.{slice_get_within, get_or_from_slice_get}
 use Rattle.dw_entries.specs.Grammar.{Context, head_bytes, attribute_bytes, IsHead}
 use Rattle.dw_entries.specs.Header.{unit_header_size}
@@ -10,8 +11,8 @@ use Rattle.dw_entries.specs.Items.{entry}
 use Rattle.dw_entries.specs.ItemFormats.{code}
 use Rattle.dw_entries.specs.ItemLaws.{item_some}
 use Rattle.dw_entries.specs.Tree.{Node, Nodes, leaf, parent, none, ◌then◌, IsNode, AreNodes, node_bytes, nodes_bytes}
-use Rattle.dw_entries.specs.Units.{DebugUnit, context_of, body_bytes, nulls_bytes, unit_bytes, IsUnit, AreUnits, units_bytes, Spells}
-use Rattle.dw_entries.specs.Entries.{Entry, node_count, first_id, node_entries, nodes_entries, entries_from, entries_of}
+use Rattle.dw_entries.specs.Units.{DebugUnit, context_of, body_bytes, nulls_bytes, unit_bytes, IsUnit, AreUnits, units_bytes, Spells, AreFrom}
+use Rattle.dw_entries.specs.Entries.{Entry, node_count, first_id, node_entries, nodes_entries, entries_from, start_of, entries_of}
 use Rattle.dw_entries.specs.ByNumber.{no_unit, unit_of}
 
 -- the head of this entry is at its offset, and the entry is of this unit, whose context is x
@@ -131,14 +132,28 @@ units_stand all a info unit id at (u ∷ us) after p f e =
     (units_stand all a info (suc unit) (id + node_count u.root) (at + length (unit_bytes u)) us after p.1
     (from_next all unit u us f) (behind info (unit_bytes u) (units_bytes us ++ after) at parts))
 
--- the head of each entry is at its offset
-pub head_stands : (a info : List ℕ) (us : List DebugUnit) (id : ℕ) (e : Entry) → Spells a us info
+stands_from : (a info : List ℕ) (us : List DebugUnit) (id : ℕ) (e : Entry) → Spells a us (drop (start_of us) info)
     → slice_get (entries_of us) id ≡ Some e → Stands us info e
-head_stands a info us id e s is =
+stands_from a info us id e s is =
     all_get (Stands us info) (entries_of us) id e
-    (units_stand us a info 0 0 0 us [] s.are
+    (units_stand us a info 0 0 (start_of us) us [] s.are
     (λ k v at_k. ap (slice_get us) (let e : 0 + k ≡ k = omega arith in e) ∙ at_k)
     (s.parts ∙ sym (append-nil (units_bytes us)))) is
+
+-- the head of each entry is at its offset
+pub head_stands : (base : ℕ) (a info : List ℕ) (us : List DebugUnit) (id : ℕ) (e : Entry)
+    → Spells a us (drop base info) → AreFrom base us → slice_get (entries_of us) id ≡ Some e → Stands us info e
+head_stands base a info [] id e s from is = absurd cc
+head_stands base a info (u ∷ us) id e s from is =
+    stands_from a info (u ∷ us) id e (subst (λ (n : ℕ). Spells a (u ∷ us) (drop n info)) (sym from.0) s) is
+
+-- and it fits its unit, wherever the units are: so many bytes may be before theirs
+pub head_fits : (a info : List ℕ) (us : List DebugUnit) (id : ℕ) (e : Entry) → Spells a us info
+    → slice_get (entries_of us) id ≡ Some e → Stands us (replicate (start_of us) 0 ++ info) e
+head_fits a info us id e s is =
+    let before : List ℕ = replicate (start_of us) 0 in
+    stands_from a (before ++ info) us id e
+    (record { are = s.are; parts = drop_at before info (start_of us) (length-replicate (start_of us) 0) ∙ s.parts }) is
 
 pub stands_code : (us : List DebugUnit) (info : List ℕ) (e : Entry) (s : Stands us info e)
     → code.read (drop e.at info)

@@ -31,7 +31,7 @@ use Rattle.dw_entries.specs.Scanned.{found_units, tables_among, table_of, number
 use Rattle.dw_entries.specs.Lookups.{IsKeptIn, HasSpecsIn, unit_head}
 use Rattle.dw_entries.proofs.ScanLaws.{rest_of}
 use Rattle.dw_entries.proofs.HeadLaws.{Stands, head_stands, stands_code, stands_within}
-use Rattle.dw_entries.proofs.EntryFacts.{placed_get, length-placed_from, kept_get, HasFirst, first_entry}
+use Rattle.dw_entries.proofs.EntryFacts.{unit_placed, length-placed, kept_get, HasFirst, first_entry}
 
 pub one_some : {A : Type 0} (o : Option A) (x y : A) → o ≡ Some x → o ≡ Some y → x ≡ y
 one_some o x y p q = cc
@@ -81,12 +81,12 @@ pub record KeptEntry {base : ℕ} (a info : List ℕ) (tables : Tables) (rs : Li
 pub kept_entry : {base : ℕ} (a info : List ℕ) (tables : Tables) (rs : List UnitRecord) (records : List Record)
     (s : Scanned base a info tables rs records) (id : ℕ)
     → id < length (entries_of (found_units s)) → KeptEntry a info tables rs records s id
-kept_entry a info tables rs records s id within =
+kept_entry {base} a info tables rs records s id within =
     let e : Entry = found_entry s id in
     let is : slice_get (entries_of (found_units s)) id ≡ Some e =
     slice_get-get_or (entries_of (found_units s)) id no_entry within in
-    let stands = head_stands a info (found_units s) id e s.1.spells is in
-    let (p, is_p, same) = placed_get 0 0 (found_units s) e.unit (unit_of (found_units s) e.unit)
+    let stands = head_stands base a info (found_units s) id e s.1.spells s.1.are_from is in
+    let (p, is_p, same) = unit_placed (found_units s) e.unit (unit_of (found_units s) e.unit)
     (slice_get-get_or (found_units s) e.unit no_unit stands.within) in
     let (r, is_r, kept) = unit_kept tables rs (placed (found_units s)) s.1.kept e.unit p is_p in
     record {
@@ -218,7 +218,7 @@ pub kept_unit : {base : ℕ} (a info : List ℕ) (tables : Tables) (rs : List Un
 kept_unit a info tables rs records s number within =
     let is : slice_get (placed (found_units s)) number ≡ Some (found_place s number) =
     slice_get-get_or (placed (found_units s)) number no_placed
-    (omega (arith, within, length-placed_from 0 0 (found_units s))) in
+    (omega (arith, within, length-placed (found_units s))) in
     search (rules, unit_kept, first_entry)
 
 abbrev told : ℕ → UnitHeader → UnitType → ℕ → UnitHead
@@ -262,4 +262,4 @@ pub units_counted : {base : ℕ} (a info : List ℕ) (tables : Tables) (rs : Lis
     (s : Scanned base a info tables rs records) → length rs ≡ length (found_units s)
 units_counted a info tables rs records s =
     sym (AllZip-long (IsRecordOfUnit tables) rs (placed (found_units s)) s.1.kept)
-    ∙ length-placed_from 0 0 (found_units s)
+    ∙ length-placed (found_units s)

@@ -1,5 +1,5 @@
 -- The entries stand in rising offset.
-use Rattle.std.proofs.Common.{ℕ, suc, ◌+◌, ◌≤◌, List, [], ◌∷◌, ◌++◌, length, Option, Some, None, ap, ◌∙◌, arith, length-append}
+use Rattle.std.proofs.Common.{ℕ, suc, ◌+◌, ◌≤◌, List, [], ◌∷◌, ◌++◌, length, Option, Some, None, ap, ◌∙◌, arith, length-append, length-drop}
 use Rattle.dw_entries.specs.Scanned.{numbers_of, Scanned}
 use Rattle.dw_entries.specs.declared.records.Record.{Record}
 use Rattle.dw_entries.specs.declared.records.UnitRecord.{UnitRecord}
@@ -9,7 +9,7 @@ use Rattle.dw_entries.specs.Header.{unit_header_size}
 use Rattle.dw_entries.specs.UnitLaws.{unit_sized}
 use Rattle.dw_entries.specs.Tree.{Node, Nodes, leaf, parent, none, ◌then◌, IsNode, AreNodes, node_bytes, nodes_bytes}
 use Rattle.dw_entries.specs.Units.{nulls_bytes, DebugUnit, context_of, unit_bytes, AreUnits, units_bytes}
-use Rattle.dw_entries.specs.Entries.{node_count, first_id}
+use Rattle.dw_entries.specs.Entries.{node_count, first_id, start_of}
 use Rattle.dw_entries.specs.Records.{node_records, nodes_records, records_from, records_kept}
 use Rattle.dw_entries.specs.Items.{entry}
 use Rattle.dw_entries.specs.ItemLaws.{item_some}
@@ -79,17 +79,18 @@ Rises-few low high [] p = omega (arith, p)
 Rises-few low high (r ∷ rs) p = let more = Rises-few (suc r.at) high rs p.1 in omega (arith, more, p.0)
 
 -- each entry takes a byte at least
-pub few_entries : (a : List ℕ) (numbers : ℕ → ℕ → ℕ) (us : List DebugUnit) → AreUnits a us
-    → length (records_from numbers 0 0 0 us) ≤ length (units_bytes us)
-few_entries a numbers us p =
-    let few = Rises-few 0 (0 + length (units_bytes us)) _ (units_rise a numbers 0 0 0 us p) in omega (arith, few)
+pub few_entries : (a : List ℕ) (numbers : ℕ → ℕ → ℕ) (at : ℕ) (us : List DebugUnit) → AreUnits a us
+    → length (records_from numbers 0 0 at us) ≤ length (units_bytes us)
+few_entries a numbers at us p =
+    let few = Rises-few at (at + length (units_bytes us)) _ (units_rise a numbers 0 0 at us p) in omega (arith, few)
 
 pub scanned_few : {base : ℕ} (a info : List ℕ) (tables : Tables) (us : List UnitRecord) (records : List Record)
     → Scanned base a info tables us records → length records ≤ length info
-scanned_few a info tables us records e =
+scanned_few {base} a info tables us records e =
     omega (
       arith,
       ap length (e.1.entries ∙ records_kept (numbers_of tables us) e.0),
       ap length e.1.spells.parts,
-      few_entries a (numbers_of tables us) e.0 e.1.spells.are,
+      length-drop base info,
+      few_entries a (numbers_of tables us) (start_of e.0) e.0 e.1.spells.are,
     )

@@ -13,7 +13,7 @@ use Rattle.dw_entries.specs.EntryRules.{OffsetsRise}
 use Rattle.dw_entries.proofs.NumberOrder.{three_ways}
 use Rattle.dw_entries.proofs.HeadLaws.{stands_within}
 use Rattle.dw_entries.proofs.KeptLaws.{found_entry, kept_entry}
-use Rattle.dw_entries.proofs.EntryFacts.{length-placed_from}
+use Rattle.dw_entries.proofs.EntryFacts.{length-placed}
 use Rattle.dw_entries.proofs.UnitRanges.{range_of_unit, unit_in_range}
 
 -- ---- the entry of a unit at an offset
@@ -54,7 +54,7 @@ never_other us number offset at first end id within rise sum found begins ends o
     let there = reached_at (entries_of us) (placed us) number offset at j sum reached in
     let same = one_at (entries_of us) at j id rise (in_is_at (entries_of us) number at j there) found in
     let its = range_of_unit us number (placed_of (placed us) number) id (entry_of (entries_of us) id)
-    (slice_get-get_or (placed us) number no_placed (omega (arith, within, length-placed_from 0 0 us)))
+    (slice_get-get_or (placed us) number no_placed (omega (arith, within, length-placed us)))
     (slice_get-get_or (entries_of us) id no_entry found.within)
     (ap (λ (n : ℕ). (entry_of (entries_of us) n).unit) (sym same) ∙ there.in_unit) in
     let low = its.0 in
@@ -67,7 +67,7 @@ pub reaches_by_range : (us : List DebugUnit) (number offset at first end id : �
     → first ≡ (placed_of (placed us) number).first → end ≡ end_in (placed us) number
     → first ≤ id → id < end → ReachesInUnit (entries_of us) (placed us) number offset id
 reaches_by_range us number offset at first end id within sum found begins ends low high =
-    let long = length-placed_from 0 0 us in
+    let long = length-placed us in
     reaches (entries_of us) (placed us) number offset at id (omega (arith, within, long)) sum found
     (unit_in_range us number (placed_of (placed us) number) id (entry_of (entries_of us) id)
     (slice_get-get_or (placed us) number no_placed (omega (arith, within, long)))

@@ -1,5 +1,5 @@
 -- How far the scan of a section has come.
-use Rattle.std.proofs.Common.{rules, ◌≡◌, ℕ, zero, suc, ◌+◌, ◌-◌, ◌<◌, ◌≤◌, List, [], ◌∷◌, ◌++◌, length, take, drop, None, refl, sym, ap, subst, ◌∙◌, append_assoc, append-nil, arith, map, length-append, length-drop, drop_at, drop-drop, drop_of_length-le, take_all, add-zero}
+use Rattle.std.proofs.Common.{rules, ◌≡◌, ℕ, zero, suc, ◌+◌, ◌-◌, ◌<◌, ◌≤◌, List, [], ◌∷◌, ◌++◌, length, take, drop, None, refl, sym, ap, subst, ◌∙◌, append_assoc, append-nil, arith, length-append, length-drop, drop_at, drop-drop, drop_of_length-le, take_all, add-zero}
 use Rattle.std.proofs.lemmas.List.Concat.{flat_map-append}
 use Rattle.std.specs.List.{AllZip}
 use Rattle.dw_entries.specs.declared.records.Record.{Record}
@@ -16,26 +16,25 @@ use Rattle.dw_forms.specs.declared.fault.Stop.TheVariants.{Memory, Fault as Brea
 use Rattle.dw_forms.specs.Stops.{IfFault}
 use Rattle.dw_entries.specs.Header.{unit_header_size}
 use Rattle.dw_entries.specs.UnitLaws.{unit_some}
-use Rattle.dw_entries.specs.Units.{DebugUnit, unit_bytes, IsUnit, AreUnits, units_bytes}
-use Rattle.dw_entries.specs.Entries.{node_count, PlacedUnit, placed_from, placed}
+use Rattle.dw_entries.specs.Units.{DebugUnit, unit_bytes, IsUnit, AreUnits, units_bytes, AreFrom}
+use Rattle.dw_entries.specs.Entries.{node_count, start_of, PlacedUnit, placed_from, placed}
 use Rattle.dw_entries.specs.Records.{node_records, records_from, records_kept}
-use Rattle.dw_entries.specs.Scanned.{table_of, numbers_of, record_of, IsRecordOfUnit, Scanned}
-use Rattle.dw_entries.specs.UnitLaws.{with_base, bytes_based, are_based, have_base}
-use Rattle.dw_entries.proofs.EntryFacts.{entries_based}
+use Rattle.dw_entries.specs.Scanned.{table_of, numbers_of, IsRecordOfUnit, Scanned}
 use Rattle.dw_entries.specs.Stopped.{UnitTaken}
 use Rattle.dw_entries.proofs.HeadLaws.{all-append}
 use Rattle.dw_entries.proofs.OrderLaws.{few_entries}
 use Rattle.dw_entries.proofs.WalkLaws.{length-node_records}
 
--- some units were taken, up to this offset, and these are their entries
-pub record Upto (a info : List ℕ) (header : ℕ) (kept : Kept) : Type 0 where
+-- some units were taken, from one offset up to another, and these are their entries
+pub record Upto (a info : List ℕ) (base header : ℕ) (kept : Kept) : Type 0 where
   pub units : List DebugUnit
   pub are : AreUnits a units
-  pub parts : info ≡ units_bytes units ++ drop header info
-  pub at : header ≡ length (units_bytes units)
+  pub are_from : AreFrom base units
+  pub parts : drop base info ≡ units_bytes units ++ drop header info
+  pub at : header ≡ base + length (units_bytes units)
   pub count : length kept.units.items ≡ length units
-  pub unit_records : AllZip (IsRecordOfUnit (tables_in kept.tables)) kept.units.items (placed units)
-  pub places : kept.records.items ≡ records_from (numbers_of (tables_in kept.tables) kept.units.items) 0 0 0 units
+  pub unit_records : AllZip (IsRecordOfUnit (tables_in kept.tables)) kept.units.items (placed_from base 0 units)
+  pub places : kept.records.items ≡ records_from (numbers_of (tables_in kept.tables) kept.units.items) 0 0 base units
   pub tables : AreTablesOf a kept.tables
 
 records_from-push : (numbers : ℕ → ℕ → ℕ) (unit id at : ℕ) (us : List DebugUnit) (u : DebugUnit)
@@ -133,13 +132,22 @@ placed_from-push numbers unit at first (v ∷ us) u =
     (placed_from-push numbers (suc unit) (at + length (unit_bytes v)) (first + node_count v.root) us u
     ∙ (λ i. placed_from (at + length (unit_bytes v)) (first + node_count v.root) us ++ placed_at (o i) (k i) u ∷ []))
 
-pub upto_start : (a info : List ℕ) (kept : Kept) → AreTablesOf a kept.tables → kept.units.items ≡ []
-    → kept.records.items ≡ [] → Upto a info 0 kept
-upto_start a info kept tables us e = search (rules)
+pub upto_start : (a info : List ℕ) (base : ℕ) (kept : Kept) → AreTablesOf a kept.tables → kept.units.items ≡ []
+    → kept.records.items ≡ [] → Upto a info base base kept
+upto_start a info base kept tables us e = search (rules, add-zero)
 
-pub upto_next : (a info : List ℕ) (header : ℕ) (old new : Kept) (len : ℕ) → Upto a info header old
-    → UnitTaken a (drop header info) header old new len → Upto a info (header + len) new
-upto_next a info header old new len u t =
+-- and one more
+from_more : (at : ℕ) (us : List DebugUnit) (u : DebugUnit) → AreFrom at us → u.at ≡ at + length (units_bytes us)
+    → AreFrom at (us ++ u ∷ [])
+from_more at [] u from is = (omega (arith, is), tt)
+from_more at (v ∷ us) u (here, from) is = (
+  here,
+  from_more (at + length (unit_bytes v)) us u from (omega (arith, is, length-append (unit_bytes v) (units_bytes us))),
+)
+
+pub upto_next : (a info : List ℕ) (base header : ℕ) (old new : Kept) (len : ℕ) → Upto a info base header old
+    → UnitTaken a (drop header info) header old new len → Upto a info base (header + len) new
+upto_next a info base header old new len u t =
     let records : List Record = old.records.items in
     let unit : ℕ = length old.units.items in
     let v : DebugUnit = t.taken in
@@ -150,16 +158,18 @@ upto_next a info header old new len u t =
     let left : drop (header + len) info
     ≡ t.after = sym (drop-drop _ _ info) ∙ ap (drop len) t.parts
     ∙ drop_at (unit_bytes v) t.after len (sym t.len_is) in
-    let same : records ≡ records_from numbers 0 0 0 u.units =
-    u.places ∙ records_same before numbers 0 0 0 u.units
-    (λ n less. numbers_stay (tables_in old.tables) tables old.units.items (placed u.units) t.record_is n t.stay
+    let same : records ≡ records_from numbers 0 0 base u.units =
+    u.places ∙ records_same before numbers 0 0 base u.units
+    (λ n less. numbers_stay (tables_in old.tables) tables old.units.items (placed_from base 0 u.units) t.record_is n
+    t.stay
     u.unit_records (omega (arith, less, u.count))) in
     let n : unit ≡ 0 + length u.units = omega (arith, u.count) in
-    let id : length records ≡ 0 + length (records_from numbers 0 0 0 u.units) = omega (arith, ap length same) in
-    let at : header ≡ 0 + length (units_bytes u.units) = omega (arith, u.at) in
+    let id : length records ≡ 0 + length (records_from numbers 0 0 base u.units) = omega (arith, ap length same) in
+    let at : header ≡ base + length (units_bytes u.units) = u.at in
     record {
       units = u.units ++ v ∷ [];
       are = all-append (IsUnit a) u.units (v ∷ []) u.are (t.is, tt);
+      are_from = from_more base u.units v u.are_from (t.begins ∙ at);
       parts =
           u.parts ∙ ap (λ (x : List ℕ). units_bytes u.units ++ x)
           (t.parts ∙ ap (λ (x : List ℕ). unit_bytes v ++ x) (sym left))
@@ -183,15 +193,15 @@ upto_next a info header old new len u t =
             length-append
                 u.units (v ∷ []),
           );
-      unit_records = rw (t.units, placed_from-push numbers 0 0 0 u.units v, ← at, ← id)
-          (AllKept-push (tables_in old.tables) tables old.units.items (placed u.units) t.record_is
+      unit_records = rw (t.units, placed_from-push numbers 0 base 0 u.units v, ← at, ← id)
+          (AllKept-push (tables_in old.tables) tables old.units.items (placed_from base 0 u.units) t.record_is
           (placed_at header (length records) v) t.stay u.unit_records t.kept);
       tables = t.tables;
       places = rw t.units (t.records
           ∙ ap (λ (f : ℕ → ℕ). records ++ node_records f None None (length records) (header + size) v.root)
           (numbers_last tables old.units.items t.record_is unit refl)
           ∙ (λ i. same i ++ node_records (numbers (n i)) None None (id i) (at i + size) v.root)
-          ∙ sym (records_from-push numbers 0 0 0 u.units v));
+          ∙ sym (records_from-push numbers 0 0 base u.units v));
     }
 
 pub few_units : (a : List ℕ) (us : List DebugUnit) → AreUnits a us → length us ≤ length (units_bytes us)
@@ -199,54 +209,103 @@ few_units a [] are = omega arith
 few_units a (u ∷ us) are =
     omega (arith, length-append (unit_bytes u) (units_bytes us), unit_some a u are.0, few_units a us are.1)
 
-pub upto_few_entries : (a info : List ℕ) (header : ℕ) (kept : Kept) → Upto a info header kept
+pub upto_few_entries : (a info : List ℕ) (base header : ℕ) (kept : Kept) → Upto a info base header kept
     → length kept.records.items ≤ header
-upto_few_entries a info header kept u =
+upto_few_entries a info base header kept u =
     omega (
       arith,
       ap length u.places,
       u.at,
-      few_entries a (numbers_of (tables_in kept.tables) kept.units.items) u.units
+      few_entries a (numbers_of (tables_in kept.tables) kept.units.items) base u.units
           u.are,
     )
 
--- what is kept of units does not depend on their base
-kept_based : (base : ℕ) (tables : Tables) (at first : ℕ) (rs : List UnitRecord) (us : List DebugUnit)
-    → AllZip (IsRecordOfUnit tables) rs (placed_from at first us)
-    → AllZip (IsRecordOfUnit tables) rs (placed_from at first (map (with_base base) us))
-kept_based base tables at first [] [] kept = tt
-kept_based base tables at first (r ∷ rs) [] kept = absurd kept
-kept_based base tables at first [] (u ∷ us) kept = absurd kept
-kept_based base tables at first (r ∷ rs) (u ∷ us) (is, kept) = (
-  record { at = is.at; header = is.header; within = is.within; table = is.table; first = is.first },
-  kept_based base tables (at + length (unit_bytes u)) (first + node_count u.root) rs us kept,
-)
+-- units that begin at an offset are placed from there on
+placed_there : (base : ℕ) (us : List DebugUnit) → AreFrom base us → placed us ≡ placed_from base 0 us
+placed_there base [] from = refl
+placed_there base (u ∷ us) from = ap (λ (n : ℕ). placed_from n 0 (u ∷ us)) from.0
 
-pub upto_end : (base : ℕ) (a info : List ℕ) (header : ℕ) (kept : Kept) → Upto a info header kept
+records_there : (numbers : ℕ → ℕ → ℕ) (base : ℕ) (us : List DebugUnit) → AreFrom base us
+    → records_from numbers 0 0 (start_of us) us ≡ records_from numbers 0 0 base us
+records_there numbers base [] from = refl
+records_there numbers base (u ∷ us) from = ap (λ (n : ℕ). records_from numbers 0 0 n (u ∷ us)) from.0
+
+pub upto_end : (a info : List ℕ) (base header : ℕ) (kept : Kept) → Upto a info base header kept
     → length info ≤ header → Scanned base a info (tables_in kept.tables) kept.units.items kept.records.items
-upto_end base a info header kept u e =
-    let whole : info ≡ units_bytes u.units = u.parts
+upto_end a info base header kept u e =
+    let whole : drop base info ≡ units_bytes u.units = u.parts
     ∙ ap (λ (x : List ℕ). units_bytes u.units ++ x) (drop_of_length-le info e) ∙ append-nil (units_bytes u.units) in
     let numbers : ℕ → ℕ → ℕ = numbers_of (tables_in kept.tables) kept.units.items in (
-      map (with_base base) u.units,
+      u.units,
       record {
-        spells = record { are = are_based base a u.units u.are; parts = whole ∙ sym (bytes_based base u.units) };
-        based = have_base base u.units;
-        kept = kept_based base (tables_in kept.tables) 0 0 kept.units.items u.units u.unit_records;
+        spells = record { are = u.are; parts = whole };
+        are_from = u.are_from;
+        kept = subst (AllZip (IsRecordOfUnit (tables_in kept.tables)) kept.units.items)
+            (sym (placed_there base u.units u.are_from)) u.unit_records;
         entries =
-            u.places ∙ sym (records_kept numbers u.units)
-            ∙ ap (map (record_of numbers)) (sym (entries_based base 0 0 0 u.units));
+            u.places ∙ sym (records_kept numbers u.units ∙ records_there numbers base u.units u.are_from);
       },
     )
-
-pub unit_within : (a info : List ℕ) (header : ℕ) (old new : Kept) (len : ℕ) → header ≤ length info
-    → UnitTaken a (drop header info) header old new len → header + len ≤ length info
-unit_within a info header old new len le t =
-    omega (arith, t.len_is, length-drop header info, ap length t.parts, length-append (unit_bytes t.taken) t.after)
 
 -- the rest of a slice
 pub rest_of : (n : ℕ) (s : List ℕ) → n ≤ length s → take (length s - n) (drop n s) ≡ drop n s
 rest_of n s le = take_all _ (drop n s) (omega (arith, length-drop n s))
+
+-- ---- the same by the bytes that are left
+
+pub record UptoRest (a info : List ℕ) (base : ℕ) (rest : List ℕ) (kept : Kept) : Type 0 where
+  pub upto : Upto a info base (length info - length rest) kept
+  pub rest_is : rest ≡ drop (length info - length rest) info
+  pub long : length rest ≤ length info
+
+pub rest_start : (a info : List ℕ) (base : ℕ) (kept : Kept) → base ≤ length info → Upto a info base base kept
+    → UptoRest a info base (take (length info - base) (drop base info)) kept
+rest_start a info base kept low u =
+    let rest : List ℕ = take (length info - base) (drop base info) in
+    let is : rest ≡ drop base info = rest_of base info low in
+    let at : base ≡ length info - length rest = omega (arith, low, ap length is, length-drop base info) in
+    record {
+      upto = subst (λ (n : ℕ). Upto a info base n kept) at u;
+      rest_is = is ∙ ap (λ (n : ℕ). drop n info) at;
+      long = omega (arith, ap length is, length-drop base info);
+    }
+
+-- a unit that was taken is within the rest, and has a byte
+pub taken_within : (a rest : List ℕ) (at : ℕ) (old new : Kept) (len : ℕ) → UnitTaken a rest at old new len
+    → (len ≤ length rest) × (0 < len)
+taken_within a rest at old new len t = (
+  omega (arith, t.len_is, ap length t.parts, length-append (unit_bytes t.taken) t.after),
+  omega (arith, t.len_is, unit_some a t.taken t.is),
+)
+
+pub rest_next : (a info : List ℕ) (base : ℕ) (rest : List ℕ) (old new : Kept) (len : ℕ)
+    → UptoRest a info base rest old → UnitTaken a rest (length info - length rest) old new len
+    → UptoRest a info base (take (length rest - len) (drop len rest)) new
+rest_next a info base rest old new len u t =
+    let header : ℕ = length info - length rest in
+    let after : List ℕ = take (length rest - len) (drop len rest) in
+    let within = (taken_within a rest header old new len t).0 in
+    let cut : after ≡ drop len rest = rest_of len rest within in
+    let at : header + len ≡ length info - length after =
+    omega (arith, u.long, within, ap length cut, length-drop len rest) in
+    record {
+      upto = subst (λ (n : ℕ). Upto a info base n new) at (upto_next a info base header old new len u.upto
+          (subst (λ (xs : List ℕ). UnitTaken a xs header old new len) u.rest_is t));
+      rest_is =
+          cut ∙ ap (drop len) u.rest_is ∙ drop-drop len header info ∙ ap (λ (n : ℕ). drop n info) at;
+      long = omega (arith, u.long, ap length cut, length-drop len rest);
+    }
+
+pub rest_fewer : (a rest : List ℕ) (at : ℕ) (old new : Kept) (len : ℕ) → UnitTaken a rest at old new len
+    → length (take (length rest - len) (drop len rest)) < length rest
+rest_fewer a rest at old new len t =
+    let (within, some) = taken_within a rest at old new len t in
+    omega (arith, within, some, ap length (rest_of len rest within), length-drop len rest)
+
+pub rest_end : (a info : List ℕ) (base : ℕ) (rest : List ℕ) (kept : Kept) → UptoRest a info base rest kept
+    → length rest ≡ 0 → Scanned base a info (tables_in kept.tables) kept.units.items kept.records.items
+rest_end a info base rest kept u none =
+    upto_end a info base (length info - length rest) kept u.upto (omega (arith, none))
 
 pub none_broken : (P : PlainFault → Type 0) (e : Stop PlainFault) (b : PlainFault) → e ≡ Breaks b → IfFault P e → P b
 none_broken P Memory b e p = absurd cc

@@ -1,5 +1,5 @@
 -- The blocks in which the entries of records start, one record after another.
-use Rattle.std.proofs.Common.{◌≡◌, ◌≢◌, ℕ, ◌+◌, ◌*◌, ◌/◌, ◌%◌, ◌^◌, ◌<◌, List, length, get_or, set, replicate, Option, Some, None, refl, sym, ap, subst, ◌∙◌, inl, inr, arith}
+use Rattle.std.proofs.Common.{◌≡◌, ◌≢◌, ℕ, ◌+◌, ◌-◌, ◌*◌, ◌/◌, ◌%◌, ◌^◌, ◌<◌, ◌≤◌, List, length, get_or, set, replicate, Option, Some, None, refl, sym, ap, subst, ◌∙◌, inl, inr, arith}
 use Rattle.std.proofs.lemmas.Bool.{cases_eq, cases_lt}
 use Rattle.std.proofs.lemmas.Nat.{pow_pos}
 use Rattle.std.proofs.lemmas.List.{get_or-replicate, get_or-set_same, get_or-set_other, get_or_past, get_or_read, length-replicate}
@@ -21,17 +21,19 @@ one_offset : (records : List Record) (number a b : ℕ) → IsRecordAt records a
     → a ≡ b
 one_offset records number a b is_a is_b = let e : Some a ≡ Some b = sym is_a ∙ is_b in cc
 
--- by the blocks the first count entries start where their records are, and the next one may start after them
-pub record HaveStarts (records : List Record) (count : ℕ) (blocks : List Block) : Type 0 where
+-- by the blocks, which begin at the base, the first count entries start where their records are, and the next one may
+-- start after them
+pub record HaveStarts (records : List Record) (base count : ℕ) (blocks : List Block) : Type 0 where
   pub found : (offset number : ℕ) → number_from blocks offset ≡ Some number
-      → (number < count) × IsRecordAt records offset number
-  pub start : (offset number : ℕ) → number < count → IsRecordAt records offset number
+      → (number < count) × IsRecordAt records (base + offset) number
+  pub start : (offset number : ℕ) → number < count → IsRecordAt records (base + offset) number
       → number_from blocks offset ≡ Some number
-  pub next : (offset : ℕ) → ((number before : ℕ) → number < count → IsRecordAt records before number → before < offset)
+  pub next : (offset : ℕ)
+      → ((number before : ℕ) → number < count → IsRecordAt records before number → before < base + offset)
       → IsNextIn (block_of blocks offset) (offset % 32) count
 
-pub start_none : (records : List Record) (n : ℕ) → HaveStarts records 0 (replicate n no_starts)
-start_none records n = record {
+pub start_none : (records : List Record) (base n : ℕ) → HaveStarts records base 0 (replicate n no_starts)
+start_none records base n = record {
   found = λ offset number is. absurd (let e : None ≡ Some number = sym (nowhere offset) ∙ is in cc);
   start = λ offset number few. absurd (omega arith);
   next = λ offset _. let P : Block → Type 0 = λ b. IsNextIn b (offset % 32) 0 in
@@ -54,18 +56,18 @@ start_none records n = record {
         ap (λ (b : Block). number_at b (offset % 32)) (none_at offset)
         ∙ number_none no_starts (offset % 32) (bit_at-zero (offset % 32))
 
-pub start_all : (records : List Record) (blocks : List Block) → HaveStarts records (length records) blocks
-    → AreStarts records blocks
-start_all records blocks have offset number = (
+pub start_all : (records : List Record) (base : ℕ) (blocks : List Block)
+    → HaveStarts records base (length records) blocks → AreStarts records base blocks
+start_all records base blocks have offset number = (
   λ is. (have.found offset number is).1,
   λ at. have.start offset number (within at) at,
 )
   where
-    within : IsRecordAt records offset number → number < length records
+    within : IsRecordAt records (base + offset) number → number < length records
     within at = go (slice_get records number) refl at
       where
-        go : (o : Option Record) → slice_get records number ≡ o → option_map (λ (r : Record). r.at) o ≡ Some offset
-            → number < length records
+        go : (o : Option Record) → slice_get records number ≡ o
+            → option_map (λ (r : Record). r.at) o ≡ Some (base + offset) → number < length records
         go (Some r) is same = slice_get_within records number r is
         go None is same = absurd cc
 
@@ -74,12 +76,23 @@ pub read_at : (records : List Record) (k : ℕ) (r : Record) → k < length reco
     → IsRecordAt records (get_or records k r).at k
 read_at records k r within = ap (option_map (λ (q : Record). q.at)) (slice_get-get_or records k r within)
 
-module _ (records : List Record) (end count at : ℕ) (blocks : List Block) (order : AreInOrder records end)
-    (is : IsRecordAt records at count) (old : HaveStarts records count blocks) (within : at / 32 < length blocks)
-    (block : Block) (read : block ≡ get_or blocks (at / 32) block) where
+-- and so far after the base
+pub read_past : (records : List Record) (base end k : ℕ) (r : Record) → k < length records
+    → AreInOrder records base end
+    → IsRecordAt records (base + ((get_or records k r).at - base)) k × ((get_or records k r).at < end)
+    × (base ≤ (get_or records k r).at)
+read_past records base end k r within order =
+    let is = read_at records k r within in
+    let low = order.past k (get_or records k r).at is in
+    let same : (get_or records k r).at ≡ base + ((get_or records k r).at - base) = omega (arith, low) in
+    (subst (λ (n : ℕ). IsRecordAt records n k) same is, order.within k (get_or records k r).at is, low)
+
+module _ (records : List Record) (base end count at : ℕ) (blocks : List Block) (order : AreInOrder records base end)
+    (is : IsRecordAt records (base + at) count) (old : HaveStarts records base count blocks)
+    (within : at / 32 < length blocks) (block : Block) (read : block ≡ get_or blocks (at / 32) block) where
   -- the records before are at lower offsets
-  below : (number before : ℕ) → number < count → IsRecordAt records before number → before < at
-  below number before few at_before = order.rise number count before at few at_before is
+  below : (number before : ℕ) → number < count → IsRecordAt records before number → before < base + at
+  below number before few at_before = order.rise number count before (base + at) few at_before is
 
   block_is : block_of blocks at ≡ block
   block_is = sym (get_or_read blocks (at / 32) block within read no_starts)
@@ -111,41 +124,42 @@ module _ (records : List Record) (end count at : ℕ) (blocks : List Block) (ord
       | inr apart ↦ ap (λ (b : Block). number_at b (offset % 32)) (put_other offset apart)
     ]
 
-    pub start_more : HaveStarts records (count + 1) put
+    pub start_more : HaveStarts records base (count + 1) put
     start_more = record { found = found; start = start; next = after }
       where
         found : (offset number : ℕ) → number_from put offset ≡ Some number
-            → (number < count + 1) × IsRecordAt records offset number
+            → (number < count + 1) × IsRecordAt records (base + offset) number
         found offset number found_here = elim (cases_eq offset at) [
           | inl same ↦
               let e : Some count ≡ Some number =
               sym number_here ∙ ap (number_from put) (sym same) ∙ found_here in
               let one : count ≡ number = cc in
-              let P : ℕ → ℕ → Type 0 = IsRecordAt records in
+              let P : ℕ → ℕ → Type 0 = λ n. IsRecordAt records (base + n) in
               (omega (arith, one), subst (λ n. P n number) (sym same) (subst (P at) one is))
           | inr other ↦
               let (few, there) = old.found offset number (sym (number_other offset other) ∙ found_here) in
               (omega (arith, few), there)
         ]
 
-        start : (offset number : ℕ) → number < count + 1 → IsRecordAt records offset number
+        start : (offset number : ℕ) → number < count + 1 → IsRecordAt records (base + offset) number
             → number_from put offset ≡ Some number
         start offset number few there = elim (cases_eq number count) [
           | inl same ↦
-              let P : ℕ → Type 0 = IsRecordAt records offset in
-              let place : offset ≡ at = one_offset records count offset at (subst P same there) is in
+              let P : ℕ → Type 0 = IsRecordAt records (base + offset) in
+              let both = one_offset records count (base + offset) (base + at) (subst P same there) is in
+              let place : offset ≡ at = omega (arith, both) in
               ap (number_from put) place ∙ number_here ∙ ap (λ (n : ℕ). Some n) (sym same)
           | inr other ↦
               let earlier : number < count = omega (arith, few, other) in
-              let low = below number offset earlier there in
+              let low = below number (base + offset) earlier there in
               number_other offset (λ e. omega (arith, e, low)) ∙ old.start offset number earlier there
         ]
 
         after : (offset : ℕ)
-            → ((number before : ℕ) → number < count + 1 → IsRecordAt records before number → before < offset)
+            → ((number before : ℕ) → number < count + 1 → IsRecordAt records before number → before < base + offset)
             → IsNextIn (block_of put offset) (offset % 32) (count + 1)
         after offset above =
-            let past : at < offset = above count at (omega arith) is in
+            let past : at < offset = let e = above count (base + at) (omega arith) is in omega (arith, e) in
             elim (cases_eq (offset / 32) (at / 32)) [
               | inl same ↦
                   let P : Block → Type 0 = λ b. IsNextIn b (offset % 32) (count + 1) in

@@ -1,5 +1,5 @@
 -- Which entries are of a unit: those from its first one up to the first one of the next unit.
-use Rattle.std.proofs.Common.{rules, ◌≡◌, ℕ, zero, suc, ◌+◌, ◌-◌, ◌<◌, ◌≤◌, List, [], ◌∷◌, ◌++◌, length, get_or, Option, Some, None, refl, sym, ap, subst, ◌∙◌, inl, inr, arith, length-append}
+use Rattle.std.proofs.Common.{rules, ◌≡◌, ℕ, zero, suc, ◌+◌, ◌-◌, ◌<◌, ◌≤◌, List, [], ◌∷◌, ◌++◌, length, get_or, Option, Some, None, refl, sym, ap, subst, ◌∙◌, inl, inr, arith, length-append, length-drop}
 use Rattle.std.specs.Prelude.{slice_get}
 use Rattle.std.specs.List.{AllByRecursion}
 use Rattle.std.specs.List.Sorted.{IsPartitionPoint, IsNonDecreasingBy}
@@ -12,7 +12,7 @@ use Rattle.dw_entries.specs.Grammar.{head_bytes}
 use Rattle.dw_entries.specs.Header.{unit_header_size}
 use Rattle.dw_entries.specs.Tree.{Node, Nodes, leaf, parent, none, ◌then◌, node_bytes}
 use Rattle.dw_entries.specs.Units.{DebugUnit, unit_bytes}
-use Rattle.dw_entries.specs.Entries.{Entry, node_count, first_id, node_entries, nodes_entries, entries_from, entries_of, PlacedUnit, placed_from, placed}
+use Rattle.dw_entries.specs.Entries.{Entry, node_count, first_id, node_entries, nodes_entries, entries_from, start_of, entries_of, PlacedUnit, placed_from, placed}
 use Rattle.dw_entries.specs.ByNumber.{end_in}
 use Rattle.dw_entries.specs.Scanned.{found_units, Scanned}
 use Rattle.dw_entries.proofs.EntryFacts.{length-node_entries}
@@ -120,7 +120,8 @@ pub range_of_unit : (us : List DebugUnit) (n : ℕ) (p : PlacedUnit) (k : ℕ) (
     → slice_get (placed us) n ≡ Some p → slice_get (entries_of us) k ≡ Some e → e.unit ≡ n
     → (p.first ≤ k) × (k < p.first + node_count p.unit.root)
 range_of_unit us n p k e is is_e of_unit =
-    let (m, q, is_q, low, high) = some_range 0 0 0 us k (slice_get_within (entries_of us) k e is_e) in
+    let (m, q, is_q, low, high) = some_range 0 0 (start_of us) us k (slice_get_within (entries_of us) k e is_e)
+    in
     let same : m ≡ n = sym (unit_in_range us m q k e is_q is_e (omega (arith, low)) (omega (arith, high))) ∙ of_unit in
     let P : ℕ → Type 0 = λ i. slice_get (placed us) i ≡ Some q in
     let one : q ≡ p = one_some (slice_get (placed us) n) q p (subst P same is_q) is in
@@ -139,7 +140,7 @@ next_from at first (u ∷ us) (suc n) p q is next =
 
 pub next_first : (us : List DebugUnit) (n : ℕ) (p q : PlacedUnit) → slice_get (placed us) n ≡ Some p
     → slice_get (placed us) (suc n) ≡ Some q → q.first ≡ p.first + node_count p.unit.root
-next_first us n p q is next = next_from 0 0 us n p q is next
+next_first us n p q is next = next_from (start_of us) 0 us n p q is next
 
 -- the last unit ends with the last entry
 last_from : (unit id at : ℕ) (us : List DebugUnit) (n : ℕ) (p : PlacedUnit)
@@ -160,7 +161,8 @@ last_from unit id at (u ∷ us) (suc n) p is last =
 pub last_ends : (us : List DebugUnit) (n : ℕ) (p : PlacedUnit) → slice_get (placed us) n ≡ Some p → suc n ≡ length us
     → length (entries_of us) ≡ p.first + node_count p.unit.root
 last_ends us n p is last =
-    (let z : length (entries_of us) ≡ 0 + length (entries_of us) = omega arith in z) ∙ last_from 0 0 0 us n p is last
+    (let z : length (entries_of us) ≡ 0 + length (entries_of us) = omega arith in z)
+    ∙ last_from 0 0 (start_of us) us n p is last
 
 -- units begin with rising entries
 firsts_from : (at first : ℕ) (us : List DebugUnit) (i j : ℕ) (p q : PlacedUnit) → i ≤ j
@@ -223,8 +225,8 @@ module _ {base : ℕ} (a info : List ℕ) (tables : Tables) (rs : List UnitRecor
         arith,
         units_counted a info tables rs records s,
         few_units a (found_units s) s.1.spells.are,
-        ap length
-            s.1.spells.parts,
+        ap length s.1.spells.parts,
+        length-drop base info,
       )
 
   module _ (id : ℕ) (within : id < length (entries_of (found_units s))) (n : ℕ)
@@ -258,8 +260,9 @@ module _ {base : ℕ} (a info : List ℕ) (tables : Tables) (rs : List UnitRecor
             go : (us : List DebugUnit) → slice_get (placed us) 0 ≡ Some p → p.first ≡ 0
             go [] gone = absurd cc
             go (u ∷ us) is =
-                let some : ◌≡◌ {A = Option PlacedUnit} (Some (record { at = 0; first = 0; unit = u })) (Some p) = is in
-                let same : ◌≡◌ {A = PlacedUnit} (record { at = 0; first = 0; unit = u }) p = cc in
+                let some : ◌≡◌ {A = Option PlacedUnit} (Some (record { at = u.at; first = 0; unit = u })) (Some p) = is
+                in
+                let same : ◌≡◌ {A = PlacedUnit} (record { at = u.at; first = 0; unit = u }) p = cc in
                 sym (ap (λ (q : PlacedUnit). q.first) same)
 
     pub point_within : n ≤ length rs → n - 1 < length rs

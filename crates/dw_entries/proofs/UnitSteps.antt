@@ -1,5 +1,5 @@
 -- What taking a unit rests on.
-use Rattle.std.proofs.Common.{rules, ◌≡◌, ℕ, ◌+◌, ◌≤◌, List, [], ◌∷◌, ◌++◌, length, take, None, Ok, sym, ap, subst, ◌∙◌, append-nil, arith, length-append}
+use Rattle.std.proofs.Common.{rules, ◌≡◌, ℕ, ◌+◌, ◌≤◌, List, [], ◌∷◌, ◌++◌, length, take, None, Ok, refl, sym, ap, subst, ◌∙◌, append-nil, arith, length-append}
 use Rattle.dw_forms.specs.Abbrev.{Declaration}
 use Rattle.dw_entries.specs.declared.records.UnitRecord.{UnitRecord}
 use Rattle.dw_entries.specs.declared.records.Kept.{Kept}
@@ -58,7 +58,7 @@ module _ (a rest : List ℕ) (h : UnitHeader) (body : List ℕ) (read : header_a
       let counted = is.whole in
       record {
         taken = record {
-          base = 0;
+          at = at;
           header = h;
           header_bytes = front;
           table = table;
@@ -76,6 +76,7 @@ module _ (a rest : List ℕ) (h : UnitHeader) (body : List ℕ) (read : header_a
               tag = tree.tag;
               nulls = tree.are_nulls;
             };
+        begins = refl;
         after = after;
         parts = found.parts ∙ ap (λ (b : List ℕ). b ++ after) text;
         len_is = sym counted ∙ ap length text;

@@ -7,12 +7,12 @@ use Rattle.dw_entries.specs.Units.{DebugUnit}
 use Rattle.dw_entries.specs.Entries.{placed}
 use Rattle.dw_entries.specs.ByNumber.{placed_of}
 use Rattle.dw_entries.specs.Lookups.{unit_head}
-use Rattle.dw_entries.proofs.EntryFacts.{length-placed_from}
+use Rattle.dw_entries.proofs.EntryFacts.{length-placed}
 
 pub unit_turn : (us : List DebugUnit) (n : ℕ) (h : UnitHead) → n < length us
     → h ≡ unit_head (placed_of (placed us) n)
     → map unit_head (drop n (placed us)) ≡ h ∷ map unit_head (drop (n + 1) (placed us))
-unit_turn us n h within told = search (rules, slice_get-get_or, length-placed_from, add-one, drop-cons)
+unit_turn us n h within told = search (rules, slice_get-get_or, length-placed, add-one, drop-cons)
 
 pub fewer_units : (us : List DebugUnit) (n : ℕ) (h : UnitHead) → n < length us
     → h ≡ unit_head (placed_of (placed us) n)
@@ -22,4 +22,4 @@ fewer_units us n h within told = omega (arith, ap length (unit_turn us n h withi
 pub no_units : (us : List DebugUnit) (n : ℕ) → length us ≤ n → map unit_head (drop n (placed us)) ≡ []
 no_units us n past =
     ap (map unit_head) (nil_from_length (drop n (placed us))
-    (omega (arith, past, length-drop n (placed us), length-placed_from 0 0 us)))
+    (omega (arith, past, length-drop n (placed us), length-placed us)))

@@ -25,7 +25,7 @@ entry_of entries number = slice_index_or entries number no_entry
 -- the unit of a number past the last unit
 abbrev pub no_unit : DebugUnit
 no_unit = record {
-  base = 0;
+  at = 0;
   header = record { unit_length = 0; kind = Version4; address_size = 0; abbrev_offset = 0 };
   header_bytes = [];
   table = [];

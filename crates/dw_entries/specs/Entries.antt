@@ -5,8 +5,8 @@ use Rattle.dw_entries.specs.Header.{unit_header_size}
 use Rattle.dw_entries.specs.Tree.{Node, Nodes, leaf, parent, none, ◌then◌, node_bytes}
 use Rattle.dw_entries.specs.Units.{DebugUnit, unit_bytes}
 
--- an entry: the offset of its first byte, the number of its unit, the number of the entry that it is a child of,
--- how many entries are above it, the number of its next sibling, and its head
+-- an entry: the offset of its first byte in .debug_info, the number of its unit, the number of the entry that it is a
+-- child of, how many entries are above it, the number of its next sibling, and its head
 pub record Entry : Type 0 where
   pub at : ℕ
   pub unit : ℕ
@@ -52,9 +52,14 @@ entries_from unit id at (u ∷ us) =
     node_entries unit None 0 None id (at + unit_header_size u.header.kind) u.root
     ++ entries_from (suc unit) (id + node_count u.root) (at + length (unit_bytes u)) us
 
--- the entries of these units, from the start of `sections.info`, where the first of them is
+-- where the first of these units begins
+abbrev pub start_of : List DebugUnit → ℕ
+start_of [] = 0
+start_of (u ∷ us) = u.at
+
+-- the entries of these units
 abbrev pub entries_of : List DebugUnit → List Entry
-entries_of us = entries_from 0 0 0 us
+entries_of us = entries_from 0 0 (start_of us) us
 
 -- ---- the units, each at its place
 
@@ -71,6 +76,6 @@ placed_from at first (u ∷ us) =
     record { at = at; first = first; unit = u }
     ∷ placed_from (at + length (unit_bytes u)) (first + node_count u.root) us
 
--- the units from the start of `sections.info`, each at its place
+-- the units, each at its place
 abbrev pub placed : List DebugUnit → List PlacedUnit
-placed us = placed_from 0 0 us
+placed us = placed_from (start_of us) 0 us

@@ -1,4 +1,4 @@
--- Chapter: which entry is at an offset, of `sections.info` or of a unit.
+-- Chapter: which entry is at an offset, of .debug_info or of a unit.
 use Rattle.std.specs.Prelude.{◌≡◌, ℕ, ◌+◌, ◌<◌, List, length}
 use Rattle.dw_entries.specs.Entries.{Entry, PlacedUnit}
 use Rattle.dw_entries.specs.ByNumber.{entry_of, placed_of}

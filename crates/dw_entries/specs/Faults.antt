@@ -1,4 +1,4 @@
--- Chapter: the first place at which `sections.info` stops being a list of units, and the rule that fails there.
+-- Chapter: the first place at which .debug_info stops being a list of units, and the rule that fails there.
 use Rattle.std.specs.Prelude.{◌≡◌, ◌≢◌, ℕ, zero, suc, true, ◌+◌, List, [], ◌∷◌, ◌++◌, length, Some, Result, Ok}
 use Rattle.std.specs.Prelude.{Err}
 use Rattle.dw_forms.specs.declared.fault.AbbrevFault.{AbbrevFault}
@@ -81,15 +81,16 @@ abbrev pub FailsAs : List ℕ → ℕ → Result (UnitHeader × List ℕ) Rule �
 FailsAs «abbrev» header (Ok u) broken = FailsBehind header u.0 u.1 (table_at «abbrev» u.0.abbrev_offset) broken
 FailsAs «abbrev» header (Err rule) broken = broken ≡ in_header rule header
 
--- these bytes, which are at this offset of `sections.info`, begin with no unit, and this is why
+-- these bytes, which are at this offset of .debug_info, begin with no unit, and this is why
 abbrev pub FailsHere : List ℕ → ℕ → List ℕ → PlainFault → Type 0
 FailsHere «abbrev» header rest broken = FailsAs «abbrev» header (header_at (length «abbrev») rest) broken
 
--- whole units, and then bytes that are none, by the first check that fails
-pub record Fails («abbrev» info : List ℕ) (broken : PlainFault) : Type 0 where
+-- these bytes, which are at this offset of .debug_info, are whole units, and then bytes that are none, by the first
+-- check that fails
+pub record Fails («abbrev» : List ℕ) (at : ℕ) (bytes : List ℕ) (broken : PlainFault) : Type 0 where
   pub units : List DebugUnit
   pub rest : List ℕ
   pub are : AreUnits «abbrev» units
-  pub parts : info ≡ units_bytes units ++ rest
+  pub parts : bytes ≡ units_bytes units ++ rest
   pub more : rest ≢ []
-  pub fails : FailsHere «abbrev» (length (units_bytes units)) rest broken
+  pub fails : FailsHere «abbrev» (at + length (units_bytes units)) rest broken

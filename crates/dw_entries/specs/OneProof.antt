@@ -1,5 +1,5 @@
 -- Laws: what is known of the entries has one proof.
-use Rattle.std.proofs.Common.{ℕ, List, [], ◌∷◌}
+use Rattle.std.proofs.Common.{ℕ, ◌+◌, List, [], ◌∷◌, length, drop}
 use Rattle.std.specs.Coded.{×_prop}
 use mathlib.Core.HLevel.{Σ_prop_path}
 use Rattle.std.proofs.Props.{props}
@@ -12,7 +12,7 @@ use Rattle.dw_forms.specs.KeptDecls.{Tables}
 use Rattle.dw_entries.specs.Entries.{PlacedUnit}
 use Rattle.dw_entries.specs.Grammar.{Context, Attribute, IsAttribute, AreAttributes, Head, IsHead}
 use Rattle.dw_entries.specs.Tree.{Node, Nodes, leaf, parent, none, ◌then◌, IsNode, AreNodes}
-use Rattle.dw_entries.specs.Units.{DebugUnit, AreNulls, IsUnit, AreUnits, Spells, HaveBase}
+use Rattle.dw_entries.specs.Units.{DebugUnit, unit_bytes, AreNulls, IsUnit, AreUnits, Spells, AreFrom}
 use Rattle.dw_entries.specs.Scanned.{IsRecordOfUnit, AreScanned, Scanned}
 use Rattle.dw_entries.specs.UnitLaws.{one_list}
 
@@ -60,9 +60,9 @@ AreUnits-prop a (u ∷ us) = ×_prop (IsUnit-prop a u) (AreUnits-prop a us)
 pub Spells-prop : (a : List ℕ) (us : List DebugUnit) (info : List ℕ) → IsProp (Spells a us info)
 Spells-prop a us info = hlevel (props, AreUnits-prop)
 
-HaveBase-prop : (base : ℕ) (us : List DebugUnit) → IsProp (HaveBase base us)
-HaveBase-prop base [] = hlevel props
-HaveBase-prop base (u ∷ us) = ×_prop (hlevel props) (HaveBase-prop base us)
+AreFrom-prop : (at : ℕ) (us : List DebugUnit) → IsProp (AreFrom at us)
+AreFrom-prop at [] = hlevel props
+AreFrom-prop at (u ∷ us) = ×_prop (hlevel props) (AreFrom-prop (at + length (unit_bytes u)) us)
 
 records_set : IsSet (List Record)
 records_set = hlevel props
@@ -79,11 +79,11 @@ AllKept-prop tables (r ∷ rs) (p ∷ ps) = ×_prop (IsRecordOfUnit-prop tables 
 
 AreScanned-prop : (base : ℕ) (a info : List ℕ) (tables : Tables) (rs : List UnitRecord) (records : List Record)
     (us : List DebugUnit) → IsProp (AreScanned base a info tables rs records us)
-AreScanned-prop base a info tables rs records us = hlevel (props, Spells-prop, HaveBase-prop, AllKept-prop, records_set)
+AreScanned-prop base a info tables rs records us = hlevel (props, Spells-prop, AreFrom-prop, AllKept-prop, records_set)
 
 -- the units of a section, with what is kept of them
 pub scanned_unique : (base : ℕ) (a info : List ℕ) (tables : Tables) (rs : List UnitRecord) (records : List Record)
     → IsProp (Scanned base a info tables rs records)
 scanned_unique base a info tables rs records p q =
     Σ_prop_path (AreScanned-prop base a info tables rs records)
-    (one_list base a info p.0 q.0 p.1.spells q.1.spells p.1.based q.1.based)
+    (one_list base a (drop base info) p.0 q.0 p.1.spells q.1.spells p.1.are_from q.1.are_from)

@@ -1,4 +1,4 @@
--- Chapter: places of `sections.info` where a rule can fail, and their order.
+-- Chapter: places of .debug_info where a rule can fail, and their order.
 use Rattle.std.specs.Prelude.{◌≡◌, ℕ, ◌<◌, ◌≤◌, ◌⊎◌}
 
 -- at a unit's header, at an entry, or at an attribute of an entry, by its position among them from 0

@@ -7,7 +7,7 @@ use Rattle.dw_entries.specs.Grammar.{head_bytes}
 use Rattle.dw_entries.specs.Header.{unit_header_size}
 use Rattle.dw_entries.specs.Tree.{Node, Nodes, leaf, parent, none, ◌then◌, node_bytes}
 use Rattle.dw_entries.specs.Units.{DebugUnit, unit_bytes}
-use Rattle.dw_entries.specs.Entries.{Entry, node_count, first_id, node_entries, nodes_entries, entries_from}
+use Rattle.dw_entries.specs.Entries.{Entry, node_count, first_id, node_entries, nodes_entries, entries_from, start_of}
 use Rattle.dw_entries.specs.Scanned.{record_of, records_of}
 
 -- a node's entries, with the numbers of their declarations by their codes: itself, number id, at this offset under this
@@ -73,5 +73,6 @@ units_kept numbers (u ∷ us) unit id at =
     ++ rs) (units_kept numbers us (suc unit) (id + node_count u.root) (at + length (unit_bytes u)))
 
 -- these records are what is kept of the entries
-pub records_kept : (numbers : ℕ → ℕ → ℕ) (us : List DebugUnit) → records_of numbers us ≡ records_from numbers 0 0 0 us
-records_kept numbers us = units_kept numbers us 0 0 0
+pub records_kept : (numbers : ℕ → ℕ → ℕ) (us : List DebugUnit)
+    → records_of numbers us ≡ records_from numbers 0 0 (start_of us) us
+records_kept numbers us = units_kept numbers us 0 0 (start_of us)

@@ -1,12 +1,12 @@
 -- State: what is known of the result of a scan: its units, and what is kept of them and of their entries.
-use Rattle.std.specs.Prelude.{◌≡◌, ◌<◌, ℕ, zero, suc, List, [], ◌∷◌, length, map}
+use Rattle.std.specs.Prelude.{◌≡◌, ◌<◌, ℕ, zero, suc, List, [], ◌∷◌, length, map, drop}
 use Rattle.std.specs.List.{AllZip}
 use Rattle.dw_entries.specs.declared.records.Record.{Record}
 use Rattle.dw_entries.specs.declared.records.UnitRecord.{UnitRecord}
 use Rattle.dw_forms.specs.Chains.{chain_in}
 use Rattle.dw_forms.specs.declared.decl.Decls.{Decls}
 use Rattle.dw_forms.specs.KeptDecls.{Tables, table_in, tables_of, decl_number_in}
-use Rattle.dw_entries.specs.Units.{DebugUnit, Spells, HaveBase}
+use Rattle.dw_entries.specs.Units.{DebugUnit, Spells, AreFrom}
 use Rattle.dw_entries.specs.Entries.{Entry, entries_of, PlacedUnit, placed}
 
 -- the tables of these declarations
@@ -44,11 +44,11 @@ pub record IsRecordOfUnit (tables : Tables) (r : UnitRecord) (p : PlacedUnit) : 
   pub table : table_in tables r.table ≡ p.unit.table
   pub first : r.first ≡ p.first
 
--- the bytes spell these units, with this base, and what is kept of them and of their entries is theirs
+-- the bytes spell these units from this offset on, and what is kept of them and of their entries is theirs
 pub record AreScanned (base : ℕ) («abbrev» info : List ℕ) (tables : Tables) (unit_records : List UnitRecord)
     (records : List Record) (units : List DebugUnit) : Type 0 where
-  pub spells : Spells «abbrev» units info
-  pub based : HaveBase base units
+  pub spells : Spells «abbrev» units (drop base info)
+  pub are_from : AreFrom base units
   pub kept : AllZip (IsRecordOfUnit tables) unit_records (placed units)
   pub entries : records ≡ records_of (numbers_of tables unit_records) units
 

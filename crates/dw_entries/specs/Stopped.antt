@@ -67,10 +67,11 @@ pub record MoreTables («abbrev» : List ℕ) (old new : AbbrevTables) : Type 0 
   pub tables : AreTablesOf «abbrev» new
   pub stay : Stay (tables_in old) (tables_in new)
 
--- a unit begins the bytes, and what is kept of it comes after the old
+-- a unit begins the bytes, which are at this offset, and what is kept of it comes after the old
 pub record UnitTaken («abbrev» rest : List ℕ) (at : ℕ) (old new : Kept) (len : ℕ) : Type 0 where
   pub taken : DebugUnit
   pub is : IsUnit «abbrev» taken
+  pub begins : taken.at ≡ at
   pub after : List ℕ
   pub parts : rest ≡ unit_bytes taken ++ after
   pub len_is : len ≡ length (unit_bytes taken)

@@ -1,5 +1,5 @@
--- Laws: one list of units at most spells .debug_info, and the base of units changes nothing else of them.
-use Rattle.std.proofs.Common.{◌≡◌, ◌<◌, ℕ, List, [], ◌∷◌, ◌++◌, length, drop, ◌⊎◌, Result, Ok, refl, sym, ap}
+-- Laws: one list of units at most spells .debug_info, and where units begin changes nothing else of them.
+use Rattle.std.proofs.Common.{◌≡◌, ◌<◌, ℕ, ◌+◌, List, [], ◌∷◌, ◌++◌, length, drop, ◌⊎◌, Result, Ok, refl, sym, ap}
 use Rattle.std.proofs.Common.{subst, ◌∙◌, arith, length-append, drop_at, map}
 use Rattle.std.specs.List.{AllByRecursion}
 use Rattle.std.proofs.lemmas.List.{append_cancel_right}
@@ -11,7 +11,7 @@ use Rattle.dw_entries.specs.Grammar.{Context, IsNull}
 use Rattle.dw_entries.specs.Header.{unit_header_size, header_at}
 use Rattle.dw_entries.specs.Tree.{Node, IsNode}
 use Rattle.dw_entries.specs.Units.{DebugUnit, context_by, context_of, nulls_bytes, AreNulls, body_bytes, unit_bytes}
-use Rattle.dw_entries.specs.Units.{IsUnit, AreUnits, units_bytes, Spells, HaveBase}
+use Rattle.dw_entries.specs.Units.{IsUnit, AreUnits, units_bytes, Spells, AreFrom}
 use Rattle.dw_entries.specs.Joined.{GoesOn, IsUnique, begins, one_row}
 use Rattle.dw_entries.specs.HeaderLaws.{IsSized, sized, header_again, headers_apart}
 use Rattle.dw_entries.specs.ItemLaws.{code_has_byte}
@@ -22,8 +22,8 @@ use Rattle.dw_entries.specs.TreeLaws.{node_unique}
 
 -- the unit with these parts
 abbrev made : ℕ → UnitHeader → List ℕ → List Declaration → Node → List (List ℕ) → DebugUnit
-made base header header_bytes table root nulls = record {
-  base = base;
+made at header header_bytes table root nulls = record {
+  at = at;
   header = header;
   header_bytes = header_bytes;
   table = table;
@@ -31,13 +31,17 @@ made base header header_bytes table root nulls = record {
   nulls = nulls;
 }
 
--- the unit with this base
-abbrev pub with_base : ℕ → DebugUnit → DebugUnit
-with_base base u = made base u.header u.header_bytes u.table u.root u.nulls
+-- the unit at this offset
+abbrev unit_from : ℕ → DebugUnit → DebugUnit
+unit_from at u = made at u.header u.header_bytes u.table u.root u.nulls
 
--- a unit of a section, with this base
-abbrev pub IsBased : ℕ → List ℕ → DebugUnit → Type 0
-IsBased base a u = IsUnit a u × (u.base ≡ base)
+-- the unit as if it began at offset 0
+abbrev pub bare : DebugUnit → DebugUnit
+bare u = unit_from 0 u
+
+-- a unit of a section, at offset 0
+abbrev pub IsBare : List ℕ → DebugUnit → Type 0
+IsBare a u = IsUnit a u × (u.at ≡ 0)
 
 null_unique : IsUnique (λ z. z) IsNull
 null_unique z w x y p q e = ((apart uleb z w x y 0 0 p q e).0, (one_value uleb z w x y 0 0 p q e).1)
@@ -69,8 +73,8 @@ pub unit_some : (a : List ℕ) (u : DebugUnit) → IsUnit a u → 0 < length (un
 unit_some a u p = let whole = (unit_sized a u p).whole in omega (arith, whole)
 
 -- no spelling of a unit begins another
-unit_unique : (base : ℕ) (a : List ℕ) → IsUnique unit_bytes (IsBased base a)
-unit_unique base a u v x y (p, from) (q, same_from) e =
+unit_unique : (a : List ℕ) → IsUnique unit_bytes (IsBare a)
+unit_unique a u v x y (p, from) (q, same_from) e =
     let both = headers_apart (length a) (unit_bytes u) (unit_bytes v) x y (u.header, body_bytes u)
     (v.header, body_bytes v) p.header q.header e in
     let header : u.header ≡ v.header = ap (λ (p : UnitHeader × List ℕ). p.0) both.1 in
@@ -87,56 +91,64 @@ unit_unique base a u v x y (p, from) (q, same_from) e =
     (subst (λ (t : Context). IsNode t v.root) context q.root) bodies in
     let root : u.root ≡ v.root = roots.0 in
     let nulls : u.nulls ≡ v.nulls = nulls_unique u.nulls v.nulls p.nulls q.nulls roots.1 in
-    let whole : made u.base u.header u.header_bytes u.table u.root u.nulls
-    ≡ made v.base v.header v.header_bytes v.table v.root v.nulls = cc in
+    let whole : made u.at u.header u.header_bytes u.table u.root u.nulls
+    ≡ made v.at v.header v.header_bytes v.table v.root v.nulls = cc in
     let same : unit_bytes v ≡ unit_bytes u = ap unit_bytes (sym whole) in (
       whole,
       sym (drop_at (unit_bytes u) x (length (unit_bytes u)) refl) ∙ ap (drop (length (unit_bytes u))) e
           ∙ drop_at (unit_bytes v) y (length (unit_bytes u)) (ap length same),
     )
 
--- the bytes of units do not depend on their base ..
-pub bytes_based : (base : ℕ) (us : List DebugUnit) → units_bytes (map (with_base base) us) ≡ units_bytes us
-bytes_based base [] = refl
-bytes_based base (u ∷ us) = ap (λ (b : List ℕ). unit_bytes u ++ b) (bytes_based base us)
+-- the bytes of units do not depend on where they begin ..
+pub bytes_bare : (us : List DebugUnit) → units_bytes (map bare us) ≡ units_bytes us
+bytes_bare [] = refl
+bytes_bare (u ∷ us) = ap (λ (b : List ℕ). unit_bytes u ++ b) (bytes_bare us)
 
 -- .. nor does what a unit is
-pub are_based : (base : ℕ) (a : List ℕ) (us : List DebugUnit) → AreUnits a us → AreUnits a (map (with_base base) us)
-are_based base a [] are = tt
-are_based base a (u ∷ us) (is, are) = (
-  record {
-    header = is.header;
-    table = is.table;
-    root = is.root;
-    tag = is.tag;
-    nulls = is.nulls;
-  },
-  are_based base a us are,
+are_bare : (a : List ℕ) (us : List DebugUnit) → AreUnits a us → AllByRecursion (IsBare a) (map bare us)
+are_bare a [] are = tt
+are_bare a (u ∷ us) (is, are) = (
+  (
+    record {
+      header = is.header;
+      table = is.table;
+      root = is.root;
+      tag = is.tag;
+      nulls = is.nulls;
+    },
+    refl,
+  ),
+  are_bare a us are,
 )
 
-pub have_base : (base : ℕ) (us : List DebugUnit) → HaveBase base (map (with_base base) us)
-have_base base [] = tt
-have_base base (u ∷ us) = (refl, have_base base us)
-
-both : (base : ℕ) (a : List ℕ) (us : List DebugUnit) → AreUnits a us → HaveBase base us
-    → AllByRecursion (IsBased base a) us
-both base a [] are based = tt
-both base a (u ∷ us) (is, are) (from, based) = ((is, from), both base a us are based)
-
--- of two lists of units that spell beginnings of the same bytes one goes on where the other ends, but for their base
-pub units_begin : (base : ℕ) (a : List ℕ) (us vs : List DebugUnit) (x y : List ℕ) → AreUnits a us → AreUnits a vs
+-- of two lists of units that spell beginnings of the same bytes one goes on where the other ends, but for their places
+pub units_begin : (a : List ℕ) (us vs : List DebugUnit) (x y : List ℕ) → AreUnits a us → AreUnits a vs
     → units_bytes us ++ x ≡ units_bytes vs ++ y
-    → GoesOn unit_bytes (IsBased base a) (map (with_base base) us) (map (with_base base) vs) x y
-    ⊎ GoesOn unit_bytes (IsBased base a) (map (with_base base) vs) (map (with_base base) us) y x
-units_begin base a us vs x y p q e =
-    begins unit_bytes (IsBased base a) (unit_unique base a) (map (with_base base) us) (map (with_base base) vs) x y
-    (both base a (map (with_base base) us) (are_based base a us p) (have_base base us))
-    (both base a (map (with_base base) vs) (are_based base a vs q) (have_base base vs))
-    (ap (λ (b : List ℕ). b ++ x) (bytes_based base us) ∙ e ∙ ap (λ (b : List ℕ). b ++ y) (sym (bytes_based base vs)))
+    → GoesOn unit_bytes (IsBare a) (map bare us) (map bare vs) x y
+    ⊎ GoesOn unit_bytes (IsBare a) (map bare vs) (map bare us) y x
+units_begin a us vs x y p q e =
+    begins unit_bytes (IsBare a) (unit_unique a) (map bare us) (map bare vs) x y (are_bare a us p) (are_bare a vs q)
+    (ap (λ (b : List ℕ). b ++ x) (bytes_bare us) ∙ e ∙ ap (λ (b : List ℕ). b ++ y) (sym (bytes_bare vs)))
 
--- two lists of units that spell the same bytes and have one base are one
-pub one_list : (base : ℕ) (a : List ℕ) (bytes : List ℕ) (us vs : List DebugUnit) → Spells a us bytes
-    → Spells a vs bytes → HaveBase base us → HaveBase base vs → us ≡ vs
-one_list base a bytes us vs p q from same =
-    one_row unit_bytes (IsBased base a) (unit_unique base a) (λ u is. unit_some a u is.0) us vs
-    (both base a us p.are from) (both base a vs q.are same) (sym p.parts ∙ q.parts)
+-- units one after another are at the same places
+one_places : (at : ℕ) (us vs : List DebugUnit) → map bare us ≡ map bare vs → AreFrom at us → AreFrom at vs → us ≡ vs
+one_places at [] [] same from also = refl
+one_places at [] (v ∷ vs) same from also = absurd cc
+one_places at (u ∷ us) [] same from also = absurd cc
+one_places at (u ∷ us) (v ∷ vs) same (here, from) (there, also) =
+    let first : bare u ≡ bare v = cc in
+    let others : map bare us ≡ map bare vs = cc in
+    let one : u ≡ v = ap (λ (n : ℕ). unit_from n u) here ∙ ap (unit_from at) first
+    ∙ sym (ap (λ (n : ℕ). unit_from n v) there) in
+    let more = one_places (at + length (unit_bytes u)) us vs others from
+    (subst (λ (w : DebugUnit). AreFrom (at + length (unit_bytes w)) vs) (sym one) also) in
+    λ i. one i ∷ more i
+
+-- two lists of units that spell the same bytes from the same offset on are one
+pub one_list : (at : ℕ) (a : List ℕ) (bytes : List ℕ) (us vs : List DebugUnit) → Spells a us bytes
+    → Spells a vs bytes → AreFrom at us → AreFrom at vs → us ≡ vs
+one_list at a bytes us vs p q from also =
+    one_places at us vs
+    (one_row unit_bytes (IsBare a) (unit_unique a) (λ u is. unit_some a u is.0) (map bare us) (map bare vs)
+    (are_bare a us p.are) (are_bare a vs q.are) (bytes_bare us ∙ sym p.parts ∙ q.parts ∙ sym (bytes_bare vs)))
+    from also

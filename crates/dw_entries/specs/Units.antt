@@ -1,5 +1,5 @@
 -- Chapter: units, and .debug_info as a list of them (DWARF 5, 7.5.1).
-use Rattle.std.specs.Prelude.{◌≡◌, ℕ, true, List, ◌++◌, length, Ok}
+use Rattle.std.specs.Prelude.{◌≡◌, ℕ, ◌+◌, true, List, [], ◌∷◌, ◌++◌, length, drop, Ok}
 use Rattle.std.specs.List.{flat_map, AllByRecursion}
 use Rattle.dw_elf.specs.declared.sections.Sections.{Sections}
 use Rattle.dw_forms.specs.Abbrev.{Declaration}
@@ -13,10 +13,10 @@ use Rattle.dw_entries.specs.Grammar.{Context, Head, IsNull}
 use Rattle.dw_entries.specs.Header.{version_of, fits_tag, header_and_body}
 use Rattle.dw_entries.specs.Tree.{Node, leaf, parent, IsNode, node_bytes}
 
--- a header and the bytes that spell it, the table that it names, a tree, the nulls after the tree, and the base: where
--- the first of all units that are read begins in .debug_info, from whose start offsets in form ref_addr count (7.5.5)
+-- where the unit begins in .debug_info, a header and the bytes that spell it, the table that it names, a tree, and the
+-- nulls after the tree
 pub record DebugUnit : Type 0 where
-  pub base : ℕ
+  pub at : ℕ
   pub header : UnitHeader
   pub header_bytes : List ℕ
   pub table : List Declaration
@@ -82,17 +82,18 @@ AreUnits «abbrev» us = AllByRecursion (IsUnit «abbrev») us
 abbrev pub units_bytes : List DebugUnit → List ℕ
 units_bytes us = flat_map unit_bytes us
 
--- .debug_info has these bytes: the units, joined
+-- these bytes are the units, joined
 pub record Spells («abbrev» : List ℕ) (us : List DebugUnit) (info : List ℕ) : Type 0 where
   pub are : AreUnits «abbrev» us
   pub parts : info ≡ units_bytes us
 
--- each of them has this base
-abbrev pub HaveBase : ℕ → List DebugUnit → Type 0
-HaveBase base us = AllByRecursion (λ u. u.base ≡ base) us
+-- the first of the units begins at this offset, and each other one where the one before it ends
+abbrev pub AreFrom : ℕ → List DebugUnit → Type 0
+AreFrom at [] = Unit {0}
+AreFrom at (u ∷ us) = (u.at ≡ at) × AreFrom (at + length (unit_bytes u)) us
 
--- the units spell .debug_info by the tables of .debug_abbrev (7.5.1): a header each, a tree of entries with declared
--- abbreviations and attributes in their forms' grammar, and nulls; their base is where it begins
+-- the units spell .debug_info, from its base on, by the tables of .debug_abbrev (7.5.1): a header each, a tree of
+-- entries with declared abbreviations and attributes in their forms' grammar, and nulls
 pub record SpellsInfo (s : Sections) (us : List DebugUnit) : Type 0 where
-  pub spells : Spells s.«abbrev».now us s.info.now
-  pub based : HaveBase s.base us
+  pub spells : Spells s.«abbrev».now us (drop s.base s.info.now)
+  pub are_from : AreFrom s.base us

@@ -1,4 +1,4 @@
--- Chapter: where the values of an entry are in `sections.info`: their bytes follow its code, in the order of its
+-- Chapter: where the values of an entry are in .debug_info: their bytes follow its code, in the order of its
 -- attributes (DWARF 5, 2.2 and 7.5.2).
 use Rattle.std.specs.Prelude.{◌≡◌, ℕ, ◌+◌, ◌==◌, List, [], ◌∷◌, ◌++◌, length, Option, find, option_map}
 use Rattle.std.specs.List.{flat_map}

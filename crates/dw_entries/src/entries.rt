@@ -18,16 +18,16 @@ pub struct Entries<'a> {
     pub(crate) decls: Decls,
     pub(crate) units: Vec<UnitRecord>,
     pub(crate) records: Vec<Record>,
-    /// Where the entries start, by blocks of `sections.info`.
+    /// Where the entries start, by blocks of .debug_info from the base on.
     pub(crate) blocks: Vec<Block>,
     pub ghost scanned: { Scanned sections.base sections.«abbrev».now sections.info.now (tables_among decls)
         units.items records.items } by { scanned_unique sections.base sections.«abbrev».now sections.info.now
             (tables_among decls) units.items records.items },
-    pub ghost starts: { AreStarts records.items blocks.items },
+    pub ghost starts: { AreStarts records.items sections.base blocks.items },
 }
 
 impl<'a> Entries<'a> {
-    ghost use Rattle.std.specs.Prelude.{◌≡◌, ◌≢◌, ℕ, All, slice_get, IfSome, IfNone, Some};
+    ghost use Rattle.std.specs.Prelude.{◌≡◌, ◌≢◌, ◌+◌, ℕ, All, slice_get, IfSome, IfNone, Some};
     ghost use Rattle.dw_forms.specs.KeptDecls.{decl_view};
     ghost use Rattle.dw_entries.specs.ByNumber.{entry_of};
     ghost use Rattle.dw_entries.specs.Entries.{Entry};
@@ -86,22 +86,24 @@ impl<'a> Entries<'a> {
         self.records[id.number()]
     }
 
-    /// The entry that starts at an offset of `sections.info`.
+    /// The entry that starts so many bytes after the base.
     #[inline(always)]
-    pub(crate) fn find_at(&self, offset: u64) -> Option<EntryId>
-        ensures found { IfSome result (IsEntryAt (all_entries self.now) offset) }
-        ensures none { IfNone result ((id : ℕ) → IsEntryAt (all_entries self.now) offset id → ⊥) }
+    pub(crate) fn find_past(&self, past: u64) -> Option<EntryId>
+        ensures found { IfSome result (IsEntryAt (all_entries self.now) ((sections_of self.now).base + past)) }
+        ensures none { IfNone result ((id : ℕ)
+            → IsEntryAt (all_entries self.now) ((sections_of self.now).base + past) id → ⊥) }
     {
-        Some(EntryId::new(number_from(&self.blocks, offset)?))
+        Some(EntryId::new(number_from(&self.blocks, past)?))
     }
 
-    /// The entry whose first byte is at this offset of `sections.info`.
+    /// The entry whose first byte is at this offset of .debug_info.
     pub fn find(&self, offset: u32) -> Option<EntryId>
         ensures found { IfSome result (λ id. (entry_of (all_entries self.now) id).at ≡ offset) }
         ensures within { IfSome result (λ id. id < length (all_entries self.now)) }
         ensures none { IfNone result (All (λ e. e.at ≢ offset) (all_entries self.now)) }
     {
-        self.find_at(offset as u64)
+        let past = offset.checked_sub(self.sections.base)?;
+        self.find_past(u64::from(past))
     }
 
     /// The declaration of an entry. Its unit is not looked up.
@@ -121,7 +123,7 @@ impl<'a> Entries<'a> {
         self.decl(id).tag()
     }
 
-    /// The offset of an entry in `sections.info`, in bytes. Its unit is not looked up.
+    /// The offset of an entry in .debug_info, in bytes. Its unit is not looked up.
     pub fn offset(&self, id: EntryId) -> u32
         requires { id < length (all_entries self.now) }
         ensures { result ≡ (entry_of (all_entries self.now) id).at }

@@ -26,7 +26,7 @@ use std::marker::Model;
 /// An entry without its attributes and its depth, as it is read from its record, its declaration and its unit.
 #[derive(Clone, Copy, Debug, PartialEq, Eq)]
 pub struct EntryHead {
-    /// Where the entry begins in `sections.info`.
+    /// Where the entry begins in .debug_info.
     pub offset: u32,
     pub tag: Tag,
     /// The number of its unit.
@@ -38,7 +38,7 @@ pub struct EntryHead {
 /// An entry without its attributes.
 #[derive(Clone, Copy, Debug, PartialEq, Eq)]
 pub struct Head {
-    /// Where the entry begins in `sections.info`.
+    /// Where the entry begins in .debug_info.
     pub offset: u32,
     pub tag: Tag,
     /// The number of its unit.
@@ -151,7 +151,7 @@ impl<'e, 'a> EntryAt<'e, 'a> {
         entries.at_with(id, unit, entries.units[unit].header)
     }
 
-    /// Its offset in `sections.info`, in bytes.
+    /// Its offset in .debug_info, in bytes.
     pub fn offset(&self) -> u32
         ensures { result ≡ self.now.at }
     {

@@ -1,6 +1,6 @@
 //! The scan of .debug_info, unit by unit.
 
-ghost use Rattle.std.specs.Prelude.{IfErr, IfOk, List, OnOk, length, ℕ, ◌+◌, ◌≡◌, ◌≤◌};
+ghost use Rattle.std.specs.Prelude.{IfErr, IfOk, List, OnOk, drop, length, ◌+◌, ◌≡◌, ◌≤◌};
 ghost use Rattle.dw_elf.specs.declared.TheConstants.{SECTION_LIMIT};
 ghost use Rattle.dw_forms.specs.AbbrevReading.{table_at};
 ghost use Rattle.dw_forms.specs.AbbrevTables.{AreSearchable, AreTablesOf, tables_in};
@@ -48,7 +48,7 @@ pub fn unit_table(
     }
 }
 
-/// Takes the unit at the front of the rest of `sections.info`, which is at `at`, and says how long it is.
+/// Takes the unit at the front of the rest of .debug_info, which is at `at`, and says how long it is.
 pub fn take_unit(
     alloc: Global,
     section: &[u8],
@@ -93,43 +93,52 @@ pub fn take_unit(
     Ok(4 + header.unit_length as usize)
 }
 
-/// What is kept of the units that .debug_info is.
-fn scan_units(alloc: Global, section: &[u8], info: &[u8]) -> Result<Kept, Stop<PlainFault>>
+/// What is kept of the units that .debug_info is from an offset on.
+fn scan_units(
+    alloc: Global,
+    section: &[u8],
+    info: &[u8],
+    base: usize,
+) -> Result<Kept, Stop<PlainFault>>
     requires abbrev_fits { length section.now ≤ SECTION_LIMIT }
     requires info_fits { length info.now ≤ SECTION_LIMIT }
-    ensures all { IfOk result
-        (λ kept. (base : ℕ) → Scanned base section.now info.now (tables_in kept.tables) kept.units.items
+    requires base { base ≤ length info.now }
+    ensures all { IfOk result (λ kept. Scanned base section.now info.now (tables_in kept.tables) kept.units.items
         kept.records.items) }
     ensures searchable { IfOk result (λ kept. AreSearchable kept.tables) }
-    ensures fault { IfErr result (IfFault (Fails section.now info.now)) }
+    ensures fault { IfErr result (IfFault (Fails section.now base (drop base info.now))) }
 {
     let mut kept = Kept {
         tables: AbbrevTables::new(alloc),
         units: Vec::new(alloc),
         records: Vec::new(alloc),
     };
-    let mut at = 0;
-    while at < info.len() {
-        at += take_unit(alloc, section, &info[at..], at, &mut kept)?;
+    let mut rest = &info[base..];
+    while !rest.is_empty() {
+        let taken = take_unit(alloc, section, rest, info.len() - rest.len(), &mut kept)?;
+        rest = &rest[taken..];
     }
     Ok(kept)
 }
 
-/// The entries of the units that .debug_info is.
+/// The entries of the units that .debug_info is from the base on.
 pub fn scan<'a>(alloc: Global, sections: &Sections<'a>) -> Result<Entries<'a>, Stop<Fault>>
     ensures same { IfOk result (λ e. sections_of e ≡ sections.now) }
     ensures only { IfOk result
         (λ e. (units : List DebugUnit) → SpellsInfo sections.now units → units ≡ units_of e) }
-    ensures fault { IfErr result (IfPlainFault (Fails sections.now.«abbrev».now sections.now.info.now)) }
+    ensures fault { IfErr result (IfPlainFault
+        (Fails sections.now.«abbrev».now sections.now.base (drop sections.now.base sections.now.info.now))) }
     ensures none { IfErr result (IfPlainFault
-        (λ _. (units : List DebugUnit) → Spells sections.now.«abbrev».now units sections.now.info.now → ⊥)) }
+        (λ _. (units : List DebugUnit)
+        → Spells sections.now.«abbrev».now units (drop sections.now.base sections.now.info.now) → ⊥)) }
 {
-    let kept = match scan_units(alloc, sections.abbrev, sections.info) {
+    let base = sections.base as usize;
+    let kept = match scan_units(alloc, sections.abbrev, sections.info, base) {
         Ok(kept) => kept,
         Err(Stop::Memory) => return Err(Stop::Memory),
         Err(Stop::Fault(broken)) => return Err(Stop::Fault(broken.into_fault(alloc))),
     };
-    let blocks = read_starts(alloc, sections.info.len(), &kept.records)?;
+    let blocks = read_starts(alloc, base, sections.info.len(), &kept.records)?;
     Ok(Entries {
         sections: *sections,
         decls: kept.tables.into_decls(),

@@ -49,7 +49,7 @@ impl Block {
     }
 }
 
-/// The number of the entry that starts at an offset, if one does.
+/// The number of the entry that starts so many bytes after the first block does, if one does.
 #[inline(always)]
 pub fn number_from(blocks: &[Block], offset: u64) -> Option<u32>
     requires { IfSome (number_of blocks.now offset) (λ n. n < 2 ^ 32) }
@@ -62,15 +62,21 @@ pub fn number_from(blocks: &[Block], offset: u64) -> Option<u32>
     blocks[block].number((offset % BLOCK as u64) as u32)
 }
 
-/// Where records start, all of them below `end`.
-pub fn read_starts(alloc: Global, end: usize, records: &[Record]) -> Result<Vec<Block>, AllocError>
-    requires order { AreInOrder records.now end }
+/// Where records start, all of them from `base` on and below `end`.
+pub fn read_starts(
+    alloc: Global,
+    base: usize,
+    end: usize,
+    records: &[Record],
+) -> Result<Vec<Block>, AllocError>
+    requires base { base ≤ end }
+    requires order { AreInOrder records.now base end }
     requires few { length records.now ≤ 2 ^ 32 }
-    ensures { IfOk result (λ blocks. AreStarts records.now blocks.items) }
+    ensures { IfOk result (λ blocks. AreStarts records.now base blocks.items) }
 {
-    let mut blocks = vec![in alloc; Block { first: 0, bits: 0 }; end / BLOCK + 1]?;
+    let mut blocks = vec![in alloc; Block { first: 0, bits: 0 }; (end - base) / BLOCK + 1]?;
     for number in 0..records.len() {
-        let at = records[number].at as usize;
+        let at = records[number].at as usize - base;
         let block = at / BLOCK;
         blocks[block] = blocks[block].with((at % BLOCK) as u32, number as u32);
     }

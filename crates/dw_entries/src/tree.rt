@@ -175,8 +175,9 @@ fn walk_tree<'b>(
     };
     let mut outer: Vec<Level> = Vec::new(alloc);
     let mut inner = enter_first(records, start, declared)?;
+    let end = start + body.len() as u32;
     while let Some(level) = inner {
-        let at = start + (body.len() - rest.len()) as u32;
+        let at = end - rest.len() as u32;
         let (next, after) = match turn(context, rest, at, records, &mut outer, level) {
             Ok(taken) => taken,
             Err(Stop::Memory) => return Err(Stop::Memory),

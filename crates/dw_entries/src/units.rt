@@ -1,12 +1,12 @@
 //! The units of the entries.
 
 ghost use Rattle.std.specs.List.Sorted.{IsNonDecreasingBy, IsPartitionPoint};
-ghost use Rattle.std.specs.Prelude.{IfNone, IfSome, length, map, ℕ, ◌<◌, ◌≡◌, ◌≤◌};
+ghost use Rattle.std.specs.Prelude.{IfNone, IfSome, length, map, ℕ, ◌+◌, ◌<◌, ◌≡◌, ◌≤◌};
 ghost use Rattle.dw_entries.specs.ByNumber.{end_in, entry_of, placed_of};
 ghost use Rattle.dw_entries.specs.Lookups.{unit_head};
 ghost use Rattle.dw_entries.specs.EntriesAt.{ReachesInUnit};
 ghost use Rattle.dw_entries.specs.UnitsLeft.{units_left};
-ghost use Rattle.dw_entries.specs.Views.{all_entries, all_units, units_of};
+ghost use Rattle.dw_entries.specs.Views.{all_entries, all_units, sections_of, units_of};
 
 use crate::entries::Entries;
 use crate::header::{UnitHeader, UnitType};
@@ -16,7 +16,7 @@ use crate::records::UnitRecord;
 /// A unit without its entries.
 #[derive(Clone, Copy, Debug, PartialEq, Eq)]
 pub struct UnitHead {
-    /// Where the unit's header begins in `sections.info`.
+    /// Where the unit's header begins in .debug_info.
     pub offset: u32,
     pub header: UnitHeader,
     /// In version 4 it is told by the tag of the first entry.
@@ -103,28 +103,37 @@ impl<'a> Entries<'a> {
         ensures none { IfNone result ((id : ℕ)
             → ReachesInUnit (all_entries self.now) (all_units self.now) unit offset id → ⊥) }
     {
-        self.find_in_range(unit, self.units[unit].at, self.range(unit), offset)
+        self.find_in_range(unit, self.past_base(unit), self.range(unit), offset)
     }
 
-    /// The same, where the unit's header is at `start`, and these are the number of its first entry and the number
-    /// after that of its last entry. The unit is not looked up.
+    /// How many bytes after the base the header of a unit starts.
+    #[inline(always)]
+    pub fn past_base(&self, unit: usize) -> u32
+        requires { unit < length (units_of self.now) }
+        ensures { (sections_of self.now).base + result ≡ (placed_of (all_units self.now) unit).at }
+    {
+        self.units[unit].at - self.sections.base
+    }
+
+    /// The same, where the unit's header is so many bytes after the base, and these are the number of its first entry
+    /// and the number after that of its last entry. The unit is not looked up.
     #[inline(always)]
     pub fn find_in_range(
         &self,
         unit: usize,
-        start: u32,
+        past: u32,
         range: (usize, usize),
         offset: u64,
     ) -> Option<EntryId>
         requires unit { unit < length (units_of self.now) }
-        requires start { start ≡ (placed_of (all_units self.now) unit).at }
+        requires past { (sections_of self.now).base + past ≡ (placed_of (all_units self.now) unit).at }
         requires first { range.0 ≡ (placed_of (all_units self.now) unit).first }
         requires end { range.1 ≡ end_in (all_units self.now) unit }
         ensures found { IfSome result (ReachesInUnit (all_entries self.now) (all_units self.now) unit offset) }
         ensures none { IfNone result ((id : ℕ)
             → ReachesInUnit (all_entries self.now) (all_units self.now) unit offset id → ⊥) }
     {
-        let id = self.find_at(offset.checked_add(u64::from(start))?)?;
+        let id = self.find_past(offset.checked_add(u64::from(past))?)?;
         if id.number() < range.0 || id.number() >= range.1 {
             return None;
         }

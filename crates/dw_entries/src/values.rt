@@ -58,7 +58,7 @@ fn read_seldom(
 #[derive(Drop)]
 pub struct Values<'e, 'a> {
     pub(crate) attributes: Attributes<'e>,
-    /// `sections.info`.
+    /// .debug_info.
     pub(crate) info: &'a [u8],
     /// The end of it, from the first value that is left.
     pub(crate) bytes: &'a [u8],
@@ -254,7 +254,7 @@ impl<'e, 'a> Values<'e, 'a> {
         }
     }
 
-    /// The next attribute, its value, and the offset in `sections.info` of the byte after those that spell the value.
+    /// The next attribute, its value, and the offset in .debug_info of the byte after those that spell the value.
     #[tactic(auto, using(crate::proofs::PlacedLaws::ends_at, crate::proofs::PlacedLaws::place_taken))]
     pub fn next_placed(&mut self) -> Option<(Attribute, Value<'a>, usize)>
         ensures steps { MatchOption result ((placed_left self.old ≡ []) × (placed_left self.new ≡ []))
@@ -368,7 +368,7 @@ impl<'a> Entries<'a> {
         self.values_with(id, kept, self.units[unit].header, attributes)
     }
 
-    /// The offset in `sections.info` of the byte after those that spell the value of an entry's attribute, if the entry
+    /// The offset in .debug_info of the byte after those that spell the value of an entry's attribute, if the entry
     /// has it.
     pub fn end_of(&self, id: EntryId, attribute: Attribute) -> Option<usize>
         requires { id < length (all_entries self.now) }

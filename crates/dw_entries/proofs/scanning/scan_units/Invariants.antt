@@ -1,12 +1,9 @@
-use Rattle.std.proofs.Common.{◌-◌, ◌≤◌, length}
-use Rattle.dw_entries.proofs.ScanLaws.{Upto}
+use Rattle.std.proofs.Common.{length}
+use Rattle.dw_entries.proofs.ScanLaws.{UptoRest}
 use Rattle.dw_entries.proofs.scanning.scan_units.Given as goal
 
-abbrev pub invariant-loop-at : goal.invariant-loop-at
-invariant-loop-at l = record {
-  upto : Upto l.section l.info l.at l.kept;
-  within : l.at ≤ length l.info;
-}
+abbrev pub invariant-loop-rest : goal.invariant-loop-rest
+invariant-loop-rest l = UptoRest l.section l.info l.base l.rest l.kept
 
-abbrev pub decreases-loop-at : goal.decreases-loop-at
-decreases-loop-at l = length l.info - l.at
+abbrev pub decreases-loop-rest : goal.decreases-loop-rest
+decreases-loop-rest l = length l.rest

@@ -1,4 +1,4 @@
-use Rattle.std.proofs.Common.{arith}
+use Rattle.std.proofs.Common.{◌+◌, arith}
 use Rattle.dw_entries.specs.Views.{units_of}
 use Rattle.dw_entries.proofs.EntryFacts.{entries_rise}
 use Rattle.dw_entries.proofs.RunLaws.{never_far, never_other, reaches_by_range}
@@ -8,15 +8,16 @@ use Rattle.dw_entries.proofs.entries.Entries.find_in_range.Goals.{then-number-ra
 pub returns-in_err-checked_add-clause-none : goal.returns-in_err-checked_add-clause-none
 returns-in_err-checked_add-clause-none c =
     rw c.from_residual.ensures
-    (never_far _ _ _ _ _ c.args.self.now.scanned c.args.unit c.args.offset c.args.start c.requires.start
+    (never_far _ _ _ _ _ c.args.self.now.scanned c.args.unit c.args.offset _ c.requires.past
     (omega (arith, c.args.self.now.sections.info_fits)) (omega (arith, c.in_err-checked_add.ensures, c.from.ensures)))
 
 pub returns-then-number-range-clause-none : goal.returns-then-number-range-clause-none
 returns-then-number-range-clause-none c =
-    never_other (units_of c.args.self.now) c.args.unit c.args.offset c.in_ok-checked_add.field-0 c.args.range.0
+    never_other (units_of c.args.self.now) c.args.unit c.args.offset
+    (c.args.self.now.sections.base + c.in_ok-checked_add.field-0) c.args.range.0
     c.args.range.1 c.in_ok-id.id c.requires.unit
     (entries_rise _ (units_of c.args.self.now) c.args.self.now.scanned.1.spells.are)
-    (omega (arith, c.in_ok-checked_add.ensures, c.from.ensures, c.requires.start)) c.in_ok-id.ensures.found
+    (omega (arith, c.in_ok-checked_add.ensures, c.from.ensures, c.requires.past)) c.in_ok-id.ensures.found
     c.requires.first c.requires.end
     (λ low high. elim c.then-number-range.branch [
       | then-number-range-via-then-number-range w ↦ omega (arith, low, w.if-number-range.true, c.number.ensures)
@@ -26,8 +27,9 @@ returns-then-number-range-clause-none c =
 
 pub returns-clause-found : goal.returns-clause-found
 returns-clause-found c =
-    reaches_by_range (units_of c.args.self.now) c.args.unit c.args.offset c.in_ok-checked_add.field-0 c.args.range.0
+    reaches_by_range (units_of c.args.self.now) c.args.unit c.args.offset
+    (c.args.self.now.sections.base + c.in_ok-checked_add.field-0) c.args.range.0
     c.args.range.1 c.in_ok-id.id c.requires.unit
-    (omega (arith, c.in_ok-checked_add.ensures, c.from.ensures, c.requires.start)) c.in_ok-id.ensures.found
+    (omega (arith, c.in_ok-checked_add.ensures, c.from.ensures, c.requires.past)) c.in_ok-id.ensures.found
     c.requires.first c.requires.end (omega (arith, c.if-number-range.false, c.number.ensures))
     (omega (arith, c.if-number-range-2.false, c.number-else-number-range.ensures))
