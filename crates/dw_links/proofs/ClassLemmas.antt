@@ -24,8 +24,8 @@ use Rattle.dw_entries.specs.Header.{version_of}
 use Rattle.dw_entries.specs.Units.{DebugUnit, Spells}
 use Rattle.dw_entries.specs.Failures.{IsLeast}
 use Rattle.dw_entries.specs.PassedAttributes.{IsNotOpen}
-use Rattle.dw_entries.proofs.HeadLaws.{head_stands}
-use Rattle.dw_entries.proofs.EntryFacts.{length-placed_from}
+use Rattle.dw_entries.proofs.HeadLaws.{head_fits}
+use Rattle.dw_entries.proofs.EntryFacts.{length-placed}
 use Rattle.dw_elf.specs.declared.sections.Sections.{Sections}
 use Rattle.dw_entries.specs.declared.entries.Entries.{Entries}
 use Rattle.dw_entries.specs.declared.header.UnitHeader.{UnitHeader}
@@ -152,9 +152,9 @@ class_least units head a v p is not_allowed = search (rules)
 pub unit_there : (us : List DebugUnit) (number : ℕ) → number < length us
     → slice_get (placed us) number ≡ Some (placed_of (placed us) number)
 unit_there us number below =
-    slice_get-get_or (placed us) number no_placed (omega (arith, below, length-placed_from 0 0 us))
+    slice_get-get_or (placed us) number no_placed (omega (arith, below, length-placed us))
 
 -- each entry is in a unit
 pub in_units : («abbrev» info : List ℕ) (us : List DebugUnit) (id : ℕ) (e : Entry) → Spells «abbrev» us info
     → slice_get (entries_of us) id ≡ Some e → e.unit < length us
-in_units «abbrev» info us id e spells is = (head_stands «abbrev» info us id e spells is).within
+in_units «abbrev» info us id e spells is = (head_fits «abbrev» info us id e spells is).within

@@ -5,7 +5,7 @@ use Rattle.std.specs.Prelude.{slice_get, is_some}
 use Rattle.std.specs.Ordering.{nat_cmp, is_eq}
 use Rattle.std.specs.BTreeMap.{BTreeMap, get, is_at}
 use Rattle.dw_forms.specs.Codes.{is_type_tag}
-use Rattle.dw_entries.specs.Entries.{Entry, PlacedUnit, node_count, placed_from, placed}
+use Rattle.dw_entries.specs.Entries.{Entry, PlacedUnit, node_count, start_of, placed_from, placed}
 use Rattle.dw_entries.specs.ByNumber.{entry_of}
 use Rattle.dw_entries.proofs.Firsts.{same_some, first_of_list}
 use Rattle.dw_forms.specs.declared.rule.Rule.{Rule}
@@ -185,7 +185,7 @@ placed_from_rise «abbrev» at first (u ∷ us) are (suc i) (suc j) a b lt is_a 
     is_a is_b
 
 pub placed_rise : («abbrev» : List ℕ) (us : List DebugUnit) → AreUnits «abbrev» us → UnitsRise (placed us)
-placed_rise «abbrev» = placed_from_rise «abbrev» 0 0
+placed_rise «abbrev» us = placed_from_rise «abbrev» (start_of us) 0 us
 
 -- no type begins there, and no earlier unit has the signature
 pub least_type_offset : (entries : List Entry) (units : List PlacedUnit) (number at signature t : ℕ)

@@ -30,7 +30,7 @@ use Rattle.dw_entries.specs.Lookups.{entry_head, value_in}
 use Rattle.dw_entries.specs.Units.{context_of}
 use Rattle.dw_entries.specs.Views.{all_entries, all_units, units_of}
 use Rattle.dw_entries.proofs.EntryFacts.{entries_rise}
-use Rattle.dw_entries.proofs.HeadLaws.{head_stands}
+use Rattle.dw_entries.proofs.HeadLaws.{head_fits}
 use Rattle.dw_entries.proofs.NumberOrder.{three_ways}
 use Rattle.dw_links.specs.declared.references.UnitLinks.{UnitLinks}
 use Rattle.dw_links.specs.UnitAtHand.{target_by, entries_followed, entry_with, entry_after, MayLink, IsTypeAfter, IsSiblingAfter, IsDeclaredAfter, LeadsWell}
@@ -92,7 +92,7 @@ pub declared_entry : (entries : Entries) (t : ℕ) → t < length (all_entries e
     → is_declared (entry_of (all_entries entries) t) ≡ true
 declared_entry entries t below known =
     let e = entry_of (all_entries entries) t in
-    let stands = head_stands _ _ (units_of entries) t e entries.scanned.1.spells
+    let stands = head_fits _ _ (units_of entries) t e entries.scanned.1.spells
     (slice_get-get_or (all_entries entries) t no_entry below) in
     true_unless (is_declared e) (never_false (context_of (unit_of (units_of entries) e.unit)) e.head.decl.attributes
     e.head.attributes stands.is.attributes known)

@@ -21,7 +21,7 @@ use Rattle.dw_links.specs.LinkLaws.{HaveTargets, HaveTypes}
 use Rattle.dw_links.proofs.SlotLemmas.{found_value}
 use Rattle.dw_links.specs.References.{permits, permits_form, IsOtherThan, is_reference_value, ReferenceFailsBy, TypeUnitFails, ReferenceFailures}
 use Rattle.dw_links.specs.Signatures.{type_unit_of, HasSignature, first_signed}
-use Rattle.dw_links.specs.Targets.{reach_in_info, reach_in_unit, reach_of, target_of}
+use Rattle.dw_links.specs.Targets.{entry_at, reach_in_unit, reach_of, target_of}
 use Rattle.dw_links.proofs.HeaderLemmas.{distinct_from, not_typed}
 use Rattle.dw_links.proofs.TargetLemmas.{reach_in_unit_is, at_reach_in_unit, at_first_signed, none_signed, type_of_unit_is, reached_within}
 
@@ -109,7 +109,7 @@ reached : (us : List DebugUnit) (id : ℕ) (e : Entry) (attribute : ℕ) (v : Da
     → class_of v ≡ Reference
     → Reached us e v
 reached us id e attribute (ref_info offset) rise none is value class =
-    is_told (reach_in_info (entries_of us) (placed us) e.unit offset)
+    is_told (entry_at (entries_of us) offset)
     (λ nowhere. passes_reference us id e attribute (ref_info offset) none is value refl NoEntry (refl, nowhere))
 reached us id e attribute (ref_unit offset) rise none is value class =
     is_told (reach_in_unit (entries_of us) (placed us) e.unit offset)

@@ -12,7 +12,7 @@ use Rattle.dw_entries.specs.EntryRules.{value_of, AtEntries}
 use Rattle.dw_entries.specs.Lookups.{entry_head}
 use Rattle.dw_entries.specs.Failures.{HasNone}
 use Rattle.dw_entries.proofs.Firsts.{same_some, none_of_entries}
-use Rattle.dw_entries.proofs.HeadLaws.{head_stands}
+use Rattle.dw_entries.proofs.HeadLaws.{head_fits}
 use Rattle.dw_links.specs.RulesOfAttributes.{Rules, AtHead, NeverFailsAt, AllPass}
 
 -- what is at a place of a list
@@ -62,7 +62,7 @@ skipped : («abbrev» info : List ℕ) (us : List DebugUnit) (id : ℕ) (e : Ent
     → Spells «abbrev» us info → slice_get (entries_of us) id ≡ Some e → AllPass Fails e.head.decl.attributes
     → HasNone (AtHead Fails e)
 skipped «abbrev» info us id e Fails spells is pass f fails =
-    let stands = head_stands «abbrev» info us id e spells is in
+    let stands = head_fits «abbrev» info us id e spells is in
     let x : Context = context_of (unit_of us e.unit) in
     let here = declared_so x e.head.decl.attributes e.head.attributes fails.position
     (f.attribute, fails.value) stands.is.attributes fails.has in

@@ -10,11 +10,11 @@ use Rattle.dw_forms.specs.Value.{view}
 use Rattle.dw_entries.specs.declared.entries.Entries.{Entries}
 use Rattle.dw_entries.specs.Entries.{Entry, PlacedUnit, entries_of, placed}
 use Rattle.dw_entries.specs.ByNumber.{no_entry, no_placed, no_unit, entry_of, placed_of, unit_of}
-use Rattle.dw_entries.specs.Views.{sections_of, all_entries, all_units, units_of}
+use Rattle.dw_entries.specs.Views.{all_entries, all_units, units_of}
 use Rattle.dw_entries.specs.Lookups.{value_at_entry, value_in, unit_head}
-use Rattle.dw_entries.specs.Units.{DebugUnit, Spells, HaveBase}
+use Rattle.dw_entries.specs.Units.{DebugUnit, Spells}
 use Rattle.dw_entries.specs.UnitLaws.{unit_sized}
-use Rattle.dw_entries.proofs.EntryFacts.{length-placed_from, placed_get, HasFirst, first_entry}
+use Rattle.dw_entries.proofs.EntryFacts.{unit_placed, HasFirst, first_entry}
 use Rattle.dw_entries.specs.declared.units.UnitHead.{UnitHead}
 use Rattle.dw_entries.specs.Header.{IsSize, version_of}
 use Rattle.dw_entries.proofs.Firsts.{same_some}
@@ -26,7 +26,7 @@ use Rattle.dw_links.specs.Bases.{kept_base, section_offset_in, base_in, bases_in
 use Rattle.dw_links.specs.Constants.{constant_of, language_of}
 use Rattle.dw_links.specs.declared.constant.Constant.{Constant}
 use Rattle.dw_links.specs.Tables.{target_of_type, AreTables}
-use Rattle.dw_links.specs.Targets.{entry_past, reach_in_info, target_of}
+use Rattle.dw_links.specs.Targets.{target_of}
 use Rattle.dw_links.proofs.TargetLemmas.{reached_within}
 use Rattle.dw_links.specs.declared.tables.LinkTables.{LinkTables}
 use Rattle.dw_links.proofs.ListLookups.{there}
@@ -94,7 +94,7 @@ pub sized : («abbrev» info : List ℕ) (us : List DebugUnit) (number : ℕ) (p
     → number < length us → slice_get (placed us) number ≡ Some p → IsSize p.unit.header.address_size
 sized «abbrev» info us number p spells below is =
     let (u, is_u) = there us number below in
-    let (q, is_q, same) = placed_get 0 0 us number u is_u in
+    let (q, is_q, same) = unit_placed us number u is_u in
     let one : q ≡ p = same_some (slice_get (placed us) number) q p is_q is in
     let unit : u ≡ p.unit = sym same ∙ ap (λ (x : PlacedUnit). x.unit) one in
     let P : DebugUnit → Type 0 = λ x. IsSize x.header.address_size in
@@ -103,35 +103,11 @@ sized «abbrev» info us number p spells below is =
 pub size_above : (size : ℕ) → IsSize size → 0 < size
 size_above size is = elim is [ inl four ↦ omega (arith, four) | inr eight ↦ omega (arith, eight) ]
 
--- a unit with a number is one of the units
-pub number_within : (us : List DebugUnit) (number : ℕ) (p : PlacedUnit) → slice_get (placed us) number ≡ Some p
-    → number < length us
-number_within us number p is = omega (arith, slice_get_within (placed us) number p is, length-placed_from 0 0 us)
-
--- its base is that of all
-based : (base : ℕ) (us : List DebugUnit) (number : ℕ) (p : PlacedUnit) → HaveBase base us
-    → slice_get (placed us) number ≡ Some p → p.unit.base ≡ base
-based base us number p have is =
-    let (u, is_u) = there us number (number_within us number p is) in
-    let (q, is_q, same) = placed_get 0 0 us number u is_u in
-    ap (λ (x : PlacedUnit). x.unit.base) (same_some (slice_get (placed us) number) p q is is_q)
-    ∙ ap (λ (x : DebugUnit). x.base) same ∙ all_get _ us number u have is_u
-
--- so a reference from the start of .debug_info reaches the same in each unit
-pub reached_in_info : (entries : Entries) (unit offset : ℕ) → unit < length (units_of entries)
-    → entry_past (all_entries entries) (sections_of entries).base offset
-    ≡ reach_in_info (all_entries entries) (all_units entries) unit offset
-reached_in_info entries unit offset within =
-    let us = units_of entries in
-    let (p, is) = there (placed us) unit (omega (arith, within, length-placed_from 0 0 us)) in
-    rw is (ap (λ (base : ℕ). entry_past (all_entries entries) base offset)
-    (sym (based (sections_of entries).base us unit p entries.scanned.1.based is)))
-
 -- its header is that of the unit
 pub unit_header : (us : List DebugUnit) (number : ℕ) → number < length us
     → (placed_of (placed us) number).unit.header ≡ (unit_of us number).header
 unit_header us number below =
-    let (q, is_q, same) = placed_get 0 0 us number (unit_of us number) (slice_get-get_or us number no_unit below) in
+    let (q, is_q, same) = unit_placed us number (unit_of us number) (slice_get-get_or us number no_unit below) in
     ap (λ (x : PlacedUnit). x.unit.header) (get_or_from_slice_get (placed us) number q no_placed is_q)
     ∙ ap (λ (x : DebugUnit). x.header) same
 

@@ -11,13 +11,13 @@ use Rattle.dw_forms.specs.Value.{Datum, ref_info, ref_unit, ref_sig}
 use Rattle.dw_entries.specs.EntryRules.{OffsetsRise}
 use Rattle.dw_entries.specs.Entries.{Entry, PlacedUnit}
 use Rattle.dw_entries.specs.ByNumber.{no_entry, no_placed, entry_of, placed_of}
-use Rattle.dw_entries.specs.EntriesAt.{IsEntryIn, ReachesInUnit}
+use Rattle.dw_entries.specs.EntriesAt.{IsEntryAt, IsEntryIn, ReachesInUnit}
 use Rattle.dw_links.proofs.TypeUnitLemmas.{none_there}
 use Rattle.dw_links.proofs.ListLookups.{there}
-use Rattle.dw_links.specs.LinkLaws.{IsEntryPast, ReachesInInfo, ReachesBySignature}
+use Rattle.dw_links.specs.LinkLaws.{ReachesBySignature}
 use Rattle.dw_links.specs.Signatures.{type_unit_of, HasSignature, is_signature_of, first_signed, HaveDistinctSignatures}
 use Rattle.dw_links.specs.SignedTypes.{IsFirstSigned, IsSignedType}
-use Rattle.dw_links.specs.Targets.{entry_past, entry_number_at, reach_in_info, reach_in_unit, type_of_unit, signed_type}
+use Rattle.dw_links.specs.Targets.{entry_at, entry_number_at, reach_in_unit, type_of_unit, signed_type}
 use Rattle.dw_links.specs.Targets.{reach_of}
 
 -- no item before a place passes the test
@@ -85,30 +85,30 @@ answer_is Is (Some k) None back over some none = absurd (none k (back k refl))
 
 -- ---- entries by their offsets
 
-pub entry_past_is : (entries : List Entry) (base offset id : ℕ) → OffsetsRise entries
-    → IsEntryPast entries base offset id → entry_past entries base offset ≡ Some id
-unfolding entry_past
-entry_past_is entries base offset id rise found =
+pub entry_at_is : (entries : List Entry) (offset id : ℕ) → OffsetsRise entries
+    → IsEntryAt entries offset id → entry_at entries offset ≡ Some id
+unfolding entry_at
+entry_at_is entries offset id rise found =
     let e = entry_of entries id in
     let is = slice_get-get_or entries id no_entry found.within in
     let begins = found.begins in
-    position_is (λ (e : Entry). base + e.at == offset) entries id
+    position_is (λ (e : Entry). e.at == offset) entries id
     (record {
       item = e;
       is_item = is;
-      passes = eq-eqb (base + e.at) offset begins;
-      before = λ j d lt at. ne_eqb (base + d.at) offset (λ same. omega (arith, rise j id d e lt at is, same, begins));
+      passes = eq-eqb e.at offset begins;
+      before = λ j d lt at. ne_eqb d.at offset (λ same. omega (arith, rise j id d e lt at is, same, begins));
     })
 
-at_entry_past : (entries : List Entry) (base offset id : ℕ) → entry_past entries base offset ≡ Some id
-    → IsEntryPast entries base offset id
-unfolding entry_past
-at_entry_past entries base offset id is =
-    let first = place_is (λ (e : Entry). base + e.at == offset) entries id is in
+pub there_is : (entries : List Entry) (offset id : ℕ) → entry_at entries offset ≡ Some id
+    → IsEntryAt entries offset id
+unfolding entry_at
+there_is entries offset id is =
+    let first = place_is (λ (e : Entry). e.at == offset) entries id is in
     let same = get_or_from_slice_get entries id first.item no_entry first.is_item in
     record {
       within = slice_get_within entries id first.item first.is_item;
-      begins = ap (λ (e : Entry). base + e.at) same ∙ eqb-true (base + first.item.at) offset first.passes;
+      begins = ap (λ (e : Entry). e.at) same ∙ eqb-true first.item.at offset first.passes;
     }
 
 each_true : (a b : Bool) → (a && b) ≡ true → (a ≡ true) × (b ≡ true)
@@ -147,43 +147,15 @@ at_entry_number entries unit offset id is =
     }
 
 -- what a search by offset answers
-entry_past_answer : (entries : List Entry) (base offset : ℕ) (answer : Option ℕ) → OffsetsRise entries
-    → IfSome answer (IsEntryPast entries base offset)
-    → IfNone answer ((id : ℕ) → IsEntryPast entries base offset id → ⊥) → answer ≡ entry_past entries base offset
-entry_past_answer entries base offset answer rise =
-    answer_is (IsEntryPast entries base offset) (entry_past entries base offset) answer
-    (at_entry_past entries base offset) (λ id. entry_past_is entries base offset id rise)
-
--- no entry begins before the base
-pub none_before_base : (entries : List Entry) (base offset : ℕ) → OffsetsRise entries → offset < base
-    → None ≡ entry_past entries base offset
-none_before_base entries base offset rise less =
-    entry_past_answer entries base offset None rise tt (λ id found. omega (arith, found.begins, less))
-
-pub entry_found : (entries : List Entry) (base at offset : ℕ) (answer : Option ℕ) → base + at ≡ offset
-    → OffsetsRise entries → IfSome answer (λ id. (entry_of entries id).at ≡ at)
+pub entry_found : (entries : List Entry) (offset : ℕ) (answer : Option ℕ)
+    → OffsetsRise entries → IfSome answer (λ id. (entry_of entries id).at ≡ offset)
     → IfSome answer (λ id. id < length entries)
-    → IfNone answer (All (λ e. e.at ≢ at) entries) → answer ≡ entry_past entries base offset
-entry_found entries base at offset None sum rise found within none =
-    entry_past_answer entries base offset None rise tt
-    (λ id past. let begins = past.begins in
-    none_there entries at none id (record { within = past.within; begins = omega (arith, sum, begins) }))
-entry_found entries base at offset (Some id) sum rise found within none =
-    entry_past_answer entries base offset (Some id) rise
-    (record { within = within; begins = omega (arith, sum, found) }) tt
-
--- ---- entries by their offsets, as a unit counts them
-
-pub reach_in_info_is : (entries : List Entry) (units : List PlacedUnit) (unit offset id : ℕ) → OffsetsRise entries
-    → ReachesInInfo entries units unit offset id → reach_in_info entries units unit offset ≡ Some id
-reach_in_info_is entries units unit offset id rise reached =
-    rw reached.is_unit (entry_past_is entries reached.unit.unit.base offset id rise reached.target)
-
-pub at_reach_in_info : (entries : List Entry) (units : List PlacedUnit) (unit offset id : ℕ)
-    → reach_in_info entries units unit offset ≡ Some id → ReachesInInfo entries units unit offset id
-at_reach_in_info entries units unit offset id is =
-    option_and_then_some (λ (u : PlacedUnit). entry_past entries u.unit.base offset) (slice_get units unit) id is
-    (λ u is_u found. record { unit = u; is_unit = is_u; target = at_entry_past entries u.unit.base offset id found })
+    → IfNone answer (All (λ e. e.at ≢ offset) entries) → answer ≡ entry_at entries offset
+entry_found entries offset None rise found within none =
+    answer_is (IsEntryAt entries offset) (entry_at entries offset) None (there_is entries offset)
+    (λ id. entry_at_is entries offset id rise) tt (none_there entries offset none)
+entry_found entries offset (Some id) rise found within none =
+    sym (entry_at_is entries offset id rise (record { within = within; begins = found }))
 
 -- ---- entries by their offsets from a header
 
@@ -349,7 +321,7 @@ signed_some entries units signature number (Some id) found has =
 pub reached_within : (entries : List Entry) (units : List PlacedUnit) (unit : ℕ) (v : Datum) (id : ℕ)
     → reach_of entries units unit v ≡ Some id → id < length entries
 reached_within entries units unit (ref_info offset) id is =
-    (at_reach_in_info entries units unit offset id is).target.within
+    (there_is entries offset id is).within
 reached_within entries units unit (ref_unit offset) id is =
     (at_reach_in_unit entries units unit offset id is).target.within
 reached_within entries units unit (ref_sig signature) id is = (at_type entries units signature id is).target.within

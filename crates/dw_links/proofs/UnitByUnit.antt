@@ -6,9 +6,9 @@ use Rattle.std.proofs.lemmas.Option.{slice_get_within}
 use Rattle.dw_entries.specs.declared.entries.Entries.{Entries}
 use Rattle.dw_entries.specs.Units.{DebugUnit, unit_bytes}
 use Rattle.dw_entries.specs.Header.{unit_header_size}
-use Rattle.dw_entries.specs.Entries.{Entry, entries_of, entries_from, node_entries, node_count, PlacedUnit, placed, placed_from}
+use Rattle.dw_entries.specs.Entries.{Entry, entries_of, entries_from, node_entries, node_count, PlacedUnit, start_of, placed, placed_from}
 use Rattle.dw_entries.specs.Views.{all_entries, all_units}
-use Rattle.dw_entries.proofs.EntryFacts.{length-placed_from, length-node_entries}
+use Rattle.dw_entries.proofs.EntryFacts.{length-placed, length-node_entries}
 use Rattle.dw_entries.proofs.UnitRanges.{next_first, last_ends}
 use Rattle.dw_forms.specs.Codes.{DW_AT_str_offsets_base, DW_AT_addr_base}
 use Rattle.dw_links.specs.Bases.{base_in}
@@ -48,7 +48,7 @@ ends_from unit id at (u ∷ us) (suc n) p is =
 
 pub ends_within : (us : List DebugUnit) (unit : ℕ) (p : PlacedUnit) → slice_get (placed us) unit ≡ Some p
     → p.first + node_count p.unit.root ≤ length (entries_of us)
-ends_within us unit p is = let all = ends_from 0 0 0 us unit p is in omega (arith, all)
+ends_within us unit p is = let all = ends_from 0 0 (start_of us) us unit p is in omega (arith, all)
 
 pub starts_first : (us : List DebugUnit) → StartsAt us 0 0
 starts_first us = record { begins = λ p is. first us p is; ends = λ none. no_entries us none }
@@ -60,8 +60,8 @@ starts_first us = record { begins = λ p is. first us p is; ends = λ none. no_e
     first : (us : List DebugUnit) (p : PlacedUnit) → slice_get (placed us) 0 ≡ Some p → 0 ≡ p.first
     first [] p is = absurd cc
     first (u ∷ us) p is =
-        let some : ◌≡◌ {A = Option PlacedUnit} (Some (record { at = 0; first = 0; unit = u })) (Some p) = is in
-        let same : ◌≡◌ {A = PlacedUnit} (record { at = 0; first = 0; unit = u }) p = cc in
+        let some : ◌≡◌ {A = Option PlacedUnit} (Some (record { at = u.at; first = 0; unit = u })) (Some p) = is in
+        let same : ◌≡◌ {A = PlacedUnit} (record { at = u.at; first = 0; unit = u }) p = cc in
         ap (λ (q : PlacedUnit). q.first) same
 
 pub starts_next : (us : List DebugUnit) (unit number : ℕ) (p : PlacedUnit) → slice_get (placed us) unit ≡ Some p
@@ -72,7 +72,7 @@ starts_next us unit number p is after =
     record {
       begins = λ q is_q. after ∙ sym (next_first us unit p q is (ap (slice_get (placed us)) (sym next) ∙ is_q));
       ends =
-          λ past. omega (arith, after, last_ends us unit p is (omega (arith, past, within, length-placed_from 0 0 us)));
+          λ past. omega (arith, after, last_ends us unit p is (omega (arith, past, within, length-placed us)));
     }
 
 -- no rule fails at the entries before this one, and these are the targets of their types

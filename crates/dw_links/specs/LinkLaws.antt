@@ -1,13 +1,12 @@
 -- Chapter: what each value has if no rule on strings, addresses and references fails: a target, a text, an address. The
 -- functions of `laws.rt` have the proofs.
-use Rattle.std.specs.Prelude.{◌≡◌, ℕ, ◌+◌, ◌<◌, true, List, Option, None, Some, length, slice_get}
+use Rattle.std.specs.Prelude.{◌≡◌, ℕ, ◌+◌, ◌<◌, true, List, Option, None, Some, slice_get}
 use Rattle.dw_elf.specs.declared.sections.Sections.{Sections}
 use Rattle.dw_forms.specs.Codes.{DW_AT_sibling, DW_AT_str_offsets_base, DW_AT_addr_base}
 use Rattle.dw_forms.specs.Value.{Datum, str, line_str, str_index, addr_index}
 use Rattle.dw_entries.specs.declared.header.UnitHeader.{UnitHeader}
 use Rattle.dw_entries.specs.Units.{DebugUnit}
 use Rattle.dw_entries.specs.Entries.{Entry, PlacedUnit, entries_of, placed}
-use Rattle.dw_entries.specs.ByNumber.{entry_of}
 use Rattle.dw_entries.specs.EntryRules.{EachEntry, HasAttribute}
 use Rattle.dw_entries.specs.Lookups.{entry_head, value_at_entry}
 use Rattle.dw_entries.specs.EntriesAt.{IsEntryIn}
@@ -31,17 +30,6 @@ abbrev pub EachValueOf : Class → (Entry → ℕ → Datum → Type 0) → List
 EachValueOf class P entries =
     EachEntry (λ e. (attribute : ℕ) (v : Datum) → value_at_entry e attribute ≡ Some v → class_of v ≡ class
     → P e attribute v) entries
-
--- the entry with this number begins so far after the start of .debug_info, in which the first unit begins at a base
-pub record IsEntryPast (entries : List Entry) (base offset id : ℕ) : Type 0 where
-  pub within : id < length entries
-  pub begins : base + (entry_of entries id).at ≡ offset
-
--- an entry begins so far after the start of .debug_info, by the base of the unit that the reference is in
-pub record ReachesInInfo (entries : List Entry) (units : List PlacedUnit) (number offset id : ℕ) : Type 0 where
-  pub unit : PlacedUnit
-  pub is_unit : slice_get units number ≡ Some unit
-  pub target : IsEntryPast entries unit.unit.base offset id
 
 -- a signature refers to the entry at the type offset of a unit that has it
 pub record ReachesBySignature (entries : List Entry) (units : List PlacedUnit) (signature id : ℕ) : Type 0 where

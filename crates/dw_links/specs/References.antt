@@ -115,7 +115,7 @@ pub record IsSignedBefore (units : List PlacedUnit) (number signature : ℕ) : T
   pub before : earlier < number
   pub has : HasSignature units signature earlier
 
--- a type begins in the unit at this offset of `sections.info`
+-- a type begins in the unit at this offset of .debug_info
 pub record HasType (entries : List Entry) (number offset : ℕ) : Type 0 where
   pub id : ℕ
   pub is_type : IsEntryIn entries number offset id

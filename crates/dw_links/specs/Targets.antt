@@ -6,18 +6,13 @@ use Rattle.dw_entries.specs.Lookups.{value_at_entry}
 use Rattle.dw_entries.specs.Entries.{Entry, PlacedUnit}
 use Rattle.dw_links.specs.Signatures.{type_unit_of, first_signed}
 
--- the number of the entry that begins so far after the start of .debug_info, in which the first unit begins at a base
-unfoldable pub entry_past : List Entry → (base offset : ℕ) → Option ℕ
-entry_past entries base offset = position_from (λ (e : Entry). base + e.at == offset) 0 entries
+-- the number of the entry that begins at an offset of .debug_info
+unfoldable pub entry_at : List Entry → (offset : ℕ) → Option ℕ
+entry_at entries offset = position_from (λ (e : Entry). e.at == offset) 0 entries
 
--- the number of the entry of a unit that begins so far after the start of the first unit
+-- the number of the entry of a unit that begins at an offset of .debug_info
 unfoldable pub entry_number_at : List Entry → (unit offset : ℕ) → Option ℕ
 entry_number_at entries unit offset = position_from (λ (e : Entry). e.unit == unit && e.at == offset) 0 entries
-
--- the entry that begins so far after the start of .debug_info, in which the first unit begins at the unit's base
-abbrev pub reach_in_info : List Entry → List PlacedUnit → (unit offset : ℕ) → Option ℕ
-reach_in_info entries units unit offset =
-    option_and_then (λ (u : PlacedUnit). entry_past entries u.unit.base offset) (slice_get units unit)
 
 -- the entry that begins so far after the first byte of a unit's header
 abbrev pub reach_in_unit : List Entry → List PlacedUnit → (unit offset : ℕ) → Option ℕ
@@ -37,7 +32,7 @@ signed_type entries units signature = option_and_then (type_of_unit entries unit
 
 -- the number of the entry that a value in a unit refers to; None if it is no reference or no entry is there
 abbrev pub reach_of : List Entry → List PlacedUnit → (unit : ℕ) → Datum → Option ℕ
-reach_of entries units unit (ref_info offset) = reach_in_info entries units unit offset
+reach_of entries units unit (ref_info offset) = entry_at entries offset
 reach_of entries units unit (ref_unit offset) = reach_in_unit entries units unit offset
 reach_of entries units unit (ref_sig signature) = signed_type entries units signature
 reach_of entries units unit _ = None

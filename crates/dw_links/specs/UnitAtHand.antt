@@ -1,5 +1,5 @@
 -- State: the rules among all entries, and what must be known of the unit at hand while values are followed.
-use Rattle.std.specs.Prelude.{◌≡◌, ◌≢◌, ◌<◌, ℕ, true, Option, None, Some, length}
+use Rattle.std.specs.Prelude.{◌≡◌, ◌≢◌, ◌<◌, ◌+◌, ℕ, true, Option, None, Some, length}
 use Rattle.dw_forms.specs.Codes.{is_type_tag}
 use Rattle.dw_forms.specs.Value.{Datum}
 use Rattle.dw_entries.specs.declared.entries.Entries.{Entries}
@@ -44,11 +44,13 @@ entry_after it offset =
     reach_in_unit (all_entries (entries_followed it)) (all_units (entries_followed it)) it.texts.unit offset
 
 -- the table has the type of each signature, each signature of a type unit has one, what was read of the unit at hand
--- is right, and this range is that of its entries
+-- is right, its header starts so many bytes after the base, and this range is that of its entries
 pub record IsLinkable (it : UnitLinks) : Type 0 where
   pub types : HasSignedTypes (entries_followed it) it.signatures.now
   pub typed : AreTyped (entries_followed it)
   pub texts : AreContributions (entries_followed it) it.texts
+  pub past : (sections_of (entries_followed it)).base + it.past
+      ≡ (placed_of (all_units (entries_followed it)) it.texts.unit).at
   pub first : it.range.0 ≡ (placed_of (all_units (entries_followed it)) it.texts.unit).first
   pub end : it.range.1 ≡ end_in (all_units (entries_followed it)) it.texts.unit
 

@@ -22,7 +22,7 @@ text_of_value sections base (str_index index) = indexed_text sections base index
 text_of_value sections base _ = None
 
 -- where the text of a value of class string is, in a unit that has this base: at the offset that the value or its slot
--- gives; or it is in `sections.info`, where the bytes of the value end at this offset, the last of them its zero byte
+-- gives; or it is in .debug_info, where the bytes of the value end at this offset, the last of them its zero byte
 abbrev pub text_place_of : Sections → (base : Option ℕ) → Datum → (end : ℕ) → Option TextPlace
 text_place_of sections base (text bytes) end = Some (Info (end - suc (length bytes)))
 text_place_of sections base (str offset) end = Some (Str offset)

@@ -6,20 +6,19 @@ ghost use Rattle.dw_forms.specs.Value.{ref_info, ref_unit, ref_sig};
 ghost use Rattle.dw_entries.specs.Units.{DebugUnit, Spells};
 ghost use Rattle.dw_entries.specs.Entries.{entries_of, placed};
 ghost use Rattle.dw_entries.specs.Failures.{HasNone};
-ghost use Rattle.dw_entries.specs.EntriesAt.{ReachesInUnit};
+ghost use Rattle.dw_entries.specs.EntriesAt.{IsEntryAt, ReachesInUnit};
 ghost use Rattle.dw_links.specs.References.{ReferenceFailures};
 ghost use Rattle.dw_links.specs.Signatures.{HaveDistinctSignatures};
 ghost use Rattle.dw_links.specs.Strings.{StringFailures};
 ghost use Rattle.dw_links.specs.Targets.{reach_of};
-ghost use Rattle.dw_links.specs.LinkLaws.{ReachesInInfo, ReachesBySignature, HaveTargets, HaveTypes, HasTexts};
+ghost use Rattle.dw_links.specs.LinkLaws.{ReachesBySignature, HaveTargets, HaveTypes, HasTexts};
 
-/// The target of a reference, by its form: the one entry that begins at an offset of .debug_info, in which the first
-/// unit is at the base; that begins at an offset from the header of the value's unit; or at the type offset of the one
-/// type unit with a signature.
+/// The target of a reference, by its form: the one entry that begins at an offset of .debug_info; that begins at an
+/// offset from the header of the value's unit; or at the type offset of the one type unit with a signature.
 pub fn one_entry_is_reached()
     ensures info { («abbrev» info : List ℕ) (units : List DebugUnit) → Spells «abbrev» units info
         → (unit offset id : ℕ) → (reach_of (entries_of units) (placed units) unit (ref_info offset) ≡ Some id)
-        ↔ ReachesInInfo (entries_of units) (placed units) unit offset id }
+        ↔ IsEntryAt (entries_of units) offset id }
     ensures unit { («abbrev» info : List ℕ) (units : List DebugUnit) → Spells «abbrev» units info
         → (unit offset id : ℕ) → (reach_of (entries_of units) (placed units) unit (ref_unit offset) ≡ Some id)
         ↔ ReachesInUnit (entries_of units) (placed units) unit offset id }

@@ -138,6 +138,8 @@ pub struct UnitLinks<'e, 'd, 't> {
     pub entries: &'e Entries<'d>,
     /// What is read once of the unit at hand.
     pub texts: UnitContributions<'d>,
+    /// How many bytes after the base its header starts.
+    pub past: u32,
     /// The number of the first entry of the unit at hand, and the number after that of its last entry.
     pub range: (usize, usize),
     /// The type of each signature.
@@ -167,6 +169,7 @@ impl<'e, 'd, 't> UnitLinks<'e, 'd, 't> {
         UnitLinks {
             entries,
             texts: read_texts(entries, ends.0, ends.1, unit),
+            past: entries.past_base(unit),
             range: entries.range(unit),
             signatures,
         }
@@ -188,9 +191,8 @@ impl<'e, 'd, 't> UnitLinks<'e, 'd, 't> {
         requires { IsLinkable self.now }
         ensures { result ≡ entry_after self.now offset }
     {
-        let start = self.texts.head.offset;
         self.entries
-            .find_in_range(self.texts.unit, start, self.range, offset)
+            .find_in_range(self.texts.unit, self.past, self.range, offset)
     }
 
     /// The target of a value of an entry.

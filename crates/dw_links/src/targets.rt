@@ -3,24 +3,24 @@
 
 ghost use Rattle.std.specs.Prelude.{◌≡◌, ◌<◌, length, IfSome, Some};
 ghost use Rattle.dw_forms.specs.Value.{view};
-ghost use Rattle.dw_entries.specs.Views.{sections_of, all_entries, all_units, units_of};
+ghost use Rattle.dw_entries.specs.Views.{all_entries, all_units, units_of};
 ghost use Rattle.dw_entries.specs.ByNumber.{entry_of};
 ghost use Rattle.dw_links.specs.References.{is_declared, is_signed, is_signature, is_reference_value, permits};
 ghost use Rattle.dw_links.specs.References.{permits_form};
 ghost use Rattle.dw_links.specs.DeclaredEntries.{KeepsDeclared};
 ghost use Rattle.dw_links.specs.SignedTypes.{HasSignedTypes};
-ghost use Rattle.dw_links.specs.Targets.{entry_past, reach_in_unit, signed_type, reach_of, target_of};
+ghost use Rattle.dw_links.specs.Targets.{entry_at, reach_in_unit, signed_type, reach_of, target_of};
 
 use dw_entries::constants::*;
 use dw_entries::{Entries, EntryHead, EntryId};
 use dw_forms::{Attribute, Value};
 use std::collections::BTreeMap;
 
-/// The entry that begins so far after the start of .debug_info, of which the sections may have a part.
+/// The entry that begins at an offset of .debug_info.
 fn entry_from_start(entries: &Entries<'_>, offset: u32) -> Option<EntryId>
-    ensures { result ≡ entry_past (all_entries entries.now) (sections_of entries.now).base offset }
+    ensures { result ≡ entry_at (all_entries entries.now) offset }
 {
-    entries.find(offset.checked_sub(entries.sections().base)?)
+    entries.find(offset)
 }
 
 /// The entry that begins so far after the first byte of a unit's header.

@@ -26,7 +26,7 @@ use memchr::memchr;
 /// Where the text of a value of class string is.
 #[derive(Clone, Copy, Debug, PartialEq, Eq)]
 pub enum TextPlace {
-    /// At this offset of `sections.info`, in the value itself.
+    /// At this offset of .debug_info, in the value itself.
     Info(usize),
     /// At this offset of .debug_str.
     Str(usize),

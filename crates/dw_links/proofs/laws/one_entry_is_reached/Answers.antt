@@ -1,13 +1,13 @@
 use Rattle.dw_entries.specs.Entries.{entries_of, placed}
 use Rattle.dw_entries.proofs.EntryFacts.{entries_rise}
-use Rattle.dw_links.proofs.TargetLemmas.{at_reach_in_info, reach_in_info_is, at_reach_in_unit, reach_in_unit_is, at_type}
+use Rattle.dw_links.proofs.TargetLemmas.{there_is, entry_at_is, at_reach_in_unit, reach_in_unit_is, at_type}
 use Rattle.dw_links.proofs.TargetLemmas.{type_is}
 use Rattle.dw_links.proofs.laws.one_entry_is_reached.Goals as goal
 
 pub returns-clause-info : goal.returns-clause-info
 returns-clause-info c = λ «abbrev» info units spells unit offset id. (
-  at_reach_in_info (entries_of units) (placed units) unit offset id,
-  reach_in_info_is (entries_of units) (placed units) unit offset id (entries_rise «abbrev» units spells.are),
+  there_is (entries_of units) offset id,
+  entry_at_is (entries_of units) offset id (entries_rise «abbrev» units spells.are),
 )
 
 pub returns-clause-unit : goal.returns-clause-unit

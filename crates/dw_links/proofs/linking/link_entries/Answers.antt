@@ -7,7 +7,7 @@ use Rattle.dw_entries.specs.Entries.{placed}
 use Rattle.dw_entries.specs.ByNumber.{no_entry, entry_of, placed_of}
 use Rattle.dw_entries.specs.Views.{all_entries, all_units, units_of}
 use Rattle.dw_entries.proofs.FirstPlaces.{none_by_both}
-use Rattle.dw_entries.proofs.EntryFacts.{length-placed_from}
+use Rattle.dw_entries.proofs.EntryFacts.{length-placed}
 use Rattle.dw_forms.specs.Codes.{DW_AT_str_offsets_base, DW_AT_addr_base}
 use Rattle.dw_links.specs.Bases.{base_in}
 use Rattle.dw_links.specs.Constants.{language_of}
@@ -157,7 +157,7 @@ returns-clause-ok c =
     let (number, starts, linked) = c.loop-unit.invariant.linked in
     let all = starts.ends (omega arith) in
     let units : length (all_units entries)
-    ≤ c.loop-unit.unit = omega (arith, length-placed_from 0 0 (units_of entries)) in
+    ≤ c.loop-unit.unit = omega (arith, length-placed (units_of entries)) in
     let read = c.loop-unit.invariant.read in
     record {
       strings = none_fails entries (FailsByText entries) number all linked.strings;

@@ -2,7 +2,7 @@ use Rattle.std.proofs.Common.{◌+◌, ◌∙◌, ap, sym, arith}
 use Rattle.dw_entries.specs.Entries.{entries_of}
 use Rattle.dw_entries.specs.Views.{all_units, units_of}
 use Rattle.dw_entries.specs.ByNumber.{placed_of}
-use Rattle.dw_entries.proofs.EntryFacts.{entries_rise, length-placed_from}
+use Rattle.dw_entries.proofs.EntryFacts.{entries_rise, length-placed}
 use Rattle.dw_forms.specs.Codes.{is_type_tag}
 use Rattle.dw_links.proofs.HeaderLemmas.{not_typed}
 use Rattle.dw_links.proofs.references.find_type.Goals as goal
@@ -11,7 +11,7 @@ pub returns-in_default-clause-none : goal.returns-in_default-clause-none
 returns-in_default-clause-none c = λ has.
     c.in_default.ensures.none has.id
     (record {
-      unit_within = omega (arith, c.requires, length-placed_from 0 0 (units_of c.args.entries.now));
+      unit_within = omega (arith, c.requires, length-placed (units_of c.args.entries.now));
       target = has.is_type;
     })
 

@@ -5,7 +5,7 @@ use Rattle.dw_entries.specs.ByNumber.{placed_of}
 use Rattle.dw_entries.specs.Views.{units_of}
 use Rattle.dw_entries.proofs.Firsts.{more_of_list, none_of_list}
 use Rattle.dw_links.specs.References.{AtHeader}
-use Rattle.dw_entries.proofs.EntryFacts.{length-placed_from}
+use Rattle.dw_entries.proofs.EntryFacts.{length-placed}
 use Rattle.dw_links.specs.SignedTypes.{AreSignedBelow}
 use Rattle.dw_links.proofs.ClassLemmas.{unit_there}
 use Rattle.dw_links.proofs.UnitToAll.{if_fault}
@@ -18,7 +18,7 @@ returns-clause-ok c =
     let us = units_of c.args.entries.now in
     none_of_list (placed us) (AtHeader (entries_of us) (placed us))
     (λ j u below. c.loop-number.invariant.none j u
-    (omega (arith, below, c.loop-number-test.false, c.unit_count-number-end.ensures, length-placed_from 0 0 us)))
+    (omega (arith, below, c.loop-number-test.false, c.unit_count-number-end.ensures, length-placed us)))
 
 pub returns-clause-types : goal.returns-clause-types
 returns-clause-types c = λ s.
@@ -29,7 +29,7 @@ returns-clause-types c = λ s.
       c.loop-number-test.false,
       c.unit_count-number-end.ensures,
       c.loop-number.auto,
-      length-placed_from 0 0 us,
+      length-placed us,
     ) in
     signed_type_is (entries_of us) (placed us) s _
     (subst (λ (n : ℕ). AreSignedBelow (entries_of us) (placed us) n c.loop-number.signatures) all
@@ -44,7 +44,7 @@ returns-clause-typed c = λ s number has.
       c.loop-number-test.false,
       c.unit_count-number-end.ensures,
       c.loop-number.auto,
-      length-placed_from 0 0 us,
+      length-placed us,
     ) in
     signed_some (entries_of us) (placed us) s number _
     (subst (λ (n : ℕ). AreSignedBelow (entries_of us) (placed us) n c.loop-number.signatures) all

@@ -1,7 +1,5 @@
-use Rattle.std.proofs.Common.{ap}
 use Rattle.dw_entries.specs.Entries.{entries_of, placed}
 use Rattle.dw_entries.specs.Views.{units_of}
-use Rattle.dw_entries.specs.declared.units.UnitHead.{UnitHead}
 use Rattle.dw_entries.proofs.EntryFacts.{entries_rise}
 use Rattle.dw_links.specs.UnitAtHand.{entries_followed}
 use Rattle.dw_links.proofs.TargetLemmas.{reach_in_unit_answer}
@@ -9,9 +7,6 @@ use Rattle.dw_links.proofs.references.UnitLinks.find_in_unit.Goals as goal
 
 pub find_in_range-requires-clause-unit : goal.find_in_range-requires-clause-unit
 find_in_range-requires-clause-unit c = c.requires.texts.within
-
-pub find_in_range-requires-clause-start : goal.find_in_range-requires-clause-start
-find_in_range-requires-clause-start c = ap (λ (h : UnitHead). h.offset) c.requires.texts.head
 
 pub returns : goal.returns
 returns c =

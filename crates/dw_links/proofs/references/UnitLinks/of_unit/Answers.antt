@@ -11,6 +11,7 @@ returns-clause-linkable c =
       types = c.requires.types;
       typed = c.requires.typed;
       texts = c.read_texts.ensures.texts;
+      past = c.past_base.ensures ∙ ap (λ (n : ℕ). (placed_of units n).at) same;
       first = c.range.ensures.first ∙ ap (λ (n : ℕ). (placed_of units n).first) same;
       end = c.range.ensures.end ∙ ap (end_in units) same;
     }
