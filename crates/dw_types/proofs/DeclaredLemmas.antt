@@ -14,7 +14,7 @@ use Rattle.dw_entries.specs.Grammar.{Context, Attribute, AreAttributes}
 use Rattle.dw_entries.specs.Lookups.{value_in}
 use Rattle.dw_entries.specs.Units.{context_of}
 use Rattle.dw_entries.specs.Views.{all_entries, units_of}
-use Rattle.dw_entries.proofs.HeadLaws.{head_stands}
+use Rattle.dw_entries.proofs.HeadLaws.{head_fits}
 use Rattle.dw_links.proofs.LeadSteps.{declared_entry}
 use Rattle.dw_links.specs.References.{is_declared, is_true}
 
@@ -47,7 +47,7 @@ pub told-declared : (entries : Entries) (t : ℕ) → t < length (all_entries en
 told-declared entries t below true known = declared_entry entries t below known
 told-declared entries t below false known =
     let e = entry_of (all_entries entries) t in
-    let stands = head_stands _ _ (units_of entries) t e entries.scanned.1.spells
+    let stands = head_fits _ _ (units_of entries) t e entries.scanned.1.spells
     (slice_get-get_or (all_entries entries) t no_entry below) in
     not_there (context_of (unit_of (units_of entries) e.unit)) e.head.decl.attributes e.head.attributes
     stands.is.attributes known

@@ -11,6 +11,7 @@ pub mod PackingLemmas
 pub mod StepLemmas
 pub mod RoleLemmas
 pub mod MemberLemmas
+pub mod ShapeLemmas
 pub mod FirstLemmas
 pub mod ElementCountLemmas
 pub mod TableLemmas

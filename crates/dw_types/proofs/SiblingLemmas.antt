@@ -10,7 +10,7 @@ use Rattle.std.proofs.lemmas.List.Elements.{All-cons, All-nil, Contains-append_r
 use Rattle.std.proofs.lemmas.Option.{get_or_from_slice_get, slice_get-get_or, slice_get_within}
 use Rattle.std.proofs.Math.ListN.{drop_of_length-le}
 use Rattle.dw_entries.specs.ByNumber.{entry_of, no_entry}
-use Rattle.dw_entries.specs.Entries.{Entry, entries_of}
+use Rattle.dw_entries.specs.Entries.{Entry, start_of, entries_of}
 use Rattle.dw_entries.specs.Units.{DebugUnit}
 use Rattle.dw_types.specs.Children.{children_of, is_child, is_parent, siblings_from, IsChildOf}
 use Rattle.dw_types.specs.Entries.{entry_in}
@@ -135,7 +135,7 @@ module _ (us : List DebugUnit) where
   link-at : (id : ℕ) → id < length (entries_of us) → Link id (entry_in us id) (drop (suc id) (entries_of us))
   link-at id below =
       subst (λ n. Link n (entry_in us id) (drop (suc id) (entries_of us))) (let z : 0 + id ≡ id = omega arith in z)
-      (chained_get 0 (entries_of us) id (entry_in us id) (units_chained 0 0 0 us)
+      (chained_get 0 (entries_of us) id (entry_in us id) (units_chained 0 0 (start_of us) us)
       (slice_get-get_or (entries_of us) id no_entry below))
 
   -- a parent has a smaller number than its child
@@ -191,7 +191,7 @@ module _ (us : List DebugUnit) where
       ≡ children_from (drop (suc id) (entries_of us)) id (suc id)
   children_behind id =
       children-are (entries_of us) id
-      ∙ skip_before id (suc id) 0 (entries_of us) (units_chained 0 0 0 us) (omega arith)
+      ∙ skip_before id (suc id) 0 (entries_of us) (units_chained 0 0 (start_of us) us) (omega arith)
       ∙ ap (children_from (drop (suc id) (entries_of us)) id) (let z : 0 + suc id ≡ suc id = omega arith in z)
 
   -- the entry behind is the first child

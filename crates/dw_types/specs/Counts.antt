@@ -2,6 +2,7 @@
 use Rattle.std.specs.Prelude.{ℕ, ◌^◌, ◌-◌, ℤ, pos, negsuc, ◌+ℤ◌, ◌-ℤ◌, Bool, false, ◌&&◌, ◌||◌, not, List, [], ◌∷◌}
 use Rattle.std.specs.Prelude.{Option, Some, None, if◌then◌else◌, nat_eq}
 use Rattle.dw_entries.specs.Units.{DebugUnit}
+use Rattle.dw_entries.specs.Entries.{Entry}
 use Rattle.dw_links.specs.declared.constant.Constant.{Constant}
 use Rattle.dw_links.specs.declared.constant.Constant.TheVariants.{Absent, NotNumber, Unsigned, Signed}
 use Rattle.dw_forms.specs.Codes.{DW_AT_count, DW_AT_lower_bound, DW_AT_upper_bound}
@@ -59,11 +60,15 @@ count_from count language upper lower =
     else if reads_bounds language then count_between (upper_of upper) (lower_of lower)
     else None
 
--- the count of a dimension, none if it is unknown
+-- the count of a dimension in a unit of a language, none if it is unknown
+abbrev pub count_read : Entry → Constant → Option ℤ
+count_read entry language =
+    count_from (constant_at entry DW_AT_count) language (constant_at entry DW_AT_upper_bound)
+    (constant_at entry DW_AT_lower_bound)
+
+-- the count of a dimension, by its number
 abbrev pub count_of : List DebugUnit → ℕ → Option ℤ
-count_of us node =
-    count_from (constant_at (entry_in us node) DW_AT_count) (language us node)
-    (constant_at (entry_in us node) DW_AT_upper_bound) (constant_at (entry_in us node) DW_AT_lower_bound)
+count_of us node = count_read (entry_in us node) (language us node)
 
 -- a known count of 0 or more
 abbrev pub known_natural : Option ℤ → Size

@@ -1,17 +1,19 @@
 -- Chapter: plain members, and the rules on the types of arrays and members and on counts (DWARF 5, 5.5, 5.7.6 and
 -- 5.13).
-use Rattle.std.specs.Prelude.{ℕ, ℤ, Bool, false, ◌&&◌, ◌||◌, not, List, Option, None, Some, is_some, nat_eq}
+use Rattle.std.specs.Prelude.{ℕ, ℤ, Bool, true, false, ◌&&◌, ◌||◌, not, List, Option, None, Some, nat_eq}
+use Rattle.std.specs.Option.{option_map_or}
 use Rattle.dw_forms.specs.declared.rule.Rule.{Rule}
 use Rattle.dw_forms.specs.declared.rule.Rule.TheVariants.{MissingType, BadCount}
 use Rattle.dw_forms.specs.Codes.{DW_AT_abstract_origin, DW_AT_specification, DW_TAG_member}
 use Rattle.dw_entries.specs.Entries.{Entry, entries_of}
 use Rattle.dw_entries.specs.Units.{DebugUnit}
+use Rattle.dw_links.specs.declared.constant.Constant.{Constant}
 use Rattle.dw_links.specs.Constants.{constant_at, is_below_zero, is_present}
 use Rattle.dw_links.specs.References.{is_declared}
-use Rattle.dw_types.specs.Counts.{count_of, is_dimension}
-use Rattle.dw_types.specs.Entries.{entry_in, type_target}
+use Rattle.dw_types.specs.Counts.{count_read}
+use Rattle.dw_types.specs.Entries.{entry_in, language, type_target}
 use Rattle.dw_entries.specs.Failures.{Failure}
-use Rattle.dw_types.specs.Kinds.{has_members, is_array, parent_is}
+use Rattle.dw_types.specs.Kinds.{has_members, is_array, is_subrange, parent_is}
 use Rattle.dw_types.specs.TypeFailures.{EntryFailures}
 
 -- a member that is not declared
@@ -28,11 +30,43 @@ stands_alone entry =
     not (is_present (constant_at entry DW_AT_specification))
     && not (is_present (constant_at entry DW_AT_abstract_origin))
 
+-- what a rule on shapes looks at: an entry without the numbers of others, tests of its parent and of the entry that its
+-- type refers to, which fail if there is none, and the language of its unit
+pub record Sight : Type 0 where
+  pub entry : Entry
+  pub parent_is : (Entry → Bool) → Bool
+  pub type_is : (Entry → Bool) → Bool
+  pub language : Constant
+
+-- an entry without the numbers of its unit, its parent and its next sibling
+abbrev pub numberless : Entry → Entry
+numberless entry = record {
+  at = entry.at;
+  unit = 0;
+  parent = None;
+  depth = entry.depth;
+  next = None;
+  head = entry.head;
+}
+
+-- an entry to which a number may refer passes a test
+abbrev pub passes_at : List DebugUnit → (Entry → Bool) → Option ℕ → Bool
+passes_at us test to = option_map_or (λ (node : ℕ). test (numberless (entry_in us node))) to false
+
+-- what it looks at at the entry of a number
+abbrev pub sight : List DebugUnit → ℕ → Sight
+sight us node = record {
+  entry = numberless (entry_in us node);
+  parent_is = λ test. passes_at us test (entry_in us node).parent;
+  type_is = λ test. passes_at us test (type_target us node);
+  language = language us node;
+}
+
 -- an array or a plain member with no type, which does not take one over from another entry either
-abbrev pub misses_type : List DebugUnit → ℕ → Bool
-misses_type us node =
-    (is_array (entry_in us node) || is_plain us node)
-    && (not (is_some (type_target us node)) && stands_alone (entry_in us node))
+abbrev pub misses_type : Sight → Bool
+misses_type s =
+    (is_array s.entry || (is_defined_member s.entry && s.parent_is has_members))
+    && (not (s.type_is (λ to. true)) && stands_alone s.entry)
 
 -- a count that is known and below 0
 abbrev pub is_known_negative : Option ℤ → Bool
@@ -40,14 +74,19 @@ is_known_negative None = false
 is_known_negative (Some n) = is_below_zero n
 
 -- a dimension with a known count below 0
-abbrev pub has_bad_count : List DebugUnit → ℕ → Bool
-has_bad_count us node = is_dimension us node && is_known_negative (count_of us node)
+abbrev pub has_bad_count : Sight → Bool
+has_bad_count s =
+    (is_subrange s.entry && s.parent_is is_array) && is_known_negative (count_read s.entry s.language)
+
+-- the rule is violated at what is looked at
+abbrev pub violates_shape : Sight → Rule → Bool
+violates_shape s MissingType = misses_type s
+violates_shape s BadCount = has_bad_count s
+violates_shape s _ = false
 
 -- the entry of a number violates a rule on shapes
 abbrev pub fails_shape : List DebugUnit → ℕ → Rule → Bool
-fails_shape us node MissingType = misses_type us node
-fails_shape us node BadCount = has_bad_count us node
-fails_shape us node _ = false
+fails_shape us node rule = violates_shape (sight us node) rule
 
 -- the failures of the rules on shapes
 abbrev pub ShapeFailures : List DebugUnit → Failure → Type 0

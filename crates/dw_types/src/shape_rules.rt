@@ -6,7 +6,7 @@ ghost use Rattle.dw_entries.specs.Failures.{IsLeast};
 ghost use Rattle.dw_types.specs.Entries.{entry_in};
 ghost use Rattle.dw_types.specs.Held.{entries_held, units_held};
 ghost use Rattle.dw_types.specs.Shapes.{fails_shape, has_bad_count, is_defined_member, is_plain, misses_type};
-ghost use Rattle.dw_types.specs.Shapes.{stands_alone};
+ghost use Rattle.dw_types.specs.Shapes.{sight, stands_alone};
 
 use crate::count::count_of;
 use crate::kind::is_array;
@@ -54,6 +54,7 @@ pub(crate) fn is_plain(
 
 /// Whether an entry with this tag is an array or a plain member with no type, and takes none over.
 #[inline(always)]
+#[tactic(auto, using(crate::proofs::ShapeLemmas::passes_any))]
 fn misses_type(
     alloc: Global,
     entries: &mut LinkedEntries<'_, '_>,
@@ -63,7 +64,7 @@ fn misses_type(
     requires id { id < length (entries_held entries.old) }
     requires tag { tag ≡ (entry_in (units_held entries.old) id).head.decl.tag }
     ensures same { OnOk result (units_held entries.new ≡ units_held entries.old) }
-    ensures misses { IfOk result (λ misses. misses ≡ misses_type (units_held entries.old) id) }
+    ensures misses { IfOk result (λ misses. misses ≡ misses_type (sight (units_held entries.old) id)) }
 {
     if !matches!(tag, DW_TAG_array_type | DW_TAG_member) || entries.type_target(id).is_some() {
         return Ok(false);
@@ -84,7 +85,7 @@ fn has_bad_count(entries: &mut LinkedEntries<'_, '_>, id: EntryId, tag: Tag) -> 
     requires id { id < length (entries_held entries.old) }
     requires tag { tag ≡ (entry_in (units_held entries.old) id).head.decl.tag }
     ensures same { units_held entries.new ≡ units_held entries.old }
-    ensures bad { result ≡ has_bad_count (units_held entries.old) id }
+    ensures bad { result ≡ has_bad_count (sight (units_held entries.old) id) }
 {
     if !matches!(tag, DW_TAG_subrange_type) {
         return false;
