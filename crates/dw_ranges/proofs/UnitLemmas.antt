@@ -6,13 +6,13 @@ use Rattle.std.specs.Prelude.{slice_get}
 use Rattle.std.proofs.lemmas.Option.{slice_get_within, slice_get-get_or}
 use Rattle.dw_entries.specs.declared.entries.Entries.{Entries}
 use Rattle.dw_entries.specs.ByNumber.{end_in, no_placed, no_unit, placed_of, unit_of}
-use Rattle.dw_entries.specs.Entries.{Entry, PlacedUnit, entries_from, node_count, node_entries, placed, placed_from}
+use Rattle.dw_entries.specs.Entries.{Entry, PlacedUnit, entries_from, node_count, node_entries, placed, placed_from, start_of}
 use Rattle.dw_entries.specs.Header.{IsSize, unit_header_size}
 use Rattle.dw_entries.specs.Tree.{Node, leaf, parent}
 use Rattle.dw_entries.specs.UnitLaws.{unit_sized}
 use Rattle.dw_entries.specs.Units.{DebugUnit, unit_bytes}
 use Rattle.dw_entries.specs.Views.{all_entries, all_units, units_of}
-use Rattle.dw_entries.proofs.EntryFacts.{first_entry, length-node_entries, length-placed_from, placed_get}
+use Rattle.dw_entries.proofs.EntryFacts.{first_entry, length-node_entries, length-placed, unit_placed}
 use Rattle.dw_entries.proofs.Firsts.{same_some}
 use Rattle.dw_entries.proofs.HeadLaws.{all_get}
 use Rattle.dw_ranges.specs.EntryRanges.{head_in}
@@ -46,7 +46,7 @@ module _ (entries : Entries) (number : ℕ) (below : number < length (units_of e
   unit_there : slice_get (all_units entries) number ≡ Some (placed_of (all_units entries) number)
   unit_there =
       slice_get-get_or (all_units entries) number no_placed
-      (omega (arith, below, length-placed_from 0 0 (units_of entries)))
+      (omega (arith, below, length-placed (units_of entries)))
 
   -- its first entry is there
   pub first_within : (head_in entries number).first < length (all_entries entries)
@@ -61,7 +61,7 @@ module _ (entries : Entries) (number : ℕ) (below : number < length (units_of e
       let us = units_of entries in
       let u = unit_of us number in
       let is_u = slice_get-get_or us number no_unit below in
-      let (q, is_q, same) = placed_get 0 0 us number u is_u in
+      let (q, is_q, same) = unit_placed us number u is_u in
       let one : q ≡ placed_of (all_units entries) number =
       same_some (slice_get (placed us) number) q (placed_of (all_units entries) number) is_q unit_there in
       let unit : u ≡ (placed_of (all_units entries) number).unit =
@@ -82,4 +82,5 @@ module _ (entries : Entries) (number : ℕ) (below : number < length (units_of e
 
   pub entries_within : end_in (all_units entries) number ≤ length (all_entries entries)
   entries_within =
-      omega (arith, ends_from 0 0 0 (units_of entries) number (placed_of (all_units entries) number) unit_there)
+      omega (arith, ends_from 0 0 (start_of (units_of entries)) (units_of entries) number
+      (placed_of (all_units entries) number) unit_there)

@@ -14,6 +14,6 @@ pub struct ListFault {
 #[derive(Clone, Copy, Debug, PartialEq, Eq)]
 pub struct RangeFault {
     pub rule: RangeRule,
-    /// The offset of the entry in `sections.info`, in bytes.
+    /// The offset of the entry in .debug_info, in bytes.
     pub at: u32,
 }
