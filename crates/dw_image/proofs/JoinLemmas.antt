@@ -1,6 +1,6 @@
 -- The groups of rules join: valid sections have no fault, and others have one; and the groups in their order, as they
 -- are asked.
-use Rattle.std.proofs.Common.{rules, ◌≡◌, ℕ, ◌<◌, ◌≤◌, List, sym, ap, ◌∙◌, subst, arith, inl, inr}
+use Rattle.std.proofs.Common.{rules, ◌≡◌, ℕ, ◌<◌, ◌≤◌, List, drop, sym, ap, ◌∙◌, subst, arith, inl, inr}
 use Rattle.dw_elf.specs.declared.sections.Sections.{Sections}
 use Rattle.dw_entries.specs.declared.fault.Fault.{Fault}
 use Rattle.dw_entries.specs.declared.fault.PlainFault.{PlainFault}
@@ -35,7 +35,7 @@ use Rattle.dw_image.specs.StepsAndSizes.{PassInTypes, FailsInTypes}
 pub one_list_of : (s : Sections) (units others : List DebugUnit) → SpellsInfo s units → SpellsInfo s others
     → units ≡ others
 one_list_of s units others p q =
-    one_list s.base s.«abbrev».now s.info.now units others p.spells q.spells p.based q.based
+    one_list s.base s.«abbrev».now (drop s.base s.info.now) units others p.spells q.spells p.are_from q.are_from
 
 -- the rules of each group hold of valid sections
 holds_of : (s : Sections) (units : List DebugUnit) → IsValidBy s units → (group : Group)
@@ -58,7 +58,7 @@ none_named s units _ fault none first = none_first _ fault none first
 -- valid sections have no fault
 pub no_fault_of : (s : Sections) (fault : Fault) → IsValid s → IsFirstFault s fault → ⊥
 no_fault_of s fault valid (in_trees fails cycle) =
-    no_list s.«abbrev».now s.info.now valid.0 (plain_fault_of fault) valid.1.trees.spells fails
+    no_list s.«abbrev».now s.base (drop s.base s.info.now) valid.0 (plain_fault_of fault) valid.1.trees.spells fails
 no_fault_of s fault valid (in_group group fails) = search (rules, one_list_of, none_named, holds_of)
 
 -- a group's failure is of the first group that has one
@@ -100,14 +100,16 @@ one_in_groups s group later fault other p q =
 -- the trees fail, or a group of rules after them
 apart : (s : Sections) (group : Group) (fault other : Fault) → FailsInTrees s (plain_fault_of fault)
     → FailsInGroup s group other → ⊥
-apart s group fault other p q = no_list s.«abbrev».now s.info.now q.units (plain_fault_of fault) q.spelled.spells p
+apart s group fault other p q =
+    no_list s.«abbrev».now s.base (drop s.base s.info.now) q.units (plain_fault_of fault) q.spelled.spells p
 
 -- two first faults are one
 pub one_first_fault_of : (s : Sections) (fault other : Fault) → IsFirstFault s fault → IsFirstFault s other
     → IsOneFault fault other
 one_first_fault_of s fault other (in_trees p c) (in_trees q d) =
     inl (record {
-      broken = one_fault s.«abbrev».now s.info.now (plain_fault_of fault) (plain_fault_of other) p q;
+      broken =
+          one_fault s.«abbrev».now s.base (drop s.base s.info.now) (plain_fault_of fault) (plain_fault_of other) p q;
       cycle = c ∙ sym d;
     })
 one_first_fault_of s fault other (in_trees p c) (in_group later q) = absurd (apart s later fault other p q)
@@ -118,7 +120,7 @@ one_first_fault_of s fault other (in_group group p) (in_group later q) = one_in_
 spelled_of : (s : Sections) (units : List DebugUnit) → SpellsInfo s units
     → EachEntry (IsSpelled s units) (entries_of units)
 spelled_of s units spells = λ id e there.
-    let stands = head_stands s.«abbrev».now s.info.now units id e spells.spells there in
+    let stands = head_stands s.base s.«abbrev».now s.info.now units id e spells.spells spells.are_from there in
     record {
       in_units = stands.within;
       head = stands.is;
@@ -165,7 +167,7 @@ faulty s entries turn group fault less same before first =
       is_fault = fault_of s fault (subst (λ t. IsFirstFault t fault) same
           (in_group group (record {
             units = entries.scanned.0;
-            spelled = record { spells = entries.scanned.1.spells; based = entries.scanned.1.based };
+            spelled = record { spells = entries.scanned.1.spells; are_from = entries.scanned.1.are_from };
             before = before;
             first = first;
           })));

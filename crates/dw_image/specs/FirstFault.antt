@@ -1,6 +1,6 @@
 -- Chapter: the first fault of sections. Rules come in groups: a group is checked only if no rule of an earlier group
 -- fails.
-use Rattle.std.specs.Prelude.{◌≡◌, ℕ, ◌<◌, ◌⊎◌, List, [], map, slice_index}
+use Rattle.std.specs.Prelude.{◌≡◌, ℕ, ◌<◌, ◌⊎◌, List, [], drop, map, slice_index}
 use Rattle.dw_elf.specs.declared.sections.Sections.{Sections}
 use Rattle.dw_entries.specs.declared.fault.Fault.{Fault}
 use Rattle.dw_entries.specs.declared.fault.PlainFault.{PlainFault}
@@ -22,10 +22,10 @@ use Rattle.dw_types.specs.Sizes.{IsSizeTable}
 use Rattle.dw_types.specs.SizeFaults.{SizeFailures}
 use Rattle.dw_image.specs.Valid.{SpellsInfo}
 
--- a rule of tables, units or items fails there: whole units spell the bytes before, and no unit follows by the first
--- check that fails
+-- a rule of tables, units or items fails there: whole units spell the bytes before, from the base on, and no unit
+-- follows by the first check that fails
 abbrev pub FailsInTrees : Sections → PlainFault → Type 0
-FailsInTrees s broken = Fails s.«abbrev».now s.info.now broken
+FailsInTrees s broken = Fails s.«abbrev».now s.base (drop s.base s.info.now) broken
 
 -- the groups of rules on entries, once units spell the sections: classes; strings and addresses;
 -- references; the types of arrays and members, and counts; containment; sizes

@@ -23,7 +23,7 @@ use Rattle.dw_image.specs.Images.{sections_in, units_in, size_table_in}
 use Rattle.dw_image.specs.Valid.{SpellsInfo, HasSizes, IsValid}
 use Rattle.dw_image.specs.FirstFault.{IsFirstFault}
 
--- an entry of these units is at its offset of `sections.info`, by a declared abbreviation and with its attributes in
+-- an entry of these units is at its offset of .debug_info, by a declared abbreviation and with its attributes in
 -- their forms' grammar, as its unit's table, version and size of addresses have it
 pub record IsSpelled (s : Sections) (units : List DebugUnit) (e : Entry) : Type 0 where
   pub in_units : e.unit < length units

@@ -1,13 +1,10 @@
 -- Chapter: what the look-ups of an image return, as functions of the list of its entries.
-use Rattle.std.specs.Prelude.{ℕ, ◌==◌, Bool, if◌then◌else◌, List, slice_get, Option, Some, None}
-use Rattle.std.specs.List.{position_from}
+use Rattle.std.specs.Prelude.{ℕ, Bool, if◌then◌else◌, List, slice_get, Option, Some, None}
 use Rattle.std.specs.Option.{option_and_then}
 use Rattle.dw_forms.specs.Codes.{is_type_tag}
 use Rattle.dw_entries.specs.Entries.{Entry}
-
--- the number of the entry that begins at an offset of `sections.info`
-unfoldable pub entry_at : List Entry → ℕ → Option ℕ
-entry_at entries offset = position_from (λ (e : Entry). e.at == offset) 0 entries
+-- the number of the entry that begins at an offset of .debug_info
+pub use Rattle.dw_links.specs.Targets.{entry_at}
 
 -- whether an entry is a type, by its tag
 abbrev pub is_type_entry : Entry → Bool

@@ -12,8 +12,8 @@ use Rattle.dw_types.specs.Steps.{by_value}
 use Rattle.dw_types.specs.SizeTables.{Size}
 use Rattle.dw_types.specs.Sizes.{IsSizeTable}
 use Rattle.dw_types.specs.SizeFaults.{SizeFailures}
--- the units spell .debug_info by the tables of .debug_abbrev (DWARF 5, 7.5.1): a header each, a tree of entries with
--- declared abbreviations and attributes in their forms' grammar, and nulls; their base is where it begins
+-- the units spell .debug_info, from its base on, by the tables of .debug_abbrev (DWARF 5, 7.5.1): a header each, a tree
+-- of entries with declared abbreviations and attributes in their forms' grammar, and nulls
 pub use Rattle.dw_entries.specs.Units.{SpellsInfo}
 
 -- one table of sizes obeys the size lines of all entries and no other does, and by it no rule on sizes fails

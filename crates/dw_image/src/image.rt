@@ -98,7 +98,7 @@ impl<'a> Image<'a> {
         &self.tables
     }
 
-    /// The entry that starts at this offset of `sections.info`.
+    /// The entry that starts at this offset of .debug_info.
     #[tactic(auto, unfolding(crate::specs::Images::units_in))]
     pub fn entry(&self, offset: u32) -> Option<EntryId>
         ensures exact { result ≡ entry_at (entries_in self.now) offset }
@@ -125,7 +125,7 @@ impl<'a> Image<'a> {
         self.entries.head(id)
     }
 
-    /// The offset of an entry in `sections.info`, in bytes.
+    /// The offset of an entry in .debug_info, in bytes.
     #[tactic(auto, unfolding(crate::specs::Images::units_in))]
     pub fn offset(&self, id: EntryId) -> u32
         requires { id < length (entries_in self.now) }

@@ -20,7 +20,7 @@ use dw_links::{TextPlace, base_in_unit, number};
 #[derive(Clone, Copy, Debug)]
 pub struct UnitAtHand {
     pub number: usize,
-    /// Where its header starts in `sections.info`.
+    /// Where its header starts in .debug_info.
     pub offset: u32,
     pub header: UnitHeader,
     /// The offset of its first slot in .debug_str_offsets, and in .debug_addr, if it has such slots.
