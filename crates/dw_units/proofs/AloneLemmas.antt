@@ -1,7 +1,8 @@
 -- One batch alone: its bytes as the whole .debug_info, beside the other sections.
-use Rattle.std.proofs.Common.{rules, ◌≡◌, ℕ, suc, ◌+◌, ◌-◌, ◌<◌, List, [], ◌∷◌, length, take, drop, Option, None, Bor}
+use Rattle.std.proofs.Common.{rules, ◌≡◌, ℕ, suc, ◌+◌, ◌<◌, List, [], ◌∷◌, length, take, drop, Option, None, Bor}
 use Rattle.std.proofs.Common.{refl, sym, ap, subst, ◌∙◌, arith}
 use Rattle.std.specs.Prelude.{slice_get, IfSome}
+use Rattle.std.proofs.lemmas.List.{drop-take}
 use Rattle.dw_elf.specs.declared.sections.Sections.{Sections}
 use Rattle.dw_elf.specs.Sections.{IsPart}
 use Rattle.dw_forms.specs.Value.{Datum}
@@ -9,8 +10,8 @@ use Rattle.dw_forms.specs.Codes.{DW_AT_str_offsets_base, DW_AT_addr_base}
 use Rattle.dw_entries.specs.declared.header.UnitHeader.{UnitHeader}
 use Rattle.dw_forms.specs.declared.rule.Rule.{Rule}
 use Rattle.dw_entries.specs.declared.entry.EntryHead.{EntryHead}
-use Rattle.dw_entries.specs.Units.{DebugUnit, AreUnits, HaveBase, SpellsInfo, unit_bytes, units_bytes}
-use Rattle.dw_entries.specs.Entries.{Entry, entries_of, node_count, placed_from, placed}
+use Rattle.dw_entries.specs.Units.{DebugUnit, AreUnits, AreFrom, SpellsInfo, unit_bytes, units_bytes}
+use Rattle.dw_entries.specs.Entries.{Entry, entries_of, node_count, start_of, placed_from, placed}
 use Rattle.dw_entries.specs.Failures.{Failure, HasNone, plain_fault_of}
 use Rattle.dw_entries.specs.Faults.{Fails}
 use Rattle.dw_links.specs.Bases.{base_in}
@@ -133,19 +134,19 @@ module _ (s own : Sections) (shares : Shares s own) where
 
 -- the bytes of a part
 bytes_of : (s own : Sections) (at size : ℕ) → IsPart s at (at + size) own
-    → own.info.now ≡ take size (drop at s.info.now)
-bytes_of s own at size part =
-    let long : at + size - at ≡ size = omega arith in
-    part.info_is ∙ ap (λ (n : ℕ). take n (drop at s.info.now)) long
+    → drop own.base own.info.now ≡ take size (drop at s.info.now)
+bytes_of s own at size part = rw (part.base_is, part.info_is) (drop-take at size s.info.now)
 
 -- the fault of trees in a part
 pub trees_of : (s own : Sections) (at size : ℕ) → IsPart s at (at + size) own → (stop : Stop Fault)
-    → IfPlainFault (Fails own.«abbrev».now own.info.now) stop
-    → IfPlainFault (Fails s.«abbrev».now (take size (drop at s.info.now))) stop
+    → IfPlainFault (Fails own.«abbrev».now own.base (drop own.base own.info.now)) stop
+    → IfPlainFault (Fails s.«abbrev».now at (take size (drop at s.info.now))) stop
 trees_of s own at size part stop fails =
     let shares = shares_of s own at (at + size) part in
-    subst (λ (xs : List ℕ). IfPlainFault (Fails xs (take size (drop at s.info.now))) stop) shares.abbrev_same
-    (subst (λ (xs : List ℕ). IfPlainFault (Fails own.«abbrev».now xs) stop) (bytes_of s own at size part) fails)
+    let bytes = bytes_of s own at size part in
+    subst (λ (n : ℕ). IfPlainFault (Fails s.«abbrev».now n (take size (drop at s.info.now))) stop) part.base_is
+    (subst (λ (xs : List ℕ). IfPlainFault (Fails xs own.base (take size (drop at s.info.now))) stop) shares.abbrev_same
+    (subst (λ (xs : List ℕ). IfPlainFault (Fails own.«abbrev».now own.base xs) stop) bytes fails))
 
 -- a part of sections is one batch, these units
 pub record IsBatch (s own : Sections) (at size : ℕ) (units : List DebugUnit) : Type 0 where
@@ -166,8 +167,8 @@ module _ (s own : Sections) (at size : ℕ) (units : List DebugUnit) (batch : Is
   shares : Shares s own
   shares = shares_of s own at (at + size) batch.part
 
-  pub based : HaveBase (s.base + at) units
-  based = subst (λ (n : ℕ). HaveBase n units) batch.part.base_is batch.spelled.based
+  pub are_from : AreFrom at units
+  are_from = subst (λ (n : ℕ). AreFrom n units) batch.part.base_is batch.spelled.are_from
 
   pub stays : StaysAlone s units
   stays = record {
@@ -209,7 +210,8 @@ module _ (s own : Sections) (at size : ℕ) (units : List DebugUnit) (batch : Is
     where
       go : IsFirstFault own fault → IsOfGroup s units fault
       go (in_trees fails cycle) = absurd
-          (no_list own.«abbrev».now own.info.now units (plain_fault_of fault) batch.spelled.spells fails)
+          (no_list own.«abbrev».now own.base (drop own.base own.info.now) units (plain_fault_of fault)
+          batch.spelled.spells fails)
       go (in_group group fails) =
           let same : fails.units ≡ units = batch.only fails.units fails.spelled in
           let before = subst (λ (us : List DebugUnit). (earlier : Group) → turn_of earlier < turn_of group
@@ -251,4 +253,4 @@ none_from at first (u ∷ us) none = (
 )
 
 pub no_type_unit_of : (us : List DebugUnit) → ((k : ℕ) → k < length us → IsNoTypeUnit us k) → HaveNoTypeUnit us
-no_type_unit_of us none = none_from 0 0 us none
+no_type_unit_of us none = none_from (start_of us) 0 us none

@@ -3,11 +3,13 @@ use Rattle.std.proofs.Common.{rules, ◌≡◌, ℕ, zero, suc, ◌+◌, ◌<◌
 use Rattle.std.specs.Prelude.{slice_get}
 use Rattle.std.specs.List.{AllByRecursion}
 use Rattle.std.proofs.lemmas.Grind.{flat_map-append}
-use Rattle.dw_entries.specs.Units.{DebugUnit, HaveBase, unit_bytes, units_bytes}
+use Rattle.dw_elf.specs.declared.sections.Sections.{Sections}
+use Rattle.dw_entries.specs.Units.{DebugUnit, AreFrom, unit_bytes, units_bytes}
 use Rattle.dw_entries.proofs.Firsts.{same_some}
 use Rattle.dw_entries.proofs.NumberOrder.{three_ways}
-use Rattle.dw_entries.specs.Entries.{entries_of, node_count, PlacedUnit, placed_from, placed}
-use Rattle.dw_units.specs.IndependentBatches.{joined_batches, FollowFrom}
+use Rattle.dw_entries.specs.Entries.{start_of, entries_from, entries_of, placed_from, placed}
+use Rattle.dw_units.specs.ByUnit.{AreBatches}
+use Rattle.dw_units.specs.IndependentBatches.{joined}
 
 -- the number of a batch's first unit and of its first entry, and the offset of its first byte
 pub record PlacedBatch : Type 0 where
@@ -24,13 +26,13 @@ batches_from number first at (units ∷ bs) =
     ∷ batches_from (number + length units) (first + length (entries_of units)) (at + length (units_bytes units)) bs
 
 abbrev pub placed_batches : List (List DebugUnit) → List PlacedBatch
-placed_batches bs = batches_from 0 0 0 bs
+placed_batches bs = batches_from 0 0 (start_of (joined bs)) bs
 
 -- what holds of a value holds of an equal one
 pub at_front : {X : Type 0} (P : X → Type 0) (x y : X) → Some x ≡ Some y → P x → P y
 at_front P x y is here = let same : x ≡ y = cc in subst P same here
 
-pub all_placed : (P : List DebugUnit → Type 0) (number first at : ℕ) (bs : List (List DebugUnit)) (k : ℕ)
+all_placed : (P : List DebugUnit → Type 0) (number first at : ℕ) (bs : List (List DebugUnit)) (k : ℕ)
     (p : PlacedBatch) → AllByRecursion P bs
     → slice_get (batches_from number first at bs) k ≡ Some p → P p.units
 all_placed P number first at [] k p all is = absurd cc
@@ -38,6 +40,10 @@ all_placed P number first at (units ∷ bs) zero p (one, more) is = search (rule
 all_placed P number first at (units ∷ bs) (suc k) p (one, more) is =
     all_placed P (number + length units) (first + length (entries_of units)) (at + length (units_bytes units)) bs k p
     more is
+
+pub all_batches : (P : List DebugUnit → Type 0) (bs : List (List DebugUnit)) (k : ℕ) (p : PlacedBatch)
+    → AllByRecursion P bs → slice_get (placed_batches bs) k ≡ Some p → P p.units
+all_batches P bs = all_placed P 0 0 (start_of (joined bs)) bs
 
 -- no batch begins before these do
 pub record IsPast (number first at : ℕ) (p : PlacedBatch) : Type 0 where
@@ -82,20 +88,20 @@ pub same_batch : (bs : List (List DebugUnit)) (k j : ℕ) (p q : PlacedBatch) �
     → slice_get (placed_batches bs) j ≡ Some q → (IsAfter p q → ⊥) → (IsAfter q p → ⊥) → p ≡ q
 same_batch bs k j p q is_p is_q first second =
     elim (three_ways k j) [
-      | inl (inl less) ↦ absurd (first (after 0 0 0 bs k j p q is_p is_q less))
+      | inl (inl less) ↦ absurd (first (after 0 0 (start_of (joined bs)) bs k j p q is_p is_q less))
       | inl (inr same) ↦
           same_some (slice_get (placed_batches bs) j) p q (ap (slice_get (placed_batches bs)) (sym same) ∙ is_p) is_q
-      | inr more ↦ absurd (second (after 0 0 0 bs j k q p is_q is_p more))
+      | inr more ↦ absurd (second (after 0 0 (start_of (joined bs)) bs j k q p is_q is_p more))
     ]
 
 pub bytes_before : (at : ℕ) (units : List DebugUnit) (bs : List (List DebugUnit))
-    → at + length (units_bytes units) + length (units_bytes (joined_batches bs))
-    ≡ at + length (units_bytes (joined_batches (units ∷ bs)))
+    → at + length (units_bytes units) + length (units_bytes (joined bs))
+    ≡ at + length (units_bytes (joined (units ∷ bs)))
 bytes_before at units bs =
     omega (
       arith,
-      ap length (flat_map-append unit_bytes units (joined_batches bs)),
-      length-append (units_bytes units) (units_bytes (joined_batches bs)),
+      ap length (flat_map-append unit_bytes units (joined bs)),
+      length-append (units_bytes units) (units_bytes (joined bs)),
     )
 
 -- the batch of a place holds P, as those before do, or is the one, or comes behind it
@@ -105,8 +111,8 @@ Stands P at end units p = P p.units ⊎ (((p.units ≡ units) × (p.at ≡ at)) 
 pub stands_from : (P : List DebugUnit → Type 0) (number first at : ℕ) (before : List (List DebugUnit))
     (units : List DebugUnit) (behind : List (List DebugUnit)) (k : ℕ) (p : PlacedBatch)
     → AllByRecursion P before → slice_get (batches_from number first at (before ++ units ∷ behind)) k ≡ Some p
-    → Stands P (at + length (units_bytes (joined_batches before)))
-    (at + length (units_bytes (joined_batches before)) + length (units_bytes units)) units p
+    → Stands P (at + length (units_bytes (joined before)))
+    (at + length (units_bytes (joined before)) + length (units_bytes units)) units p
 stands_from P number first at [] units behind zero p all is =
     at_front (Stands P (at + 0) (at + 0 + length (units_bytes units)) units) _ p is (inr (inl (refl, omega arith)))
 stands_from P number first at [] units behind (suc k) p all is =
@@ -114,8 +120,8 @@ stands_from P number first at [] units behind (suc k) p all is =
     (at + length (units_bytes units)) behind k p is).at_past in
     inr (inr (omega (arith, more)))
 stands_from P number first at (v ∷ before) units behind zero p (one, more) is =
-    at_front (λ (q : PlacedBatch). Stands P (at + length (units_bytes (joined_batches (v ∷ before))))
-    (at + length (units_bytes (joined_batches (v ∷ before))) + length (units_bytes units)) units q) _ p is (inl one)
+    at_front (λ (q : PlacedBatch). Stands P (at + length (units_bytes (joined (v ∷ before))))
+    (at + length (units_bytes (joined (v ∷ before))) + length (units_bytes units)) units q) _ p is (inl one)
 stands_from P number first at (v ∷ before) units behind (suc k) p (one, more) is =
     subst (λ (n : ℕ). Stands P n (n + length (units_bytes units)) units p) (bytes_before at v before)
     (stands_from P (number + length v) (first + length (entries_of v)) (at + length (units_bytes v)) before units behind
@@ -130,10 +136,10 @@ pub record IsPlaced (number first at : ℕ) (bs : List (List DebugUnit)) (units 
   pub is : slice_get (batches_from number first at bs) which
       ≡ Some (record { number = begins; first = entry; at = offset; units = units })
 
-pub placed_there : (number first at : ℕ) (before : List (List DebugUnit)) (units : List DebugUnit)
+pub placed_in : (number first at : ℕ) (before : List (List DebugUnit)) (units : List DebugUnit)
     (behind : List (List DebugUnit))
-    → IsPlaced number first at (before ++ units ∷ behind) units (at + length (units_bytes (joined_batches before)))
-placed_there number first at [] units behind =
+    → IsPlaced number first at (before ++ units ∷ behind) units (at + length (units_bytes (joined before)))
+placed_in number first at [] units behind =
     let here : at ≡ at + 0 = omega arith in
     record {
       which = 0;
@@ -141,8 +147,8 @@ placed_there number first at [] units behind =
       entry = first;
       is = ap (λ (n : ℕ). Some (record { number = number; first = first; at = n; units = units })) here;
     }
-placed_there number first at (v ∷ before) units behind =
-    let i = placed_there (number + length v) (first + length (entries_of v)) (at + length (units_bytes v)) before units
+placed_in number first at (v ∷ before) units behind =
+    let i = placed_in (number + length v) (first + length (entries_of v)) (at + length (units_bytes v)) before units
     behind in
     record {
       which = suc i.which;
@@ -152,32 +158,57 @@ placed_there number first at (v ∷ before) units behind =
           (bytes_before at v before);
     }
 
--- ---- the base of a batch
+-- ---- units and batches one after another
 
-based_from : (start number first at : ℕ) (bs : List (List DebugUnit)) → FollowFrom (start + at) bs → (k : ℕ)
-    (p : PlacedBatch)
-    → slice_get (batches_from number first at bs) k ≡ Some p → HaveBase (start + p.at) p.units
-based_from start number first at [] follow k p is = absurd cc
-based_from start number first at (units ∷ bs) (based, follow) zero p is =
-    at_front (λ (q : PlacedBatch). HaveBase (start + q.at) q.units) _ p is based
-based_from start number first at (units ∷ bs) (based, follow) (suc k) p is =
-    let there : start + at + length (units_bytes units) ≡ start + (at + length (units_bytes units)) = omega arith in
-    based_from start (number + length units) (first + length (entries_of units)) (at + length (units_bytes units)) bs
-    (subst (λ (n : ℕ). FollowFrom n bs) there follow) k p is
+-- units that begin at an offset are placed, and their entries are, from there on
+pub placed_there : (at : ℕ) (us : List DebugUnit) → AreFrom at us → placed us ≡ placed_from at 0 us
+placed_there at [] from = refl
+placed_there at (u ∷ us) from = ap (λ (n : ℕ). placed_from n 0 (u ∷ us)) from.0
 
-pub based_at : (base : ℕ) (bs : List (List DebugUnit)) → FollowFrom base bs → (k : ℕ) (p : PlacedBatch)
-    → slice_get (placed_batches bs) k ≡ Some p → HaveBase (base + p.at) p.units
-based_at base bs follow k p is =
-    let start : base ≡ base + 0 = omega arith in
-    based_from base 0 0 0 bs (subst (λ (n : ℕ). FollowFrom n bs) start follow) k p is
+pub entries_there : (at : ℕ) (us : List DebugUnit) → AreFrom at us → entries_of us ≡ entries_from 0 0 at us
+entries_there at [] from = refl
+entries_there at (u ∷ us) from = ap (λ (n : ℕ). entries_from 0 0 n (u ∷ us)) from.0
 
-base_from : (base at first : ℕ) (us : List DebugUnit) → HaveBase base us → (j : ℕ) (q : PlacedUnit)
-    → slice_get (placed_from at first us) j ≡ Some q → q.unit.base ≡ base
-base_from base at first [] based j q is = absurd cc
-base_from base at first (u ∷ us) (one, more) zero q is = search (rules)
-base_from base at first (u ∷ us) (one, more) (suc j) q is =
-    base_from base (at + length (unit_bytes u)) (first + node_count u.root) us more j q is
+-- some units, and those after them
+pub from_parts : (at : ℕ) (us more : List DebugUnit) → AreFrom at (us ++ more)
+    → AreFrom at us × AreFrom (at + length (units_bytes us)) more
+from_parts at [] more from =
+    let here : at ≡ at + 0 = omega arith in (tt, subst (λ (n : ℕ). AreFrom n more) here from)
+from_parts at (u ∷ us) more (here, from) =
+    let (one, rest) = from_parts (at + length (unit_bytes u)) us more from in
+    let there : at + length (unit_bytes u) + length (units_bytes us) ≡ at + length (units_bytes (u ∷ us)) =
+    omega (arith, length-append (unit_bytes u) (units_bytes us)) in
+    ((here, one), subst (λ (n : ℕ). AreFrom n more) there rest)
 
-pub unit_base : (base : ℕ) (us : List DebugUnit) → HaveBase base us → (j : ℕ) (q : PlacedUnit)
-    → slice_get (placed us) j ≡ Some q → q.unit.base ≡ base
-unit_base base us based j q is = base_from base 0 0 us based j q is
+pub from_both : (at : ℕ) (us more : List DebugUnit) → AreFrom at us → AreFrom (at + length (units_bytes us)) more
+    → AreFrom at (us ++ more)
+from_both at [] more from rest =
+    let here : at + 0 ≡ at = omega arith in subst (λ (n : ℕ). AreFrom n more) here rest
+from_both at (u ∷ us) more (here, from) rest =
+    let there : at + length (units_bytes (u ∷ us)) ≡ at + length (unit_bytes u) + length (units_bytes us) =
+    omega (arith, length-append (unit_bytes u) (units_bytes us)) in
+    (here, from_both (at + length (unit_bytes u)) us more from (subst (λ (n : ℕ). AreFrom n more) there rest))
+
+-- these batches begin one after another
+abbrev pub AreJoined : List (List DebugUnit) → Type 0
+AreJoined bs = AreFrom (start_of (joined bs)) (joined bs)
+
+from_start : (at : ℕ) (us : List DebugUnit) → AreFrom at us → AreFrom (start_of us) us
+from_start at [] from = tt
+from_start at (u ∷ us) from = subst (λ (n : ℕ). AreFrom n (u ∷ us)) (sym from.0) from
+
+batch_at : (number first at : ℕ) (bs : List (List DebugUnit)) (k : ℕ) (p : PlacedBatch) → AreFrom at (joined bs)
+    → slice_get (batches_from number first at bs) k ≡ Some p → AreFrom p.at p.units
+batch_at number first at [] k p from is = absurd cc
+batch_at number first at (units ∷ bs) zero p from is =
+    at_front (λ (q : PlacedBatch). AreFrom q.at q.units) _ p is (from_parts at units (joined bs) from).0
+batch_at number first at (units ∷ bs) (suc k) p from is =
+    batch_at (number + length units) (first + length (entries_of units)) (at + length (units_bytes units)) bs k p
+    (from_parts at units (joined bs) from).1 is
+
+pub batch_from : (bs : List (List DebugUnit)) (k : ℕ) (p : PlacedBatch) → AreJoined bs
+    → slice_get (placed_batches bs) k ≡ Some p → AreFrom p.at p.units
+batch_from bs = batch_at 0 0 (start_of (joined bs)) bs
+
+pub are_joined : (s : Sections) (bs : List (List DebugUnit)) → AreBatches s bs → AreJoined bs
+are_joined s bs all = from_start s.base (joined bs) all.follow

@@ -1,17 +1,18 @@
 -- The groups of rules, and the first fault, of batches that refer to nothing outside themselves.
-use Rattle.std.proofs.Common.{◌≡◌, ℕ, ◌+◌, ◌<◌, List, [], ◌∷◌, ◌++◌, length, map, refl, sym, ap, subst, ◌∙◌, arith}
+use Rattle.std.proofs.Common.{◌≡◌, ◌+◌, ◌<◌, List, [], ◌∷◌, ◌++◌, length, refl, arith}
 use Rattle.std.specs.List.{AllByRecursion}
 use Rattle.dw_elf.specs.declared.sections.Sections.{Sections}
 use Rattle.dw_entries.specs.declared.fault.Fault.{Fault}
 use Rattle.dw_entries.specs.Units.{DebugUnit, units_bytes}
+use Rattle.dw_entries.specs.Entries.{start_of}
 use Rattle.dw_entries.specs.Failures.{Failure, HasNone, IsFirst, plain_fault_of, IsPlainFault}
 use Rattle.dw_entries.proofs.HeadLaws.{all-append}
 use Rattle.dw_image.specs.FirstFault.{Group, classes, strings, references, shapes, cycles, sizes, turn_of, failures_of}
 use Rattle.dw_image.specs.FirstFault.{IsFirstIn, NamesCycle, in_group}
 use Rattle.dw_image.proofs.MeasureLemmas.{no_cycle_holds, none_by_size}
-use Rattle.dw_units.specs.IndependentBatches.{joined_batches, whole, JoinsUnits, StandsAlone}
-use Rattle.dw_units.specs.ByUnit.{AreBatches, IsFirm, IsMoved, PassesBelow, PassesThrough, IsMeasured, FirstOfUnits}
-use Rattle.dw_units.proofs.BatchLemmas.{placed_there}
+use Rattle.dw_units.specs.IndependentBatches.{joined, JoinsUnits, StandsAlone}
+use Rattle.dw_units.specs.ByUnit.{AreBatches, IsFirm, PassesBelow, PassesThrough, IsMeasured, FirstOfUnits}
+use Rattle.dw_units.proofs.BatchLemmas.{placed_in}
 use Rattle.dw_units.proofs.FirstLemmas.{AreOfBatches, none_of_batches, first_of_group}
 use Rattle.dw_units.proofs.TextLemmas.{apart_of, each_of, classes_batches, strings_batches}
 use Rattle.dw_units.proofs.ReferenceLemmas.{Refer, references_batches}
@@ -55,7 +56,7 @@ measured_before group earlier less bs = measured_less earlier (before_sizes grou
 group_batches : (s : Sections) (bs : List (List DebugUnit)) → AreBatches s bs → (group : Group)
     → (turn_of group ≡ 6 → ⊥) → AllByRecursion (IsMeasured group) bs
     → (4 < turn_of group → AllByRecursion (Passes s references) bs)
-    → AreOfBatches bs (failures_of s (whole s bs) group) (λ units. failures_of s units group)
+    → AreOfBatches bs (failures_of s (joined bs) group) (λ units. failures_of s units group)
 group_batches s bs all classes other measured refer = classes_batches s bs all
 group_batches s bs all strings other measured refer = strings_batches s bs all
 group_batches s bs all references other measured refer = references_batches s bs all
@@ -68,68 +69,59 @@ group_batches s bs all sizes other measured refer =
 -- so none fails among all, if none of the rules on references does at a batch
 passes_batches : (s : Sections) (bs : List (List DebugUnit)) → AreBatches s bs → (group : Group)
     → AllByRecursion (IsMeasured group) bs → (4 < turn_of group → AllByRecursion (Passes s references) bs)
-    → AllByRecursion (Passes s group) bs → HasNone (failures_of s (whole s bs) group)
+    → AllByRecursion (Passes s group) bs → HasNone (failures_of s (joined bs) group)
 passes_batches s bs all cycles measured refer none =
     no_cycle_batches s bs (record { apart = all; none = refer (omega arith) }) none
 passes_batches s bs all group measured refer none =
-    none_of_batches bs (failures_of s (whole s bs) group) (λ units. failures_of s units group)
+    none_of_batches bs (failures_of s (joined bs) group) (λ units. failures_of s units group)
     (group_batches s bs all group (λ is. omega (arith, is)) measured refer) none
 
 module _ (s : Sections) (before : List (List DebugUnit)) (units : List DebugUnit) (behind : List (List DebugUnit))
-    (alone fault : Fault)
-    (all : AreBatches s (before ++ units ∷ behind))
-    (is : IsMoved (length (units_bytes (joined_batches before))) alone fault) where
+    (fault : Fault) (all : AreBatches s (before ++ units ∷ behind)) where
   abbrev bs : List (List DebugUnit)
   bs = before ++ units ∷ behind
 
   plain : (Fails : Failure → Type 0) (Alone : List DebugUnit → Failure → Type 0)
       → AreOfBatches (before ++ units ∷ behind) Fails Alone
-      → AllByRecursion (λ batch. HasNone (Alone batch)) before → IsFirm units alone.rule
-      → IsPlainFault (IsFirst (Alone units)) alone
-      → IsPlainFault (IsFirst Fails) fault
+      → AllByRecursion (λ batch. HasNone (Alone batch)) before → IsFirm units fault.rule
+      → IsPlainFault (IsFirst (Alone units)) fault → IsPlainFault (IsFirst Fails) fault
   plain Fails Alone are none firm first = record {
-    holds =
-        subst (IsFirst Fails) (sym is.broken)
-        (first_of_group before units behind Fails Alone (plain_fault_of alone) are none firm first.holds);
-    cycle = is.cycle ∙ ap (map (λ (offset : ℕ). length (units_bytes (joined_batches before)) + offset)) first.cycle;
+    holds = first_of_group before units behind Fails Alone (plain_fault_of fault) are none firm first.holds;
+    cycle = first.cycle;
   }
 
-  cycle_there : Refer s bs → NamesCycle units alone → NamesCycle (whole s bs) fault
+  cycle_there : Refer s bs → NamesCycle units fault → NamesCycle (joined bs) fault
   cycle_there refer names =
-      let i = placed_there 0 0 0 before units behind in
-      let e : length (units_bytes (joined_batches before))
-      ≡ 0 + length (units_bytes (joined_batches before)) = omega arith in
+      let i = placed_in 0 0 (start_of (joined bs)) before units behind in
       cycle_batches s bs refer i.which
       (record {
         number = i.begins;
         first = i.entry;
-        at = 0 + length (units_bytes (joined_batches before));
+        at = start_of (joined bs) + length (units_bytes (joined before));
         units = units;
-      }) i.is
-      alone fault
-      (subst (λ (n : ℕ). IsMoved n alone fault) e is) names
+      }) i.is fault names
 
   first_batches : (group : Group) → AllByRecursion (IsMeasured group) (before ++ units ∷ behind)
       → (4 < turn_of group → AllByRecursion (Passes s references) bs)
-      → AllByRecursion (Passes s group) before → IsFirm units alone.rule
-      → IsFirstIn s units group alone → IsFirstIn s (whole s bs) group fault
+      → AllByRecursion (Passes s group) before → IsFirm units fault.rule
+      → IsFirstIn s units group fault → IsFirstIn s (joined bs) group fault
   first_batches cycles measured refer none firm first =
       cycle_there (record { apart = all; none = refer (omega arith) }) first
   first_batches group measured refer none firm first =
-      plain (failures_of s (whole s bs) group) (λ batch. failures_of s batch group)
+      plain (failures_of s (joined bs) group) (λ batch. failures_of s batch group)
       (group_batches s bs all group (λ is. omega (arith, is)) measured refer) none firm first
 
 -- THE law
 pub first_by_unit : FirstOfUnits
-first_by_unit s before units behind group alone fault all measured passed fails below parts is =
+first_by_unit s before units behind group fault all measured passed fails below parts =
     in_group group (record {
-      units = whole s (before ++ units ∷ behind);
+      units = joined (before ++ units ∷ behind);
       spelled = trees_join s (before ++ units ∷ behind) all parts;
       before = λ earlier less.
           passes_batches s (before ++ units ∷ behind) all earlier
           (measured_before group earlier less (before ++ units ∷ behind))
           (λ after. each references (omega (arith, after, less))) (each earlier less);
-      first = first_batches s before units behind alone fault all is group measured (each references)
+      first = first_batches s before units behind fault all group measured (each references)
           (each_of (PassesThrough s group) (Passes s group) before (λ batch passes. passes.1) passed) fails.firm
           fails.first;
     })
@@ -146,20 +138,20 @@ first_by_unit s before units behind group alone fault all measured passed fails 
 
 -- THE other law
 pub join : JoinsUnits
-join s bs all follow parts =
-    let apart : AreBatches s bs = apart_of s bs all follow in
+join s bs all spelled =
+    let apart : AreBatches s bs = apart_of s bs all spelled.are_from in
     let passes : (group : Group) → AllByRecursion (Passes s group) bs =
     λ group. each_of (StandsAlone s) (Passes s group) bs (passes_all s group) all in
     let measured : (group : Group) → AllByRecursion (IsMeasured group) bs =
     λ group. each_of (StandsAlone s) (IsMeasured group) bs (measured_all s group) all in
-    let none : (group : Group) → HasNone (failures_of s (whole s bs) group) =
+    let none : (group : Group) → HasNone (failures_of s (joined bs) group) =
     λ group. passes_batches s bs apart group (measured group) (λ late. passes references) (passes group) in
     record {
-      trees = trees_join s bs apart parts;
+      trees = spelled;
       classes = none classes;
       strings = none strings;
       references = none references;
       shapes = none shapes;
-      contained = contained_join s bs all follow;
+      contained = contained_join s bs all spelled.are_from;
       sizes = sizes_join s bs (record { apart = apart; none = passes references }) (measured sizes) (none sizes);
     }

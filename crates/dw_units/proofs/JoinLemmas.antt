@@ -1,18 +1,17 @@
 -- Sizes: one table for all, made of those of the batches, and no rule on sizes fails; and batches spell their bytes,
 -- joined.
-use Rattle.std.proofs.Common.{rules, ◌≡◌, List, [], ◌∷◌, ℕ, ◌+◌, ◌-◌, ◌<◌, ◌≤◌, zero, suc, Bool, false, length, Some, None, refl, sym, ap, ◌∙◌, arith, nat_lt, lt-ltb}
+use Rattle.std.proofs.Common.{rules, ◌≡◌, List, [], ◌∷◌, ℕ, ◌+◌, ◌-◌, ◌<◌, ◌≤◌, zero, suc, Bool, false, length, drop, Some, None, refl, sym, ap, ◌∙◌, arith, nat_lt, lt-ltb}
 use Rattle.std.specs.List.{AllByRecursion}
 use Rattle.std.specs.Prelude.{slice_get, if◌then◌else◌}
 use Rattle.dw_elf.specs.declared.sections.Sections.{Sections}
 use Rattle.dw_entries.specs.Units.{DebugUnit, units_bytes}
-use Rattle.dw_entries.specs.UnitLaws.{bytes_based, have_base}
-use Rattle.dw_entries.specs.Entries.{entries_of}
+use Rattle.dw_entries.specs.Entries.{start_of, entries_of}
 use Rattle.dw_entries.specs.Failures.{HasNone}
 use Rattle.dw_types.specs.SizeTables.{Size}
 use Rattle.dw_types.specs.Sizes.{IsSizeTable, ObeysSizeLines, size_line}
 use Rattle.dw_types.specs.SizeFaults.{fails_size}
 use Rattle.dw_image.specs.Valid.{SpellsInfo, HasSizes}
-use Rattle.dw_units.specs.IndependentBatches.{joined_batches, whole}
+use Rattle.dw_units.specs.IndependentBatches.{joined}
 use Rattle.dw_image.specs.FirstFault.{FailsBySize}
 use Rattle.dw_image.proofs.MeasureLemmas.{same_failures}
 use Rattle.dw_units.specs.ByUnit.{AreBatches, HasTable}
@@ -21,14 +20,14 @@ use Rattle.dw_units.proofs.FirstLemmas.{AreOfBatches}
 use Rattle.dw_units.proofs.TypeLemmas.{AreByTest, entries_batches}
 use Rattle.dw_units.proofs.Windows.{window, in_window}
 use Rattle.dw_units.proofs.WindowSizes.{line_moved, fails_moved}
-use Rattle.dw_units.proofs.TextLemmas.{all_units}
+use Rattle.dw_units.proofs.TextLemmas.{units_joined}
 use Rattle.dw_units.proofs.ReferenceLemmas.{Refer}
 
 pub trees_join : (s : Sections) (bs : List (List DebugUnit)) → AreBatches s bs
-    → s.info.now ≡ units_bytes (joined_batches bs) → SpellsInfo s (whole s bs)
+    → drop s.base s.info.now ≡ units_bytes (joined bs) → SpellsInfo s (joined bs)
 trees_join s bs all parts = record {
-  spells = record { are = all_units s bs all; parts = parts ∙ sym (bytes_based s.base (joined_batches bs)) };
-  based = have_base s.base (joined_batches bs);
+  spells = record { are = units_joined s bs all.stay; parts = parts };
+  are_from = all.follow;
 }
 
 -- a table of all agrees with one of each batch
@@ -89,15 +88,15 @@ by_size us table one = record {
 -- one table for all
 module _ (s : Sections) (bs : List (List DebugUnit)) (all : Refer s bs) (table : ℕ → Size)
     (agrees : (k : ℕ) (p : PlacedBatch) → slice_get (placed_batches bs) k ≡ Some p → Agrees table p) where
-  obeys : ObeysSizeLines (whole s bs) table
+  obeys : ObeysSizeLines (joined bs) table
   obeys node below =
       let w = in_window s bs all node below in
       let (lone, one, same) = agrees w.which w.p w.is in
-      let line = line_moved (whole s bs) w.p w.window table lone same w.inner w.inside in
+      let line = line_moved (joined bs) w.p w.window table lone same w.inner w.inside in
       ap table w.begins ∙ same w.inner w.inside ∙ one.obeys w.inner w.inside ∙ sym line
-      ∙ ap (size_line (whole s bs) table) (sym w.begins)
+      ∙ ap (size_line (joined bs) table) (sym w.begins)
 
-  only : (other : ℕ → Size) → ObeysSizeLines (whole s bs) other → (node : ℕ) → node < length (entries_of (whole s bs))
+  only : (other : ℕ → Size) → ObeysSizeLines (joined bs) other → (node : ℕ) → node < length (entries_of (joined bs))
       → other node ≡ table node
   only other right node below =
       let w = in_window s bs all node below in
@@ -105,30 +104,30 @@ module _ (s : Sections) (bs : List (List DebugUnit)) (all : Refer s bs) (table :
       let mine : ℕ → Size = λ k. other (w.p.first + k) in
       let lines : ObeysSizeLines w.p.units mine = λ k k_in.
       right (w.p.first + k) (w.window.within k k_in)
-      ∙ line_moved (whole s bs) w.p w.window other mine (λ j j_in. refl) k k_in in
+      ∙ line_moved (joined bs) w.p w.window other mine (λ j j_in. refl) k k_in in
       ap other w.begins ∙ one.only mine lines w.inner w.inside ∙ sym (same w.inner w.inside) ∙ ap table (sym w.begins)
 
-  is_table : IsSizeTable (whole s bs) table
+  is_table : IsSizeTable (joined bs) table
   is_table = record { obeys = obeys; only = only }
 
-  sizes_of_batches : AreOfBatches bs (FailsBySize (whole s bs)) FailsBySize
+  sizes_of_batches : AreOfBatches bs (FailsBySize (joined bs)) FailsBySize
   sizes_of_batches =
-      entries_batches s bs (FailsBySize (whole s bs)) FailsBySize all.apart (by_size (whole s bs) table is_table)
+      entries_batches s bs (FailsBySize (joined bs)) FailsBySize all.apart (by_size (joined bs) table is_table)
       (λ k p is.
       let (lone, one, same) = agrees k p is in
       record {
         alone = by_size p.units lone one;
-        same = fails_moved (whole s bs) p (window s bs all k p is) table lone same;
+        same = fails_moved (joined bs) p (window s bs all k p is) table lone same;
       })
 
 pub sizes_batches : (s : Sections) (bs : List (List DebugUnit)) → Refer s bs → AllByRecursion HasTable bs
-    → AreOfBatches bs (FailsBySize (whole s bs)) FailsBySize
+    → AreOfBatches bs (FailsBySize (joined bs)) FailsBySize
 sizes_batches s bs all tables =
-    let (table, agrees) = table_join 0 0 0 bs tables in sizes_of_batches s bs all table agrees
+    let (table, agrees) = table_join 0 0 (start_of (joined bs)) bs tables in sizes_of_batches s bs all table agrees
 
 pub sizes_join : (s : Sections) (bs : List (List DebugUnit)) → Refer s bs → AllByRecursion HasTable bs
-    → HasNone (FailsBySize (whole s bs)) → (table : ℕ → Size) × HasSizes (whole s bs) table
+    → HasNone (FailsBySize (joined bs)) → (table : ℕ → Size) × HasSizes (joined bs) table
 sizes_join s bs all tables none =
-    let (table, agrees) = table_join 0 0 0 bs tables in
+    let (table, agrees) = table_join 0 0 (start_of (joined bs)) bs tables in
     let one = is_table s bs all table agrees in
     (table, record { one = one; none = λ f fails. none f (record { table = table; one = one; fails = fails }) })

@@ -8,15 +8,15 @@ use Rattle.dw_entries.specs.ByNumber.{entry_of, no_entry, placed_of}
 use Rattle.dw_entries.specs.Units.{DebugUnit}
 use Rattle.dw_entries.specs.Entries.{Entry, entries_of, PlacedUnit, placed}
 use Rattle.dw_entries.specs.EntryRules.{OffsetsRise}
-use Rattle.dw_entries.proofs.EntryFacts.{entries_rise, length-placed_from}
-use Rattle.dw_links.specs.Targets.{reach_in_unit, reach_of}
-use Rattle.dw_links.proofs.TargetLemmas.{reach_in_unit_is, at_reach_in_unit, reach_in_info_is, at_reach_in_info}
+use Rattle.dw_entries.proofs.EntryFacts.{entries_rise, length-placed}
+use Rattle.dw_links.specs.Targets.{reach_in_unit, reach_of, entry_at as offset_is}
+use Rattle.dw_links.proofs.TargetLemmas.{reach_in_unit_is, at_reach_in_unit, entry_at_is, there_is}
 use Rattle.dw_links.specs.References.{is_signature}
-use Rattle.dw_units.specs.IndependentBatches.{whole}
+use Rattle.dw_units.specs.IndependentBatches.{joined}
 use Rattle.dw_units.specs.ByUnit.{AreBatches, is_offset}
-use Rattle.dw_units.proofs.BatchLemmas.{PlacedBatch, placed_batches, same_batch, based_at, unit_base}
-use Rattle.dw_units.proofs.MovedEntries.{moved_number, moved_unit, found, unit_get, entry_at, entry_within, unit_at, unit_within}
-use Rattle.dw_units.proofs.TextLemmas.{all_units, stays_at, unit_below}
+use Rattle.dw_units.proofs.BatchLemmas.{PlacedBatch, placed_batches, same_batch, AreJoined, are_joined}
+use Rattle.dw_units.proofs.MovedEntries.{moved_number, found, entry_at, entry_within, unit_at, unit_within}
+use Rattle.dw_units.proofs.TextLemmas.{units_joined, stays_at, unit_below}
 
 -- the number of an entry of this batch, in its place
 pub record IsIn (p : PlacedBatch) (i : ℕ) : Type 0 where
@@ -26,13 +26,16 @@ pub record IsIn (p : PlacedBatch) (i : ℕ) : Type 0 where
 
 module _ (s : Sections) (bs : List (List DebugUnit)) (all : AreBatches s bs) (k : ℕ) (p : PlacedBatch)
     (is : slice_get (placed_batches bs) k ≡ Some p) where
+  from : AreJoined bs
+  from = are_joined s bs all
+
   -- an entry of a unit of the batch
-  pub found_in : (i : ℕ) → i < length (entries_of (whole s bs))
-      → p.number ≤ (entry_of (entries_of (whole s bs)) i).unit
-      → (entry_of (entries_of (whole s bs)) i).unit < p.number + length p.units → IsIn p i
+  pub found_in : (i : ℕ) → i < length (entries_of (joined bs))
+      → p.number ≤ (entry_of (entries_of (joined bs)) i).unit
+      → (entry_of (entries_of (joined bs)) i).unit < p.number + length p.units → IsIn p i
   found_in i within low high =
-      let e = entry_of (entries_of (whole s bs)) i in
-      let f = found s bs i e (slice_get-get_or (entries_of (whole s bs)) i no_entry within) in
+      let e = entry_of (entries_of (joined bs)) i in
+      let f = found bs from i e (slice_get-get_or (entries_of (joined bs)) i no_entry within) in
       let (q, is_q, below) = unit_below s f.place.units (stays_at s bs f.which f.place all f.is_place) f.inner f.entry
       f.is_entry in
       let unit : f.place.number + f.entry.unit ≡ e.unit = ap (λ (d : Entry). d.unit) f.same in
@@ -46,95 +49,82 @@ module _ (s : Sections) (bs : List (List DebugUnit)) (all : AreBatches s bs) (k 
         begins = f.begins;
       })
 
-  rise : OffsetsRise (entries_of (whole s bs))
-  rise = entries_rise s.«abbrev».now (whole s bs) (all_units s bs all)
+  rise : OffsetsRise (entries_of (joined bs))
+  rise = entries_rise s.«abbrev».now (joined bs) (units_joined s bs all.stay)
 
   alone_rise : OffsetsRise (entries_of p.units)
   alone_rise = entries_rise s.«abbrev».now p.units (stays_at s bs k p all is).are
 
   module _ (j : ℕ) (below : j < length p.units) where
-    at_moved : (placed_of (placed (whole s bs)) (p.number + j)).at ≡ p.at + (placed_of (placed p.units) j).at
-    at_moved = ap (λ (u : PlacedUnit). u.at) (unit_at s bs k p is j below)
+    at_same : (placed_of (placed (joined bs)) (p.number + j)).at ≡ (placed_of (placed p.units) j).at
+    at_same = ap (λ (u : PlacedUnit). u.at) (unit_at bs from k p is j below)
 
     reached_in_place : (offset id : ℕ)
         → reach_in_unit (entries_of p.units) (placed p.units) j offset ≡ Some id
-        → reach_in_unit (entries_of (whole s bs)) (placed (whole s bs)) (p.number + j) offset ≡ Some (p.first + id)
+        → reach_in_unit (entries_of (joined bs)) (placed (joined bs)) (p.number + j) offset ≡ Some (p.first + id)
     reached_in_place offset id reached =
         let t = (at_reach_in_unit (entries_of p.units) (placed p.units) j offset id reached).target in
-        let e_is = entry_at s bs k p is id t.within in
+        let e_is = entry_at bs from k p is id t.within in
         let begins = t.begins in
         let at = ap (λ (e : Entry). e.at) e_is in
-        reach_in_unit_is (entries_of (whole s bs)) (placed (whole s bs)) (p.number + j) offset (p.first + id) rise
+        reach_in_unit_is (entries_of (joined bs)) (placed (joined bs)) (p.number + j) offset (p.first + id) rise
         (record {
-          unit_within = unit_within s bs k p is j below;
+          unit_within = unit_within bs from k p is j below;
           target = record {
-            within = entry_within s bs k p is id t.within;
-            begins = omega (arith, begins, at, at_moved);
+            within = entry_within bs from k p is id t.within;
+            begins = omega (arith, begins, at, at_same);
             in_unit = ap (λ (e : Entry). e.unit) e_is ∙ ap (λ (n : ℕ). p.number + n) t.in_unit;
           };
         })
 
     none_in_place : (offset id : ℕ) → reach_in_unit (entries_of p.units) (placed p.units) j offset ≡ None
-        → reach_in_unit (entries_of (whole s bs)) (placed (whole s bs)) (p.number + j) offset ≡ Some id → ⊥
+        → reach_in_unit (entries_of (joined bs)) (placed (joined bs)) (p.number + j) offset ≡ Some id → ⊥
     none_in_place offset id none reached =
         let t =
-        (at_reach_in_unit (entries_of (whole s bs)) (placed (whole s bs)) (p.number + j) offset id reached).target in
+        (at_reach_in_unit (entries_of (joined bs)) (placed (joined bs)) (p.number + j) offset id reached).target in
         let of = t.in_unit in
         let i = found_in id t.within (omega (arith, of)) (omega (arith, of, below)) in
-        let e_is = ap (entry_of (entries_of (whole s bs))) i.begins ∙ entry_at s bs k p is i.inner i.inside in
+        let e_is = ap (entry_of (entries_of (joined bs))) i.begins ∙ entry_at bs from k p is i.inner i.inside in
         let at = ap (λ (e : Entry). e.at) e_is in
         let unit = ap (λ (e : Entry). e.unit) e_is in
         let begins = t.begins in
         let there = reach_in_unit_is (entries_of p.units) (placed p.units) j offset i.inner alone_rise
         (record {
-          unit_within = omega (arith, below, length-placed_from 0 0 p.units);
+          unit_within = omega (arith, below, length-placed p.units);
           target = record {
             within = i.inside;
-            begins = omega (arith, begins, at, at_moved);
+            begins = omega (arith, begins, at, at_same);
             in_unit = omega (arith, unit, of);
           };
         }) in
         let both : ◌≡◌ {A = Option ℕ} (Some i.inner) None = sym there ∙ none in
         cc
 
-    info_in_place : (offset id : ℕ)
-        → reach_of (entries_of p.units) (placed p.units) j (ref_info offset) ≡ Some id
-        → reach_of (entries_of (whole s bs)) (placed (whole s bs)) (p.number + j) (ref_info offset)
-        ≡ Some (p.first + id)
+    info_in_place : (offset id : ℕ) → offset_is (entries_of p.units) offset ≡ Some id
+        → offset_is (entries_of (joined bs)) offset ≡ Some (p.first + id)
     info_in_place offset id reached =
-        let r = at_reach_in_info (entries_of p.units) (placed p.units) j offset id reached in
-        let t = r.target in
-        let base : r.unit.unit.base ≡ s.base + p.at =
-        unit_base (s.base + p.at) p.units (based_at s.base bs all.follow k p is) j r.unit r.is_unit in
+        let t = there_is (entries_of p.units) offset id reached in
         let begins = t.begins in
-        let at = ap (λ (e : Entry). e.at) (entry_at s bs k p is id t.within) in
-        reach_in_info_is (entries_of (whole s bs)) (placed (whole s bs)) (p.number + j) offset (p.first + id) rise
-        (record {
-          unit = moved_unit s.base p.first p.at r.unit;
-          is_unit = unit_get s bs k p j r.unit is r.is_unit;
-          target = record {
-            within = entry_within s bs k p is id t.within;
-            begins = omega (arith, begins, base, at);
-          };
-        })
+        let at = ap (λ (e : Entry). e.at) (entry_at bs from k p is id t.within) in
+        entry_at_is (entries_of (joined bs)) offset (p.first + id) rise
+        (record { within = entry_within bs from k p is id t.within; begins = at ∙ begins })
 
-    in_unit_moved : (offset : ℕ) → reach_in_unit (entries_of (whole s bs)) (placed (whole s bs)) (p.number + j) offset
+    in_unit_moved : (offset : ℕ) → reach_in_unit (entries_of (joined bs)) (placed (joined bs)) (p.number + j) offset
         ≡ moved_number p.first (reach_in_unit (entries_of p.units) (placed p.units) j offset)
     in_unit_moved offset = search (rules, moved_number, reached_in_place, none_in_place)
 
-    info_either : (offset : ℕ) (o : Option ℕ) → reach_of (entries_of p.units) (placed p.units) j (ref_info offset) ≡ o
-        → (reach_of (entries_of (whole s bs)) (placed (whole s bs)) (p.number + j) (ref_info offset)
-        ≡ moved_number p.first o) ⊎ (o ≡ None)
+    info_either : (offset : ℕ) (o : Option ℕ) → offset_is (entries_of p.units) offset ≡ o
+        → (offset_is (entries_of (joined bs)) offset ≡ moved_number p.first o) ⊎ (o ≡ None)
     info_either offset None reached = inr refl
     info_either offset (Some id) reached = inl (info_in_place offset id reached)
 
     -- what a value reaches is the same in the place of the batch, or no entry of the batch starts at the offset
     pub reach_either : (v : Datum) → is_signature v ≡ false
-        → (reach_of (entries_of (whole s bs)) (placed (whole s bs)) (p.number + j) v
+        → (reach_of (entries_of (joined bs)) (placed (joined bs)) (p.number + j) v
         ≡ moved_number p.first (reach_of (entries_of p.units) (placed p.units) j v))
         ⊎ ((is_offset v ≡ true) × (reach_of (entries_of p.units) (placed p.units) j v ≡ None))
     reach_either (ref_info offset) stays =
-        elim (info_either offset (reach_of (entries_of p.units) (placed p.units) j (ref_info offset)) refl) [
+        elim (info_either offset (offset_is (entries_of p.units) offset) refl) [
           | inl same ↦ inl same
           | inr none ↦ inr (refl, none)
         ]

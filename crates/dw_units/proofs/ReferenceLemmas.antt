@@ -1,5 +1,5 @@
 -- The rules on references: the failures among all are those of each batch alone.
-use Rattle.std.proofs.Common.{rules, ◌≡◌, ℕ, zero, suc, ◌+◌, ◌<◌, ◌≤◌, ◌==◌, true, false, List, [], ◌∷◌, length, map, Option, Some, None, refl, sym, ap, subst, ◌∙◌, inl, inr, eq-eqb, arith}
+use Rattle.std.proofs.Common.{rules, ◌≡◌, ℕ, zero, suc, ◌+◌, ◌<◌, ◌≤◌, ◌==◌, true, false, List, [], ◌∷◌, length, Option, Some, None, refl, sym, ap, subst, ◌∙◌, inl, inr, eq-eqb, arith}
 use Rattle.std.proofs.lemmas.Grind.{common_steps}
 use Rattle.std.proofs.lemmas.Bool.{eqb-true}
 use Rattle.std.specs.Prelude.{slice_get}
@@ -7,15 +7,14 @@ use Rattle.std.specs.List.{AllByRecursion}
 use Rattle.dw_elf.specs.declared.sections.Sections.{Sections}
 use Rattle.dw_forms.specs.Value.{Datum}
 use Rattle.dw_forms.specs.declared.rule.Rule.{Rule}
-use Rattle.dw_entries.specs.Units.{DebugUnit, unit_bytes}
+use Rattle.dw_entries.specs.Units.{DebugUnit, AreFrom, unit_bytes}
 use Rattle.dw_entries.specs.Lookups.{entry_head}
-use Rattle.dw_entries.specs.Entries.{Entry, entries_of, node_count, PlacedUnit, placed_from, placed}
+use Rattle.dw_entries.specs.Entries.{Entry, entries_of, node_count, start_of, PlacedUnit, placed_from, placed}
 use Rattle.dw_forms.specs.declared.rule.Rule.TheVariants.{NoEntry, WrongKind, NotNextSibling, NoSignature}
 use Rattle.dw_entries.specs.Places.{at_attribute}
 use Rattle.dw_forms.specs.Rules.{number_of}
 use Rattle.dw_entries.specs.EntryRules.{HasAttribute}
 use Rattle.dw_entries.specs.Failures.{HasNone}
-use Rattle.dw_entries.specs.UnitLaws.{with_base}
 use Rattle.dw_entries.proofs.HeadLaws.{all-append}
 use Rattle.dw_entries.proofs.Firsts.{same_some}
 use Rattle.dw_links.specs.Signatures.{type_unit_of}
@@ -23,8 +22,8 @@ use Rattle.dw_links.specs.Targets.{reach_of}
 use Rattle.dw_links.specs.References.{permits, is_reference_value, is_signature, NoSignatureThere, IsOtherThan, ReachesWrong, ReferenceFailsBy, ReferenceFails, HeaderFails, HeaderFailures, AttributeFailures, ReferenceFailures}
 use Rattle.dw_links.proofs.ListLookups.{there}
 use Rattle.dw_links.proofs.TargetLemmas.{reach_within}
-use Rattle.dw_units.specs.IndependentBatches.{joined_batches, whole, FollowFrom, HaveNoTypeUnit, StandsAlone}
-use Rattle.dw_units.proofs.BatchLemmas.{PlacedBatch, placed_batches, all_placed}
+use Rattle.dw_units.specs.IndependentBatches.{joined, HaveNoTypeUnit, StandsAlone}
+use Rattle.dw_units.proofs.BatchLemmas.{PlacedBatch, placed_batches, all_batches, AreJoined, are_joined}
 use Rattle.dw_units.proofs.MovedEntries.{moved_number, none_moved, moved, get}
 use Rattle.dw_units.specs.ByUnit.{StaysAlone, AreBatches, IsFirm, is_offset}
 use Rattle.dw_units.proofs.FirstLemmas.{AreOfBatches}
@@ -39,10 +38,10 @@ pub eqb_moved : (at a b : ℕ) → (at + a == at + b) ≡ (a == b)
 eqb_moved at a b = search (rules, eqb-true, eq-eqb)
 
 -- a target is permitted in its place as alone
-permits_moved : (number first at : ℕ) (e t : Entry) (attribute : ℕ)
-    → permits (entry_head (moved number first at e)) attribute (moved number first at t)
+permits_moved : (number first : ℕ) (e t : Entry) (attribute : ℕ)
+    → permits (entry_head (moved number first e)) attribute (moved number first t)
     ≡ permits (entry_head e) attribute t
-permits_moved number first at e t attribute = search (rules, eqb_moved)
+permits_moved number first e t attribute = search (rules)
 
 reached_below : (entries : List Entry) (units : List PlacedUnit) (unit : ℕ) (v : Datum) (k : ℕ)
     → reach_of entries units unit v ≡ Some k → k < length entries
@@ -72,63 +71,70 @@ one_least rule = search (rules)
 
 module _ (s : Sections) (bs : List (List DebugUnit)) (all : AreBatches s bs) (k : ℕ) (p : PlacedBatch)
     (is : slice_get (placed_batches bs) k ≡ Some p) where
+  from : AreJoined bs
+  from = are_joined s bs all
+
   wrong_alone : (e : Entry) (attribute : ℕ) (alone : Option ℕ)
       → ((k : ℕ) → alone ≡ Some k → k < length (entries_of p.units))
-      → ReachesWrong (entries_of (whole s bs)) (entry_head (moved p.number p.first p.at e)) attribute
+      → ReachesWrong (entries_of (joined bs)) (entry_head (moved p.number p.first e)) attribute
       (moved_number p.first alone)
       → ReachesWrong (entries_of p.units) (entry_head e) attribute alone
   wrong_alone e attribute alone below wrong =
       let (id, is_id, same) = some_moved p.first alone wrong.id wrong.reaches in
       let (t, is_t) = there (entries_of p.units) id (below id is_id) in
-      let target : wrong.target ≡ moved p.number p.first p.at t =
-      same_some (slice_get (entries_of (whole s bs)) wrong.id) wrong.target (moved p.number p.first p.at t)
+      let target : wrong.target ≡ moved p.number p.first t =
+      same_some (slice_get (entries_of (joined bs)) wrong.id) wrong.target (moved p.number p.first t)
       wrong.is_target
-      (ap (slice_get (entries_of (whole s bs))) (sym same) ∙ get s bs k p id t is is_t) in
+      (ap (slice_get (entries_of (joined bs))) (sym same) ∙ get bs from k p id t is is_t) in
       record {
         id = id;
         reaches = is_id;
         target = t;
         is_target = is_t;
-        wrong = sym (permits_moved p.number p.first p.at e t attribute)
-            ∙ ap (permits (entry_head (moved p.number p.first p.at e)) attribute) (sym target) ∙ wrong.wrong;
+        wrong = sym (permits_moved p.number p.first e t attribute)
+            ∙ ap (permits (entry_head (moved p.number p.first e)) attribute) (sym target) ∙ wrong.wrong;
       }
 
   by_alone : (e : Entry) → (attribute : ℕ) (v : Datum) (rule : Rule) → is_signature v ≡ false
-      → reach_of (entries_of (whole s bs)) (placed (whole s bs)) (p.number + e.unit) v
+      → reach_of (entries_of (joined bs)) (placed (joined bs)) (p.number + e.unit) v
       ≡ moved_number p.first (reach_of (entries_of p.units) (placed p.units) e.unit v)
-      → ReferenceFailsBy (entries_of (whole s bs)) (placed (whole s bs)) (entry_head (moved p.number p.first p.at e))
+      → ReferenceFailsBy (entries_of (joined bs)) (placed (joined bs)) (entry_head (moved p.number p.first e))
       attribute v rule
       → ReferenceFailsBy (entries_of p.units) (placed p.units) (entry_head e) attribute v rule
-  by_alone e attribute v rule stays reached fails =
-      grind (
-        arith,
-        common_steps,
-        moved,
-        moved_number,
-        none_moved,
-        reached_below,
-        no_signature,
-        other_alone,
-        wrong_alone,
-      )
+  by_alone e attribute v NoEntry stays reached (other, none) =
+      (other, none_moved p.first (reach_of (entries_of p.units) (placed p.units) e.unit v) (sym reached ∙ none))
+  by_alone e attribute v WrongKind stays reached (inl form) = inl form
+  by_alone e attribute v WrongKind stays reached (inr wrong) =
+      let all : List Entry = entries_of (joined bs) in
+      inr (wrong_alone e attribute (reach_of (entries_of p.units) (placed p.units) e.unit v)
+      (reached_below (entries_of p.units) (placed p.units) e.unit v)
+      (subst (ReachesWrong all (entry_head (moved p.number p.first e)) attribute) reached wrong))
+  by_alone e attribute v NotNextSibling stays reached (sibling, other) = (
+    sibling,
+    other_alone p.first e.next (reach_of (entries_of p.units) (placed p.units) e.unit v)
+        (subst (IsOtherThan (moved_number p.first e.next)) reached other),
+  )
+  by_alone e attribute v NoSignature stays reached fails =
+      absurd (no_signature (placed (joined bs)) v stays fails)
+  by_alone e attribute v rule stays reached fails = absurd fails
 
   wrong_in_place : (e : Entry) (attribute : ℕ) (alone : Option ℕ)
       → ReachesWrong (entries_of p.units) (entry_head e) attribute alone
-      → ReachesWrong (entries_of (whole s bs)) (entry_head (moved p.number p.first p.at e)) attribute
+      → ReachesWrong (entries_of (joined bs)) (entry_head (moved p.number p.first e)) attribute
       (moved_number p.first alone)
   wrong_in_place e attribute alone wrong = record {
     id = p.first + wrong.id;
     reaches = ap (moved_number p.first) wrong.reaches;
-    target = moved p.number p.first p.at wrong.target;
-    is_target = get s bs k p wrong.id wrong.target is wrong.is_target;
-    wrong = permits_moved p.number p.first p.at e wrong.target attribute ∙ wrong.wrong;
+    target = moved p.number p.first wrong.target;
+    is_target = get bs from k p wrong.id wrong.target is wrong.is_target;
+    wrong = permits_moved p.number p.first e wrong.target attribute ∙ wrong.wrong;
   }
 
   by_in_place : (e : Entry) → (attribute : ℕ) (v : Datum) (rule : Rule) → is_signature v ≡ false
-      → reach_of (entries_of (whole s bs)) (placed (whole s bs)) (p.number + e.unit) v
+      → reach_of (entries_of (joined bs)) (placed (joined bs)) (p.number + e.unit) v
       ≡ moved_number p.first (reach_of (entries_of p.units) (placed p.units) e.unit v)
       → ReferenceFailsBy (entries_of p.units) (placed p.units) (entry_head e) attribute v rule
-      → ReferenceFailsBy (entries_of (whole s bs)) (placed (whole s bs)) (entry_head (moved p.number p.first p.at e))
+      → ReferenceFailsBy (entries_of (joined bs)) (placed (joined bs)) (entry_head (moved p.number p.first e))
       attribute v rule
   by_in_place e attribute v rule stays reached fails =
       grind (arith, common_steps, moved, moved_number, no_signature, other_in_place, wrong_in_place)
@@ -137,7 +143,7 @@ module _ (s : Sections) (bs : List (List DebugUnit)) (all : AreBatches s bs) (k 
   by_none : (e : Entry) → (attribute : ℕ) (v : Datum) (rule : Rule) → is_signature v ≡ false
       → reach_of (entries_of p.units) (placed p.units) e.unit v ≡ None → (rule ≡ NoEntry → ⊥)
       → ReferenceFailsBy (entries_of p.units) (placed p.units) (entry_head e) attribute v rule
-      → ReferenceFailsBy (entries_of (whole s bs)) (placed (whole s bs)) (entry_head (moved p.number p.first p.at e))
+      → ReferenceFailsBy (entries_of (joined bs)) (placed (joined bs)) (entry_head (moved p.number p.first e))
       attribute v rule
   by_none e attribute v NoEntry stays none other fails = absurd (other refl)
   by_none e attribute v WrongKind stays none other (inl form) = inl form
@@ -146,7 +152,7 @@ module _ (s : Sections) (bs : List (List DebugUnit)) (all : AreBatches s bs) (k 
   by_none e attribute v NotNextSibling stays none other (sibling, apart) = (
     sibling,
     next_none p.first e.next (reach_of (entries_of p.units) (placed p.units) e.unit v) none apart
-        (reach_of (entries_of (whole s bs)) (placed (whole s bs)) (p.number + e.unit) v),
+        (reach_of (entries_of (joined bs)) (placed (joined bs)) (p.number + e.unit) v),
   )
   by_none e attribute v NoSignature stays none other fails = absurd (no_signature (placed p.units) v stays fails)
   by_none e attribute v rule stays none other fails = absurd fails
@@ -154,7 +160,7 @@ module _ (s : Sections) (bs : List (List DebugUnit)) (all : AreBatches s bs) (k 
   -- what fails in the place of the batch
   pub reference_down : (inner : ℕ) (e : Entry) → slice_get (entries_of p.units) inner ≡ Some e
       → (attribute : ℕ) (v : Datum) (rule : Rule) → is_signature v ≡ false
-      → ReferenceFails (entries_of (whole s bs)) (placed (whole s bs)) (entry_head (moved p.number p.first p.at e))
+      → ReferenceFails (entries_of (joined bs)) (placed (joined bs)) (entry_head (moved p.number p.first e))
       attribute v rule
       → FailsBy (ReferenceFails (entries_of p.units) (placed p.units) (entry_head e) attribute v) rule
   reference_down inner e is_e attribute v rule stays (reference, fails) =
@@ -169,7 +175,7 @@ module _ (s : Sections) (bs : List (List DebugUnit)) (all : AreBatches s bs) (k 
       → (position attribute : ℕ) (v : Datum) (rule : Rule) → HasAttribute e position attribute v
       → is_signature v ≡ false
       → ReferenceFails (entries_of p.units) (placed p.units) (entry_head e) attribute v rule → IsFirm p.units rule
-      → ReferenceFails (entries_of (whole s bs)) (placed (whole s bs)) (entry_head (moved p.number p.first p.at e))
+      → ReferenceFails (entries_of (joined bs)) (placed (joined bs)) (entry_head (moved p.number p.first e))
       attribute v rule
   reference_up inner e is_e position attribute v rule has stays (reference, fails) firm =
       let (q, is_q, below) = unit_below s p.units (stays_at s bs k p all is) inner e is_e in
@@ -195,24 +201,20 @@ no_header_fails : (entries : List Entry) (us : List DebugUnit) → HaveNoTypeUni
     → HasNone (HeaderFailures entries (placed us))
 no_header_fails entries us none f fails =
     subst (λ (o : Option (ℕ × ℕ)). HeaderFails entries (placed us) fails.number fails.item.at o f.rule)
-    (no_header_in 0 0 us none fails.number fails.item fails.is_item) fails.fails.fails
-
-none_based : (base : ℕ) (us : List DebugUnit) → HaveNoTypeUnit us → HaveNoTypeUnit (map (with_base base) us)
-none_based base [] none = tt
-none_based base (u ∷ us) (one, more) = (one, none_based base us more)
+    (no_header_in (start_of us) 0 us none fails.number fails.item fails.is_item) fails.fails.fails
 
 none_joined : (s : Sections) (bs : List (List DebugUnit)) → AllByRecursion (StaysAlone s) bs
-    → HaveNoTypeUnit (joined_batches bs)
+    → HaveNoTypeUnit (joined bs)
 none_joined s [] all = tt
 none_joined s (units ∷ bs) (one, more) =
-    all-append (λ (u : DebugUnit). type_unit_of u.header.kind ≡ None) units (joined_batches bs) one.no_type_unit
+    all-append (λ (u : DebugUnit). type_unit_of u.header.kind ≡ None) units (joined bs) one.no_type_unit
     (none_joined s bs more)
 
 attributes_batches : (s : Sections) (bs : List (List DebugUnit)) → AreBatches s bs
-    → AreOfBatches bs (AttributeFailures (entries_of (whole s bs)) (placed (whole s bs)))
+    → AreOfBatches bs (AttributeFailures (entries_of (joined bs)) (placed (joined bs)))
     (λ units. AttributeFailures (entries_of units) (placed units))
 attributes_batches s bs all =
-    heads_batches s bs (ReferenceFails (entries_of (whole s bs)) (placed (whole s bs)))
+    heads_batches s bs (ReferenceFails (entries_of (joined bs)) (placed (joined bs)))
     (λ units. ReferenceFails (entries_of units) (placed units)) all
     (λ k p is inner e is_e position attribute v rule has.
     let stays = (stays_at s bs k p all is).stays inner e is_e position attribute v has in (
@@ -222,7 +224,7 @@ attributes_batches s bs all =
 
 -- the failures at headers are none, so those at attributes are all
 pub references_batches : (s : Sections) (bs : List (List DebugUnit)) → AreBatches s bs
-    → AreOfBatches bs (ReferenceFailures (whole s bs)) ReferenceFailures
+    → AreOfBatches bs (ReferenceFailures (joined bs)) ReferenceFailures
 references_batches s bs all =
     let are = attributes_batches s bs all in
     let no_header = λ (k : ℕ) (p : PlacedBatch) (is : slice_get (placed_batches bs) k ≡ Some p).
@@ -231,8 +233,8 @@ references_batches s bs all =
       down = λ f fails.
           elim fails [
             | inl header ↦
-                absurd (no_header_fails (entries_of (whole s bs)) (whole s bs)
-                (none_based s.base (joined_batches bs) (none_joined s bs all.stay)) f header)
+                absurd (no_header_fails (entries_of (joined bs)) (joined bs)
+                (none_joined s bs all.stay) f header)
             | inr attribute ↦
                 let i = are.down f attribute in
                 record {
@@ -263,8 +265,8 @@ pub record Refer (s : Sections) (bs : List (List DebugUnit)) : Type 0 where
   pub apart : AreBatches s bs
   pub none : AllByRecursion (λ units. HasNone (ReferenceFailures units)) bs
 
-pub refer_of : (s : Sections) (bs : List (List DebugUnit)) → AllByRecursion (StandsAlone s) bs → FollowFrom s.base bs
-    → Refer s bs
+pub refer_of : (s : Sections) (bs : List (List DebugUnit)) → AllByRecursion (StandsAlone s) bs
+    → AreFrom s.base (joined bs) → Refer s bs
 refer_of s bs all follow = record {
   apart = apart_of s bs all follow;
   none = each_of (StandsAlone s) (λ units. HasNone (ReferenceFailures units)) bs (λ units one. one.references) all;
@@ -278,7 +280,7 @@ pub value_moved : (s : Sections) (bs : List (List DebugUnit)) → Refer s bs →
     → slice_get (placed_batches bs) k ≡ Some p → (inner : ℕ) (e : Entry)
     → slice_get (entries_of p.units) inner ≡ Some e
     → (position attribute : ℕ) (v : Datum) → HasAttribute e position attribute v
-    → reach_of (entries_of (whole s bs)) (placed (whole s bs)) (p.number + e.unit) v
+    → reach_of (entries_of (joined bs)) (placed (joined bs)) (p.number + e.unit) v
     ≡ moved_number p.first (reach_of (entries_of p.units) (placed p.units) e.unit v)
 value_moved s bs refer k p is inner e is_e position attribute v has =
     let stays = stays_at s bs k p refer.apart is in
@@ -287,7 +289,7 @@ value_moved s bs refer k p is inner e is_e position attribute v has =
     elim (reach_either s bs refer.apart k p is e.unit below v inside) [
       | inl same ↦ same
       | inr (offset, none) ↦
-          absurd (all_placed (λ units. HasNone (ReferenceFailures units)) 0 0 0 bs k p refer.none is
+          absurd (all_batches (λ units. HasNone (ReferenceFailures units)) bs k p refer.none is
           (record { rule = NoEntry; place = at_attribute e.at position; attribute = attribute })
           (inr (record {
             number = inner;

@@ -7,8 +7,7 @@ use Rattle.dw_forms.specs.Value.{Datum}
 use Rattle.dw_forms.specs.Codes.{DW_AT_str_offsets_base, DW_AT_addr_base}
 use Rattle.dw_forms.specs.declared.rule.Rule.{Rule}
 use Rattle.dw_entries.specs.Header.{version_of}
-use Rattle.dw_entries.specs.Units.{DebugUnit, IsUnit, AreUnits, units_bytes}
-use Rattle.dw_entries.specs.UnitLaws.{are_based}
+use Rattle.dw_entries.specs.Units.{DebugUnit, IsUnit, AreUnits, AreFrom, units_bytes}
 use Rattle.dw_entries.specs.Entries.{Entry, entries_of, PlacedUnit, placed}
 use Rattle.dw_entries.specs.Places.{Place, at_attribute, IsBefore}
 use Rattle.dw_entries.specs.Failures.{Failure, Precedes}
@@ -21,7 +20,7 @@ use Rattle.dw_entries.specs.Records.{records_kept}
 use Rattle.dw_entries.specs.Scanned.{record_of, records_of}
 use Rattle.dw_entries.proofs.HeadLaws.{all-append}
 use Rattle.dw_entries.proofs.OrderLaws.{Rises, units_rise}
-use Rattle.dw_entries.proofs.EntryFacts.{kept_get, first_entry, length-placed_from}
+use Rattle.dw_entries.proofs.EntryFacts.{kept_get, first_entry, length-placed}
 use Rattle.dw_entries.specs.Grammar.{Head}
 use Rattle.dw_entries.specs.declared.header.UnitHeader.{UnitHeader}
 use Rattle.dw_links.specs.RulesOfAttributes.{Rules, AtHead}
@@ -30,21 +29,21 @@ use Rattle.dw_links.specs.Strings.{StringFailsIn, StringFails, StringFailures}
 use Rattle.dw_links.proofs.ListLookups.{there}
 use Rattle.dw_links.proofs.ClassLemmas.{in_units}
 use Rattle.dw_links.specs.Bases.{base_in, section_offset_in, section_offset_of}
-use Rattle.dw_units.specs.IndependentBatches.{joined_batches, whole, FollowFrom, StandsAlone}
+use Rattle.dw_units.specs.IndependentBatches.{joined, StandsAlone}
 use Rattle.dw_units.specs.ByUnit.{StaysAlone, AreBatches, IsFirm}
-use Rattle.dw_units.proofs.BatchLemmas.{PlacedBatch, placed_batches, all_placed}
-use Rattle.dw_units.proofs.FirstLemmas.{moved_place, IsInside, AreOfBatches}
+use Rattle.dw_units.proofs.BatchLemmas.{PlacedBatch, placed_batches, at_front, all_batches, AreJoined, are_joined, batch_from}
+use Rattle.dw_units.proofs.FirstLemmas.{IsInside, AreOfBatches}
 use Rattle.dw_units.proofs.MovedEntries.{moved_number, none_moved, moved, moved_unit, found, get, unit_get}
 
 pub alone_at : (s : Sections) (bs : List (List DebugUnit)) (k : ℕ) (p : PlacedBatch)
     → AllByRecursion (StandsAlone s) bs
     → slice_get (placed_batches bs) k ≡ Some p → StandsAlone s p.units
-alone_at s bs k p all is = all_placed (StandsAlone s) 0 0 0 bs k p all is
+alone_at s bs k p all is = all_batches (StandsAlone s) bs k p all is
 
 pub stays_at : (s : Sections) (bs : List (List DebugUnit)) (k : ℕ) (p : PlacedBatch)
     → AreBatches s bs
     → slice_get (placed_batches bs) k ≡ Some p → StaysAlone s p.units
-stays_at s bs k p all is = all_placed (StaysAlone s) 0 0 0 bs k p all.stay is
+stays_at s bs k p all is = all_batches (StaysAlone s) bs k p all.stay is
 
 pub each_of : (P Q : List DebugUnit → Type 0) (bs : List (List DebugUnit))
     → ((units : List DebugUnit) → P units → Q units)
@@ -53,7 +52,8 @@ each_of P Q [] holds all = tt
 each_of P Q (units ∷ bs) holds (one, more) = (holds units one, each_of P Q bs holds more)
 
 -- batches that are valid alone stay alone
-pub apart_of : (s : Sections) (bs : List (List DebugUnit)) → AllByRecursion (StandsAlone s) bs → FollowFrom s.base bs
+pub apart_of : (s : Sections) (bs : List (List DebugUnit)) → AllByRecursion (StandsAlone s) bs
+    → AreFrom s.base (joined bs)
     → AreBatches s bs
 apart_of s bs all follow = record {
   stay = each_of (StandsAlone s) (StaysAlone s) bs
@@ -62,13 +62,10 @@ apart_of s bs all follow = record {
 }
 
 pub units_joined : (s : Sections) (bs : List (List DebugUnit)) → AllByRecursion (StaysAlone s) bs
-    → AreUnits s.«abbrev».now (joined_batches bs)
+    → AreUnits s.«abbrev».now (joined bs)
 units_joined s [] all = tt
 units_joined s (units ∷ bs) (one, more) =
-    all-append (IsUnit s.«abbrev».now) units (joined_batches bs) one.are (units_joined s bs more)
-
-pub all_units : (s : Sections) (bs : List (List DebugUnit)) → AreBatches s bs → AreUnits s.«abbrev».now (whole s bs)
-all_units s bs all = are_based s.base s.«abbrev».now (joined_batches bs) (units_joined s bs all.stay)
+    all-append (IsUnit s.«abbrev».now) units (joined bs) one.are (units_joined s bs more)
 
 -- an entry is of one of the units
 pub unit_below : (s : Sections) (units : List DebugUnit) → StaysAlone s units → (inner : ℕ) (e : Entry)
@@ -77,7 +74,7 @@ pub unit_below : (s : Sections) (units : List DebugUnit) → StaysAlone s units 
 unit_below s units stays inner e is =
     let below = in_units s.«abbrev».now (units_bytes units) units inner e (record { are = stays.are; parts = refl }) is
     in
-    let (q, is_q) = there (placed units) e.unit (omega (arith, below, length-placed_from 0 0 units)) in
+    let (q, is_q) = there (placed units) e.unit (omega (arith, below, length-placed units)) in
     (q, is_q, below)
 
 -- ---- the entries of a batch are in its bytes
@@ -86,26 +83,27 @@ rises_between : (low high : ℕ) (rs : List Record) → Rises low high rs → lo
 rises_between low high [] p = p
 rises_between low high (q ∷ rs) p = let more = rises_between (suc q.at) high rs p.1 in omega (arith, more, p.0)
 
-rises_high : (low high : ℕ) (rs : List Record) (k : ℕ) (r : Record) → Rises low high rs → slice_get rs k ≡ Some r
-    → r.at < high
-rises_high low high [] k r p is = absurd cc
-rises_high low high (q ∷ rs) zero r p is =
-    let some : Some q ≡ Some r = is in
-    let same : q ≡ r = cc in
-    let few = rises_between (suc q.at) high rs p.1 in
-    subst (λ (x : Record). x.at < high) same (omega (arith, few))
-rises_high low high (q ∷ rs) (suc k) r p is = rises_high (suc q.at) high rs k r p.1 is
+rises_inside : (low high : ℕ) (rs : List Record) (k : ℕ) (r : Record) → Rises low high rs → slice_get rs k ≡ Some r
+    → (low ≤ r.at) × (r.at < high)
+rises_inside low high [] k r p is = absurd cc
+rises_inside low high (q ∷ rs) zero r p is =
+    at_front (λ (x : Record). (low ≤ x.at) × (x.at < high)) q r is
+    (p.0, let few = rises_between (suc q.at) high rs p.1 in omega (arith, few))
+rises_inside low high (q ∷ rs) (suc k) r p is =
+    let (over, under) = rises_inside (suc q.at) high rs k r p.1 is in (omega (arith, over, p.0), under)
 
-pub entry_inside : (a : List ℕ) (units : List DebugUnit) (k : ℕ) (e : Entry) → AreUnits a units
-    → slice_get (entries_of units) k ≡ Some e
-    → e.at < length (units_bytes units)
-entry_inside a units k e are is =
+pub entry_inside : (a : List ℕ) (at : ℕ) (units : List DebugUnit) (k : ℕ) (e : Entry) → AreUnits a units
+    → AreFrom at units → slice_get (entries_of units) k ≡ Some e
+    → (at ≤ e.at) × (e.at < at + length (units_bytes units))
+entry_inside a at [] k e are from is = absurd cc
+entry_inside a at (u ∷ us) k e are from is =
     let any : ℕ → ℕ → ℕ = λ number code. 0 in
-    let high = rises_high 0 (0 + length (units_bytes units)) (records_of any units) k (record_of any e)
-    (subst (Rises 0 (0 + length (units_bytes units))) (sym (records_kept any units))
-    (units_rise a any 0 0 0 units are))
-    (kept_get any units k e is) in
-    omega (arith, high)
+    let all : List DebugUnit = u ∷ us in
+    subst (λ (n : ℕ). (n ≤ e.at) × (e.at < n + length (units_bytes all))) from.0
+    (rises_inside u.at (u.at + length (units_bytes all)) (records_of any all) k (record_of any e)
+    (subst (Rises u.at (u.at + length (units_bytes all))) (sym (records_kept any all))
+    (units_rise a any 0 0 u.at all are))
+    (kept_get any all k e is))
 
 -- ---- failures at attributes
 
@@ -119,10 +117,10 @@ FailAlike bs Fails Alone =
     (k : ℕ) (p : PlacedBatch) → slice_get (placed_batches bs) k ≡ Some p → (inner : ℕ) (e : Entry)
     → slice_get (entries_of p.units) inner ≡ Some e → (position attribute : ℕ) (v : Datum) (rule : Rule)
     → HasAttribute e position attribute v
-    → (Fails (entry_head (moved p.number p.first p.at e)) attribute v rule
+    → (Fails (entry_head (moved p.number p.first e)) attribute v rule
     → FailsBy (Alone p.units (entry_head e) attribute v) rule)
     × (Alone p.units (entry_head e) attribute v rule → IsFirm p.units rule
-    → Fails (entry_head (moved p.number p.first p.at e)) attribute v rule)
+    → Fails (entry_head (moved p.number p.first e)) attribute v rule)
 
 no_later : (f g : Failure) → f.place ≡ g.place → number_of g.rule ≤ number_of f.rule → (h : Failure) → Precedes f h
     → Precedes g h
@@ -137,11 +135,12 @@ same_rules P Q units rule down up = (λ fails. (rule, down fails, omega arith), 
 pub heads_batches : (s : Sections) (bs : List (List DebugUnit)) (Fails : Rules) (Alone : List DebugUnit → Rules)
     → AreBatches s bs
     → FailAlike bs Fails Alone
-    → AreOfBatches bs (AtEntries (entries_of (whole s bs)) (AtHead Fails))
+    → AreOfBatches bs (AtEntries (entries_of (joined bs)) (AtHead Fails))
     (λ units. AtEntries (entries_of units) (AtHead (Alone units)))
 heads_batches s bs Fails Alone all alike = record {
   down = λ f fails.
-      let i = found s bs fails.number fails.item fails.is_item in
+      let from = are_joined s bs all in
+      let i = found bs from fails.number fails.item fails.is_item in
       let here = subst (λ (e : Entry). AtHead Fails e f) (sym i.same) fails.fails in
       let (least, alone, early) = (alike i.which i.place i.is_place i.inner i.entry i.is_entry here.position f.attribute
       here.value f.rule here.has).0 here.fails in
@@ -163,53 +162,50 @@ heads_batches s bs Fails Alone all alike = record {
           };
         };
         early = no_later f
-            (record {
-              rule = least;
-              place = moved_place i.place.at (at_attribute i.entry.at here.position);
-              attribute = f.attribute;
-            }) here.place early;
+            (record { rule = least; place = at_attribute i.entry.at here.position; attribute = f.attribute }) here.place
+            early;
       };
   up = λ k p is g fails firm.
       record {
         number = p.first + fails.number;
-        item = moved p.number p.first p.at fails.item;
-        is_item = get s bs k p fails.number fails.item is fails.is_item;
+        item = moved p.number p.first fails.item;
+        is_item = get bs (are_joined s bs all) k p fails.number fails.item is fails.is_item;
         fails = record {
           position = fails.fails.position;
           value = fails.fails.value;
           has = fails.fails.has;
-          place = ap (moved_place p.at) fails.fails.place;
+          place = fails.fails.place;
           fails =
               (alike k p is fails.number fails.item fails.is_item fails.fails.position g.attribute
               fails.fails.value g.rule fails.fails.has).1 fails.fails.fails firm;
         };
       };
   inside = λ k p is g fails.
-      subst (IsInside (length (units_bytes p.units))) (sym fails.fails.place)
-      (entry_inside s.«abbrev».now p.units fails.number fails.item (stays_at s bs k p all is).are
-      fails.is_item);
+      subst (IsInside p.at (p.at + length (units_bytes p.units))) (sym fails.fails.place)
+      (entry_inside s.«abbrev».now p.at p.units fails.number fails.item (stays_at s bs k p all is).are
+      (batch_from bs k p (are_joined s bs all) is) fails.is_item);
 }
 
 -- a unit of the batch, in its place
-pub placed_at : (s : Sections) (bs : List (List DebugUnit)) (k : ℕ) (p : PlacedBatch)
+pub placed_at : (bs : List (List DebugUnit)) (from : AreJoined bs) (k : ℕ) (p : PlacedBatch)
     → slice_get (placed_batches bs) k ≡ Some p
     → (e : Entry) (q r : PlacedUnit) → slice_get (placed p.units) e.unit ≡ Some q
-    → slice_get (placed (whole s bs)) (p.number + e.unit) ≡ Some r → r ≡ moved_unit s.base p.first p.at q
-placed_at s bs k p is e q r is_q is_r =
-    same_some (slice_get (placed (whole s bs)) (p.number + e.unit)) r (moved_unit s.base p.first p.at q) is_r
-    (unit_get s bs k p e.unit q is is_q)
+    → slice_get (placed (joined bs)) (p.number + e.unit) ≡ Some r → r ≡ moved_unit p.first q
+placed_at bs from k p is e q r is_q is_r =
+    same_some (slice_get (placed (joined bs)) (p.number + e.unit)) r (moved_unit p.first q) is_r
+    (unit_get bs from k p e.unit q is is_q)
 
 -- ---- classes
 
-class_alone : (s : Sections) (bs : List (List DebugUnit)) (k : ℕ) (p : PlacedBatch)
+class_alone : (bs : List (List DebugUnit)) (from : AreJoined bs) (k : ℕ) (p : PlacedBatch)
     → slice_get (placed_batches bs) k ≡ Some p
     → (e : Entry) (q : PlacedUnit)
     → slice_get (placed p.units) e.unit ≡ Some q
     → (attribute : ℕ) (v : Datum) (rule : Rule)
-    → ClassFails (placed (whole s bs)) (entry_head (moved p.number p.first p.at e)) attribute v rule
+    → ClassFails (placed (joined bs)) (entry_head (moved p.number p.first e)) attribute v rule
     → ClassFails (placed p.units) (entry_head e) attribute v rule
-class_alone s bs k p is e q is_q attribute v rule fails =
-    let same = placed_at s bs k p is e q fails.unit is_q fails.in_unit in
+class_alone bs from k p is e q is_q attribute v rule fails =
+    let same = placed_at bs from k p is e q fails.unit is_q fails.in_unit in
     record {
       unit = q;
       in_unit = is_q;
@@ -219,38 +215,39 @@ class_alone s bs k p is e q is_q attribute v rule fails =
       only = fails.only;
     }
 
-class_in_place : (s : Sections) (bs : List (List DebugUnit)) (k : ℕ) (p : PlacedBatch)
+class_in_place : (bs : List (List DebugUnit)) (from : AreJoined bs) (k : ℕ) (p : PlacedBatch)
     → slice_get (placed_batches bs) k ≡ Some p
     → (e : Entry)
     → (attribute : ℕ) (v : Datum) (rule : Rule) → ClassFails (placed p.units) (entry_head e) attribute v rule
-    → ClassFails (placed (whole s bs)) (entry_head (moved p.number p.first p.at e)) attribute v rule
-class_in_place s bs k p is e attribute v rule fails = record {
-  unit = moved_unit s.base p.first p.at fails.unit;
-  in_unit = unit_get s bs k p e.unit fails.unit is fails.in_unit;
+    → ClassFails (placed (joined bs)) (entry_head (moved p.number p.first e)) attribute v rule
+class_in_place bs from k p is e attribute v rule fails = record {
+  unit = moved_unit p.first fails.unit;
+  in_unit = unit_get bs from k p e.unit fails.unit is fails.in_unit;
   class = fails.class;
   only = fails.only;
 }
 
 pub classes_batches : (s : Sections) (bs : List (List DebugUnit)) → AreBatches s bs
-    → AreOfBatches bs (ClassFailures (whole s bs)) ClassFailures
+    → AreOfBatches bs (ClassFailures (joined bs)) ClassFailures
 classes_batches s bs all =
-    heads_batches s bs (ClassFails (placed (whole s bs))) (λ units. ClassFails (placed units)) all
+    heads_batches s bs (ClassFails (placed (joined bs))) (λ units. ClassFails (placed units)) all
     (λ k p is inner e is_e position attribute v rule has.
+    let from = are_joined s bs all in
     let (q, is_q, below) = unit_below s p.units (stays_at s bs k p all is) inner e is_e in
-    same_rules (ClassFails (placed (whole s bs)) (entry_head (moved p.number p.first p.at e)) attribute v)
+    same_rules (ClassFails (placed (joined bs)) (entry_head (moved p.number p.first e)) attribute v)
     (ClassFails (placed p.units) (entry_head e) attribute v) p.units rule
-    (class_alone s bs k p is e q is_q attribute v rule) (class_in_place s bs k p is e attribute v rule))
+    (class_alone bs from k p is e q is_q attribute v rule) (class_in_place bs from k p is e attribute v rule))
 
 -- ---- strings and addresses
 
 -- the unit's bases are those of the unit in the batch alone
-pub base_same : (s : Sections) (bs : List (List DebugUnit)) (k : ℕ) (p : PlacedBatch) (j : ℕ) (q : PlacedUnit)
+pub base_same : (bs : List (List DebugUnit)) (from : AreJoined bs) (k : ℕ) (p : PlacedBatch) (j : ℕ) (q : PlacedUnit)
     (attribute : ℕ)
     → slice_get (placed_batches bs) k ≡ Some p → slice_get (placed p.units) j ≡ Some q
-    → base_in (entries_of (whole s bs)) (moved_unit s.base p.first p.at q) attribute
+    → base_in (entries_of (joined bs)) (moved_unit p.first q) attribute
     ≡ base_in (entries_of p.units) q attribute
-base_same s bs k p j q attribute is is_q =
-    let all = first_entry (whole s bs) (p.number + j) (moved_unit s.base p.first p.at q) (unit_get s bs k p j q is is_q)
+base_same bs from k p j q attribute is is_q =
+    let all = first_entry (joined bs) (p.number + j) (moved_unit p.first q) (unit_get bs from k p j q is is_q)
     in
     let alone = first_entry p.units j q is_q in
     let heads : all.entry.head ≡ alone.entry.head = all.is_first.head ∙ sym alone.is_first.head in
@@ -261,67 +258,68 @@ base_same s bs k p j q attribute is is_q =
     ap F all.is_entry ∙ ap G heads ∙ sym (ap F alone.is_entry)
 
 -- of the head only its parent is asked
-strings_in : (s : Sections) (header : UnitHeader) (strings addresses : Option ℕ) (number first at : ℕ) (e : Entry)
+strings_in : (s : Sections) (header : UnitHeader) (strings addresses : Option ℕ) (number first : ℕ) (e : Entry)
     (attribute : ℕ) (v : Datum)
-    (rule : Rule) → StringFailsIn s header strings addresses (entry_head (moved number first at e)) attribute v rule
+    (rule : Rule) → StringFailsIn s header strings addresses (entry_head (moved number first e)) attribute v rule
     → StringFailsIn s header strings addresses (entry_head e) attribute v rule
-strings_in s header strings addresses number first at e attribute v rule is = search (rules, none_moved)
+strings_in s header strings addresses number first e attribute v rule is = search (rules, none_moved)
 
-string_alone : (s : Sections) (bs : List (List DebugUnit)) (k : ℕ) (p : PlacedBatch)
+string_alone : (s : Sections) (bs : List (List DebugUnit)) (from : AreJoined bs) (k : ℕ) (p : PlacedBatch)
     → slice_get (placed_batches bs) k ≡ Some p → (e : Entry) (q : PlacedUnit)
     → slice_get (placed p.units) e.unit ≡ Some q → (attribute : ℕ) (v : Datum) (rule : Rule)
-    → StringFails s (entries_of (whole s bs)) (placed (whole s bs)) (entry_head (moved p.number p.first p.at e))
+    → StringFails s (entries_of (joined bs)) (placed (joined bs)) (entry_head (moved p.number p.first e))
     attribute
     v rule
     → StringFails s (entries_of p.units) (placed p.units) (entry_head e) attribute v rule
-string_alone s bs k p is e q is_q attribute v rule fails =
-    let same = placed_at s bs k p is e q fails.unit is_q fails.in_unit in
-    let head = entry_head (moved p.number p.first p.at e) in
+string_alone s bs from k p is e q is_q attribute v rule fails =
+    let same = placed_at bs from k p is e q fails.unit is_q fails.in_unit in
+    let head = entry_head (moved p.number p.first e) in
     let here = subst (λ (r : PlacedUnit). StringFailsIn s r.unit.header
-    (base_in (entries_of (whole s bs)) r DW_AT_str_offsets_base)
-    (base_in (entries_of (whole s bs)) r DW_AT_addr_base) head attribute v rule) same fails.fails in
+    (base_in (entries_of (joined bs)) r DW_AT_str_offsets_base)
+    (base_in (entries_of (joined bs)) r DW_AT_addr_base) head attribute v rule) same fails.fails in
     record {
       unit = q;
       in_unit = is_q;
       fails = strings_in s q.unit.header (base_in (entries_of p.units) q DW_AT_str_offsets_base)
-          (base_in (entries_of p.units) q DW_AT_addr_base) p.number p.first p.at e attribute v rule
-          (rw (base_same s bs k p e.unit q DW_AT_addr_base is is_q) at
-          (rw (base_same s bs k p e.unit q DW_AT_str_offsets_base is is_q) at here));
+          (base_in (entries_of p.units) q DW_AT_addr_base) p.number p.first e attribute v rule
+          (rw (base_same bs from k p e.unit q DW_AT_addr_base is is_q) at
+          (rw (base_same bs from k p e.unit q DW_AT_str_offsets_base is is_q) at here));
     }
 
-strings_in_place : (s : Sections) (header : UnitHeader) (strings addresses : Option ℕ) (number first at : ℕ) (e : Entry)
+strings_in_place : (s : Sections) (header : UnitHeader) (strings addresses : Option ℕ) (number first : ℕ) (e : Entry)
     (attribute : ℕ) (v : Datum)
     (rule : Rule) → StringFailsIn s header strings addresses (entry_head e) attribute v rule
-    → StringFailsIn s header strings addresses (entry_head (moved number first at e)) attribute v rule
-strings_in_place s header strings addresses number first at e attribute v rule is = search (rules, moved_number)
+    → StringFailsIn s header strings addresses (entry_head (moved number first e)) attribute v rule
+strings_in_place s header strings addresses number first e attribute v rule is = search (rules, moved_number)
 
-string_in_place : (s : Sections) (bs : List (List DebugUnit)) (k : ℕ) (p : PlacedBatch)
+string_in_place : (s : Sections) (bs : List (List DebugUnit)) (from : AreJoined bs) (k : ℕ) (p : PlacedBatch)
     → slice_get (placed_batches bs) k ≡ Some p → (e : Entry) → (attribute : ℕ) (v : Datum) (rule : Rule)
     → StringFails s (entries_of p.units) (placed p.units) (entry_head e) attribute v rule
-    → StringFails s (entries_of (whole s bs)) (placed (whole s bs)) (entry_head (moved p.number p.first p.at e))
+    → StringFails s (entries_of (joined bs)) (placed (joined bs)) (entry_head (moved p.number p.first e))
     attribute
     v rule
-string_in_place s bs k p is e attribute v rule fails =
+string_in_place s bs from k p is e attribute v rule fails =
     let q = fails.unit in
     record {
-      unit = moved_unit s.base p.first p.at q;
-      in_unit = unit_get s bs k p e.unit q is fails.in_unit;
+      unit = moved_unit p.first q;
+      in_unit = unit_get bs from k p e.unit q is fails.in_unit;
       fails = rw (
-        base_same s bs k p e.unit q DW_AT_str_offsets_base is fails.in_unit,
-        base_same s bs k p e.unit q DW_AT_addr_base is fails.in_unit,
+        base_same bs from k p e.unit q DW_AT_str_offsets_base is fails.in_unit,
+        base_same bs from k p e.unit q DW_AT_addr_base is fails.in_unit,
       ) (strings_in_place s q.unit.header (base_in (entries_of p.units) q DW_AT_str_offsets_base)
-          (base_in (entries_of p.units) q DW_AT_addr_base) p.number p.first p.at e attribute v rule fails.fails);
+          (base_in (entries_of p.units) q DW_AT_addr_base) p.number p.first e attribute v rule fails.fails);
     }
 
 pub strings_batches : (s : Sections) (bs : List (List DebugUnit)) → AreBatches s bs
-    → AreOfBatches bs (StringFailures s (whole s bs)) (StringFailures s)
+    → AreOfBatches bs (StringFailures s (joined bs)) (StringFailures s)
 strings_batches s bs all =
-    heads_batches s bs (StringFails s (entries_of (whole s bs)) (placed (whole s bs)))
+    heads_batches s bs (StringFails s (entries_of (joined bs)) (placed (joined bs)))
     (λ units. StringFails s (entries_of units) (placed units)) all
     (λ k p is inner e is_e position attribute v rule has.
+    let from = are_joined s bs all in
     let (q, is_q, below) = unit_below s p.units (stays_at s bs k p all is) inner e is_e in
     same_rules
-    (StringFails s (entries_of (whole s bs)) (placed (whole s bs)) (entry_head (moved p.number p.first p.at e))
+    (StringFails s (entries_of (joined bs)) (placed (joined bs)) (entry_head (moved p.number p.first e))
     attribute
     v) (StringFails s (entries_of p.units) (placed p.units) (entry_head e) attribute v) p.units rule
-    (string_alone s bs k p is e q is_q attribute v rule) (string_in_place s bs k p is e attribute v rule))
+    (string_alone s bs from k p is e q is_q attribute v rule) (string_in_place s bs from k p is e attribute v rule))

@@ -1,16 +1,12 @@
 -- Whole units, and then bytes at which a rule of trees fails: it fails there in the sections.
-use Rattle.std.proofs.Common.{rules, ◌≡◌, ℕ, ◌+◌, ◌≤◌, List, [], ◌∷◌, ◌++◌, length, take, drop, Result, Ok, Err}
+use Rattle.std.proofs.Common.{◌≡◌, ℕ, ◌+◌, ◌≤◌, List, [], ◌∷◌, ◌++◌, length, take, drop, Result, Ok, Err}
 use Rattle.std.proofs.Common.{refl, sym, ap, subst, ◌∙◌, arith, append_assoc, append-nil, Bool, true, false, length-append}
 use Rattle.std.proofs.Common.{ltb}
 use Rattle.std.proofs.lemmas.Grind.{flat_map-append}
-use Rattle.dw_forms.specs.declared.fault.AbbrevFault.{AbbrevFault}
-use Rattle.dw_forms.specs.Abbrev.{Declaration}
-use Rattle.dw_forms.specs.AbbrevReading.{table_at}
 use Rattle.dw_forms.specs.declared.rule.Rule.{Rule}
 use Rattle.dw_entries.specs.declared.fault.PlainFault.{PlainFault}
-use Rattle.dw_entries.specs.declared.fault.Failing.{Failing}
 use Rattle.dw_entries.specs.declared.header.UnitHeader.{UnitHeader}
-use Rattle.dw_entries.specs.Header.{unit_header_size, header_fields, header_at, unit_at}
+use Rattle.dw_entries.specs.Header.{header_fields, header_at, unit_at}
 use Rattle.dw_forms.specs.BaseFormats.{so_many, taken_at}
 use Rattle.dw_forms.specs.Formats.{choose, failing, mapped, nothing}
 use Rattle.dw_forms.specs.Steps.{◌>>=◌}
@@ -19,57 +15,18 @@ use Rattle.std.specs.Prelude.{nat_lt}
 use Rattle.byteorder.specs.Endian.{little_number}
 use Rattle.std.proofs.lemmas.List.{take-append-le, drop-append-le}
 use Rattle.std.proofs.lemmas.Bool.{le-ltb, ltb-false}
-use Rattle.dw_entries.specs.Items.{items_bytes}
 use Rattle.dw_entries.specs.Units.{IsUnit, unit_bytes, units_bytes}
-use Rattle.dw_entries.specs.Faults.{place_of, in_unit, FailsBehind, FailsAs, FailsHere, Fails}
+use Rattle.dw_entries.specs.Faults.{FailsAs, FailsHere, Fails}
 use Rattle.dw_entries.proofs.HeadLaws.{all-append}
-use Rattle.dw_units.specs.ByUnit.{moved_fault, TreesOfUnits}
-
-module _ (at : ℕ) where
-  place_moved : (rule : Rule) (header offset there : ℕ) → there ≡ at + offset
-      → place_of rule (at + header) there ≡ at + place_of rule header offset
-  place_moved rule header offset there is = search rules
-
-  in_unit_moved : (f : Failing) (header offset there : ℕ) → there ≡ at + offset
-      → moved_fault at (in_unit f header offset) ≡ in_unit f (at + header) there
-  in_unit_moved f header offset there is =
-      ap (λ (n : ℕ). record (in_unit f header offset) { at = n }) (sym (place_moved f.rule header offset there is))
-
-  behind_moved : (header : ℕ) (h : UnitHeader) (body : List ℕ) (table : Result (List Declaration) AbbrevFault)
-      (broken : PlainFault)
-      → FailsBehind header h body table broken → FailsBehind (at + header) h body table (moved_fault at broken)
-  behind_moved header h body (Ok table) broken fails = record {
-    items = fails.items;
-    rest = fails.rest;
-    depth = fails.depth;
-    failing = fails.failing;
-    front = fails.front;
-    stops = fails.stops;
-    is = ap (moved_fault at) fails.is
-        ∙ in_unit_moved fails.failing header (header + unit_header_size h.kind + length (items_bytes fails.items))
-        (at + header + unit_header_size h.kind + length (items_bytes fails.items)) (omega arith);
-  }
-  behind_moved header h body (Err f) broken is = ap (moved_fault at) is
-
-  as_moved : («abbrev» : List ℕ) (header : ℕ) (read : Result (UnitHeader × List ℕ) Rule) (broken : PlainFault)
-      → FailsAs «abbrev» header read broken → FailsAs «abbrev» (at + header) read (moved_fault at broken)
-  as_moved «abbrev» header (Ok u) broken fails =
-      behind_moved header u.0 u.1 (table_at «abbrev» u.0.abbrev_offset) broken fails
-  as_moved «abbrev» header (Err rule) broken is = ap (moved_fault at) is
-
-  here_moved : («abbrev» : List ℕ) (header : ℕ) (rest : List ℕ) (broken : PlainFault)
-      → FailsHere «abbrev» header rest broken
-      → FailsHere «abbrev» (at + header) rest (moved_fault at broken)
-  here_moved «abbrev» header rest broken fails =
-      as_moved «abbrev» header (header_at (length «abbrev») rest) broken fails
+use Rattle.dw_units.specs.ByUnit.{TreesOfUnits}
 
 pub trees_first : TreesOfUnits
 trees_first s before rest broken are parts fails =
-    let at : ℕ = length (units_bytes before) in
     let joined : units_bytes (before ++ fails.units)
     ≡ units_bytes before ++ units_bytes fails.units = flat_map-append unit_bytes before fails.units in
-    let long : at + length (units_bytes fails.units) ≡ length (units_bytes (before ++ fails.units)) =
-    sym (length-append (units_bytes before) (units_bytes fails.units)) ∙ ap length (sym joined) in
+    let long : s.base + length (units_bytes before) + length (units_bytes fails.units)
+    ≡ s.base + length (units_bytes (before ++ fails.units)) =
+    omega (arith, ap length joined, length-append (units_bytes before) (units_bytes fails.units)) in
     record {
       units = before ++ fails.units;
       rest = fails.rest;
@@ -78,8 +35,7 @@ trees_first s before rest broken are parts fails =
           ∙ sym (append_assoc (units_bytes before) (units_bytes fails.units) fails.rest)
           ∙ ap (λ (xs : List ℕ). xs ++ fails.rest) (sym joined);
       more = fails.more;
-      fails = subst (λ (n : ℕ). FailsHere s.«abbrev».now n fails.rest (moved_fault at broken)) long
-          (here_moved at s.«abbrev».now (length (units_bytes fails.units)) fails.rest broken fails.fails);
+      fails = subst (λ (n : ℕ). FailsHere s.«abbrev».now n fails.rest broken) long fails.fails;
     }
 
 -- ---- what fails in some bytes, with more behind them
@@ -159,20 +115,21 @@ no_elements [] is = refl
 no_elements (x ∷ xs) is = absurd (omega (arith, is))
 
 -- a rule of trees that fails in some bytes fails with more behind them, unless the bytes end inside a unit
-pub fails_with_more : («abbrev» bytes more : List ℕ) (broken : PlainFault) → (broken.rule ≡ UnitCut → ⊥)
-    → Fails «abbrev» bytes broken → Fails «abbrev» (bytes ++ more) broken
-fails_with_more «abbrev» bytes more broken whole fails = record {
+pub fails_with_more : («abbrev» : List ℕ) (at : ℕ) (bytes more : List ℕ) (broken : PlainFault)
+    → (broken.rule ≡ UnitCut → ⊥) → Fails «abbrev» at bytes broken → Fails «abbrev» at (bytes ++ more) broken
+fails_with_more «abbrev» at bytes more broken whole fails = record {
   units = fails.units;
   rest = fails.rest ++ more;
   are = fails.are;
   parts = ap (λ (xs : List ℕ). xs ++ more) fails.parts ∙ append_assoc (units_bytes fails.units) fails.rest more;
   more = λ none. fails.more (no_elements fails.rest
       (let e = ap length none in omega (arith, e, length-append fails.rest more)));
-  fails = subst (λ (r : Result (UnitHeader × List ℕ) Rule). FailsAs «abbrev» at r broken)
+  fails = subst (λ (r : Result (UnitHeader × List ℕ) Rule). FailsAs «abbrev» header r broken)
       (sym (header_more (length «abbrev») fails.rest more (λ cut. whole
-      (ap (λ (b : PlainFault). b.rule) (subst (λ (r : Result (UnitHeader × List ℕ) Rule). FailsAs «abbrev» at r broken)
-      cut fails.fails))))) fails.fails;
+      (ap (λ (b : PlainFault). b.rule)
+      (subst (λ (r : Result (UnitHeader × List ℕ) Rule). FailsAs «abbrev» header r broken) cut fails.fails)))))
+      fails.fails;
 }
   where
-    at : ℕ
-    at = length (units_bytes fails.units)
+    header : ℕ
+    header = at + length (units_bytes fails.units)

@@ -1,24 +1,22 @@
 -- Shapes and steps by value in a window are those of the batch alone.
-use Rattle.std.proofs.Common.{rules, ◌≡◌, ℕ, ◌+◌, ◌-◌, zero, suc, ◌<◌, ◌≤◌, Bool, false, List, [], ◌∷◌, length, map, Option, Some, None, refl, sym, ap, subst, ◌∙◌, arith}
-use Rattle.std.specs.Prelude.{slice_index, is_some}
-use Rattle.std.specs.Option.{option_map_or}
+use Rattle.std.proofs.Common.{rules, ◌≡◌, ℕ, ◌+◌, ◌-◌, zero, suc, ◌<◌, ◌≤◌, Bool, List, [], ◌∷◌, length, map, Option, Some, None, refl, sym, ap, subst, ◌∙◌, arith}
+use Rattle.std.specs.Prelude.{slice_index, is_some, ◌&&◌}
 use Rattle.std.proofs.lemmas.List.{get_or-map, length-map}
 use Rattle.dw_forms.specs.Codes.{DW_AT_signature, DW_AT_type}
 use Rattle.dw_forms.specs.declared.rule.Rule.{Rule}
-use Rattle.dw_forms.specs.declared.rule.Rule.TheVariants.{MissingType, BadCount}
 use Rattle.dw_entries.specs.Entries.{Entry, entries_of}
 use Rattle.dw_entries.specs.Units.{DebugUnit}
-use Rattle.dw_types.specs.Counts.{count_of, is_dimension}
+use Rattle.dw_types.specs.Counts.{count_of, count_read}
 use Rattle.dw_types.specs.Entries.{entry_in, signature_target, type_target}
 use Rattle.dw_types.specs.Graphs.{Graph, IsStep, IsClosed, IsCycle}
-use Rattle.dw_types.specs.Kinds.{has_members, is_array, is_declared_type, parent_is, passes_type_on}
-use Rattle.dw_types.specs.Shapes.{fails_shape, is_plain}
+use Rattle.dw_types.specs.Kinds.{has_members, is_declared_type, passes_type_on}
+use Rattle.dw_types.specs.Shapes.{Sight, fails_shape, is_defined_member, is_plain, numberless, passes_at, sight, violates_shape}
 use Rattle.dw_types.specs.Steps.{by_value, IsStepByValue, by_type, by_member, by_signature}
 use Rattle.dw_types.proofs.StepLemmas.{by_value-from_step, step-from_by_value}
 use Rattle.dw_links.proofs.TableLemmas.{target_within}
 use Rattle.dw_types.proofs.SiblingLemmas.{parent-first}
 use Rattle.dw_units.proofs.BatchLemmas.{PlacedBatch}
-use Rattle.dw_units.proofs.MovedEntries.{moved_number, moved}
+use Rattle.dw_units.proofs.MovedEntries.{moved_number}
 use Rattle.dw_units.proofs.ReferenceLemmas.{some_moved}
 use Rattle.dw_units.proofs.Windows.{IsWindow}
 
@@ -60,45 +58,58 @@ module _ (g f : Graph) (a b : List ℕ) (long : length b ≡ length a)
       }
 
 module _ (all : List DebugUnit) (p : PlacedBatch) (w : IsWindow all p) where
-  -- the parent of an entry, by a test of what does not depend on the place
-  parent_same : (test : Entry → Bool) → ((e : Entry) → test (moved p.number p.first p.at e) ≡ test e) → (inner : ℕ)
-      → inner < length (entries_of p.units) → parent_is test all (p.first + inner) ≡ parent_is test p.units inner
-  parent_same test same inner inside =
-      ap (λ (e : Entry). option_map_or (λ parent. test (entry_in all parent)) e.parent false) (w.entries inner inside)
-      ∙ above (entry_in p.units inner).parent
+  -- an entry without the numbers of others
+  seen_same : (inner : ℕ) → inner < length (entries_of p.units)
+      → numberless (entry_in all (p.first + inner)) ≡ numberless (entry_in p.units inner)
+  seen_same inner inside = ap numberless (w.entries inner inside)
+
+  -- tests of the entries to which it refers
+  passes_same : (test : Entry → Bool) (o : Option ℕ) → ((k : ℕ) → o ≡ Some k → k < length (entries_of p.units))
+      → passes_at all test (moved_number p.first o) ≡ passes_at p.units test o
+  passes_same test None below = refl
+  passes_same test (Some k) below = ap test (seen_same k (below k refl))
+
+  parent_seen : (inner : ℕ) → inner < length (entries_of p.units) → (test : Entry → Bool)
+      → passes_at all test (entry_in all (p.first + inner)).parent
+      ≡ passes_at p.units test (entry_in p.units inner).parent
+  parent_seen inner inside test =
+      ap (λ (e : Entry). passes_at all test e.parent) (w.entries inner inside)
+      ∙ passes_same test (entry_in p.units inner).parent
       (λ k is. let before = parent-first p.units inner k is in omega (arith, before, inside))
-    where
-      above : (o : Option ℕ) → ((k : ℕ) → o ≡ Some k → k < length (entries_of p.units))
-          → option_map_or (λ parent. test (entry_in all parent)) (moved_number p.first o) false
-          ≡ option_map_or (λ parent. test (entry_in p.units parent)) o false
-      above None below = refl
-      above (Some k) below = ap test (w.entries k (below k refl)) ∙ same (entry_in p.units k)
+
+  type_seen : (inner : ℕ) → inner < length (entries_of p.units) → (test : Entry → Bool)
+      → passes_at all test (type_target all (p.first + inner)) ≡ passes_at p.units test (type_target p.units inner)
+  type_seen inner inside test =
+      ap (passes_at all test) (w.targets inner DW_AT_type inside)
+      ∙ passes_same test (type_target p.units inner) (target_within _ _ _ _)
 
   pub plain_same : (inner : ℕ) → inner < length (entries_of p.units)
       → is_plain all (p.first + inner) ≡ is_plain p.units inner
   plain_same inner inside =
-      rw (parent_same has_members (λ e. refl) inner inside, w.entries inner inside) refl
+      λ i. is_defined_member (seen_same inner inside i) && parent_seen inner inside has_members i
 
   pub count_same : (inner : ℕ) → inner < length (entries_of p.units)
       → count_of all (p.first + inner) ≡ count_of p.units inner
-  count_same inner inside = rw (w.languages inner inside, w.entries inner inside) refl
-
-  dimension_same : (inner : ℕ) → inner < length (entries_of p.units)
-      → is_dimension all (p.first + inner) ≡ is_dimension p.units inner
-  dimension_same inner inside =
-      rw (parent_same is_array (λ e. refl) inner inside, w.entries inner inside) refl
+  count_same inner inside = λ i. count_read (seen_same inner inside i) (w.languages inner inside i)
 
   pub has_target_same : (inner : ℕ) → inner < length (entries_of p.units)
       → is_some (type_target all (p.first + inner)) ≡ is_some (type_target p.units inner)
   has_target_same inner inside =
       ap is_some (w.targets inner DW_AT_type inside) ∙ some_of_moved p.first (type_target p.units inner)
 
+  -- so each rule on shapes looks at the same
+  sight_same : (inner : ℕ) → inner < length (entries_of p.units)
+      → sight all (p.first + inner) ≡ sight p.units inner
+  sight_same inner inside = λ i. record {
+    entry = seen_same inner inside i;
+    parent_is = λ test. parent_seen inner inside test i;
+    type_is = λ test. type_seen inner inside test i;
+    language = w.languages inner inside i;
+  }
+
   pub shape_same : (inner : ℕ) → inner < length (entries_of p.units) → (rule : Rule)
       → fails_shape all (p.first + inner) rule ≡ fails_shape p.units inner rule
-  shape_same inner inside MissingType =
-      rw (plain_same inner inside, has_target_same inner inside, w.entries inner inside) refl
-  shape_same inner inside BadCount = rw (dimension_same inner inside, count_same inner inside) refl
-  shape_same inner inside rule = refl
+  shape_same inner inside rule = ap (λ (s : Sight). violates_shape s rule) (sight_same inner inside)
 
   -- the parent of an entry that has one in the batch
   parent_alone : (inner parent : ℕ) → inner < length (entries_of p.units)
@@ -173,15 +184,15 @@ module _ (all : List DebugUnit) (p : PlacedBatch) (w : IsWindow all p) where
       (step_in_place (slice_index nodes k) (slice_index nodes (k + 1)) (inside k here) to)))
       (λ i j i_in j_in same. omega (arith, same, raised nodes i i_in, raised nodes j j_in)) cycle
 
-  -- the offsets of entries, in their places
-  pub offsets_moved : (nodes : List ℕ)
+  -- their offsets are the same
+  pub offsets_same : (nodes : List ℕ)
       → ((k : ℕ) → k < length nodes → slice_index nodes k < length (entries_of p.units))
-      → map (λ (offset : ℕ). p.at + offset) (map (λ (n : ℕ). (entry_in p.units n).at) nodes)
+      → map (λ (n : ℕ). (entry_in p.units n).at) nodes
       ≡ map (λ (n : ℕ). (entry_in all n).at) (map (λ (n : ℕ). p.first + n) nodes)
-  offsets_moved [] inside = refl
-  offsets_moved (n ∷ nodes) inside =
+  offsets_same [] inside = refl
+  offsets_same (n ∷ nodes) inside =
       let here = sym (ap (λ (e : Entry). e.at) (w.entries n (inside 0 (omega arith)))) in
-      let more = offsets_moved nodes (λ k below. inside (suc k) (omega (arith, below))) in
+      let more = offsets_same nodes (λ k below. inside (suc k) (omega (arith, below))) in
       λ i. here i ∷ more i
 
   -- a closed list that begins in the window stays there

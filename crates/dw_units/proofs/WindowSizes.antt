@@ -61,10 +61,10 @@ parent_of_moved : (first : ℕ) (o : Option ℕ) (node : ℕ)
 parent_of_moved first o node = search (rules, eqb_moved)
 
 -- whether a member ends past its container does not depend on its place
-past_moved : (number first at : ℕ) (container : Size) (e : Entry) (size : Size)
-    → ends_past_container container (moved number first at e) size ≡ ends_past_container container e size
-past_moved number first at None e size = refl
-past_moved number first at (Some n) e size = refl
+past_moved : (number first : ℕ) (container : Size) (e : Entry) (size : Size)
+    → ends_past_container container (moved number first e) size ≡ ends_past_container container e size
+past_moved number first None e size = refl
+past_moved number first (Some n) e size = refl
 
 module _ (all : List DebugUnit) (p : PlacedBatch) (w : IsWindow all p) where
   -- ---- children
@@ -201,7 +201,7 @@ module _ (all : List DebugUnit) (p : PlacedBatch) (w : IsWindow all p) where
           parent_moved inner inside,
           type_moved inner inside,
           w.entries inner inside,
-          past_moved p.number p.first p.at,
+          past_moved p.number p.first,
         ) refl
     fails_moved inner inside EnumSize =
         rw (has_target_same all p w inner inside, type_moved inner inside, w.entries inner inside) refl

@@ -1,4 +1,4 @@
--- A batch in its place among all: its entries are those of the batch alone, moved, and refer to the same entries.
+-- A batch among all: its entries are those of the batch alone, by other numbers, and refer to the same entries.
 use Rattle.std.proofs.Common.{rules, ◌≡◌, ℕ, ◌+◌, suc, ◌<◌, ◌==◌, Bool, true, false, List, [], ◌∷◌, length, Option, Some, None, refl, sym, ap, ◌∙◌, arith}
 use Rattle.std.specs.Prelude.{slice_get, unwrap_or}
 use Rattle.std.specs.Option.{option_map_or}
@@ -14,8 +14,8 @@ use Rattle.dw_links.specs.Constants.{language_at, language_of}
 use Rattle.dw_links.specs.Targets.{target_of}
 use Rattle.dw_types.specs.Entries.{unit_address_size, entry_in, language}
 use Rattle.dw_types.proofs.SiblingLemmas.{parent-first}
-use Rattle.dw_units.specs.IndependentBatches.{whole}
-use Rattle.dw_units.proofs.BatchLemmas.{PlacedBatch, placed_batches, same_batch}
+use Rattle.dw_units.specs.IndependentBatches.{joined}
+use Rattle.dw_units.proofs.BatchLemmas.{PlacedBatch, placed_batches, same_batch, AreJoined, are_joined}
 use Rattle.dw_units.proofs.MovedEntries.{moved_number, moved, moved_unit, found, entry_at, entry_within, unit_at}
 use Rattle.dw_units.proofs.TextLemmas.{stays_at, unit_below}
 use Rattle.dw_units.proofs.ReferenceLemmas.{Refer, some_moved, value_moved}
@@ -24,7 +24,7 @@ use Rattle.dw_units.proofs.ReferenceLemmas.{Refer, some_moved, value_moved}
 pub record IsWindow (all : List DebugUnit) (p : PlacedBatch) : Type 0 where
   pub within : (inner : ℕ) → inner < length (entries_of p.units) → p.first + inner < length (entries_of all)
   pub entries : (inner : ℕ) → inner < length (entries_of p.units)
-      → entry_in all (p.first + inner) ≡ moved p.number p.first p.at (entry_in p.units inner)
+      → entry_in all (p.first + inner) ≡ moved p.number p.first (entry_in p.units inner)
   pub targets : (inner attribute : ℕ) → inner < length (entries_of p.units)
       → target_of (entries_of all) (placed all) (entry_in all (p.first + inner)) attribute
       ≡ moved_number p.first (target_of (entries_of p.units) (placed p.units) (entry_in p.units inner) attribute)
@@ -62,8 +62,11 @@ language_is units number = of (slice_get units number) ∙ ap language_of (unwra
 
 module _ (s : Sections) (bs : List (List DebugUnit)) (refer : Refer s bs) (k : ℕ) (p : PlacedBatch)
     (is : slice_get (placed_batches bs) k ≡ Some p) where
+  from : AreJoined bs
+  from = are_joined s bs refer.apart
+
   target_moved : (inner : ℕ) (e : Entry) → slice_get (entries_of p.units) inner ≡ Some e → (attribute : ℕ)
-      → target_of (entries_of (whole s bs)) (placed (whole s bs)) (moved p.number p.first p.at e) attribute
+      → target_of (entries_of (joined bs)) (placed (joined bs)) (moved p.number p.first e) attribute
       ≡ moved_number p.first (target_of (entries_of p.units) (placed p.units) e attribute)
   unfolding target_of
   target_moved inner e is_e attribute =
@@ -76,19 +79,20 @@ module _ (s : Sections) (bs : List (List DebugUnit)) (refer : Refer s bs) (k : �
 
   -- the unit of an entry
   in_unit : (inner : ℕ) → inner < length (entries_of p.units)
-      → placed_of (placed (whole s bs)) (entry_in (whole s bs) (p.first + inner)).unit
-      ≡ moved_unit s.base p.first p.at (placed_of (placed p.units) (entry_in p.units inner).unit)
+      → placed_of (placed (joined bs)) (entry_in (joined bs) (p.first + inner)).unit
+      ≡ moved_unit p.first (placed_of (placed p.units) (entry_in p.units inner).unit)
   in_unit inner inside =
       let e = entry_in p.units inner in
       let below = (unit_below s p.units (stays_at s bs k p refer.apart is) inner e (is_at inner inside)).2 in
-      ap (λ (d : Entry). placed_of (placed (whole s bs)) d.unit) (entry_at s bs k p is inner inside)
-      ∙ unit_at s bs k p is e.unit below
+      ap (λ (d : Entry). placed_of (placed (joined bs)) d.unit) (entry_at bs from k p is inner inside)
+      ∙ unit_at bs from k p is e.unit below
 
-  children : (i inner : ℕ) → i < length (entries_of (whole s bs)) → inner < length (entries_of p.units)
-      → (entry_in (whole s bs) i).parent ≡ Some (p.first + inner)
+  children : (i inner : ℕ) → i < length (entries_of (joined bs)) → inner < length (entries_of p.units)
+      → (entry_in (joined bs) i).parent ≡ Some (p.first + inner)
       → (j : ℕ) × (j < length (entries_of p.units)) × (i ≡ p.first + j)
   children i inner below inside parent =
-      let f = found s bs i (entry_in (whole s bs) i) (slice_get-get_or (entries_of (whole s bs)) i no_entry below) in
+      let from = are_joined s bs refer.apart in
+      let f = found bs from i (entry_in (joined bs) i) (slice_get-get_or (entries_of (joined bs)) i no_entry below) in
       let (j, is_j, same) = some_moved f.place.first f.entry.parent (p.first + inner)
       (ap (λ (e : Entry). e.parent) f.same ∙ parent) in
       let e_is = get_or_from_slice_get (entries_of f.place.units) f.inner f.entry no_entry f.is_entry in
@@ -103,17 +107,17 @@ module _ (s : Sections) (bs : List (List DebugUnit)) (refer : Refer s bs) (k : �
       let begins = f.begins in
       (f.inner, omega (arith, in_f, long), omega (arith, begins, first))
 
-  pub window : IsWindow (whole s bs) p
+  pub window : IsWindow (joined bs) p
   window = record {
-    within = entry_within s bs k p is;
-    entries = entry_at s bs k p is;
+    within = entry_within bs from k p is;
+    entries = entry_at bs from k p is;
     targets = λ inner attribute inside.
-        ap (λ (e : Entry). target_of (entries_of (whole s bs)) (placed (whole s bs)) e attribute)
-        (entry_at s bs k p is inner inside)
+        ap (λ (e : Entry). target_of (entries_of (joined bs)) (placed (joined bs)) e attribute)
+        (entry_at bs from k p is inner inside)
         ∙ target_moved inner (entry_in p.units inner) (is_at inner inside) attribute;
     address_sizes = λ inner inside. ap (λ (u : PlacedUnit). u.unit.header.address_size) (in_unit inner inside);
     languages = λ inner inside.
-        language_is (placed (whole s bs)) (entry_in (whole s bs) (p.first + inner)).unit
+        language_is (placed (joined bs)) (entry_in (joined bs) (p.first + inner)).unit
         ∙ ap language_of (in_unit inner inside) ∙ sym (language_is (placed p.units) (entry_in p.units inner).unit);
     children = children;
   }
@@ -126,12 +130,13 @@ pub record IsInWindow (s : Sections) (bs : List (List DebugUnit)) (i : ℕ) : Ty
   pub inner : ℕ
   pub inside : inner < length (entries_of p.units)
   pub begins : i ≡ p.first + inner
-  pub window : IsWindow (whole s bs) p
+  pub window : IsWindow (joined bs) p
 
 pub in_window : (s : Sections) (bs : List (List DebugUnit)) → Refer s bs → (i : ℕ)
-    → i < length (entries_of (whole s bs)) → IsInWindow s bs i
+    → i < length (entries_of (joined bs)) → IsInWindow s bs i
 in_window s bs refer i below =
-    let f = found s bs i (entry_in (whole s bs) i) (slice_get-get_or (entries_of (whole s bs)) i no_entry below) in
+    let from = are_joined s bs refer.apart in
+    let f = found bs from i (entry_in (joined bs) i) (slice_get-get_or (entries_of (joined bs)) i no_entry below) in
     record {
       which = f.which;
       p = f.place;

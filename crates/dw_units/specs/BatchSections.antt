@@ -1,5 +1,5 @@
 -- State: the batches of .debug_info, each as sections of its own, and what is found of them one after another.
-use Rattle.std.specs.Prelude.{◌≡◌, ◌≢◌, ℕ, ◌<◌, ◌≤◌, List, [], ◌∷◌, ◌++◌, length, take, drop}
+use Rattle.std.specs.Prelude.{◌≡◌, ◌≢◌, ℕ, ◌+◌, ◌<◌, ◌≤◌, List, [], ◌∷◌, ◌++◌, length, drop}
 use Rattle.std.specs.List.{AllByRecursion, count_by}
 use Rattle.dw_elf.specs.declared.sections.Sections.{Sections}
 use Rattle.dw_entries.specs.Units.{DebugUnit, units_bytes}
@@ -18,9 +18,9 @@ use Rattle.dw_units.specs.declared.checking.Found.{Found}
 use Rattle.dw_units.specs.declared.checking.Found.TheVariants as found
 use Rattle.dw_units.specs.declared.batches.Elsewhere.{Elsewhere}
 use Rattle.dw_units.specs.declared.batches.Elsewhere.TheVariants.{Never, ByOffset, BySignature}
-use Rattle.dw_units.specs.ByUnit.{AreBatches, HasNoOffset, IsFirm, IsMoved, PassesBelow, PassesThrough}
+use Rattle.dw_units.specs.ByUnit.{AreBatches, HasNoOffset, IsFirm, PassesBelow, PassesThrough}
 use Rattle.dw_units.specs.ByUnit.{IsMeasured, FailsAlone}
-use Rattle.dw_units.specs.IndependentBatches.{joined_batches, StaysInside, StandsAlone}
+use Rattle.dw_units.specs.IndependentBatches.{joined, StaysInside, StandsAlone}
 use Rattle.dw_units.specs.Counts.{AreCounts, sums}
 
 -- batches of these sizes are at the front of the bytes, and these bytes follow
@@ -40,26 +40,14 @@ Refer entries Never = EachEntry StaysInside entries × EachEntry HasNoOffset ent
 Refer entries ByOffset = EachEntry StaysInside entries
 Refer entries BySignature = Unit {0}
 
--- what is found is this fault of a batch alone, in the batch's place
-abbrev pub IsFoundAt : ℕ → Fault → Found → Type 0
-IsFoundAt at alone (found.Sound c) = ⊥
-IsFoundAt at alone (found.Fault fault) = IsMoved at alone fault
+-- this fault of a batch is what is found, and no unit of the batch is cut, so the bytes after it change nothing
+abbrev pub IsWhollyFound : Fault → Found → Type 0
+IsWhollyFound fault it = (it ≡ found.Fault fault) × (fault.rule ≢ UnitCut)
 
--- likewise, and no unit of the batch is cut, so the bytes after it change nothing
-abbrev pub IsWhollyFoundAt : ℕ → Fault → Found → Type 0
-IsWhollyFoundAt at alone it = IsFoundAt at alone it × (alone.rule ≢ UnitCut)
-
--- likewise, and it does not depend on the other units, by values that refer so
-abbrev pub IsFirmlyFoundAt : Elsewhere → ℕ → Fault → Found → Type 0
-IsFirmlyFoundAt elsewhere at alone it = IsFoundAt at alone it
-    × ((units : List DebugUnit) → Refer (entries_of units) elsewhere → IsFirm units alone.rule)
-
--- a rule fails on the entries of a batch, whatever the other units are: its first fault, in the batch's place
-pub record FailsInBatch (own : Sections) (units : List DebugUnit) (at : ℕ) (fault : Fault) : Type 0 where
-  pub alone : Fault
-  pub is_fault : IsFaultOf own alone
-  pub firm : IsFirm units alone.rule
-  pub place : IsMoved at alone fault
+-- this fault of a batch is what is found, and it does not depend on the other units, by values that refer so
+abbrev pub IsFirmlyFound : Elsewhere → Fault → Found → Type 0
+IsFirmlyFound elsewhere fault it = (it ≡ found.Fault fault)
+    × ((units : List DebugUnit) → Refer (entries_of units) elsewhere → IsFirm units fault.rule)
 
 -- a rule is less than what is found so far: there is no fault, or one of a later group
 abbrev pub IsLess : Found → Rule → Type 0
@@ -68,44 +56,42 @@ IsLess (found.Fault least) rule = group_of rule < group_of least.rule
 
 -- what is found after one batch more, which is sections of its own: it is sound like those before it; it has no fault
 -- that is less than theirs; or it has one
-pub data IsFoundAfter (own : Sections) (units : List DebugUnit) (at : ℕ) : (so_far more : Found) → Type 0 where
-  sound : (a b : Counts) → AreCounts own b → IsFoundAfter own units at (found.Sound a) (found.Sound (sums a b))
+pub data IsFoundAfter (own : Sections) (units : List DebugUnit) : (so_far more : Found) → Type 0 where
+  sound : (a b : Counts) → AreCounts own b → IsFoundAfter own units (found.Sound a) (found.Sound (sums a b))
   passes : (least : Fault) → PassBefore own units (group_of least.rule)
-      → IsFoundAfter own units at (found.Fault least) (found.Fault least)
-  fails : (so_far : Found) (fault : Fault) → IsLess so_far fault.rule → FailsInBatch own units at fault
-      → IsFoundAfter own units at so_far (found.Fault fault)
+      → IsFoundAfter own units (found.Fault least) (found.Fault least)
+  fails : (so_far : Found) (fault : Fault) → IsLess so_far fault.rule → IsFaultOf own fault → IsFirm units fault.rule
+      → IsFoundAfter own units so_far (found.Fault fault)
 
--- the fault is the least of these batches: of the first batch in the least group, in its place
+-- the fault is the least of these batches: of the first batch in the least group
 pub record HasLeast (s : Sections) (batches : List (List DebugUnit)) (fault : Fault) : Type 0 where
   pub before : List (List DebugUnit)
   pub units : List DebugUnit
   pub behind : List (List DebugUnit)
   pub group : Group
-  pub alone : Fault
   pub are : batches ≡ before ++ units ∷ behind
   pub measured : AllByRecursion (IsMeasured group) batches
   pub passed : AllByRecursion (PassesThrough s group) before
-  pub fails : FailsAlone s units group alone
+  pub fails : FailsAlone s units group fault
   pub below : AllByRecursion (PassesBelow s group) behind
-  pub place : IsMoved (length (units_bytes (joined_batches before))) alone fault
   pub rank : group_of fault.rule ≡ turn_of group
 
 -- the batches each stand alone, and these are the counts of their units
 pub record AreCounted (s : Sections) (batches : List (List DebugUnit)) (c : Counts) : Type 0 where
   pub alone : AllByRecursion (StandsAlone s) batches
-  pub unit_count : c.units ≡ length (joined_batches batches)
-  pub entry_count : c.entries ≡ length (entries_of (joined_batches batches))
-  pub type_count : c.types ≡ count_by is_type_entry (entries_of (joined_batches batches))
+  pub unit_count : c.units ≡ length (joined batches)
+  pub entry_count : c.entries ≡ length (entries_of (joined batches))
+  pub type_count : c.types ≡ count_by is_type_entry (entries_of (joined batches))
 
 -- this is found of the batches
 abbrev pub IsFoundOf : Sections → List (List DebugUnit) → Found → Type 0
 IsFoundOf s batches (found.Sound c) = AreCounted s batches c
 IsFoundOf s batches (found.Fault fault) = HasLeast s batches fault
 
--- batches have the bytes up to an offset, and this is found of them
+-- batches have the bytes from the base up to an offset, and this is found of them
 pub record IsFoundUpTo (s : Sections) (at : ℕ) (it : Found) : Type 0 where
   pub batches : List (List DebugUnit)
   pub apart : AreBatches s batches
-  pub within : at ≤ length s.info.now
-  pub bytes : take at s.info.now ≡ units_bytes (joined_batches batches)
+  pub at_is : at ≡ s.base + length (units_bytes (joined batches))
+  pub bytes : drop s.base s.info.now ≡ units_bytes (joined batches) ++ drop at s.info.now
   pub of_batches : IsFoundOf s batches it

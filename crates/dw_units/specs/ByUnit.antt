@@ -1,24 +1,22 @@
 -- Chapter: the first fault of sections whose batches refer to nothing outside themselves: of the first faults of the
--- batches alone the one of the least group, and in that group of the first batch, in the batch's place.
-use Rattle.std.specs.Prelude.{◌≡◌, ℕ, Bool, true, false, ◌+◌, ◌<◌, List, ◌∷◌, ◌++◌, length, map}
+-- batches alone the one of the least group, and in that group of the first batch.
+use Rattle.std.specs.Prelude.{◌≡◌, ℕ, Bool, true, false, ◌+◌, ◌<◌, List, ◌∷◌, ◌++◌, length, drop}
 use Rattle.std.specs.List.{AllByRecursion}
 use Rattle.dw_elf.specs.declared.sections.Sections.{Sections}
 use Rattle.dw_entries.specs.declared.fault.PlainFault.{PlainFault}
 use Rattle.dw_entries.specs.declared.fault.Fault.{Fault}
 use Rattle.dw_forms.specs.declared.rule.Rule.{Rule}
 use Rattle.dw_forms.specs.declared.rule.Rule.TheVariants.{NoEntry}
-use Rattle.dw_entries.specs.declared.fault.Section.{Section}
-use Rattle.dw_entries.specs.declared.fault.Section.TheVariants.{Abbrev, Info}
-use Rattle.dw_entries.specs.Units.{DebugUnit, AreUnits, units_bytes}
+use Rattle.dw_entries.specs.Units.{DebugUnit, AreUnits, AreFrom, units_bytes}
 use Rattle.dw_forms.specs.Value.{Datum, ref_info}
 use Rattle.dw_entries.specs.Entries.{Entry, entries_of}
 use Rattle.dw_entries.specs.EntryRules.{EachEntry, HasAttribute}
-use Rattle.dw_entries.specs.Failures.{HasNone, plain_fault_of}
+use Rattle.dw_entries.specs.Failures.{HasNone}
 use Rattle.dw_entries.specs.Faults.{Fails}
 use Rattle.dw_types.specs.SizeTables.{Size}
 use Rattle.dw_types.specs.Sizes.{IsSizeTable}
 use Rattle.dw_image.specs.FirstFault.{Group, sizes, turn_of, failures_of, IsFirstIn, FailsInTrees, IsFirstFault}
-use Rattle.dw_units.specs.IndependentBatches.{joined_batches, FollowFrom, StaysInside, HaveNoTypeUnit}
+use Rattle.dw_units.specs.IndependentBatches.{joined, StaysInside, HaveNoTypeUnit}
 
 -- none of the units is a type unit, and no value refers to a unit by its signature: but for offsets at which no entry
 -- of theirs starts, what is asked of them does not depend on the other units
@@ -30,7 +28,7 @@ pub record StaysAlone (s : Sections) (units : List DebugUnit) : Type 0 where
 -- the batches stay alone, and each begins where the one before it ends
 pub record AreBatches (s : Sections) (batches : List (List DebugUnit)) : Type 0 where
   pub stay : AllByRecursion (StaysAlone s) batches
-  pub follow : FollowFrom s.base batches
+  pub follow : AreFrom s.base (joined batches)
 
 -- a value that is an offset of .debug_info
 abbrev pub is_offset : Datum → Bool
@@ -45,27 +43,6 @@ HasNoOffset e = (position attribute : ℕ) (v : Datum) → HasAttribute e positi
 -- offset of .debug_info, one of another batch may
 abbrev pub IsFirm : List DebugUnit → Rule → Type 0
 IsFirm units rule = rule ≡ NoEntry → EachEntry HasNoOffset (entries_of units)
-
--- ---- the place of a fault
-
--- an offset of .debug_info moves with the batch, one of .debug_abbrev stays
-abbrev pub moved_offset : Section → (at : ℕ) → ℕ → ℕ
-moved_offset Abbrev at offset = offset
-moved_offset Info at offset = at + offset
-
--- the fault of a batch alone, in the batch's place
-abbrev pub moved_fault : ℕ → PlainFault → PlainFault
-moved_fault at broken = record {
-  rule = broken.rule;
-  section = broken.section;
-  at = moved_offset broken.section at broken.at;
-  attribute = broken.attribute;
-}
-
--- likewise with its cycle
-pub record IsMoved (at : ℕ) (alone fault : Fault) : Type 0 where
-  pub broken : plain_fault_of fault ≡ moved_fault at (plain_fault_of alone)
-  pub cycle : fault.cycle.items ≡ map (λ offset. at + offset) alone.cycle.items
 
 -- ---- the groups of rules
 
@@ -93,23 +70,22 @@ pub record FailsAlone (s : Sections) (units : List DebugUnit) (group : Group) (f
   pub firm : IsFirm units fault.rule
 
 -- the batches before pass through the group at which one fails, and those behind pass the earlier groups: then the
--- fault of that batch, in its place, is the first of the sections
+-- fault of that batch is the first of the sections
 abbrev pub FirstOfUnits : Type 0
 FirstOfUnits = (s : Sections) (before : List (List DebugUnit)) (units : List DebugUnit)
-    (behind : List (List DebugUnit)) (group : Group) (alone fault : Fault)
+    (behind : List (List DebugUnit)) (group : Group) (fault : Fault)
     → AreBatches s (before ++ units ∷ behind)
     → AllByRecursion (IsMeasured group) (before ++ units ∷ behind)
     → AllByRecursion (PassesThrough s group) before
-    → FailsAlone s units group alone
+    → FailsAlone s units group fault
     → AllByRecursion (PassesBelow s group) behind
-    → s.info.now ≡ units_bytes (joined_batches (before ++ units ∷ behind))
-    → IsMoved (length (units_bytes (joined_batches before))) alone fault
+    → drop s.base s.info.now ≡ units_bytes (joined (before ++ units ∷ behind))
     → IsFirstFault s fault
 
 -- whole units, and then bytes at which a rule of trees fails: it fails there in the sections
 abbrev pub TreesOfUnits : Type 0
 TreesOfUnits = (s : Sections) (before : List DebugUnit) (rest : List ℕ) (broken : PlainFault)
     → AreUnits s.«abbrev».now before
-    → s.info.now ≡ units_bytes before ++ rest
-    → Fails s.«abbrev».now rest broken
-    → FailsInTrees s (moved_fault (length (units_bytes before)) broken)
+    → drop s.base s.info.now ≡ units_bytes before ++ rest
+    → Fails s.«abbrev».now (s.base + length (units_bytes before)) rest broken
+    → FailsInTrees s broken

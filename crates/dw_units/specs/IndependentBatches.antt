@@ -1,6 +1,6 @@
 -- Chapter: batches of units that refer to nothing outside themselves. A batch is some units, one after another, as
 -- those that share an abbreviation table. If each batch is valid by itself, all are valid together.
-use Rattle.std.specs.Prelude.{◌≡◌, ℕ, ◌+◌, Bool, true, false, List, [], ◌∷◌, length, map, None}
+use Rattle.std.specs.Prelude.{◌≡◌, ℕ, Bool, true, false, List, None}
 use Rattle.std.specs.List.{AllByRecursion, flat_map}
 use Rattle.dw_elf.specs.declared.sections.Sections.{Sections}
 use Rattle.dw_forms.specs.declared.form.Form.{Form}
@@ -8,8 +8,7 @@ use Rattle.dw_forms.specs.declared.form.Form.TheVariants.{RefAddr, RefSig8, Indi
 use Rattle.dw_units.specs.declared.batches.Elsewhere.{Elsewhere}
 use Rattle.dw_units.specs.declared.batches.Elsewhere.TheVariants.{Never, ByOffset, BySignature}
 use Rattle.dw_forms.specs.Value.{Datum}
-use Rattle.dw_entries.specs.Units.{DebugUnit, AreUnits, HaveBase, units_bytes}
-use Rattle.dw_entries.specs.UnitLaws.{with_base}
+use Rattle.dw_entries.specs.Units.{DebugUnit, AreUnits, SpellsInfo}
 use Rattle.dw_entries.specs.Entries.{Entry, entries_of}
 use Rattle.dw_entries.specs.EntryRules.{EachEntry, HasAttribute}
 use Rattle.dw_entries.specs.Failures.{HasNone}
@@ -25,18 +24,8 @@ use Rattle.dw_types.specs.SizeTables.{Size}
 use Rattle.dw_image.specs.Valid.{HasSizes, IsValidBy}
 
 -- the units of batches, one after another
-abbrev pub joined_batches : List (List DebugUnit) → List DebugUnit
-joined_batches batches = flat_map (λ units. units) batches
-
--- all of .debug_info: the units of batches, from where that of the sections begins
-abbrev pub whole : Sections → List (List DebugUnit) → List DebugUnit
-whole s batches = map (with_base s.base) (joined_batches batches)
-
--- each batch begins where the one before it ends, and the first one here
-abbrev pub FollowFrom : ℕ → List (List DebugUnit) → Type 0
-FollowFrom base [] = Unit {0}
-FollowFrom base (units ∷ batches) =
-    HaveBase base units × FollowFrom (base + length (units_bytes units)) batches
+abbrev pub joined : List (List DebugUnit) → List DebugUnit
+joined batches = flat_map (λ units. units) batches
 
 -- no value of the entry refers to a unit by its signature (DWARF 5, 7.5.5)
 abbrev pub StaysInside : Entry → Type 0
@@ -46,7 +35,8 @@ StaysInside e = (position attribute : ℕ) (v : Datum) → HasAttribute e positi
 abbrev pub HaveNoTypeUnit : List DebugUnit → Type 0
 HaveNoTypeUnit units = AllByRecursion (λ (u : DebugUnit). type_unit_of u.header.kind ≡ None) units
 
--- the units are valid as all of .debug_info, none is a type unit, and no value refers to a unit by its signature
+-- the units are valid at their place, as if they were all, none is a type unit, and no value refers to a unit by its
+-- signature
 pub record StandsAlone (s : Sections) (units : List DebugUnit) : Type 0 where
   pub are : AreUnits s.«abbrev».now units
   pub classes : HasNone (ClassFailures units)
@@ -61,7 +51,7 @@ pub record StandsAlone (s : Sections) (units : List DebugUnit) : Type 0 where
 -- batches that each stand alone, one after another, are valid together
 abbrev pub JoinsUnits : Type 0
 JoinsUnits = (s : Sections) (batches : List (List DebugUnit)) → AllByRecursion (StandsAlone s) batches
-    → FollowFrom s.base batches → s.info.now ≡ units_bytes (joined_batches batches) → IsValidBy s (whole s batches)
+    → SpellsInfo s (joined batches) → IsValidBy s (joined batches)
 
 -- how a value in this form may refer to an entry of another unit: not at all; by an offset of .debug_info; or by a
 -- signature, or as the entry names the form

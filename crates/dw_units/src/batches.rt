@@ -1,7 +1,7 @@
 //! Batches of units that share an abbreviation table: whether each may be verified alone, and how the values of one may
 //! refer to entries of others.
 
-ghost use Rattle.std.specs.Prelude.{◌≡◌, ◌+◌, ◌<◌, ◌≤◌, [], None, IfOk, IfSome, length};
+ghost use Rattle.std.specs.Prelude.{◌≡◌, ◌+◌, ◌<◌, ◌≤◌, [], None, IfOk, IfSome, drop, length};
 ghost use Rattle.std.specs.Bool.{OnTrue, OnFalse};
 ghost use Rattle.dw_links.specs.Signatures.{type_unit_of};
 ghost use Rattle.dw_entries.specs.Views.{all_entries, units_of};
@@ -171,7 +171,7 @@ fn left_after(
     batch: &FirstBatch,
     budget: usize,
 ) -> Option<usize> {
-    if batch.size == sections.info.len() {
+    if batch.size == sections.info.len() - sections.base as usize {
         return None;
     }
     let most = if batch.has_several_units {
@@ -190,13 +190,14 @@ pub(crate) fn separate_batches(
     alloc: Global,
     sections: &Sections<'_>,
 ) -> Result<Option<Vec<usize>>, AllocError>
-    ensures { IfOk result (λ found. IfSome found (λ sizes. AreSizes sizes.items sections.now.info.now [])) }
+    ensures { IfOk result (λ found. IfSome found
+        (λ sizes. AreSizes sizes.items (drop sections.now.base sections.now.info.now) [])) }
 {
     if !ends_with_zero(sections.str) || !ends_with_zero(sections.line_str) {
         return Ok(None);
     }
     let mut sizes = Vec::new(alloc);
-    let mut rest = sections.info;
+    let mut rest = &sections.info[sections.base as usize..];
     let mut budget = sections.abbrev.len();
     let mut next = first_unit(sections.abbrev.len(), rest);
     while let Some(first) = next {

@@ -1,7 +1,7 @@
 //! The counts of sound sections or their first fault, batch after batch of units if they refer to nothing outside their
 //! batch.
 
-ghost use Rattle.std.specs.Prelude.{◌≡◌, ℕ, ◌+◌, ◌≤◌, List, length, map, take, drop, IfErr, IfOk, IfSome};
+ghost use Rattle.std.specs.Prelude.{◌+◌, ◌≤◌, List, length, take, drop, IfErr, IfOk, IfSome};
 ghost use Rattle.std.specs.Bool.{OnTrue};
 ghost use Rattle.dw_entries.specs.Entries.{entries_of};
 ghost use Rattle.dw_entries.specs.Faults.{Fails};
@@ -9,17 +9,17 @@ ghost use Rattle.dw_entries.specs.Stopped.{IfPlainFault};
 ghost use Rattle.dw_entries.specs.Units.{DebugUnit};
 ghost use Rattle.dw_entries.specs.Views.{all_entries, sections_of, units_of};
 ghost use Rattle.dw_units.specs.IndependentBatches.{JoinsUnits};
-ghost use Rattle.dw_units.specs.ByUnit.{FirstOfUnits, TreesOfUnits, IsFirm, moved_offset};
+ghost use Rattle.dw_units.specs.ByUnit.{FirstOfUnits, TreesOfUnits, IsFirm};
 ghost use Rattle.dw_units.specs.Counts.{IsFoundIn};
-ghost use Rattle.dw_units.specs.BatchSections.{IsFirmlyFoundAt, IsFoundAfter, IsFoundAt, IsFoundUpTo};
-ghost use Rattle.dw_units.specs.BatchSections.{IsWhollyFoundAt, Refer};
+ghost use Rattle.dw_units.specs.BatchSections.{IsFirmlyFound, IsFoundAfter, IsFoundUpTo};
+ghost use Rattle.dw_units.specs.BatchSections.{IsWhollyFound, Refer};
 
 use crate::batches::{Elsewhere, elsewhere_of, have_no_type_unit, separate_batches};
 use crate::counts::Counts;
 use dw_elf::Sections;
-use dw_entries::{Entries, Fault, Rule, Section, Stop, scan};
+use dw_entries::{Entries, Fault, Rule, Stop, scan};
 use dw_image::{NoMemory, Verdict, verify, verify_before, verify_scanned};
-use std::alloc::{AllocError, Global};
+use std::alloc::Global;
 
 /// How many bytes of memory `keep_memory` asks for.
 const KEPT: usize = 4 << 20;
@@ -41,69 +41,17 @@ pub enum Found {
     Fault(Fault),
 }
 
-/// An offset of a batch alone, in the batch's place. None if it exceeds u32.
-fn moved_offset(section: Section, at: u32, offset: u32) -> Option<u32>
-    ensures { IfSome result (λ n. n ≡ moved_offset section at offset) }
+/// The fault of a rule of trees in a batch is what is found. None if a unit is cut, which may go on after the batch.
+fn wholly_found(fault: Fault) -> Option<Found>
+    ensures { IfSome result (IsWhollyFound fault) }
 {
-    match section {
-        Section::Abbrev => Some(offset),
-        Section::Info => at.checked_add(offset),
+    match fault.rule {
+        Rule::UnitCut => None,
+        _ => Some(Found::Fault(fault)),
     }
 }
 
-/// The offsets of a cycle, in the batch's place. None if one exceeds u32.
-fn moved_cycle(alloc: Global, cycle: &[u32], at: u32) -> Result<Option<Vec<u32>>, AllocError>
-    ensures { IfOk result (λ found. IfSome found (λ moved. moved.items ≡ map (λ offset. at + offset) cycle.now)) }
-{
-    let mut moved = Vec::with_capacity(alloc, cycle.len())?;
-    for k in 0..cycle.len() {
-        let offset = match at.checked_add(cycle[k]) {
-            Some(offset) => offset,
-            None => return Ok(None),
-        };
-        moved.push(offset)?;
-    }
-    Ok(Some(moved))
-}
-
-/// The fault of a batch alone, in the batch's place, is what is found. None if an offset exceeds u32.
-fn found_at(alloc: Global, alone: &Fault, at: usize) -> Result<Option<Found>, NoMemory>
-    ensures { IfOk result (λ found. IfSome found (IsFoundAt at alone.now)) }
-{
-    if at > 0xffff_ffff {
-        return Ok(None);
-    }
-    let by = at as u32;
-    let place = match moved_offset(alone.section, by, alone.at) {
-        Some(place) => place,
-        None => return Ok(None),
-    };
-    let cycle = match moved_cycle(alloc, alone.cycle.as_slice(), by) {
-        Ok(Some(cycle)) => cycle,
-        Ok(None) => return Ok(None),
-        Err(_) => return Err(NoMemory),
-    };
-    Ok(Some(Found::Fault(Fault {
-        rule: alone.rule,
-        section: alone.section,
-        at: place,
-        attribute: alone.attribute,
-        cycle,
-    })))
-}
-
-/// The fault of a rule of trees in a batch, in the batch's place, is what is found. None also if a unit is cut, which
-/// may go on after the batch.
-fn wholly_found_at(alloc: Global, alone: &Fault, at: usize) -> Result<Option<Found>, NoMemory>
-    ensures { IfOk result (λ found. IfSome found (IsWhollyFoundAt at alone.now)) }
-{
-    if let Rule::UnitCut = alone.rule {
-        return Ok(None);
-    }
-    found_at(alloc, alone, at)
-}
-
-/// Whether the fault of a batch alone does not depend on the other units: where no entry of the batch is at an offset
+/// Whether the fault of a batch does not depend on the other units: where no entry of the batch is at an offset
 /// of .debug_info, one of another batch may be.
 fn is_firm(rule: Rule, elsewhere: Elsewhere) -> bool
     ensures { OnTrue result ((units : List DebugUnit) → Refer (entries_of units) elsewhere → IsFirm units rule) }
@@ -114,19 +62,14 @@ fn is_firm(rule: Rule, elsewhere: Elsewhere) -> bool
     }
 }
 
-/// The fault of a batch alone, in the batch's place, is what is found. None also if it depends on the other units.
-fn firmly_found_at(
-    alloc: Global,
-    alone: &Fault,
-    elsewhere: Elsewhere,
-    at: usize,
-) -> Result<Option<Found>, NoMemory>
-    ensures { IfOk result (λ found. IfSome found (IsFirmlyFoundAt elsewhere at alone.now)) }
+/// The fault of a batch is what is found. None if it depends on the other units.
+fn firmly_found(fault: Fault, elsewhere: Elsewhere) -> Option<Found>
+    ensures { IfSome result (IsFirmlyFound elsewhere fault) }
 {
-    if !is_firm(alone.rule, elsewhere) {
-        return Ok(None);
+    if !is_firm(fault.rule, elsewhere) {
+        return None;
     }
-    found_at(alloc, alone, at)
+    Some(Found::Fault(fault))
 }
 
 /// Verifies the entries of one batch more. If there is a least fault so far, only by the groups before its rule's.
@@ -135,11 +78,10 @@ fn verify_entries(
     so_far: Found,
     entries: Entries<'_>,
     elsewhere: Elsewhere,
-    at: usize,
 ) -> Result<Option<Found>, NoMemory>
     requires { Refer (all_entries entries) elsewhere }
     ensures { IfOk result (λ found. IfSome found
-        (IsFoundAfter (sections_of entries.entry) (units_of entries.entry) at so_far)) }
+        (IsFoundAfter (sections_of entries.entry) (units_of entries.entry) so_far)) }
 {
     match so_far {
         Found::Sound(counts) => match verify_scanned(alloc, entries)? {
@@ -147,18 +89,17 @@ fn verify_entries(
                 Some(sums) => Ok(Some(Found::Sound(sums))),
                 None => Ok(None),
             },
-            Verdict::Fault(alone) => firmly_found_at(alloc, &alone, elsewhere, at),
+            Verdict::Fault(fault) => Ok(firmly_found(fault, elsewhere)),
         },
         Found::Fault(least) => match verify_before(alloc, &entries, least.rule)? {
-            Some(alone) => firmly_found_at(alloc, &alone, elsewhere, at),
+            Some(fault) => Ok(firmly_found(fault, elsewhere)),
             None => Ok(Some(Found::Fault(least))),
         },
     }
 }
 
 /// Verifies one batch more, so many bytes from an offset of .debug_info, as sections of its own: what is found up to
-/// its end. An error is the fault of a rule of trees, placed as if the batch were the whole. None if what is found
-/// depends on the other units.
+/// its end. An error is the fault of a rule of trees. None if what is found depends on the other units.
 fn verify_next(
     alloc: Global,
     sections: &Sections<'_>,
@@ -170,7 +111,7 @@ fn verify_next(
     ensures found { IfOk result (λ found. IfSome found
         (λ more. IsFoundUpTo sections.now at so_far → IsFoundUpTo sections.now (at + size) more)) }
     ensures fault { IfErr result (IfPlainFault
-        (Fails sections.now.«abbrev».now (take size (drop at sections.now.info.now)))) }
+        (Fails sections.now.«abbrev».now at (take size (drop at sections.now.info.now)))) }
 {
     let own = sections.part(at, at + size);
     let entries = scan(alloc, &own)?;
@@ -181,7 +122,7 @@ fn verify_next(
     if let Elsewhere::BySignature = elsewhere {
         return Ok(None);
     }
-    match verify_entries(alloc, so_far, entries, elsewhere, at) {
+    match verify_entries(alloc, so_far, entries, elsewhere) {
         Ok(found) => Ok(found),
         Err(NoMemory) => Err(Stop::Memory),
     }
@@ -197,7 +138,7 @@ fn check_batches(alloc: Global, sections: &Sections<'_>) -> Result<Option<Found>
         None => return Ok(None),
     };
     keep_memory(alloc);
-    let mut at = 0;
+    let mut at = sections.base as usize;
     let mut so_far = Found::Sound(Counts {
         units: 0,
         entries: 0,
@@ -208,7 +149,7 @@ fn check_batches(alloc: Global, sections: &Sections<'_>) -> Result<Option<Found>
         so_far = match verify_next(alloc, sections, so_far, at, size) {
             Ok(Some(more)) => more,
             Ok(None) => return Ok(None),
-            Err(Stop::Fault(alone)) => return wholly_found_at(alloc, &alone, at),
+            Err(Stop::Fault(fault)) => return Ok(wholly_found(fault)),
             Err(Stop::Memory) => return Err(NoMemory),
         };
         at += size;
@@ -230,7 +171,7 @@ pub fn check(alloc: Global, sections: Sections<'_>) -> Result<Found, NoMemory>
     }
 }
 
-/// Batches that are each valid alone, at its base, and have no type unit and no value that refers to a unit by its
+/// Batches that are each valid alone, at its place, and have no type unit and no value that refers to a unit by its
 /// signature, are valid together.
 pub fn units_join()
     ensures { JoinsUnits }

@@ -8,8 +8,8 @@ loop-k-init c = (none_so_far c.args.sections.now, rw c.in-Some.is at c.in_ok-siz
 pub returns-in-Err-Fault : goal.returns-in-Err-Fault
 returns-in-Err-Fault c =
     found_by_trees c.args.sections.now c.loop-k.at c.loop-k.so_far c.loop-k.invariant.0 c.index-size.result.now
-    c.in-Err-Fault.alone (rw c.in-Err-Fault.field-0-is at c.in-Err-Fault.ensures.fault) c.wholly_found_at.result
-    (rw c.in-Err-Fault.field-0-is at c.wholly_found_at.ensures)
+    c.in-Err-Fault.fault (rw c.in-Err-Fault.field-0-is at c.in-Err-Fault.ensures.fault) c.wholly_found.result
+    (rw c.in-Err-Fault.field-0-is at c.wholly_found.ensures)
 
 pub returns : goal.returns
 returns c =

@@ -17,21 +17,21 @@ returns-in-Some c =
 
 pub returns-in-Sound : goal.returns-in-Sound
 returns-in-Sound c =
-    let judged : IsFaultOf (sections_of c.args.entries) c.in-Fault-2.alone =
+    let judged : IsFaultOf (sections_of c.args.entries) c.in-Fault-2.fault =
     rw c.in-Fault-2.is at c.in_ok-image-in-Sound.ensures in
-    fault_after (sections_of c.args.entries) (units_of c.args.entries) c.args.at c.args.so_far c.in-Fault-2.alone
-    c.args.elsewhere c.requires judged (rw c.in-Sound.is tt) c.firmly_found_at.result c.firmly_found_at.ensures
+    fault_after (sections_of c.args.entries) (units_of c.args.entries) c.args.so_far c.in-Fault-2.fault
+    c.args.elsewhere c.requires judged (rw c.in-Sound.is tt) c.firmly_found.result c.firmly_found.ensures
 
 pub returns-in-Some-2 : goal.returns-in-Some-2
 returns-in-Some-2 c =
-    let judged : FailsBefore (sections_of c.args.entries) (group_of c.in-Fault.least.rule) c.in-Some-2.alone =
-    rw c.in-Some-2.is at c.in_ok-alone-in-Fault.ensures in
-    fault_after (sections_of c.args.entries) (units_of c.args.entries) c.args.at c.args.so_far c.in-Some-2.alone
-    c.args.elsewhere c.requires judged.is_fault (rw c.in-Fault.is judged.early) c.firmly_found_at-in-Some-2.result
-    c.firmly_found_at-in-Some-2.ensures
+    let judged : FailsBefore (sections_of c.args.entries) (group_of c.in-Fault.least.rule) c.in-Some-2.fault =
+    rw c.in-Some-2.is at c.in_ok-fault-in-Fault.ensures in
+    fault_after (sections_of c.args.entries) (units_of c.args.entries) c.args.so_far c.in-Some-2.fault
+    c.args.elsewhere c.requires judged.is_fault (rw c.in-Fault.is judged.early) c.firmly_found-in-Some-2.result
+    c.firmly_found-in-Some-2.ensures
 
 pub returns : goal.returns
 returns c =
     let passed : PassBefore (sections_of c.args.entries) (units_of c.args.entries) (group_of c.in-Fault.least.rule) =
-    rw c.in-None-2.is at c.in_ok-alone-in-Fault.ensures in
+    rw c.in-None-2.is at c.in_ok-fault-in-Fault.ensures in
     rw c.in-Fault.is (passes c.in-Fault.least passed)
