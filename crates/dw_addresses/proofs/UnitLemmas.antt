@@ -9,7 +9,7 @@ use Rattle.dw_entries.specs.Header.{IsSize}
 use Rattle.dw_entries.specs.UnitLaws.{unit_sized}
 use Rattle.dw_entries.specs.Units.{DebugUnit}
 use Rattle.dw_entries.specs.Views.{all_entries, all_units, units_of}
-use Rattle.dw_entries.proofs.EntryFacts.{length-placed_from, placed_get, first_entry}
+use Rattle.dw_entries.proofs.EntryFacts.{length-placed, unit_placed, first_entry}
 use Rattle.dw_entries.proofs.Firsts.{same_some}
 use Rattle.dw_entries.proofs.HeadLaws.{all_get}
 use Rattle.dw_ranges.specs.EntryRanges.{head_in}
@@ -20,7 +20,7 @@ module _ (entries : Entries) (number : ℕ) (below : number < length (units_of e
   unit_there : slice_get (all_units entries) number ≡ Some (placed_of (all_units entries) number)
   unit_there =
       slice_get-get_or (all_units entries) number no_placed
-      (omega (arith, below, length-placed_from 0 0 (units_of entries)))
+      (omega (arith, below, length-placed (units_of entries)))
 
   -- its first entry is there
   pub first_within : (head_in entries number).first < length (all_entries entries)
@@ -35,7 +35,7 @@ module _ (entries : Entries) (number : ℕ) (below : number < length (units_of e
       let us = units_of entries in
       let u = unit_of us number in
       let is_u = slice_get-get_or us number no_unit below in
-      let (q, is_q, same) = placed_get 0 0 us number u is_u in
+      let (q, is_q, same) = unit_placed us number u is_u in
       let one : q ≡ placed_of (all_units entries) number =
       same_some (slice_get (placed us) number) q (placed_of (all_units entries) number) is_q unit_there in
       let unit : u ≡ (placed_of (all_units entries) number).unit =
