@@ -13,7 +13,7 @@ use Rattle.dw_entries.specs.EntryRules.{value_of, values_of}
 use Rattle.dw_entries.specs.Entries.{Entry}
 use Rattle.dw_entries.specs.ByNumber.{no_entry, entry_of}
 use Rattle.dw_entries.specs.Grammar.{AreAttributes, Attribute, Context}
-use Rattle.dw_entries.proofs.HeadLaws.{head_stands}
+use Rattle.dw_entries.proofs.HeadLaws.{head_fits}
 use Rattle.dw_image.specs.declared.image.Image.{Image}
 use Rattle.dw_image.specs.Images.{entries_in, entry_count, units_in}
 use Rattle.dwv_c.specs.Tables.{values_before}
@@ -44,7 +44,7 @@ values_declared : (i : Image) (id : ℕ) (e : Entry) → slice_get (entries_in i
     → length e.head.decl.attributes ≡ length (values_of e.head)
 unfolding units_in
 values_declared i id e is =
-    let stands = head_stands _ _ (units_in i) id e i.entries.scanned.1.spells is in
+    let stands = head_fits _ _ (units_in i) id e i.entries.scanned.1.spells is in
     as_many _ e.head.decl.attributes e.head.attributes stands.is.attributes
     ∙ sym (length-map e.head.attributes value_of)
 
