@@ -12,7 +12,7 @@ use Rattle.dw_forms.specs.Elements.{SpellsElement}
 use Rattle.dw_forms.specs.Formats.{Format, nothing, failing, choose, found, tested}
 use Rattle.dw_forms.specs.ListFormats.{SpellsEach}
 use Rattle.dw_forms.specs.Readers.{takes}
-use Rattle.dw_forms.proofs.SpelledLists.{some_is, never_none}
+use Rattle.dw_forms.proofs.SizeLaws.{some_is, never_none}
 
 -- ---- what the tests of a format say of a value that is spelled
 

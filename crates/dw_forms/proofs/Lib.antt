@@ -1,8 +1,10 @@
+pub mod ReadAnswers
 pub mod FewBytes
 pub mod SpellingSteps
 pub mod AbbrevSteps
 pub mod Texts
 pub mod Places
+pub mod SizeLaws
 pub mod SpelledLists
 pub mod DeclLaws
 pub mod TableLaws
@@ -30,7 +32,6 @@ pub mod StartLaws
 pub mod OwnBits
 pub mod AllowedForms
 pub mod FewAttributes
-pub mod ValueAnswers
 pub mod PassSteps
 pub mod PassTurns
 pub mod SuffixLaws

@@ -1,24 +1,23 @@
 -- Values are passed run by run: from one value of no one size to the next.
 use Rattle.std.proofs.lemmas.Grind.{common_steps}
-use Rattle.std.proofs.Common.{◌≡◌, ℕ, ◌+◌, ◌<◌, ◌≤◌, ◌⊎◌, Bool, true, false, ltb, List, [], ◌∷◌, ◌++◌, length, drop, Option, Some, None, Result, Ok, Err, inl, inr, refl, sym, ap, ◌∙◌, rules, arith}
+use Rattle.std.proofs.Common.{◌≡◌, ℕ, ◌+◌, ◌⊎◌, false, List, [], ◌∷◌, ◌++◌, Option, Some, None, Result, Ok, Err, inl, inr, refl, sym, ap, ◌∙◌, rules, arith}
 use Rattle.std.specs.Prelude.{is_none}
 use Rattle.std.specs.Option.{unwrap_or}
 use Rattle.std.specs.List.{list_any}
-use Rattle.std.proofs.lemmas.Bool.{lt-ltb, le-ltb, ltb-true, ltb-false, or_parts}
+use Rattle.std.proofs.lemmas.Bool.{ltb-true, ltb-false, or_parts}
 use Rattle.std.proofs.lemmas.List.{drop-drop, length-drop, map-append}
 use Rattle.std.proofs.lemmas.List.Sums.{sum_by-cons}
 use Rattle.dw_forms.specs.declared.form.Form.{Form}
 use Rattle.dw_forms.specs.declared.form.Form.TheVariants as form
 use Rattle.dw_forms.specs.declared.value.ValueFault.{ValueFault}
-use Rattle.dw_forms.specs.declared.value.ValueFault.TheVariants.{Cut}
 use Rattle.dw_forms.specs.declared.abbrev.AttributeSpec.{AttributeSpec}
 use Rattle.dw_forms.specs.declared.attribute_lists.Node.{Node}
 use Rattle.dw_forms.specs.Chains.{Numbered, items_of}
 use Rattle.dw_forms.specs.AttributeLists.{Knows, EndsWith, known_with, varies, list_in}
 use Rattle.dw_forms.specs.Steps.{◌>>=◌}
 use Rattle.dw_forms.specs.Sizes.{fixed_size_of, rest_at}
-use Rattle.dw_forms.specs.SizeLaws.{rest_skips, rest_cuts}
 use Rattle.dw_forms.specs.KnownValues.{known_size, does_vary, known_sum, rest_beyond, values_end}
+use Rattle.dw_forms.proofs.SizeLaws.{cut_short, cut_long, rest_cut}
 
 -- ---- a form that does not vary has one size
 
@@ -35,27 +34,8 @@ has_size f size e = some_is (fixed_size_of size f) (vary_same f size ∙ e)
 
 -- ---- bytes that are cut off one after another
 
-cut_short : (len : ℕ) (bytes : List ℕ) → length bytes < len → rest_beyond len bytes ≡ Err Cut
-cut_short len bytes lt = rw (lt-ltb _ _ lt) refl
-
-cut_long : (len : ℕ) (bytes : List ℕ) → len ≤ length bytes → rest_beyond len bytes ≡ Ok (drop len bytes)
-cut_long len bytes le = rw (le-ltb _ _ le) refl
-
 cut_cut : (m n : ℕ) (bytes : List ℕ) → (rest_beyond m bytes >>= λ rest. rest_beyond n rest) ≡ rest_beyond (m + n) bytes
 cut_cut m n bytes = search (rules, ltb-true, cut_short, length-drop, ltb-false, cut_long, drop-drop)
-
-rest_cut : (version : ℕ) (f : Form) (size : ℕ) (bytes : List ℕ) → does_vary f ≡ false
-    → rest_at version f size bytes ≡ rest_beyond (known_size size f) bytes
-rest_cut version f size bytes e = by_length (ltb (length bytes) (known_size size f)) refl
-  where
-    by_length : (b : Bool) → ltb (length bytes) (known_size size f) ≡ b
-        → rest_at version f size bytes ≡ rest_beyond (known_size size f) bytes
-    by_length true lt =
-        rest_cuts version f size (known_size size f) bytes (has_size f size e) (ltb-true _ _ lt)
-        ∙ sym (cut_short (known_size size f) bytes (ltb-true _ _ lt))
-    by_length false le =
-        rest_skips version f size (known_size size f) bytes (has_size f size e) (ltb-false _ _ le)
-        ∙ sym (cut_long (known_size size f) bytes (ltb-false _ _ le))
 
 -- ---- a run of values that have one size each
 
@@ -77,7 +57,7 @@ run_ends version size (spec ∷ specs) bytes e =
     bind_on (rest_at version spec.form size bytes) (λ rest. values_end version size specs rest)
     (λ rest. rest_beyond (known_sum size specs) rest) (λ rest. run_ends version size specs rest e.1)
     ∙ ap (λ (q : Result (List ℕ) ValueFault). q >>= λ rest. rest_beyond (known_sum size specs) rest)
-    (rest_cut version spec.form size bytes e.0)
+    (rest_cut version spec.form size (known_size size spec.form) bytes (has_size spec.form size e.0))
     ∙ cut_cut (known_size size spec.form) (known_sum size specs) bytes
     ∙ ap (λ (n : ℕ). rest_beyond n bytes) (sym (sum_by-cons (λ (s : AttributeSpec). known_size size s.form) spec specs))
 

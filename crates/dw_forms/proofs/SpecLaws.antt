@@ -1,5 +1,5 @@
 -- Each attribute that is kept, and those of the declarations.
-use Rattle.std.proofs.Common.{◌≡◌, ℕ, zero, suc, ◌<◌, List, [], ◌∷◌, length, map, Option, Some, None, sym, ap, subst, ◌∙◌, arith}
+use Rattle.std.proofs.Common.{◌≡◌, ℕ, zero, suc, ◌<◌, List, [], ◌∷◌, length, map, Some, sym, ap, subst, ◌∙◌, arith}
 use Rattle.std.specs.Prelude.{All, Contains, get_or, slice_get}
 use Rattle.std.proofs.lemmas.List.{length-map, get_or-map}
 use Rattle.std.proofs.lemmas.List.Elements.{All-nil, All-cons}
@@ -12,6 +12,7 @@ use Rattle.dw_forms.specs.AttributeLists.{spec_of, specs_of, numbered_in}
 use Rattle.dw_forms.specs.Chains.{Numbered, items_of, item_of, AreNumbered}
 use Rattle.dw_forms.specs.KeptDecls.{kept_view, decl_of}
 use Rattle.dw_forms.proofs.ChainLaws.{are_numbered}
+use Rattle.dw_forms.proofs.SizeLaws.{some_is, never_none}
 
 pub spec_read : (nodes : List Node) (number : ℕ) (n : Node) → number < length nodes → n ≡ get_or nodes number n
     → slice_get (map spec_of nodes) number ≡ Some (spec_of n)
@@ -24,17 +25,11 @@ spec_read nodes number n within read =
 abbrev Kept : List Node → AttributeSpec → Type 0
 Kept nodes spec = Contains (map spec_of nodes) spec
 
-apart : {X : Type 0} → (x : X) → ◌≡◌ {A = Option X} None (Some x) → ⊥
-apart x e = cc
-
-some_is : {X : Type 0} → (x y : X) → ◌≡◌ {A = Option X} (Some x) (Some y) → x ≡ y
-some_is x y e = cc
-
 number_kept : (nodes : List Node) (number : ℕ) (spec : AttributeSpec) → item_of (specs_of nodes) number ≡ Some spec
     → Kept nodes spec
-number_kept nodes zero spec is = absurd (apart spec is)
-number_kept [] (suc n) spec is = absurd (apart spec is)
-number_kept (x ∷ nodes) (suc zero) spec is = (0, omega arith, some_is (spec_of x) spec is)
+number_kept nodes zero spec is = absurd (never_none is)
+number_kept [] (suc n) spec is = absurd (never_none is)
+number_kept (x ∷ nodes) (suc zero) spec is = (0, omega arith, some_is is)
 number_kept (x ∷ nodes) (suc (suc n)) spec is =
     let (k, within, same) = number_kept nodes (suc n) spec is in
     (suc k, omega (arith, within), same)
@@ -48,9 +43,9 @@ list_kept nodes (n ∷ list) are =
 
 kept_of : (nodes : List Node) (kept : List KeptDecl) (number : ℕ) (d : Declaration) → decl_of nodes kept number ≡ Some d
     → (k : KeptDecl) × (kept_view nodes k ≡ d)
-kept_of nodes kept zero d is = absurd (apart d is)
-kept_of nodes [] (suc n) d is = absurd (apart d is)
-kept_of nodes (k ∷ kept) (suc zero) d is = (k, some_is (kept_view nodes k) d is)
+kept_of nodes kept zero d is = absurd (never_none is)
+kept_of nodes [] (suc n) d is = absurd (never_none is)
+kept_of nodes (k ∷ kept) (suc zero) d is = (k, some_is is)
 kept_of nodes (k ∷ kept) (suc (suc n)) d is = kept_of nodes kept (suc n) d is
 
 pub decl_specs : (nodes : List Node) (kept : List KeptDecl) (number : ℕ) (d : Declaration)

@@ -7,18 +7,10 @@ use Rattle.dw_forms.specs.Elements.{NextOf}
 use Rattle.dw_forms.specs.Front.{Takes}
 use Rattle.dw_forms.specs.Keys.{Lacks, apart_cons, apart_first, apart_rest}
 use Rattle.dw_forms.specs.ListFormats.{SpellsList, FailsAfter, ReadsNext, list_from, list_of, list_again, list_format}
-use Rattle.dw_forms.specs.Readers.{read_is, not_both, takes, joined}
+use Rattle.dw_forms.specs.Readers.{not_both, takes, joined}
 use Rattle.dw_forms.specs.Stops.{FailsOrMemory}
-
-pub pair_is : {X E : Type 0} {x y : X} {a b : List ℕ} → ◌≡◌ {A = Result (X × List ℕ) E} (Ok (x, a)) (Ok (y, b))
-    → (x ≡ y) × (a ≡ b)
-pair_is {X} e = let same = read_is e in (ap (λ (p : X × List ℕ). p.0) same, ap (λ (p : X × List ℕ). p.1) same)
-
-pub some_is : {X : Type 0} {x y : X} → ◌≡◌ {A = Option X} (Some x) (Some y) → x ≡ y
-some_is e = cc
-
-pub never_none : {X : Type 0} {x : X} → ◌≡◌ {A = Option X} None (Some x) → ⊥
-never_none e = cc
+use Rattle.dw_forms.specs.WithBytes.{ok_pair}
+use Rattle.dw_forms.proofs.SizeLaws.{some_is, never_none}
 
 -- the next element, or the end, is at the front of the bytes
 pub taken : {X E : Type 0} {key : X → ℕ} {Spells : List ℕ → X → Type 0} {End : List ℕ → Type 0}
@@ -59,13 +51,13 @@ module _ {X E : Type 0} {key : X → ℕ} {Spells : List ℕ → X → Type 0} {
       → bytes ≡ text ++ rest → Whole text all → IsLess x after rest all
   less_by bytes after rest x [] text e parts u =
       absurd (never_none
-      (pair_is (sym ((h.is_reader []).again text rest None u.spelled) ∙ sym (ap (next []) parts) ∙ e)).0)
+      (ok_pair _ _ _ _ (sym ((h.is_reader []).again text rest None u.spelled) ∙ sym (ap (next []) parts) ∙ e)).0)
   less_by bytes after rest x (y ∷ ys) text e parts u =
       let p = u.spelled in
       let regrouped : text ++ rest ≡ p.0 ++ (p.1 ++ rest) = ap (λ (t : List ℕ). t ++ rest) p.2
       ∙ append_assoc p.0 p.1 rest in
       let first = (h.is_reader []).again p.0 (p.1 ++ rest) (Some y) (p.3, λ k z lt. absurd (omega arith)) in
-      let same = pair_is (sym first ∙ ap (next []) (sym (parts ∙ regrouped)) ∙ e) in
+      let same = ok_pair _ _ _ _ (sym first ∙ ap (next []) (sym (parts ∙ regrouped)) ∙ e) in
       let is : y ≡ x = some_is same.0 in
       record {
         items = ys;
@@ -96,7 +88,7 @@ module _ {X E : Type 0} {key : X → ℕ} {Spells : List ℕ → X → Type 0} {
       → list_of next cut after ≡ Ok (xs, rest) → (Lacks key (key x) xs → ⊥) → NoList bytes
   none_twice bytes after rest x xs e is twice =
       λ all end whole. let l = list_less bytes after end x all e whole in
-      twice (subst (Lacks key (key x)) (pair_is (sym l.list ∙ is)).0 l.lacks)
+      twice (subst (Lacks key (key x)) (ok_pair _ _ _ _ (sym l.list ∙ is)).0 l.lacks)
 
 module _ {X E : Type 0} (next : List X → List ℕ → Result (Option X × List ℕ) E) (cut : E) where
   -- at the end the list is empty

@@ -1,19 +1,17 @@
 -- Chapter: the formats that others are made of: one byte, so many bytes, a number of so many bytes, text up to a zero
 -- byte, and LEB128 numbers.
 use Rattle.std.proofs.Common.{◌≡◌, ℕ, zero, suc, ◌<◌, false, cond, ltb, List, [], ◌∷◌, ◌++◌, length, take, drop}
-use Rattle.std.proofs.Common.{Result, Ok, Err, refl, sym, ap, ◌∙◌, All, append_assoc, arith}
+use Rattle.std.proofs.Common.{Result, Ok, Err, refl, sym, ap, ◌∙◌, inl, inr, All, append_assoc, arith}
 use Rattle.std.specs.Prelude.{MatchResult, ℤ}
 use Rattle.byteorder.specs.Endian.{little_number}
-use Rattle.std.proofs.lemmas.Bool.{ltb-true, ltb-false, lt-ltb, le-ltb}
+use Rattle.std.proofs.lemmas.Bool.{lt-ltb, le-ltb, cases_lt}
 use Rattle.std.proofs.lemmas.List.{take_at, drop_at, take-append-drop, length-take, length-append}
 use Rattle.std.proofs.lemmas.List.Elements.{All-nil, All-cons, All-head, All-tail}
 use Rattle.dw_forms.specs.declared.leb.NumberFault.{NumberFault}
 use Rattle.dw_forms.specs.Formats.{Format, mapped}
-use Rattle.dw_forms.specs.Front.{BeginsWith, Takes}
-use Rattle.dw_forms.specs.Leb.{Uleb, Sleb, UlebFails, SlebFails}
-use Rattle.dw_forms.specs.LebReading.{uleb_at, sleb_at}
-use Rattle.dw_forms.specs.LebLaws.{uleb_says, uleb_again, uleb_refuses, sleb_says, sleb_again, sleb_refuses}
-use Rattle.dw_forms.specs.StepLaws.{bind_says, cond_says}
+use Rattle.dw_forms.specs.Front.{Takes}
+use Rattle.dw_forms.specs.LebLaws.{leb, unsigned, signed}
+use Rattle.dw_forms.specs.Readers.{HasFront, reader_of}
 use Rattle.dw_forms.specs.Steps.{◌>>=◌}
 
 -- ---- one byte
@@ -58,19 +56,19 @@ abbrev pub IsTooShort : {E : Type 0} → E → ℕ → List ℕ → E → Type 0
 IsTooShort cut size bytes e = (length bytes < size) × (e ≡ cut)
 
 module _ {E : Type 0} (cut : E) (size : ℕ) where
-  pub taken_says : (bytes : List ℕ)
-      → MatchResult (taken_at cut size bytes) (λ (x : List ℕ × List ℕ). Takes (Exactly size) bytes x.0 x.1)
-      (IsTooShort cut size bytes)
-  unfolding taken_at
-  taken_says bytes =
-      cond_says (ltb (length bytes) size) _ _ (λ (x : List ℕ × List ℕ). Takes (Exactly size) bytes x.0 x.1)
-      (IsTooShort cut size bytes)
-      (λ short. (ltb-true _ _ short, refl))
-      (λ long. record {
+  pub taken_front : (bytes : List ℕ) → HasFront (Exactly size) (IsTooShort cut size) bytes
+  taken_front bytes = elim (cases_lt (length bytes) size) [
+    | inl short ↦ inr (cut, (short, refl))
+    | inr long ↦ inl (
+      take size bytes,
+      drop size bytes,
+      record {
         text = take size bytes;
         parts = sym (take-append-drop size bytes);
-        spelled = record { same = refl; wide = let fits = ltb-false _ _ long in omega (arith, length-take size bytes) };
-      })
+        spelled = record { same = refl; wide = omega (arith, long, length-take size bytes) };
+      },
+    )
+  ]
 
   pub taken_again : (text rest content : List ℕ) → Exactly size text content
       → taken_at cut size (text ++ rest) ≡ Ok (content, rest)
@@ -90,7 +88,8 @@ module _ {E : Type 0} (cut : E) (size : ℕ) where
     read = taken_at cut size;
     Spells = Exactly size;
     Fails = IsTooShort cut size;
-    is_reader = record { says = taken_says; again = taken_again };
+    is_reader = reader_of (taken_at cut size) (Exactly size) (IsTooShort cut size) taken_again taken_refuses
+        taken_front;
     refuses = taken_refuses;
   }
 
@@ -127,19 +126,21 @@ module _ {E : Type 0} (cut : E) where
     };
   }
 
-  pub text_says : (bytes : List ℕ)
-      → MatchResult (null_terminated_at cut bytes) (λ (x : List ℕ × List ℕ). Takes Ended bytes x.0 x.1)
-      (TextFails cut bytes)
-  unfolding null_terminated_at
-  text_says [] = (All-nil (λ b. 0 < b), refl)
-  text_says (zero ∷ bytes) =
-      record { text = 0 ∷ []; parts = refl; spelled = record { parts = refl; none_before = All-nil (λ b. 0 < b) } }
-  text_says (suc b ∷ bytes) =
-      bind_says (null_terminated_at cut bytes) (λ t. Ok (suc b ∷ t.0, t.1))
-      (λ (x : List ℕ × List ℕ). Takes Ended bytes x.0 x.1) (TextFails cut bytes)
-      (λ (x : List ℕ × List ℕ). Takes Ended (suc b ∷ bytes) x.0 x.1) (TextFails cut (suc b ∷ bytes))
-      (text_says bytes) (λ t h. text_takes b bytes t.0 t.1 h)
-      (λ f h. (All-cons (λ c. 0 < c) (suc b) bytes (omega arith) h.0, h.1))
+  pub text_front : (bytes : List ℕ) → HasFront Ended (TextFails cut) bytes
+  text_front [] = inr (cut, (All-nil (λ b. 0 < b), refl))
+  text_front (zero ∷ bytes) = inl (
+    [],
+    bytes,
+    record {
+      text = 0 ∷ [];
+      parts = refl;
+      spelled = record { parts = refl; none_before = All-nil (λ b. 0 < b) };
+    },
+  )
+  text_front (suc b ∷ bytes) = elim (text_front bytes) [
+    | inl (content, rest, t) ↦ inl (suc b ∷ content, rest, text_takes b bytes content rest t)
+    | inr (e, h) ↦ inr (e, (All-cons (λ c. 0 < c) (suc b) bytes (omega arith) h.0, h.1))
+  ]
 
   ended_again : (content rest : List ℕ) → All (λ b. 0 < b) content
       → null_terminated_at cut (content ++ (0 ∷ rest)) ≡ Ok (content, rest)
@@ -170,49 +171,16 @@ module _ {E : Type 0} (cut : E) where
     read = null_terminated_at cut;
     Spells = Ended;
     Fails = TextFails cut;
-    is_reader = record { says = text_says; again = text_again };
+    is_reader = reader_of (null_terminated_at cut) Ended (TextFails cut) text_again text_refuses text_front;
     refuses = text_refuses;
   }
 
 -- ---- numbers
 
--- a number and the bytes after it
-abbrev pub number_after : {V : Type 0} → List ℕ → Result (V × ℕ) NumberFault → Result (V × List ℕ) NumberFault
-number_after bytes (Ok r) = Ok (r.0, drop r.1 bytes)
-number_after bytes (Err f) = Err f
-
-pub after_says : {V : Type 0} (Spells : List ℕ → V → Type 0) (Fails : List ℕ → NumberFault → Type 0) (bytes : List ℕ)
-    (r : Result (V × ℕ) NumberFault)
-    → MatchResult r (λ (x : V × ℕ). BeginsWith Spells bytes x.0 x.1) (Fails bytes)
-    → MatchResult (number_after bytes r) (λ (x : V × List ℕ). Takes Spells bytes x.0 x.1) (Fails bytes)
-after_says Spells Fails bytes (Ok r) h =
-    record { text = take r.1 bytes; parts = sym (take-append-drop r.1 bytes); spelled = h.spelled }
-after_says Spells Fails bytes (Err f) h = h
-
 -- an unsigned LEB128 number
 abbrev pub uleb : Format ℕ NumberFault
-uleb = record {
-  read = λ bytes. number_after bytes (uleb_at bytes);
-  Spells = Uleb;
-  Fails = UlebFails;
-  is_reader = record {
-    says = λ bytes. after_says Uleb UlebFails bytes (uleb_at bytes) (uleb_says bytes);
-    again = λ text rest n u. rw (uleb_again (text ++ rest) text rest n refl u, drop_at text rest (length text) refl)
-        refl;
-  };
-  refuses = λ bytes f h. ap (number_after bytes) (uleb_refuses bytes f h);
-}
+uleb = leb unsigned
 
 -- a signed LEB128 number
 abbrev pub sleb : Format ℤ NumberFault
-sleb = record {
-  read = λ bytes. number_after bytes (sleb_at bytes);
-  Spells = Sleb;
-  Fails = SlebFails;
-  is_reader = record {
-    says = λ bytes. after_says Sleb SlebFails bytes (sleb_at bytes) (sleb_says bytes);
-    again = λ text rest n u. rw (sleb_again (text ++ rest) text rest n refl u, drop_at text rest (length text) refl)
-        refl;
-  };
-  refuses = λ bytes f h. ap (number_after bytes) (sleb_refuses bytes f h);
-}
+sleb = leb signed

@@ -1,13 +1,12 @@
 -- Chapter: the next element of a list, or its end, as a format. No key is there twice.
-use Rattle.std.proofs.Common.{◌≡◌, ◌≢◌, ℕ, ◌<◌, ◌==◌, Bool, false, cond, List, ◌++◌, length, Option, Some, None}
-use Rattle.std.proofs.Common.{Result, Ok, Err, refl, sym, ap, subst, ◌∙◌, append_assoc}
-use Rattle.std.specs.Prelude.{MatchResult, All, Any}
+use Rattle.std.proofs.Common.{◌≡◌, ◌≢◌, ℕ, ◌<◌, ◌==◌, Bool, true, false, cond, List, ◌++◌, length, Option, Some, None}
+use Rattle.std.proofs.Common.{Result, Ok, Err, refl, sym, ap, subst, ◌∙◌, inl, inr, append_assoc}
+use Rattle.std.specs.Prelude.{All, Any}
 use Rattle.std.specs.List.{list_any}
 use Rattle.dw_forms.specs.Formats.{Format}
 use Rattle.dw_forms.specs.Front.{Takes}
 use Rattle.dw_forms.specs.Keys.{Lacks, lacks_from, lacks_test, any_from, any_test}
-use Rattle.dw_forms.specs.Readers.{reads_on, joined}
-use Rattle.dw_forms.specs.StepLaws.{bind_says, cond_says}
+use Rattle.dw_forms.specs.Readers.{HasFront, front_of, reader_of, reads_on, joined}
 use Rattle.dw_forms.specs.Steps.{◌>>=◌, on_option}
 
 -- what a list is made of: what an element begins with, or the end of the list; the rest of the element; and its key
@@ -80,29 +79,23 @@ module _ {H X E : Type 0} (of : Elements H X E) (earlier : List X) where
     );
   }
 
-  rest_says : (bytes : List ℕ) (o : Option H) (rest : List ℕ) → Takes of.head.Spells bytes o rest
-      → MatchResult (on_option o (Ok (None, rest)) (λ h. rest_after_head h rest))
-      (λ (x : Option X × List ℕ). Takes Next bytes x.0 x.1) (NextFails of earlier bytes)
-  rest_says bytes None rest t = record { text = t.text; parts = t.parts; spelled = t.spelled }
-  rest_says bytes (Some h) rest t =
-      cond_says (is_known h) _ _ (λ (x : Option X × List ℕ). Takes Next bytes x.0 x.1) (NextFails of earlier bytes)
-      (λ twice. key_twice h rest t (any_from of.key (of.name h) earlier twice) refl)
-      (λ once. let lacks = lacks_from of.key (of.name h) earlier once in
-      bind_says ((of.rest h).read rest) (λ x. Ok (Some x.0, x.1))
-      (λ (x : X × List ℕ). Takes (of.rest h).Spells rest x.0 x.1) ((of.rest h).Fails rest)
-      (λ (x : Option X × List ℕ). Takes Next bytes x.0 x.1) (NextFails of earlier bytes)
-      ((of.rest h).is_reader.says rest)
-      (λ x u. element bytes h rest x.0 x.1 t u lacks) (λ e f. no_rest h rest t lacks f))
+  front_after : (bytes : List ℕ) (h : H) (rest : List ℕ) → Takes of.head.Spells bytes (Some h) rest → (b : Bool)
+      → is_known h ≡ b → HasFront Next (NextFails of earlier) bytes
+  front_after bytes h rest t true twice =
+      inr (of.twice h, key_twice h rest t (any_from of.key (of.name h) earlier twice) refl)
+  front_after bytes h rest t false once =
+      let lacks = lacks_from of.key (of.name h) earlier once in
+      elim (front_of (of.rest h).is_reader rest) [
+        | inl (x, end, u) ↦ inl (Some x, end, element bytes h rest x end t u lacks)
+        | inr (e, fails) ↦ inr (e, no_rest h rest t lacks fails)
+      ]
 
-  pub next_says : (bytes : List ℕ)
-      → MatchResult (next_at bytes) (λ (x : Option X × List ℕ). Takes Next bytes x.0 x.1)
-      (NextFails of earlier bytes)
-  unfolding next_at
-  next_says bytes =
-      bind_says (of.head.read bytes) (λ o. on_option o.0 (Ok (None, o.1)) (λ h. rest_after_head h o.1))
-      (λ (o : Option H × List ℕ). Takes of.head.Spells bytes o.0 o.1) (of.head.Fails bytes)
-      (λ (x : Option X × List ℕ). Takes Next bytes x.0 x.1) (NextFails of earlier bytes)
-      (of.head.is_reader.says bytes) (λ o t. rest_says bytes o.0 o.1 t) (λ e h. no_head h)
+  pub next_front : (bytes : List ℕ) → HasFront Next (NextFails of earlier) bytes
+  next_front bytes = elim (front_of of.head.is_reader bytes) [
+    | inl (None, rest, t) ↦ inl (None, rest, record { text = t.text; parts = t.parts; spelled = t.spelled })
+    | inl (Some h, rest, t) ↦ front_after bytes h rest t (is_known h) refl
+    | inr (e, fails) ↦ inr (e, no_head fails)
+  ]
 
   pub next_again : (text rest : List ℕ) (o : Option X) → Next text o → next_at (text ++ rest) ≡ Ok (o, rest)
   unfolding next_at
@@ -138,6 +131,6 @@ module _ {H X E : Type 0} (of : Elements H X E) (earlier : List X) where
     read = next_at;
     Spells = NextOf of.key (SpellsElement of) (SpellsEnd of) earlier;
     Fails = NextFails of earlier;
-    is_reader = record { says = next_says; again = next_again };
+    is_reader = reader_of next_at Next (NextFails of earlier) next_again next_refuses next_front;
     refuses = next_refuses;
   }

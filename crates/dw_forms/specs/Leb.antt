@@ -68,12 +68,15 @@ pub record HasValueOutside (Fits : List ℕ → Type 0) (bytes : List ℕ) : Typ
   pub short : length text ≤ 10
   pub outside : Fits text → ⊥
 
+-- why the bytes begin with no number whose value fits
+abbrev pub LebFails : (List ℕ → Type 0) → List ℕ → NumberFault → Type 0
+LebFails Fits bytes Cut = IsCut bytes
+LebFails Fits bytes BadNumber = IsUnending bytes ⊎ HasValueOutside Fits bytes
+
 -- why the bytes begin with no accepted unsigned number
 abbrev pub UlebFails : List ℕ → NumberFault → Type 0
-UlebFails bytes Cut = IsCut bytes
-UlebFails bytes BadNumber = IsUnending bytes ⊎ HasValueOutside (λ text. unsigned_value text < 2 ^ 64) bytes
+UlebFails = LebFails (λ text. unsigned_value text < 2 ^ 64)
 
 -- why the bytes begin with no accepted signed number
 abbrev pub SlebFails : List ℕ → NumberFault → Type 0
-SlebFails bytes Cut = IsCut bytes
-SlebFails bytes BadNumber = IsUnending bytes ⊎ HasValueOutside (λ text. IsI64 (signed_value text)) bytes
+SlebFails = LebFails (λ text. IsI64 (signed_value text))

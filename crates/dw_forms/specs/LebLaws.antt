@@ -1,194 +1,161 @@
--- Laws: reading a LEB128 number from left to right agrees with the grammar: the number is the one that is spelled, and
--- the fault the one that the grammar names.
-use Rattle.std.proofs.Common.{◌≡◌, ℕ, ◌^◌, ◌<◌, ◌≤◌, Bool, true, false, cond, ltb, List, [], ◌∷◌, ◌++◌, length}
+-- Laws: LEB128 numbers as formats: reading from left to right gives the number that is spelled, or the fault that the
+-- grammar names.
+use Rattle.std.proofs.Common.{◌≡◌, ℕ, ◌^◌, ◌<◌, ◌≤◌, Bool, true, false, cond, List, [], ◌∷◌, ◌++◌, length, drop}
 use Rattle.std.proofs.Common.{Result, Ok, Err, refl, sym, ap, subst, ◌∙◌, inl, inr, arith}
-use Rattle.std.specs.Prelude.{MatchResult, ◌⊎◌, IfOk, IfErr, OnErr, ℤ, pos, negsuc}
+use Rattle.std.specs.Prelude.{nat_lt, ℤ, pos, negsuc}
 use Rattle.std.proofs.lemmas.Int.{ints}
-use Rattle.std.proofs.lemmas.Bool.{lt-ltb, le-ltb, ltb-true, ltb-false, false≢true, cases_lt}
-use Rattle.std.proofs.lemmas.Result.{MatchResult-weaker}
-use Rattle.std.proofs.lemmas.List.{take_at, length-append}
+use Rattle.std.proofs.lemmas.Bool.{lt-ltb, ltb-true}
+use Rattle.std.proofs.lemmas.List.{drop_at}
 use Rattle.dw_forms.specs.declared.leb.Spelling.{Spelling}
 use Rattle.dw_forms.specs.declared.leb.NumberFault.{NumberFault}
 use Rattle.dw_forms.specs.declared.leb.NumberFault.TheVariants.{Cut, BadNumber}
-use Rattle.dw_forms.specs.Front.{BeginsWith, BeginsWithNone}
-use Rattle.dw_forms.specs.Leb.{IsEnded, sum_from, Uleb, Sleb, IsI64, unsigned_value, signed_value, IsCut, IsUnending}
-use Rattle.dw_forms.specs.Leb.{HasValueOutside, UlebFails, SlebFails}
-use Rattle.dw_forms.specs.Steps.{◌>>=◌}
+use Rattle.dw_forms.specs.Formats.{Format}
+use Rattle.dw_forms.specs.Leb.{IsEnded, Uleb, Sleb, IsI64, unsigned_value, signed_value, LebFails}
 use Rattle.dw_forms.specs.LebReading.{spelling_at, uleb_at, sleb_at, fits_i64, signed_of}
-use Rattle.dw_forms.specs.SpellingLaws.{IsWhole, WholeFails, whole_of, whole_says, whole_again, cut_at, unending_at}
-use Rattle.dw_forms.specs.SpellingLaws.{outside_at}
+use Rattle.dw_forms.specs.Readers.{HasFront, reader_of}
+use Rattle.dw_forms.specs.SpellingLaws.{HasEnded, ended_or_not, whole_of, whole_again, cut_at, unending_at, outside_at}
+use Rattle.dw_forms.specs.Steps.{◌>>=◌}
 
--- ---- what the readers share
+-- numbers that are made of what is read of a text, where this fits
+pub record Numbers (V : Type 0) : Type 1 where
+  pub Spells : List ℕ → V → Type 0
+  pub Fits : List ℕ → Type 0
+  pub at : List ℕ → Result (V × ℕ) NumberFault
+  pub value : Spelling → V
+  pub fits : Spelling → Bool
+  pub at_is : (bytes : List ℕ)
+      → at bytes ≡ (spelling_at bytes >>= λ s. cond (fits s) (Ok (value s, s.len)) (Err BadNumber))
+  pub spelled : (text : List ℕ) → IsEnded text → length text ≤ 10 → Fits text → Spells text (value (whole_of text))
+  pub parts : (text : List ℕ) (v : V) → Spells text v → IsEnded text × (length text ≤ 10) × Fits text
+      × (value (whole_of text) ≡ v)
+  pub passes : (text : List ℕ) → Fits text → fits (whole_of text) ≡ true
+  pub passed : (text : List ℕ) → fits (whole_of text) ≡ true → Fits text
 
--- why there is no number
-abbrev NoValue : (List ℕ → Type 0) → List ℕ → NumberFault → Type 0
-NoValue Fits bytes Cut = IsCut bytes
-NoValue Fits bytes BadNumber = IsUnending bytes ⊎ HasValueOutside Fits bytes
+-- a number and the bytes after it
+abbrev pub number_after : {V : Type 0} → List ℕ → Result (V × ℕ) NumberFault → Result (V × List ℕ) NumberFault
+number_after bytes (Ok r) = Ok (r.0, drop r.1 bytes)
+number_after bytes (Err f) = Err f
 
--- the number if it fits, or else the fault of one that does not
-abbrev chosen : {A : Type 0} → Bool → A → Result A NumberFault
-chosen b x = cond b (Ok x) (Err BadNumber)
+module _ {V : Type 0} (n : Numbers V) where
+  pub number_again : (text rest : List ℕ) (v : V) → n.Spells text v → n.at (text ++ rest) ≡ Ok (v, length text)
+  number_again text rest v s =
+      let p = n.parts text v s in
+      rw (n.at_is (text ++ rest), whole_again text rest p.0 p.1, n.passes text p.2, p.3) refl
 
--- what a reader's answer says
-abbrev Says : {V : Type 0} → (List ℕ → V → Type 0) → (List ℕ → Type 0) → List ℕ → Result (V × ℕ) NumberFault → Type 0
-Says {V} Spells Fits bytes r = MatchResult r (λ (x : V × ℕ). BeginsWith Spells bytes x.0 x.1) (NoValue Fits bytes)
+  misfits : (text : List ℕ) (b : Bool) → n.fits (whole_of text) ≡ b → (n.Fits text → ⊥)
+      → n.fits (whole_of text) ≡ false
+  misfits text true e outside = absurd (outside (n.passed text e))
+  misfits text false e outside = e
 
--- the number that a value and a test make of what was read
-abbrev number_of : {V : Type 0} → (Spelling → V) → (Spelling → Bool) → Result Spelling NumberFault
-    → Result (V × ℕ) NumberFault
-number_of value fits r = r >>= λ s. chosen (fits s) (value s, s.len)
+  number_refuses : (bytes : List ℕ) (f : NumberFault) → LebFails n.Fits bytes f → n.at bytes ≡ Err f
+  number_refuses bytes Cut c = rw (n.at_is bytes, cut_at bytes c) refl
+  number_refuses bytes BadNumber (inl u) = rw (n.at_is bytes, unending_at bytes u) refl
+  number_refuses bytes BadNumber (inr h) =
+      rw (n.at_is bytes, outside_at n.Fits bytes h, misfits h.text (n.fits (whole_of h.text)) refl h.outside) refl
 
-result_is : {A : Type 0} (x y : A) → ◌≡◌ {A = Result A NumberFault} (Ok x) (Ok y) → x ≡ y
-result_is x y e = cc
+  abbrev IsAnswered : List ℕ → Type 0
+  IsAnswered = HasFront n.Spells (LebFails n.Fits)
 
-err_is_not_ok : {A : Type 0} (f : NumberFault) (y : A) → ◌≡◌ {A = Result A NumberFault} (Err f) (Ok y) → ⊥
-err_is_not_ok f y e = cc
+  by_value : (bytes : List ℕ) (t : HasEnded 10 bytes) (b : Bool) → n.fits (whole_of t.text) ≡ b → IsAnswered bytes
+  by_value bytes t true e = inl (
+    n.value (whole_of t.text),
+    t.rest,
+    record {
+      text = t.text;
+      parts = t.parts;
+      spelled = n.spelled t.text t.ended t.short (n.passed t.text e);
+    },
+  )
+  by_value bytes t false e = inr (
+    BadNumber,
+    inr (record {
+      text = t.text;
+      rest = t.rest;
+      parts = t.parts;
+      ended = t.ended;
+      short = t.short;
+      outside = λ fit. let no : true ≡ false = sym (n.passes t.text fit) ∙ e in absurd cc;
+    }),
+  )
 
-module _ {V : Type 0} (Spells : List ℕ → V → Type 0) (value : Spelling → V) (fits : Spelling → Bool) (Fits : List ℕ
-    → Type 0)
-    (spelled : (text : List ℕ) → IsEnded text → length text ≤ 10 → fits (whole_of text) ≡ true
-    → Spells text (value (whole_of text)))
-    (again : (text : List ℕ) (v : V) → Spells text v → IsEnded text × (length text ≤ 10) × (fits (whole_of text) ≡ true)
-    × (value (whole_of text) ≡ v))
-    (outside : (text : List ℕ) → fits (whole_of text) ≡ false → Fits text → ⊥) where
-  reads_again : (bytes text rest : List ℕ) (v : V) → bytes ≡ text ++ rest → Spells text v
-      → number_of value fits (spelling_at bytes) ≡ Ok (v, length text)
-  reads_again bytes text rest v parts s =
-      let a = again text v s in
-      let read : spelling_at bytes ≡ Ok (whole_of text) = ap spelling_at parts ∙ whole_again text rest a.0 a.1 in
-      rw (read, a.2, a.3) refl
+  pub answered : (bytes : List ℕ) → IsAnswered bytes
+  answered bytes = elim (ended_or_not 10 bytes) [
+    | inl t ↦ by_value bytes t (n.fits (whole_of t.text)) refl
+    | inr (inl cut) ↦ inr (Cut, record { short = cut.0; open_ended = cut.1 })
+    | inr (inr long) ↦ inr (BadNumber, inl (record { long = long.0; open_ended = long.1 }))
+  ]
 
-  begins : (bytes text rest : List ℕ) (v : V) → bytes ≡ text ++ rest → Spells text v
-      → BeginsWith Spells bytes v (length text)
-  begins bytes text rest v parts s = record {
-    within = omega (arith, ap length parts, length-append text rest);
-    spelled = rw (parts, take_at text rest (length text) refl) s;
-    only = λ text' rest' v' parts' s'.
-        let one = reads_again bytes text rest v parts s in
-        let other = reads_again bytes text' rest' v' parts' s' in
-        let same = result_is _ _ (sym other ∙ one) in
-        (ap (λ (p : V × ℕ). p.1) same, ap (λ (p : V × ℕ). p.0) same);
+  pub after_again : (text rest : List ℕ) (v : V) → n.Spells text v
+      → number_after (text ++ rest) (n.at (text ++ rest)) ≡ Ok (v, rest)
+  after_again text rest v s = rw (number_again text rest v s, drop_at text rest (length text) refl) refl
+
+  pub after_refuses : (bytes : List ℕ) (f : NumberFault) → LebFails n.Fits bytes f
+      → number_after bytes (n.at bytes) ≡ Err f
+  after_refuses bytes f h = ap (number_after bytes) (number_refuses bytes f h)
+
+  -- these numbers as a format
+  abbrev pub leb : Format V NumberFault
+  leb = record {
+    read = λ bytes. number_after bytes (n.at bytes);
+    Spells = n.Spells;
+    Fails = LebFails n.Fits;
+    is_reader = reader_of (λ bytes. number_after bytes (n.at bytes)) n.Spells (LebFails n.Fits) after_again
+        after_refuses answered;
+    refuses = after_refuses;
   }
-
-  from_whole : (bytes : List ℕ) (s : Spelling) (b : Bool) → IsWhole bytes s → fits s ≡ b
-      → Says Spells Fits bytes (chosen b (value s, s.len))
-  from_whole bytes s true w e =
-      rw w.is (begins bytes w.text w.rest (value (whole_of w.text)) w.parts
-      (spelled w.text w.ended w.short (ap fits (sym w.is) ∙ e)))
-  from_whole bytes s false w e =
-      inr (record {
-        text = w.text;
-        rest = w.rest;
-        parts = w.parts;
-        ended = w.ended;
-        short = w.short;
-        outside =
-            outside w.text (ap fits (sym w.is) ∙ e);
-      })
-
-  from_fault : (bytes : List ℕ) (f : NumberFault) → WholeFails bytes f → NoValue Fits bytes f
-  from_fault bytes Cut h = h
-  from_fault bytes BadNumber h = inl h
-
-  from_spelling : (bytes : List ℕ) (r : Result Spelling NumberFault) → MatchResult r (IsWhole bytes) (WholeFails bytes)
-      → Says Spells Fits bytes (number_of value fits r)
-  from_spelling bytes (Ok s) h = from_whole bytes s (fits s) h refl
-  from_spelling bytes (Err f) h = from_fault bytes f h
-
-  number_says : (bytes : List ℕ) → Says Spells Fits bytes (number_of value fits (spelling_at bytes))
-  number_says bytes = from_spelling bytes (spelling_at bytes) (whole_says bytes)
-
-  number_none : (bytes : List ℕ) (f : NumberFault) → number_of value fits (spelling_at bytes) ≡ Err f
-      → BeginsWithNone Spells bytes
-  number_none bytes f e text rest v parts s = let other = reads_again bytes text rest v parts s in
-      err_is_not_ok _ _ (sym e ∙ other)
 
 -- ---- unsigned numbers
 
-uleb_spelled : (text : List ℕ) → IsEnded text → length text ≤ 10 → ltb (sum_from 0 text) (2 ^ 64) ≡ true
-    → Uleb text (sum_from 0 text)
-uleb_spelled text ended short e = record { ended = ended; short = short; value = refl; fits = ltb-true _ _ e }
-
-uleb_parts : (text : List ℕ) (n : ℕ) → Uleb text n → IsEnded text × (length text ≤ 10)
-    × (ltb (sum_from 0 text) (2 ^ 64) ≡ true) × (sum_from 0 text ≡ n)
-uleb_parts text n u = (u.ended, u.short, lt-ltb _ _ (rw (← u.value) u.fits), sym u.value)
-
-uleb_outside : (text : List ℕ) → ltb (sum_from 0 text) (2 ^ 64) ≡ false → sum_from 0 text < 2 ^ 64 → ⊥
-uleb_outside text e lt = let ge = ltb-false (sum_from 0 text) (2 ^ 64) e in omega arith
-
-uleb_fails : (bytes : List ℕ) (f : NumberFault) → NoValue (λ text. unsigned_value text < 2 ^ 64) bytes f
-    → UlebFails bytes f
-uleb_fails bytes Cut h = h
-uleb_fails bytes BadNumber h = h
-
-pub uleb_says : (bytes : List ℕ)
-    → MatchResult (uleb_at bytes) (λ (r : ℕ × ℕ). BeginsWith Uleb bytes r.0 r.1) (UlebFails bytes)
+pub uleb_is : (bytes : List ℕ)
+    → uleb_at bytes ≡ (spelling_at bytes >>= λ s. cond (nat_lt s.sum (2 ^ 64)) (Ok (s.sum, s.len)) (Err BadNumber))
 unfolding uleb_at
-uleb_says bytes =
-    MatchResult-weaker (uleb_at bytes)
-    (number_says Uleb (λ s. s.sum) (λ s. ltb s.sum (2 ^ 64))
-    (λ text. unsigned_value text < 2 ^ 64) uleb_spelled uleb_parts uleb_outside bytes)
-    (λ r h. h) (λ f h. uleb_fails bytes f h)
+uleb_is bytes = refl
 
-pub uleb_none : (bytes : List ℕ) (f : NumberFault) → uleb_at bytes ≡ Err f → BeginsWithNone Uleb bytes
-unfolding uleb_at
-uleb_none bytes f e = number_none Uleb (λ s. s.sum) (λ s. ltb s.sum (2 ^ 64))
-    (λ text. unsigned_value text < 2 ^ 64) uleb_spelled uleb_parts uleb_outside bytes f e
-
-pub uleb_again : (bytes text rest : List ℕ) (n : ℕ) → bytes ≡ text ++ rest → Uleb text n
-    → uleb_at bytes ≡ Ok (n, length text)
-unfolding uleb_at
-uleb_again bytes text rest n parts u =
-    reads_again Uleb (λ s. s.sum) (λ s. ltb s.sum (2 ^ 64))
-    (λ text. unsigned_value text < 2 ^ 64) uleb_spelled uleb_parts uleb_outside bytes text rest n parts u
+-- the unsigned numbers of 64 bits
+abbrev pub unsigned : Numbers ℕ
+unsigned = record {
+  Spells = Uleb;
+  Fits = λ text. unsigned_value text < 2 ^ 64;
+  at = uleb_at;
+  value = λ s. s.sum;
+  fits = λ s. nat_lt s.sum (2 ^ 64);
+  at_is = uleb_is;
+  spelled = λ text ended short fits. record { ended = ended; short = short; value = refl; fits = fits };
+  parts = λ text n u. (u.ended, u.short, subst (λ (m : ℕ). m < 2 ^ 64) u.value u.fits, sym u.value);
+  passes = λ text fits. lt-ltb (unsigned_value text) (2 ^ 64) fits;
+  passed = λ text e. ltb-true (unsigned_value text) (2 ^ 64) e;
+}
 
 -- ---- signed numbers
 
-fits_is : (z : ℤ) → fits_i64 z ≡ true → IsI64 z
+pub fits_is : (z : ℤ) → fits_i64 z ≡ true → IsI64 z
 fits_is (pos n) e = let lt = ltb-true _ _ e in record { low = omega (arith, ints); high = omega (arith, ints) }
 fits_is (negsuc n) e = let lt = ltb-true _ _ e in record { low = omega (arith, ints); high = omega (arith, ints) }
 
-is_fits : (z : ℤ) → IsI64 z → fits_i64 z ≡ true
+pub is_fits : (z : ℤ) → IsI64 z → fits_i64 z ≡ true
 is_fits (pos n) i = let h = i.high in lt-ltb _ _ (omega (arith, ints))
 is_fits (negsuc n) i = let h = i.low in lt-ltb _ _ (omega (arith, ints))
 
-sleb_spelled : (text : List ℕ) → IsEnded text → length text ≤ 10 → fits_i64 (signed_value text) ≡ true
-    → Sleb text (signed_value text)
-sleb_spelled text ended short e =
-    record { ended = ended; short = short; value = refl; fits = fits_is (signed_value text) e }
-
-sleb_parts : (text : List ℕ) (n : ℤ) → Sleb text n → IsEnded text × (length text ≤ 10)
-    × (fits_i64 (signed_value text) ≡ true) × (signed_value text ≡ n)
-sleb_parts text n u = (u.ended, u.short, is_fits (signed_value text) (subst IsI64 u.value u.fits), sym u.value)
-
-sleb_outside : (text : List ℕ) → fits_i64 (signed_value text) ≡ false → IsI64 (signed_value text) → ⊥
-sleb_outside text e i = let t = is_fits (signed_value text) i in false≢true (sym e ∙ t)
-
-sleb_fails : (bytes : List ℕ) (f : NumberFault) → NoValue (λ text. IsI64 (signed_value text)) bytes f
-    → SlebFails bytes f
-sleb_fails bytes Cut h = h
-sleb_fails bytes BadNumber h = h
-
-pub sleb_says : (bytes : List ℕ)
-    → MatchResult (sleb_at bytes) (λ (r : ℤ × ℕ). BeginsWith Sleb bytes r.0 r.1) (SlebFails bytes)
+pub sleb_is : (bytes : List ℕ)
+    → sleb_at bytes
+    ≡ (spelling_at bytes >>= λ s. cond (fits_i64 (signed_of s)) (Ok (signed_of s, s.len)) (Err BadNumber))
 unfolding sleb_at
-sleb_says bytes =
-    MatchResult-weaker (sleb_at bytes)
-    (number_says Sleb signed_of (λ s. fits_i64 (signed_of s))
-    (λ text. IsI64 (signed_value text)) sleb_spelled sleb_parts sleb_outside bytes)
-    (λ r h. h) (λ f h. sleb_fails bytes f h)
+sleb_is bytes = refl
 
-pub sleb_none : (bytes : List ℕ) (f : NumberFault) → sleb_at bytes ≡ Err f → BeginsWithNone Sleb bytes
-unfolding sleb_at
-sleb_none bytes f e = number_none Sleb signed_of (λ s. fits_i64 (signed_of s))
-    (λ text. IsI64 (signed_value text)) sleb_spelled sleb_parts sleb_outside bytes f e
-
-pub sleb_again : (bytes text rest : List ℕ) (n : ℤ) → bytes ≡ text ++ rest → Sleb text n
-    → sleb_at bytes ≡ Ok (n, length text)
-unfolding sleb_at
-sleb_again bytes text rest n parts u =
-    reads_again Sleb signed_of (λ s. fits_i64 (signed_of s))
-    (λ text. IsI64 (signed_value text)) sleb_spelled sleb_parts sleb_outside bytes text rest n parts u
+-- the signed numbers of 64 bits
+abbrev pub signed : Numbers ℤ
+signed = record {
+  Spells = Sleb;
+  Fits = λ text. IsI64 (signed_value text);
+  at = sleb_at;
+  value = signed_of;
+  fits = λ s. fits_i64 (signed_of s);
+  at_is = sleb_is;
+  spelled = λ text ended short fits. record { ended = ended; short = short; value = refl; fits = fits };
+  parts = λ text n u. (u.ended, u.short, subst IsI64 u.value u.fits, sym u.value);
+  passes = λ text fits. is_fits (signed_value text) fits;
+  passed = λ text e. fits_is (signed_value text) e;
+}
 
 -- a number has some bytes
 ended_some : (text : List ℕ) → IsEnded text → 0 < length text
@@ -197,67 +164,3 @@ ended_some (b ∷ text) h = omega arith
 
 pub uleb_some : (text : List ℕ) (n : ℕ) → Uleb text n → 0 < length text
 uleb_some text n u = ended_some text u.ended
-
--- ---- the fault is the one that reading gives
-
-pub uleb_refuses : (bytes : List ℕ) (f : NumberFault) → UlebFails bytes f → uleb_at bytes ≡ Err f
-unfolding uleb_at
-uleb_refuses bytes Cut c = rw (cut_at bytes c) refl
-uleb_refuses bytes BadNumber (inl u) = rw (unending_at bytes u) refl
-uleb_refuses bytes BadNumber (inr h) =
-    let big : 2 ^ 64 ≤ unsigned_value h.text = elim (cases_lt (unsigned_value h.text) (2 ^ 64))
-    [ inl lt ↦ absurd (h.outside lt) | inr ge ↦ ge ] in
-    rw (outside_at (λ text. unsigned_value text < 2 ^ 64) bytes h, le-ltb (unsigned_value h.text) (2 ^ 64) big) refl
-
-misfits : (z : ℤ) (b : Bool) → fits_i64 z ≡ b → (IsI64 z → ⊥) → fits_i64 z ≡ false
-misfits z true e outside = absurd (outside (fits_is z e))
-misfits z false e outside = e
-
-pub sleb_refuses : (bytes : List ℕ) (f : NumberFault) → SlebFails bytes f → sleb_at bytes ≡ Err f
-unfolding sleb_at
-sleb_refuses bytes Cut c = rw (cut_at bytes c) refl
-sleb_refuses bytes BadNumber (inl u) = rw (unending_at bytes u) refl
-sleb_refuses bytes BadNumber (inr h) =
-    let big : fits_i64 (signed_value h.text)
-    ≡ false = misfits (signed_value h.text) (fits_i64 (signed_value h.text)) refl h.outside in
-    rw (outside_at (λ text. IsI64 (signed_value text)) bytes h, big) refl
-
--- ---- the clauses of the two calls, of an answer that reading gives
-
-found_from : {V : Type 0} (r : Result V NumberFault) (P : V → Type 0) (Q : NumberFault → Type 0) → MatchResult r P Q
-    → IfOk r P
-found_from (Ok x) P Q h = h
-found_from (Err f) P Q h = tt
-
-fault_from : {V : Type 0} (r : Result V NumberFault) (P : V → Type 0) (Q : NumberFault → Type 0) → MatchResult r P Q
-    → IfErr r Q
-fault_from (Ok x) P Q h = tt
-fault_from (Err f) P Q h = h
-
-pub uleb_found : (bytes : List ℕ) (r : Result (ℕ × ℕ) NumberFault) → r ≡ uleb_at bytes
-    → IfOk r (λ (x : ℕ × ℕ). BeginsWith Uleb bytes x.0 x.1)
-uleb_found bytes r e = rw e
-    (found_from (uleb_at bytes) (λ (x : ℕ × ℕ). BeginsWith Uleb bytes x.0 x.1) (UlebFails bytes) (uleb_says bytes))
-
-pub uleb_fault : (bytes : List ℕ) (r : Result (ℕ × ℕ) NumberFault) → r ≡ uleb_at bytes → IfErr r (UlebFails bytes)
-uleb_fault bytes r e = rw e
-    (fault_from (uleb_at bytes) (λ (x : ℕ × ℕ). BeginsWith Uleb bytes x.0 x.1) (UlebFails bytes) (uleb_says bytes))
-
-pub uleb_nothing : (bytes : List ℕ) (r : Result (ℕ × ℕ) NumberFault) → r ≡ uleb_at bytes
-    → OnErr r (BeginsWithNone Uleb bytes)
-uleb_nothing bytes (Ok x) e = tt
-uleb_nothing bytes (Err f) e = uleb_none bytes f (sym e)
-
-pub sleb_found : (bytes : List ℕ) (r : Result (ℤ × ℕ) NumberFault) → r ≡ sleb_at bytes
-    → IfOk r (λ (x : ℤ × ℕ). BeginsWith Sleb bytes x.0 x.1)
-sleb_found bytes r e = rw e
-    (found_from (sleb_at bytes) (λ (x : ℤ × ℕ). BeginsWith Sleb bytes x.0 x.1) (SlebFails bytes) (sleb_says bytes))
-
-pub sleb_fault : (bytes : List ℕ) (r : Result (ℤ × ℕ) NumberFault) → r ≡ sleb_at bytes → IfErr r (SlebFails bytes)
-sleb_fault bytes r e = rw e
-    (fault_from (sleb_at bytes) (λ (x : ℤ × ℕ). BeginsWith Sleb bytes x.0 x.1) (SlebFails bytes) (sleb_says bytes))
-
-pub sleb_nothing : (bytes : List ℕ) (r : Result (ℤ × ℕ) NumberFault) → r ≡ sleb_at bytes
-    → OnErr r (BeginsWithNone Sleb bytes)
-sleb_nothing bytes (Ok x) e = tt
-sleb_nothing bytes (Err f) e = sleb_none bytes f (sym e)

@@ -33,7 +33,6 @@ pub mod FormLaws
 pub mod ValueLaws
 pub mod TableGrammar
 pub mod Datums
-pub mod SizeLaws
 -- State.
 pub mod Stops
 pub mod Sizes

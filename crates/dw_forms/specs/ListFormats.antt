@@ -1,15 +1,13 @@
 -- Chapter: lists as formats: element after element up to an end, and no key of them twice.
 use Rattle.std.proofs.Common.{◌≡◌, ℕ, zero, suc, ◌+◌, ◌<◌, ◌≤◌, List, [], ◌∷◌, ◌++◌, length, Option, Some, None}
-use Rattle.std.proofs.Common.{Result, Ok, Err, refl, sym, ap, subst, ◌∙◌, append_assoc, arith}
-use Rattle.std.specs.Prelude.{MatchResult}
+use Rattle.std.proofs.Common.{Result, Ok, Err, refl, sym, ap, subst, ◌∙◌, inl, inr, append_assoc, arith}
+use Rattle.std.specs.Prelude.{◌⊎◌}
 use Rattle.std.proofs.lemmas.List.{append-nil, length-append}
-use Rattle.std.proofs.lemmas.Result.{MatchResult-weaker}
 use Rattle.dw_forms.specs.Elements.{Elements, SpellsElement, SpellsEnd, NextOf, NextFails, next_at, element_or_end}
 use Rattle.dw_forms.specs.Formats.{Format, renamed}
 use Rattle.dw_forms.specs.Front.{Takes}
 use Rattle.dw_forms.specs.Keys.{Apart, apart_push, apart_lacks}
-use Rattle.dw_forms.specs.Readers.{IsReader, joined}
-use Rattle.dw_forms.specs.StepLaws.{bind_says}
+use Rattle.dw_forms.specs.Readers.{IsReader, HasFront, front_of, reader_of, joined}
 use Rattle.dw_forms.specs.Steps.{◌>>=◌, on_option}
 
 -- element after element up to the end, after the earlier ones. There are fewer than this bound
@@ -67,118 +65,97 @@ module _ {X E : Type 0} {key : X → ℕ} {Spells : List ℕ → X → Type 0} {
   each_fits End' least fits (x ∷ xs) text p =
       omega (arith, h.some p.0 x p.3, each_fits End' least fits xs p.1 p.4, ap length p.2, length-append p.0 p.1)
 
-  -- ---- what is read is spelled
-
-  record IsFound (earlier : List X) (bytes : List ℕ) (all : List X) (rest : List ℕ) : Type 0 where
-    pub items : List X
-    pub text : List ℕ
-    pub parts : bytes ≡ text ++ rest
-    pub spelled : SpellsEach Spells End items text
-    pub all_is : all ≡ earlier ++ items
-    pub distinct : Apart key all
+  -- ---- what is at the front of some bytes
 
   abbrev Next : List X → List ℕ → Option X → Type 0
   Next = NextOf key Spells End
 
-  abbrev Found : List X → List ℕ → List X × List ℕ → Type 0
-  Found earlier bytes x = IsFound earlier bytes x.0 x.1
+  -- the end is at the front, or a fault
+  abbrev Ends : List X → List ℕ → Type 0
+  Ends earlier bytes = ((after : List ℕ) × Takes (Next earlier) bytes None after) ⊎ ((e : E) × Fails earlier bytes e)
 
-  abbrev Broken : List X → List ℕ → E → Type 0
-  Broken = FailsAfter key Spells Fails
+  -- some elements are at the front, and after them the end or a fault
+  record IsFront (earlier : List X) (bytes : List ℕ) : Type 0 where
+    items : List X
+    text : List ℕ
+    rest : List ℕ
+    parts : bytes ≡ text ++ rest
+    spelled : SpellsEach Spells (λ bytes. bytes ≡ []) items text
+    distinct : Apart key (earlier ++ items)
+    ends : Ends (earlier ++ items) rest
 
-  found_more : (earlier : List X) (bytes after : List ℕ) (x : X) (r : List X × List ℕ)
-      → Takes (Next earlier) bytes (Some x) after → Found (earlier ++ x ∷ []) after r → Found earlier bytes r
-  found_more earlier bytes after x r t f = record {
-    items = x ∷ f.items;
-    text = t.text ++ f.text;
-    parts = joined t.text f.text r.1 bytes after t.parts f.parts;
-    spelled = (t.text, f.text, refl, t.spelled.0, f.spelled);
-    all_is = f.all_is ∙ append_assoc earlier (x ∷ []) f.items;
-    distinct = f.distinct;
-  }
-
-  fails_more : (earlier : List X) (bytes after : List ℕ) (x : X) (fault : E) → Takes (Next earlier) bytes (Some x) after
-      → Broken (earlier ++ x ∷ []) after fault → Broken earlier bytes fault
-  fails_more earlier bytes after x fault t f = record {
-    items = x ∷ f.items;
-    text = t.text ++ f.text;
-    rest = f.rest;
-    parts = joined t.text f.text f.rest bytes after t.parts f.parts;
-    spelled = (t.text, f.text, refl, t.spelled.0, f.spelled);
-    distinct = subst (Apart key) (append_assoc earlier (x ∷ []) f.items) f.distinct;
-    fails = subst (λ (e : List X). Fails e f.rest fault) (append_assoc earlier (x ∷ []) f.items) f.fails;
-  }
-
-  fails_here : (earlier : List X) (bytes : List ℕ) (fault : E) → Apart key earlier → Fails earlier bytes fault
-      → Broken earlier bytes fault
-  fails_here earlier bytes fault distinct f = record {
+  front_none : (earlier : List X) (bytes : List ℕ) → Apart key earlier → Ends earlier bytes → IsFront earlier bytes
+  front_none earlier bytes distinct ends = record {
     items = [];
     text = [];
     rest = bytes;
     parts = refl;
     spelled = refl;
     distinct = subst (Apart key) (sym (append-nil earlier)) distinct;
-    fails = subst (λ (e : List X). Fails e bytes fault) (sym (append-nil earlier)) f;
+    ends = subst (λ (xs : List X). Ends xs bytes) (sym (append-nil earlier)) ends;
   }
 
-  after_says : (bound : ℕ) (earlier : List X) (bytes : List ℕ) (o : Option X) (after : List ℕ)
-      → Apart key earlier → Takes (Next earlier) bytes o after
-      → ((x : X) → Takes (Next earlier) bytes (Some x) after
-      → MatchResult (list_from next cut bound (earlier ++ x ∷ []) after) (Found (earlier ++ x ∷ []) after)
-      (Broken (earlier ++ x ∷ []) after))
-      → MatchResult (on_option o (Ok (earlier, after)) (λ x. list_from next cut bound (earlier ++ x ∷ []) after))
-      (Found earlier bytes) (Broken earlier bytes)
-  after_says bound earlier bytes None after distinct t others =
-      record {
-        items = [];
-        text = t.text;
-        parts = t.parts;
-        spelled = t.spelled;
-        all_is = sym (append-nil earlier);
-        distinct = distinct;
-      }
-  after_says bound earlier bytes (Some x) after distinct t others =
-      MatchResult-weaker (list_from next cut bound (earlier ++ x ∷ []) after) (others x t)
-      (λ r f. found_more earlier bytes after x r t f) (λ fault f. fails_more earlier bytes after x fault t f)
+  front_more : (earlier : List X) (bytes : List ℕ) (x : X) (after : List ℕ) → Takes (Next earlier) bytes (Some x) after
+      → IsFront (earlier ++ x ∷ []) after → IsFront earlier bytes
+  front_more earlier bytes x after t f = record {
+    items = x ∷ f.items;
+    text = t.text ++ f.text;
+    rest = f.rest;
+    parts = joined t.text f.text f.rest bytes after t.parts f.parts;
+    spelled = (t.text, f.text, refl, t.spelled.0, f.spelled);
+    distinct = subst (Apart key) (append_assoc earlier (x ∷ []) f.items) f.distinct;
+    ends = subst (λ (xs : List X). Ends xs f.rest) (append_assoc earlier (x ∷ []) f.items) f.ends;
+  }
 
-  from_says : (bound : ℕ) (earlier : List X) (bytes : List ℕ) → length bytes < bound → Apart key earlier
-      → MatchResult (list_from next cut bound earlier bytes) (Found earlier bytes) (Broken earlier bytes)
-  unfolding list_from
-  from_says zero earlier bytes lt distinct = absurd (omega arith)
-  from_says (suc bound) earlier bytes lt distinct =
-      bind_says (next earlier bytes)
-      (λ p. on_option p.0 (Ok (earlier, p.1)) (λ x. list_from next cut bound (earlier ++ x ∷ []) p.1))
-      (λ (x : Option X × List ℕ). Takes (Next earlier) bytes x.0 x.1) (Fails earlier bytes) (Found earlier bytes)
-      (Broken earlier bytes)
-      ((h.is_reader earlier).says bytes)
-      (λ p t. after_says bound earlier bytes p.0 p.1 distinct t
-      (λ x u. from_says bound (earlier ++ x ∷ []) p.1
-      (omega (arith, h.some u.text x u.spelled.0, ap length u.parts, length-append u.text p.1))
-      (apart_push key earlier x distinct u.spelled.1)))
-      (λ fault f. fails_here earlier bytes fault distinct f)
+  front_at : (bound : ℕ) (earlier : List X) (bytes : List ℕ) → length bytes < bound → Apart key earlier
+      → IsFront earlier bytes
+  front_at zero earlier bytes lt distinct = absurd (omega arith)
+  front_at (suc bound) earlier bytes lt distinct = elim (front_of (h.is_reader earlier) bytes) [
+    | inl (None, after, t) ↦ front_none earlier bytes distinct (inl (after, t))
+    | inl (Some x, after, t) ↦ front_more earlier bytes x after t (front_at bound (earlier ++ x ∷ []) after
+        (omega (arith, h.some t.text x t.spelled.0, ap length t.parts, length-append t.text after))
+        (apart_push key earlier x distinct t.spelled.1))
+    | inr fails ↦ front_none earlier bytes distinct (inr fails)
+  ]
+
+  each_then : (xs : List X) (text end : List ℕ) → SpellsEach Spells (λ bytes. bytes ≡ []) xs text → End end
+      → SpellsEach Spells End xs (text ++ end)
+  each_then [] text end none e = subst (λ (t : List ℕ). End (t ++ end)) (sym none) e
+  each_then (x ∷ xs) text end p e =
+      (p.0, p.1 ++ end, ap (λ (t : List ℕ). t ++ end) p.2 ∙ append_assoc p.0 p.1 end, p.3, each_then xs p.1 end p.4 e)
 
   abbrev Whole : List ℕ → List X → Type 0
   Whole = SpellsList key Spells End
 
-  whole_found : (bytes : List ℕ) (x : List X × List ℕ) → Found [] bytes x → Takes Whole bytes x.0 x.1
-  whole_found bytes x f =
-      record {
-        text = f.text;
-        parts = f.parts;
-        spelled = record {
-          spelled = subst (λ (xs : List X). SpellsEach Spells End xs f.text) (sym f.all_is) f.spelled;
-          distinct = f.distinct;
-        };
-      }
+  abbrev Broken : List ℕ → E → Type 0
+  Broken = FailsAfter key Spells Fails []
 
-  none_apart : Apart key []
-  none_apart i j d lt long = absurd (omega arith)
-
-  pub list_says : (bytes : List ℕ)
-      → MatchResult (list_of next cut bytes) (λ (x : List X × List ℕ). Takes Whole bytes x.0 x.1) (Broken [] bytes)
-  list_says bytes =
-      MatchResult-weaker (list_of next cut bytes) (from_says (suc (length bytes)) [] bytes (omega arith) none_apart)
-      (λ x f. whole_found bytes x f) (λ fault f. f)
+  pub list_front : (bytes : List ℕ) → HasFront Whole Broken bytes
+  list_front bytes =
+      let f = front_at (suc (length bytes)) [] bytes (omega arith) (λ i j d lt long. absurd (omega arith)) in
+      elim f.ends [
+        | inl (after, t) ↦ inl (
+          f.items,
+          after,
+          record {
+            text = f.text ++ t.text;
+            parts = joined f.text t.text after bytes f.rest f.parts t.parts;
+            spelled = record { spelled = each_then f.items f.text t.text f.spelled t.spelled; distinct = f.distinct };
+          },
+        )
+        | inr (e, fails) ↦ inr (
+          e,
+          record {
+            items = f.items;
+            text = f.text;
+            rest = f.rest;
+            parts = f.parts;
+            spelled = f.spelled;
+            distinct = f.distinct;
+            fails = fails;
+          },
+        )
+      ]
 
   -- ---- what is spelled is read
 
@@ -218,7 +195,7 @@ module _ {X E : Type 0} {key : X → ℕ} {Spells : List ℕ → X → Type 0} {
       (λ tail b e. rw ((h.is_reader xs).again tail rest None e) refl)
 
   -- the fault of the next element is that of the list
-  pub list_refuses : (bytes : List ℕ) (fault : E) → Broken [] bytes fault → list_of next cut bytes ≡ Err fault
+  pub list_refuses : (bytes : List ℕ) (fault : E) → Broken bytes fault → list_of next cut bytes ≡ Err fault
   unfolding list_from
   list_refuses bytes fault f =
       ap (list_of next cut) f.parts ∙ of_ends (λ text. text ≡ []) f.text f.rest (Err fault) f.items f.spelled f.distinct
@@ -230,7 +207,7 @@ module _ {X E : Type 0} {key : X → ℕ} {Spells : List ℕ → X → Type 0} {
     read = list_of next cut;
     Spells = SpellsList key Spells End;
     Fails = FailsAfter key Spells Fails [];
-    is_reader = record { says = list_says; again = list_again };
+    is_reader = reader_of (list_of next cut) Whole Broken list_again list_refuses list_front;
     refuses = list_refuses;
   }
 

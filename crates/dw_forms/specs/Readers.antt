@@ -1,8 +1,8 @@
 -- Laws: readers of values: a reader finds what is spelled at the front of some bytes, whatever follows, so no spelling
 -- is a prefix of another.
 use Rattle.std.proofs.Common.{◌≡◌, ℕ, ◌-◌, List, ◌++◌, length, take, Result, Ok, Err}
-use Rattle.std.proofs.Common.{sym, ap, subst, ◌∙◌, append_assoc, arith}
-use Rattle.std.specs.Prelude.{MatchResult}
+use Rattle.std.proofs.Common.{sym, ap, subst, ◌∙◌, inl, inr, append_assoc, arith}
+use Rattle.std.specs.Prelude.{MatchResult, ◌⊎◌}
 use Rattle.std.proofs.lemmas.List.{take_at, length-append}
 use Rattle.std.proofs.lemmas.Result.{MatchResult-at_ok, MatchResult-at_err}
 use Rattle.dw_forms.specs.Front.{BeginsWith, BeginsWithNone, Takes}
@@ -12,6 +12,33 @@ pub record IsReader {V E : Type 0} (read : List ℕ → Result (V × List ℕ) E
     (Fails : List ℕ → E → Type 0) : Type 0 where
   pub says : (bytes : List ℕ) → MatchResult (read bytes) (λ (x : V × List ℕ). Takes Spells bytes x.0 x.1) (Fails bytes)
   pub again : (text rest : List ℕ) (v : V) → Spells text v → read (text ++ rest) ≡ Ok (v, rest)
+
+-- each front of some bytes is a value, or there is a fault
+abbrev pub HasFront : {V E : Type 0} → (List ℕ → V → Type 0) → (List ℕ → E → Type 0) → List ℕ → Type 0
+HasFront {V} {E} Spells Fails bytes =
+    ((v : V) × (rest : List ℕ) × Takes Spells bytes v rest) ⊎ ((e : E) × Fails bytes e)
+
+-- a reader takes what is spelled and refuses what fails, where one of both is at the front
+pub reader_of : {V E : Type 0} (read : List ℕ → Result (V × List ℕ) E) (Spells : List ℕ → V → Type 0)
+    (Fails : List ℕ → E → Type 0) → ((text rest : List ℕ) (v : V) → Spells text v → read (text ++ rest) ≡ Ok (v, rest))
+    → ((bytes : List ℕ) (e : E) → Fails bytes e → read bytes ≡ Err e) → ((bytes : List ℕ) → HasFront Spells Fails bytes)
+    → IsReader read Spells Fails
+reader_of read Spells Fails again refuses front = record {
+  says = λ bytes. elim (front bytes) [
+    | inl (v, rest, t) ↦ rw (ap read t.parts ∙ again t.text rest v t.spelled) t
+    | inr (e, h) ↦ rw (refuses bytes e h) h
+  ];
+  again = again;
+}
+
+pub front_of : {V E : Type 0} {read : List ℕ → Result (V × List ℕ) E} {Spells : List ℕ → V → Type 0}
+    {Fails : List ℕ → E → Type 0} → IsReader read Spells Fails → (bytes : List ℕ) → HasFront Spells Fails bytes
+front_of {V} {E} {read} {Spells} {Fails} reader bytes = from (read bytes) (reader.says bytes)
+  where
+    from : (r : Result (V × List ℕ) E) → MatchResult r (λ (x : V × List ℕ). Takes Spells bytes x.0 x.1) (Fails bytes)
+        → HasFront Spells Fails bytes
+    from (Ok x) t = inl (x.0, x.1, t)
+    from (Err e) h = inr (e, h)
 
 pub read_is : {V E : Type 0} {x y : V} → ◌≡◌ {A = Result V E} (Ok x) (Ok y) → x ≡ y
 read_is e = cc

@@ -227,7 +227,7 @@ pub(crate) fn skip_long(
 
 /// How many bytes the value at the front takes, as `read_value` says it, without making the value.
 #[inline(always)]
-#[tactic(auto, using(crate::specs::SizeLaws::rest_skips, crate::specs::SizeLaws::rest_cuts))]
+#[tactic(auto, using(crate::proofs::SizeLaws::rest_skips))]
 pub fn skip_value(
     version: u16,
     form: Form,

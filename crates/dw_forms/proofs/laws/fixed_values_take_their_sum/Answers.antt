@@ -1,4 +1,4 @@
-use Rattle.dw_forms.specs.SizeLaws.{values_skip}
+use Rattle.dw_forms.proofs.SizeLaws.{values_skip}
 use Rattle.dw_forms.proofs.laws.fixed_values_take_their_sum.Goals as goal
 
 pub returns : goal.returns
