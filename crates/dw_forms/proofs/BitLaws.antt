@@ -1,5 +1,5 @@
 -- Codes that have the same lowest bits.
-use Rattle.std.proofs.Common.{◌≡◌, ℕ, zero, suc, ◌+◌, ◌%◌, ◌^◌, ◌<◌, ◌≤◌, Bool, true, false, refl, sym, ap, ◌∙◌, inl, inr, arith}
+use Rattle.std.proofs.Common.{rules, ◌≡◌, ℕ, zero, suc, ◌+◌, ◌%◌, ◌^◌, ◌<◌, ◌≤◌, Bool, true, false, refl, sym, ◌∙◌, inl, inr, arith}
 use Rattle.std.specs.Prelude.{◌==◌, not, bit_xor}
 use Rattle.std.specs.Int.{bit_at, w64, trailing_zeros}
 use Rattle.std.proofs.lemmas.Bool.{eqb-true, eqb-false, cases_eq, and_parts}
@@ -17,7 +17,7 @@ same_eq : (c : ℕ) → (c == c) ≡ true
 same_eq c = never_false (c == c) (λ e. eqb-false c c e refl)
 
 pub eq_true : (c d : ℕ) → c ≡ d → (c == d) ≡ true
-eq_true c d e = ap (λ (n : ℕ). c == n) (sym e) ∙ same_eq c
+eq_true c d e = (λ i. c == (sym e i)) ∙ same_eq c
 
 not_same : (c code : ℕ) → (c ≡ code → ⊥) → (b : Bool) → (b ≡ true → c ≡ code) → b ≡ false
 not_same c code other true is = absurd (other (is refl))
@@ -39,27 +39,26 @@ agrees_at code place other e = eqb-true _ _ (and_parts (agrees code place other)
 agrees_below : (code place later other : ℕ) → place ≤ later → agrees code later other ≡ true
     → agrees code place other ≡ true
 agrees_below code place zero other less e =
-    let same : zero ≡ place = omega (arith, less) in sym (ap (λ (n : ℕ). agrees code n other) same) ∙ e
+    let same : zero ≡ place = omega arith in sym (λ i. agrees code (same i) other) ∙ e
 agrees_below code place (suc later) other less e = elim (cases_eq place (suc later)) [
-  | inl same ↦ ap (λ (n : ℕ). agrees code n other) same ∙ e
-  | inr fewer ↦ agrees_below code place later other (omega (arith, less, fewer)) (agrees_less code later other e)
+  | inl same ↦ (λ i. agrees code (same i) other) ∙ e
+  | inr fewer ↦ agrees_below code place later other (omega arith) (agrees_less code later other e)
 ]
 
 pub agreed_below : (code place other : ℕ) → agrees code place other ≡ true → (i : ℕ) → i < place
     → bit_at code i ≡ bit_at other i
 agreed_below code place other e i less =
-    agrees_at code i other (agrees_below code (suc i) place other (omega (arith, less)) e)
+    agrees_at code i other (agrees_below code (suc i) place other (omega arith) e)
 
 pub agrees_from : (code place other : ℕ) → ((i : ℕ) → i < place → bit_at code i ≡ bit_at other i)
     → agrees code place other ≡ true
 unfolding agrees
 agrees_from code zero other same = refl
 agrees_from code (suc place) other same =
-    let lower = agrees_from code place other (λ i less. same i (omega (arith, less))) in
-    rw (lower, eq_true (bit_at code place) (bit_at other place) (same place (omega arith))) refl
+    search (rules, eq_true, (agrees_from code place other (λ i less. same i (omega arith))))
 
 pub agrees_same : (code place other : ℕ) → other ≡ code → agrees code place other ≡ true
-agrees_same code place other same = agrees_from code place other (λ i less. ap (λ (c : ℕ). bit_at c i) (sym same))
+agrees_same code place other same = agrees_from code place other (λ i less. (λ j. bit_at (sym same j) i))
 
 -- a code that agrees below a place may stand for the other one
 agrees_as : (code place first other : ℕ) → agrees code place first ≡ true
@@ -76,23 +75,13 @@ parts_as code place first other e same =
     rw (agrees_as code place first other e, eqb-true (bit_at code place) (bit_at first place) same) refl
 
 other_bit : (a b c : ℕ) → a < 2 → b < 2 → c < 2 → (a == b) ≡ false → not (b == c) ≡ (a == c)
-other_bit a b c la lb lc apart = elim (cases_eq a c) [
-  | inl same ↦ rw (differ b c (λ e. eqb-false a b apart (same ∙ sym e)), eq_true a c same) refl
-  | inr differs ↦
-      let both = eqb-false a b apart in
-      rw (eq_true b c (omega (arith, la, lb, lc, both, differs)), differ a c differs) refl
-]
+other_bit a b c la lb lc apart = search (rules, cases_eq, differ, eqb-false, eq_true)
 
 -- where they have not, what differs from one there agrees with the other
 pub parts_turned : (code place first other : ℕ) → agrees code place first ≡ true → same_bit code place first ≡ false
     → parts first place other ≡ agrees code (suc place) other
 unfolding agrees
-parts_turned code place first other e apart =
-    rw (
-      agrees_as code place first other e,
-      other_bit (bit_at code place) (bit_at first place) (bit_at other place) (bit_at-lt code place)
-          (bit_at-lt first place) (bit_at-lt other place) apart,
-    ) refl
+parts_turned code place first other e apart = search (rules, agrees_as, other_bit, bit_at-lt)
 
 pub agrees_on : (code place other : ℕ) → agrees code place other ≡ true → same_bit code place other ≡ true
     → agrees code (suc place) other ≡ true
@@ -118,25 +107,25 @@ parts_self code place =
 -- ---- the lowest place at which two codes differ
 
 same_bits : (a b : ℕ) → a < 2 → b < 2 → (a + b) % 2 ≡ 0 → b ≡ a
-same_bits a b la lb e = omega (arith, la, lb, e)
+same_bits a b la lb e = omega arith
 
 pub same_codes : (a b : ℕ) → a < 2 ^ 64 → b < 2 ^ 64 → bit_xor a b ≡ 0 → b ≡ a
 same_codes a b la lb e =
     same_from_bits_below 64 b a lb la
     (λ i less. same_bits (bit_at a i) (bit_at b i) (bit_at-lt a i) (bit_at-lt b i)
-    (sym (bit_at_xor a b i) ∙ ap (λ (n : ℕ). bit_at n i) e ∙ bit_at-zero i))
+    (sym (bit_at_xor a b i) ∙ (λ j. bit_at (e j) i) ∙ bit_at-zero i))
 
 pub parts_lowest : (a b : ℕ) → a < 2 ^ 64 → b < 2 ^ 64 → (bit_xor a b ≡ 0 → ⊥)
     → (trailing_zeros w64 (bit_xor a b) < 64) × (parts a (trailing_zeros w64 (bit_xor a b)) b ≡ true)
 parts_lowest a b la lb some =
     let low = trailing_zeros w64 (bit_xor a b) in
-    let lowest = bit_at-trailing_zeros w64 (bit_xor a b) (omega (arith, some)) (xor_lt 64 a b la lb) in
+    let lowest = bit_at-trailing_zeros w64 (bit_xor a b) (omega arith) (xor_lt 64 a b la lb) in
     let bit = lowest.1 in (
       lowest.0,
       parts_on a low b
           (agrees_from a low b (λ i less. sym (same_bits (bit_at a i) (bit_at b i) (bit_at-lt a i) (bit_at-lt b i)
           (sym (bit_at_xor a b i) ∙ lowest.2 i less))))
-          (differ (bit_at a low) (bit_at b low) (λ e. omega (arith, e, bit, bit_at_xor a b low))),
+          (differ (bit_at a low) (bit_at b low) (λ e. omega (arith, bit_at_xor a b low))),
     )
 
 -- codes that agree at all places are the same

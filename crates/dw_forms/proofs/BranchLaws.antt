@@ -1,6 +1,6 @@
 -- The branches of a new link, as they are appended one after another.
 use Rattle.std.proofs.lemmas.Grind.{common_steps}
-use Rattle.std.proofs.Common.{rules, ◌≡◌, ℕ, suc, ◌+◌, ◌-◌, ◌^◌, ◌<◌, ◌≤◌, ◌⊎◌, Bool, true, false, cond, List, [], ◌∷◌, ◌++◌, length, get_or, refl, sym, ap, ◌∙◌, inl, inr, arith}
+use Rattle.std.proofs.Common.{rules, ◌≡◌, ℕ, suc, ◌+◌, ◌-◌, ◌^◌, ◌<◌, ◌≤◌, ◌⊎◌, Bool, true, false, cond, List, [], ◌∷◌, ◌++◌, length, get_or, refl, sym, ◌∙◌, inl, inr, arith}
 use Rattle.std.specs.Prelude.{◌==◌}
 use Rattle.std.proofs.lemmas.Bool.{eqb-true, cases_eq}
 use Rattle.std.proofs.lemmas.List.{length-append, get_or_append_left, get_or_at, get_or_default}
@@ -30,11 +30,11 @@ agrees_none code other = refl
 
 first_read : (branches : List ℕ) (links : List Link) (rest code : ℕ) → AreFound branches links
     → rest ≤ length links → 0 < rest → rest ≡ number_where (agrees code 0) (codes_in links rest)
-first_read branches [] rest code are within some = absurd (omega (arith, within, some))
+first_read branches [] rest code are within some = absurd (omega (arith, within))
 first_read branches (y ∷ links) rest code are within some =
     let x = get_or (y ∷ links) (rest - 1) y in
     let read : x ≡ get_or (y ∷ links) (rest - 1) x = get_or_default (y ∷ links) (rest - 1) y x
-    (omega (arith, within, some)) in
+    (omega (arith, within)) in
     sym (first_passes branches (y ∷ links) rest x are some within read (agrees code 0) (agrees_none code x.code))
 
 pub none_where : (p : ℕ → Bool) (links : List Link) → number_where p (codes_in links 0) ≡ 0
@@ -45,7 +45,7 @@ first_of_all : (branches : List ℕ) (links : List Link) (rest code : ℕ) → A
     → rest ≤ length links → (rest ≡ 0) ⊎ (rest ≡ 0 → ⊥) → rest ≡ number_where (agrees code 0) (codes_in links rest)
 first_of_all branches links rest code are within (inl none) = rw none (sym (none_where (agrees code 0) links))
 first_of_all branches links rest code are within (inr some) =
-    first_read branches links rest code are within (omega (arith, some))
+    first_read branches links rest code are within (omega arith)
 
 -- before the first place
 none_more : (branches : List ℕ) → AreMore branches branches
@@ -59,31 +59,14 @@ appended_none branches links rest code are within = search (rules, none_more, fi
 module _ (old branches : List ℕ) (links : List Link) (rest code place number new : ℕ)
     (are : AreAppended old branches links rest code place number) where
   more_kept : AreMore old (branches ++ new ∷ [])
-  more_kept =
-      let more = are.more in
-      let long = more.long in
-      record {
-        long = omega (arith, long, length-append branches (new ∷ []));
-        same = λ i less.
-            get_or_append_left branches (new ∷ []) 0 i (omega (arith, less, long)) ∙ more.same i less;
-      }
+  more_kept = search (rules, length-append, get_or_append_left)
 
   more_each : new ≡ number_where (parts code place) (codes_in links rest) → (i : ℕ) → i < place + 1
       → get_or (branches ++ new ∷ []) (length old + i) 0 ≡ number_where (parts code i) (codes_in links rest)
-  more_each is i less = elim (cases_eq i place) [
-    | inl same ↦ rw same (get_or_at branches new [] 0 (length old + place) are.long ∙ is)
-    | inr fewer ↦
-        get_or_append_left branches (new ∷ []) 0 (length old + i) (omega (arith, less, fewer, are.long))
-        ∙ are.each i (omega (arith, less, fewer))
-  ]
+  more_each is i less = search (rules, cases_eq, get_or_at, get_or_append_left)
 
   more_below : new < suc (length links) → AreBelow (branches ++ new ∷ []) (length old) (place + 1) (suc (length links))
-  more_below small i less = elim (cases_eq i place) [
-    | inl same ↦ rw (same, get_or_at branches new [] 0 (length old + place) are.long) small
-    | inr fewer ↦
-        rw (get_or_append_left branches (new ∷ []) 0 (length old + i) (omega (arith, less, fewer, are.long)))
-        (are.below i (omega (arith, less, fewer)))
-  ]
+  more_below small i less = search (rules, cases_eq, get_or_at, get_or_append_left)
 
   pub one_more : (then : ℕ) → new ≡ number_where (parts code place) (codes_in links rest) → new < suc (length links)
       → then ≡ number_where (agrees code (suc place)) (codes_in links rest) → then ≤ length links
@@ -107,7 +90,7 @@ module _ (old branches : List ℕ) (links : List Link) (rest code place number :
   from_there : (p : ℕ → Bool) → ((c : ℕ) → p c ≡ true → agrees code place c ≡ true)
       → number_where p (codes_in links number) ≡ number_where p (codes_in links rest)
   from_there p narrower =
-      ap (λ (n : ℕ). number_where p (codes_in links n)) are.first
+      (λ i. number_where p (codes_in links (are.first i)))
       ∙ sym (narrowed p (agrees code place) narrower (codes_of links) rest)
 
   from_parts : number_where (parts code place) (codes_in links number)
@@ -125,13 +108,13 @@ module _ (old branches : List ℕ) (links : List Link) (rest code place number :
   -- if it agrees at all places, it is the code itself
   pub appended_same : place ≡ 64 → x.code < 2 ^ 64 → code < 2 ^ 64 → x.code ≡ code
   appended_same all lx lc =
-      agrees_all code x.code lc lx (ap (λ (p : ℕ). agrees code p x.code) (sym all) ∙ agreeing)
+      agrees_all code x.code lc lx ((λ i. agrees code (sym all i) x.code) ∙ agreeing)
 
   pub appended_twice : x.code ≡ code → number_in (codes_in links rest) code ≡ 0 → ⊥
   appended_twice same none =
       let there = from_there (λ c. c == code) (λ c e. agrees_same code place c (eqb-true c code e)) in
       let own = itself (λ c. c == code) (eq_true x.code code same) in
-      omega (arith, none, there, own, some)
+      omega arith
 
   module _ (here : ℕ) (near_is : 2 ^ place < x.run → here ≡ number - 2 ^ place)
       (kept_is : x.run ≤ 2 ^ place → place < x.places → here ≡ get_or branches (x.branches + place) 0)
@@ -140,40 +123,20 @@ module _ (old branches : List ℕ) (links : List Link) (rest code place number :
     here_is = branch_is branches links number x are.found some are.within read place here near_is kept_is none_is fits
 
     here_within : here ≤ length links
-    here_within =
-        let b = branch_below branches links number x are.found some are.within read place here near_is kept_is none_is
-        fits in
-        let w = are.within in
-        omega (arith, b, w)
+    here_within = search (rules, branch_below)
 
     -- the new code's branch, and the link whose code agrees at the place too
     turned : (same : Bool) → same_bit code place x.code ≡ same
         → (cond same here number ≡ number_where (parts code place) (codes_in links rest))
         × (cond same number here ≡ number_where (agrees code (suc place)) (codes_in links rest))
-    turned true e = (
-      here_is
-          ∙ where_same (parts x.code place) (parts code place) (λ c. parts_as code place x.code c agreeing e)
-          (codes_in links number)
-          ∙ from_parts,
-      itself (agrees code (suc place)) (agrees_on code place x.code agreeing e) ∙ from_agrees,
-    )
-    turned false e = (
-      itself (parts code place) (parts_on code place x.code agreeing e) ∙ from_parts,
-      here_is
-          ∙ where_same (parts x.code place) (agrees code (suc place))
-          (λ c. parts_turned code place x.code c agreeing e) (codes_in links number)
-          ∙ from_agrees,
-    )
+    turned true e = search (rules, here_is, where_same, parts_as, agreeing, from_parts, itself, agrees_on, from_agrees)
+    turned false e =
+        search (rules, itself, parts_on, agreeing, from_parts, here_is, where_same, parts_turned, from_agrees)
 
     pub appended : (same : Bool) (new next : ℕ) → same ≡ same_bit code place x.code → new ≡ cond same here number
         → next ≡ cond same number here → AreAppended old (branches ++ new ∷ []) links rest code (place + 1) next
     appended same new next same_is new_is next_is =
-        let w = are.within in
-        let both = turned same (sym same_is) in
-        let new_in = either_within here number (length links) same here_within w in
-        let next_in = either_within number here (length links) same w here_within in
-        one_more old branches links rest code place number new are next (new_is ∙ both.0)
-        (omega (arith, new_is, new_in)) (next_is ∙ both.1) (omega (arith, next_is, next_in))
+        grind (arith, common_steps, turned, either_within, here_within, one_more)
 
 -- no code agrees below a later place
 pub appended_ends : (old branches : List ℕ) (links : List Link) (rest code place number : ℕ)
@@ -182,12 +145,12 @@ pub appended_ends : (old branches : List ℕ) (links : List Link) (rest code pla
 appended_ends old branches links rest code place number are none =
     let l = are.long in
     record {
-      within = omega (arith, l);
+      within = omega arith;
       each = are.each;
       others = λ later past fits.
           narrowed (parts code later) (agrees code place) (λ c e. parts_later code place later c past e)
           (codes_of links) rest
-          ∙ ap (λ (n : ℕ). number_where (parts code later) (codes_in links n)) (sym are.first ∙ none)
+          ∙ (λ i. number_where (parts code later) (codes_in links ((sym are.first ∙ none) i)))
           ∙ none_where (parts code later) links;
     }
 
@@ -197,5 +160,5 @@ pub appended_new : (old branches : List ℕ) (links : List Link) (rest code plac
 appended_new old branches links rest code place number are none =
     narrowed (λ c. c == code) (agrees code place) (λ c e. agrees_same code place c (eqb-true c code e))
     (codes_of links) rest
-    ∙ ap (λ (n : ℕ). number_in (codes_in links n) code) (sym are.first ∙ none)
+    ∙ (λ i. number_in (codes_in links ((sym are.first ∙ none) i)) code)
     ∙ none_where (λ c. c == code) links

@@ -88,7 +88,7 @@ numbered_from front (k ∷ items) chains long are n =
     let new = numbered (length chains) k ∷ chain_in chains k.1 in
     rw (← append_assoc front (k ∷ []) items)
     (numbered_from (front ++ k ∷ []) items (chains ++ new ∷ [])
-    (omega (arith, long, length-append chains (new ∷ []), length-append front (k ∷ [])))
+    (omega (arith, length-append chains (new ∷ []), length-append front (k ∷ [])))
     (λ m. elim (three_ways m (length chains)) [
       | inl (inl less) ↦ rw (get_or_append_left chains (new ∷ []) [] m less)
           (numbered_more front k (chain_in chains m) (are m))
@@ -98,7 +98,7 @@ numbered_from front (k ∷ items) chains long are n =
         numbered_more front k (chain_in chains k.1) (are k.1),
       )
       | inr past ↦ rw (get_or-eq_default (chains ++ new ∷ []) [] {n = m}
-          (omega (arith, past, length-append chains (new ∷ [])))) tt
+          (omega (arith, length-append chains (new ∷ [])))) tt
     ]) n)
 
 no_chain : (X : Type 0) (n : ℕ) → chain_in {X = X} ([] ∷ []) n ≡ []
@@ -151,7 +151,7 @@ pub where_passes : {X : Type 0} → (items : List (X × ℕ)) (p : X → Bool) (
     → AreNumbered items chain → 0 < number_where p chain
     → (d : X) × (item_of items (number_where p chain) ≡ Some d) × (p d ≡ true)
 unfolding number_where
-where_passes items p [] are some = absurd (omega (arith, some))
+where_passes items p [] are some = absurd (omega arith)
 where_passes items p (n ∷ chain) are some =
     passes_here items n (number_where p chain) p (p n.item) refl are.0 (where_passes items p chain are.1) some
 
@@ -190,12 +190,12 @@ module _ {X : Type 0} (p q : X → Bool) (narrower : (c : X) → p c ≡ true �
       let new = first ∷ chain_in chains k.1 in
       let more : length (chains ++ new ∷ []) ≡ length chains + 1 = omega (arith, length-append chains (new ∷ [])) in
       let still_none : chain_in (chains ++ new ∷ []) 0 ≡ [] = get_or_append_left chains (new ∷ []) [] 0 some ∙ none in
-      narrows_from (chains ++ new ∷ []) items (omega (arith, more)) still_none
+      narrows_from (chains ++ new ∷ []) items (omega arith) still_none
       (λ m. elim (three_ways m (length chains)) [
         | inl (inl less) ↦ longer_narrows chains new m less (are m)
         | inl (inr same) ↦ rw same (new_narrows chains first k.1 (q first.item) refl refl (are k.1))
-        | inr past ↦ none_narrows (chains ++ new ∷ []) m (omega (arith, more)) still_none
-            (get_or-eq_default (chains ++ new ∷ []) [] {n = m} (omega (arith, past, more)))
+        | inr past ↦ none_narrows (chains ++ new ∷ []) m (omega arith) still_none
+            (get_or-eq_default (chains ++ new ∷ []) [] {n = m} (omega arith))
       ]) n
 
   pub narrowed : (items : List (X × ℕ)) (n : ℕ)
@@ -217,7 +217,7 @@ item_within (x ∷ items) (suc (suc n)) d is = let within = item_within items (s
 -- the item that is read at the place before a number
 pub item_read : {X : Type 0} → (items : List (X × ℕ)) (number : ℕ) (x : X × ℕ) → 0 < number → number ≤ length items
     → x ≡ get_or items (number - 1) x → item_of items number ≡ Some (x.0)
-item_read items zero x some within read = absurd (omega (arith, some))
+item_read items zero x some within read = absurd (omega arith)
 item_read {X} items (suc n) x some within read = search (rules, slice_get-get_or)
 
 -- ---- chains of what is made of the items
@@ -243,12 +243,12 @@ map_from {X} {Y} f chains (x ∷ items) n =
     let same : (map (map (mapped f)) chains
     ++ (numbered (length (map (map (mapped f)) chains)) (f x.0, x.1) ∷ chain_in (map (map (mapped f)) chains) x.1)
     ∷ []) ≡ map (map (mapped f)) (chains ++ new ∷ []) =
-    ap (λ (m : ℕ). map (map (mapped f)) chains ++ (numbered m (f x.0, x.1) ∷ chain_in (map (map (mapped f)) chains) x.1)
-    ∷ []) number
-    ∙ ap (λ (rest : List (Numbered Y)). map (map (mapped f)) chains ++ (numbered (length chains) (f x.0, x.1) ∷ rest)
-    ∷ []) (at_map (map (mapped f)) chains x.1 [])
+    (λ i. map (map (mapped f)) chains ++ (numbered (number i) (f x.0, x.1) ∷ chain_in (map (map (mapped f)) chains) x.1)
+    ∷ [])
+    ∙ (λ i. map (map (mapped f)) chains
+    ++ (numbered (length chains) (f x.0, x.1) ∷ at_map (map (mapped f)) chains x.1 [] i) ∷ [])
     ∙ sym more in
-    ap (λ (cs : List (List (Numbered Y))). chain_in (chains_from cs (map (λ (y : X × ℕ). (f y.0, y.1)) items)) n) same
+    (λ i. chain_in (chains_from (same i) (map (λ (y : X × ℕ). (f y.0, y.1)) items)) n)
     ∙ map_from f (chains ++ new ∷ []) items n
 
 pub chain_map : {X Y : Type 0} → (f : X → Y) (items : List (X × ℕ)) (n : ℕ)
@@ -259,7 +259,7 @@ pub where_map : {X Y : Type 0} → (test : Y → Bool) (f : X → Y) (chain : Li
     → number_where test (map (mapped f) chain) ≡ number_where (λ x. test (f x)) chain
 unfolding number_where
 where_map test f [] = refl
-where_map test f (n ∷ chain) = ap (λ (m : ℕ). cond (test (f n.item)) n.number m) (where_map test f chain)
+where_map test f (n ∷ chain) = (λ i. cond (test (f n.item)) n.number (where_map test f chain i))
 
 -- ---- whether an item passes a test
 

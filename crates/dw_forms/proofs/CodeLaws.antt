@@ -42,8 +42,8 @@ pub code_read : (links : List Link) (number : ℕ) (x : Link) → 0 < number →
 code_read links number x some within read =
     let at : get_or (codes_of links) (number - 1) (part x)
     ≡ part (get_or links (number - 1) x) = get_or-map part links (number - 1) x (part x)
-    (omega (arith, some, within)) in
-    item_read (codes_of links) number (part x) some (omega (arith, within, codes_long links))
+    (omega arith) in
+    item_read (codes_of links) number (part x) some (omega (arith, codes_long links))
     (sym (at ∙ ap part (sym read)))
 
 -- the chain without links
@@ -81,19 +81,7 @@ module _ (branches : List ℕ) (links : List Link) (k : Link) (are : AreFound br
         where_later (parts k.code place) (own (suc (length links)) k) (codes_in links k.rest) (parts_self k.code place)
 
     new_found : IsFoundBy branches (links ++ k ∷ []) (suc (length links)) k
-    new_found = record {
-      first =
-          λ test is_own. rw (new_codes links k)
-          (where_first test (own (suc (length links)) k) (codes_in links k.rest) is_own);
-      short = omega (arith, short);
-      run = rw (new_codes links k) (run_more (codes_in links k.rest) k.run k.code (length links) run);
-      below = λ place less. let b = below place less in omega (arith, b);
-      codes = rw (new_codes links k) (record {
-        within = is.within;
-        each = λ place less. is.each place less ∙ sym (later place);
-        others = λ place past fits. later place ∙ is.others place past fits;
-      });
-    }
+    new_found = search (rules, new_codes, where_first, own, run_more, later)
 
     pub found_more : AreFound branches (links ++ k ∷ [])
     found_more = λ n x within read. elim (cases_eq n (length links)) [
@@ -101,7 +89,7 @@ module _ (branches : List ℕ) (links : List Link) (k : Link) (are : AreFound br
           let x_is : x ≡ k = read ∙ get_or_at links k [] x n (sym same) in
           rw (x_is, same) new_found
       | inr other ↦
-          let less : n < length links = omega (arith, other, within, length-append links (k ∷ [])) in
+          let less : n < length links = omega (arith, length-append links (k ∷ [])) in
           old_found (suc n) x less (are n x less (read ∙ get_or_append_left links (k ∷ []) x n less))
     ]
 

@@ -68,18 +68,13 @@ each_good Spells End Good good (x ∷ xs) text s =
     All-cons Good x xs (good s.0 x s.3) (each_good Spells End Good good xs s.1 s.4)
 
 attributes_good : (text : List ℕ) (specs : List AttributeSpec) → attributes.Spells text specs → AreAttributeSpecs specs
-attributes_good text specs s = record {
-  each = each_good _ _ (λ (spec : AttributeSpec). IsCode16 spec.attribute) attribute_good specs text s.spelled;
-  distinct = s.distinct;
-}
+attributes_good text specs s = search (rules, each_good, attribute_good)
 
 -- ---- declarations
 
 tag_good : (text : List ℕ) (t : ℕ × Bool) → tag_and_children.Spells text t → IsCode16 t.0
 unfolding tag_and_children
-tag_good text t s =
-    subst (λ (x : ℕ × Bool). IsCode16 x.0) (sym s.is_second.2)
-    (code16_is s.value (tested_is is_code16 _ number s.first s.value s.is_first))
+tag_good text t s = search (rules, code16_is, tested_is)
 
 code_on : (b : Bool) (x code : ℕ) → eqb x 0 ≡ b → cond b None (Some x) ≡ Some code → 0 < code
 code_on true x code e s = absurd (never_none s)
@@ -90,14 +85,7 @@ unfolding code_or_end
 code_good text code s = code_on (eqb s.0 0) s.0 code refl (sym s.2)
 
 decl_good : (text : List ℕ) (d : Declaration) → SpellsElement declarations text d → IsDeclaration d
-decl_good text d s =
-    let tag = s.is_rest.is_first in
-    let specs = s.is_rest.is_second in
-    subst IsDeclaration (sym specs.2) (record {
-      code = code_good s.first s.begins s.is_first;
-      tag = tag_good s.is_rest.first s.is_rest.value tag;
-      attributes = attributes_good s.is_rest.second specs.0 specs.1;
-    })
+decl_good text d s = search (rules, code_good, tag_good, attributes_good)
 
 pub decls_good : (text : List ℕ) (ds : List Declaration) → Decls text ds → AreDeclarations ds
 decls_good text ds s =

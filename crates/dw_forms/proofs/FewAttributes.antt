@@ -25,7 +25,7 @@ codes_apart : (specs : List AttributeSpec) → AreAttributeSpecs specs → AllPa
 unfolding codes
 codes_apart specs a =
     AllPairs-cons (λ x y. x ≢ y) 0 (map attribute_of specs)
-    (All-map (λ n. 0 ≢ n) attribute_of specs (λ k d lt none. omega (arith, none, (a.each k d lt).some)))
+    (All-map (λ n. 0 ≢ n) attribute_of specs (λ k d lt none. omega (arith, (a.each k d lt).some)))
     (λ i j d lt long same.
     let len = length-map specs attribute_of in
     let first = get_or-map attribute_of specs i any_spec d (omega arith) in
@@ -45,4 +45,4 @@ few_specs specs a =
     let few = length-le_from_distinct_below (codes specs) 0x10000 distinct
     (λ q h. let c = Any-from_list_any (eqb q) (codes specs) h in
     omega (arith, eqb-true q c.1 c.4, codes_small specs a c.0 c.1 c.2, c.3)) in
-    omega (arith, few, length-map specs attribute_of)
+    omega (arith, length-map specs attribute_of)

@@ -1,5 +1,5 @@
 -- Numbers of one byte, and of two.
-use Rattle.std.proofs.Common.{rules, ◌≡◌, ℕ, ◌+◌, ◌*◌, ◌%◌, ◌^◌, ◌<◌, ◌≤◌, List, [], ◌∷◌, length, get_or, Result, Ok, refl, arith}
+use Rattle.std.proofs.Common.{rules, ◌≡◌, ℕ, ◌+◌, ◌*◌, ◌%◌, ◌<◌, ◌≤◌, List, [], ◌∷◌, length, get_or, Result, Ok, arith}
 use Rattle.std.specs.Prelude.{bit_and}
 use Rattle.std.proofs.lemmas.Bool.{lt-ltb, le-ltb}
 use Rattle.std.proofs.lemmas.Nat.{and_mask}
@@ -15,10 +15,7 @@ uleb_one (b ∷ bytes) n some e low = search (rules, lt-ltb)
 two_bytes : (a b : ℕ) (bytes : List ℕ) (n : ℕ) → n ≡ a % 128 + 128 * b → 128 ≤ a → b < 128
     → ◌≡◌ {A = Result (ℕ × ℕ) NumberFault} (Ok (n, 2)) (uleb_at (a ∷ b ∷ bytes))
 unfolding uleb_at spelling_from
-two_bytes a b bytes n e high low =
-    let sum : 0 + (a % 128) * 1 + (b % 128) * 128 ≡ n = omega (arith, e, low) in
-    let small : n < 2 ^ 64 = omega (arith, e, low) in
-    rw (le-ltb a 128 high, lt-ltb b 128 low, sum, lt-ltb n (2 ^ 64) small) refl
+two_bytes a b bytes n e high low = search (rules, le-ltb, lt-ltb)
 
 pub uleb_two : (bytes : List ℕ) (low high : ℕ) → 2 ≤ length bytes → low ≡ bit_and (get_or bytes 0 0) 127
     → high ≡ get_or bytes 1 0
@@ -28,4 +25,4 @@ uleb_two [] low high some l h more less = absurd (omega arith)
 uleb_two (a ∷ []) low high some l h more less = absurd (omega arith)
 uleb_two (a ∷ b ∷ bytes) low high some l h more less =
     let mask = and_mask a 7 in
-    two_bytes a b bytes (low + 128 * high) (omega (arith, l, h, mask)) more less
+    two_bytes a b bytes (low + 128 * high) (omega arith) more less

@@ -1,5 +1,5 @@
 -- A declaration is read by its code, its tag, and the list of its attributes.
-use Rattle.std.proofs.Common.{◌≡◌, ℕ, ◌-◌, Bool, List, [], ◌++◌, length, drop, Some, None, Result, Ok, Err, refl, sym, ap, ◌∙◌, append_assoc}
+use Rattle.std.proofs.Common.{rules, ◌≡◌, ℕ, ◌-◌, Bool, List, [], ◌++◌, length, drop, Some, None, Result, Ok, Err, refl, sym, ap, ◌∙◌, append_assoc}
 use Rattle.std.proofs.lemmas.Bool.{ne_eqb}
 use Rattle.dw_forms.specs.declared.abbrev.AttributeSpec.{AttributeSpec}
 use Rattle.dw_forms.specs.declared.attribute_lists.Node.{Node}
@@ -24,10 +24,7 @@ module _ (section : List ℕ) (offset : ℕ) where
   module _ (code : ℕ) (rest : List ℕ) (code_is : unsigned_at (drop offset section) ≡ Ok (code, rest)) where
     -- the code 0
     pub next_none : code ≡ 0 → decl_at [] (drop offset section) ≡ Ok (None, drop (length section - length rest) section)
-    next_none none =
-        let ends = number_ends (drop offset section) code rest code_is in
-        decl_end (drop offset section) code rest code_is (eq_true code 0 none)
-        ∙ ap (λ (r : List ℕ). Ok (None, r)) (rest_of section offset ends.0 rest ends.1)
+    next_none none = search (rules, number_ends, decl_end, eq_true, rest_of)
 
     module _ (some : code ≡ 0 → ⊥) where
       -- no tag
@@ -41,7 +38,7 @@ module _ (section : List ℕ) (offset : ℕ) where
             let first = number_ends (drop offset section) code rest code_is in
             let second = tag_ends rest tag after tag_is in
             rest_of section offset (first.0 ++ second.0) after
-            (first.1 ∙ ap (λ (r : List ℕ). first.0 ++ r) second.1 ∙ sym (append_assoc first.0 second.0 after))
+            (first.1 ∙ (λ i. first.0 ++ second.1 i) ∙ sym (append_assoc first.0 second.0 after))
 
         -- the list of its attributes
         pub next_some : (nodes : List Node) (first end : ℕ)

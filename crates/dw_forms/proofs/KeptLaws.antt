@@ -53,14 +53,14 @@ views_same nodes more [] within = refl
 views_same nodes more (k ∷ kept) within =
     let same : kept_view (nodes ++ more) k
     ≡ kept_view nodes k = view_stays nodes (nodes ++ more) k (more, refl) (within 0 k (omega arith)).within in
-    ap (λ (d : Declaration). (d, k.rest) ∷ decls_of (nodes ++ more) kept) same
+    (λ i. (same i, k.rest) ∷ decls_of (nodes ++ more) kept)
     ∙ ap (λ (ds : List (Declaration × ℕ)). part nodes k ∷ ds)
-    (views_same nodes more kept (λ i x less. within (suc i) x (omega (arith, less))))
+    (views_same nodes more kept (λ i x less. within (suc i) x (omega arith)))
 
 pub tables_same : (old new : List Node) (kept : List KeptDecl) → Stay old new → AreWithin old kept
     → tables_of new kept ≡ tables_of old kept
 tables_same old new kept stay within =
-    ap (λ (nodes : List Node). tables_of nodes kept) stay.1 ∙ ap chains_of (views_same old stay.0 kept within)
+    (λ i. tables_of (stay.1 i) kept) ∙ ap chains_of (views_same old stay.0 kept within)
 
 pub has_stays : (old new : List Node) (first : ℕ) (step : Step) (bits : ℕ) (declared : Option Bool)
     (whole : Option ℕ) → Stay old new → HasList old first step bits declared whole
@@ -77,7 +77,7 @@ codes_parts : (long : BTreeMap ℕ ℕ) (nodes : List Node) (kept : List KeptDec
     ≡ map {B = ℕ × ℕ} (λ (x : Declaration × ℕ). (label long x.0.code, x.1)) (decls_of nodes kept)
 codes_parts long nodes [] = refl
 codes_parts long nodes (k ∷ kept) =
-    ap (λ (rest : List (ℕ × ℕ)). (label long k.code, k.rest) ∷ rest) (codes_parts long nodes kept)
+    (λ i. (label long k.code, k.rest) ∷ (codes_parts long nodes kept i))
 
 abbrev or_else : {X : Type 0} → X → Option X → X
 or_else x None = x
@@ -90,17 +90,16 @@ label_of long nodes [] (suc n) d has is = grind (arith, common_steps, slice_get_
 label_of long nodes (k ∷ kept) (suc zero) d has is =
     subst (λ (x : Declaration). HasLabel long x.code) (ap (or_else (kept_view nodes k)) is) (has 0 k (omega arith))
 label_of long nodes (k ∷ kept) (suc (suc n)) d has is =
-    label_of long nodes kept (suc n) d (λ i x less. has (suc i) x (omega (arith, less))) is
+    label_of long nodes kept (suc n) d (λ i x less. has (suc i) x (omega arith)) is
 
 pub code_is : (links : List Link) (long : BTreeMap ℕ ℕ) (nodes : List Node) (kept : List KeptDecl) (table code : ℕ)
     → AreLabels long → HaveLabels long kept → HaveDeclCodes links long kept
     → code_number (codes_in links table) (label long code)
     ≡ decl_number_in (chain_in (tables_of nodes kept) table) code
 code_is links long nodes kept table code labels has are =
-    ap (λ (items : List (ℕ × ℕ)). code_number (chain_in (chains_of items) table) (label long code))
-    (are ∙ codes_parts long nodes kept)
-    ∙ ap (λ (chain : List (Numbered ℕ)). code_number chain (label long code))
-    (chain_map (λ (d : Declaration). label long d.code) (decls_of nodes kept) table)
+    (λ i. code_number (chain_in (chains_of ((are ∙ codes_parts long nodes kept) i)) table) (label long code))
+    ∙ (λ i. code_number (chain_map (λ (d : Declaration). label long d.code) (decls_of nodes kept) table i)
+    (label long code))
     ∙ where_map (λ c. c == label long code) (λ (d : Declaration). label long d.code)
     (chain_in (tables_of nodes kept) table)
     ∙ where_alike (decls_of nodes kept) (λ (d : Declaration). label long d.code == label long code)
@@ -123,7 +122,7 @@ coded_stay links old new kept stay has are = are ∙ sym (map_same kept has) whe
   map_same [] has = refl
   map_same (k ∷ kept) has = rw ((stay k.code (has 0 k (omega arith))).0)
       (ap (λ (rest : List (ℕ × ℕ)). (label old k.code, k.rest) ∷ rest)
-      (map_same kept (λ i x less. has (suc i) x (omega (arith, less)))))
+      (map_same kept (λ i x less. has (suc i) x (omega arith))))
 
 pub labels_stay : (old new : BTreeMap ℕ ℕ) (kept : List KeptDecl) → LabelsStay old new → HaveLabels old kept
     → HaveLabels new kept
@@ -135,16 +134,12 @@ pub labelled_is : (links : List Link) (old new : BTreeMap ℕ ℕ) (nodes : List
     → (found : ℕ) → found ≡ label new code
     → code_number (codes_in links table) found ≡ decl_number_in (chain_in (tables_of nodes kept) table) code
 labelled_is links old new nodes kept table code labels stay has are found is =
-    ap (λ (n : ℕ). code_number (codes_in links table) n) is
-    ∙ code_is links new nodes kept table code labels (labels_stay old new kept stay has)
-    (coded_stay links old new kept stay has are)
+    search (rules, code_is, labels_stay, coded_stay)
 
 pub coded_more : (old new : List Link) (long : BTreeMap ℕ ℕ) (kept : List KeptDecl) (k : KeptDecl)
     → HaveDeclCodes old long kept → codes_of new ≡ codes_of old ++ (label long k.code, k.rest) ∷ []
     → HaveDeclCodes new long (kept ++ k ∷ [])
-coded_more old new long kept k are more =
-    more ∙ ap (λ (items : List (ℕ × ℕ)). items ++ (label long k.code, k.rest) ∷ []) are
-    ∙ sym (map-append (λ (x : KeptDecl). (label long x.code, x.rest)) kept (k ∷ []))
+coded_more old new long kept k are more = search (rules, map-append)
 
 -- ---- the declaration of a code
 
@@ -169,16 +164,14 @@ own_numbers nodes kept table = are_numbered (decls_of nodes kept) table
 pub none_code : (nodes : List Node) (kept : List KeptDecl) (table code : ℕ)
     → decl_number_in (chain_in (tables_of nodes kept) table) code ≡ 0
     → has_code code (table_in (tables_of nodes kept) table) ≡ false
-none_code nodes kept table code none =
-    none_has (λ (d : Declaration). d.code == code) (decls_of nodes kept) (chain_in (tables_of nodes kept) table)
-    (own_numbers nodes kept table) none
+none_code nodes kept table code none = search (rules, none_has, own_numbers)
 
 pub some_code : (nodes : List Node) (kept : List KeptDecl) (table code : ℕ)
     → 0 < decl_number_in (chain_in (tables_of nodes kept) table) code
     → has_code code (table_in (tables_of nodes kept) table) ≡ true
 some_code nodes kept table code some =
     some_has (λ (d : Declaration). d.code == code) (chain_in (tables_of nodes kept) table)
-    (λ none. omega (arith, some, none))
+    (λ none. omega arith)
 
 -- the declaration that is found by its code
 pub found_by : (links : List Link) (long : BTreeMap ℕ ℕ) (nodes : List Node) (kept : List KeptDecl) (table code : ℕ)
@@ -200,6 +193,6 @@ pub decl_read : (nodes : List Node) (kept : List KeptDecl) (number : ℕ) (x : K
 decl_read nodes kept number x some within read =
     let at : get_or (decls_of nodes kept) (number - 1) (part nodes x)
     ≡ part nodes (get_or kept (number - 1) x) = get_or-map (part nodes) kept (number - 1) x (part nodes x)
-    (omega (arith, some, within)) in
-    item_read (decls_of nodes kept) number (part nodes x) some (omega (arith, within, decls_long nodes kept))
+    (omega arith) in
+    item_read (decls_of nodes kept) number (part nodes x) some (omega (arith, decls_long nodes kept))
     (sym (at ∙ ap (part nodes) (sym read)))

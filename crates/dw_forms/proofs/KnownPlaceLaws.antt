@@ -1,5 +1,5 @@
 -- The values before an attribute, where each of them has one size.
-use Rattle.std.proofs.Common.{◌≡◌, ℕ, ◌+◌, ◌-◌, ◌≤◌, true, false, List, [], ◌∷◌, ◌++◌, refl, sym, ap, subst, ◌∙◌, inr, arith}
+use Rattle.std.proofs.Common.{rules, ◌≡◌, ℕ, ◌+◌, ◌-◌, ◌≤◌, true, false, List, [], ◌∷◌, ◌++◌, refl, sym, ap, subst, ◌∙◌, arith}
 use Rattle.std.specs.Prelude.{Option, Some, None, IfSome}
 use Rattle.std.specs.Option.{ForSome}
 use Rattle.std.specs.List.{list_any}
@@ -26,7 +26,7 @@ before_front code [] [] none passes = refl
 before_front code [] (m ∷ back) none passes = rw (passes m back refl) refl
 before_front code (n ∷ front) back none passes =
     let parts = or_parts (has_this code n.item) (list_any (has_this code) (items_of front)) none in
-    rw parts.0 (ap (λ (specs : List AttributeSpec). n.item ∷ specs) (before_front code front back parts.1 passes))
+    rw parts.0 (λ i. n.item ∷ (before_front code front back parts.1 passes i))
 
 module _ (all : Attributes) (code : ℕ) where
   here : IsSplit (has_this code) (nodes_of all) all.first (number_where (has_this code) (numbered all))
@@ -34,10 +34,7 @@ module _ (all : Attributes) (code : ℕ) where
 
   -- those before it come before the list that begins with it
   before_here : before_code code (specs_in all) ≡ items_of here.before
-  before_here =
-      ap (λ (list : List (Numbered AttributeSpec)). before_code code (items_of list)) here.goes
-      ∙ before_front code here.before (numbered_in (nodes_of all) (number_where (has_this code) (numbered all)))
-      here.none here.passes
+  before_here = search (rules, here, before_front)
 
   -- where the next value of no one size is not before it, each value before it has one size
   pub sized_here : (n : Node) → IsKnown (nodes_of all) all.first n
@@ -50,42 +47,29 @@ module _ (all : Attributes) (code : ℕ) where
       ≡ n.next_varying = ap (number_where varies) (sym here.goes) ∙ sym is.knows.varying in
       ap (list_any varies) before_here ∙ none_before varies all.first to here.before (numbered_in (nodes_of all) to)
       (subst (Falls all.first) here.goes (falls (nodes_of all) all.lists.now.known all.first all.within))
-      (starts (nodes_of all) all.lists.now.known to within) (omega (arith, next, less))
+      (starts (nodes_of all) all.lists.now.known to within) (omega arith)
 
   module _ (found : Attributes) (from : IsFrom (has_this code) all found) where
     found_specs : known_sum 8 (specs_in found)
         ≡ known_sum 8 (items_of (numbered_in (nodes_of all) (number_where (has_this code) (numbered all))))
-    found_specs =
-        ap (λ (nodes : List Node). known_sum 8 (items_of (numbered_in nodes found.first))) from.nodes
-        ∙ ap (λ (number : ℕ). known_sum 8 (items_of (numbered_in (nodes_of all) number))) from.first
+    found_specs = search rules
 
     -- the sum of their sizes
     pub sum_here : (n : Node) → IsKnown (nodes_of all) all.first n
         → known_with 8 n ≡ known_sum 8 (before_code code (specs_in all)) + known_sum 8 (specs_in found)
-    sum_here n is =
-        known_is 8 (numbered all) n (inr refl) is.knows
-        ∙ sum_goes 8 (nodes_of all) all.first (number_where (has_this code) (numbered all)) here.before here.goes
-        ∙ ap (λ (sum : ℕ). known_sum 8 (items_of here.before) + sum) (sym found_specs)
-        ∙ ap (λ (specs : List AttributeSpec). known_sum 8 specs + known_sum 8 (specs_in found)) (sym before_here)
+    sum_here n is = search (rules, known_is, sum_goes, here, found_specs, before_here)
 
     pub are_together : (n : Node) (at : ℕ) → IsKnown (nodes_of all) all.first n → n.next_varying ≤ found.first
         → at ≡ known_with 8 n - known_sum 8 (specs_in found) → AreTogether (numbered all) code at
     are_together n at is less sum =
         let first = from.first in
-        record { sized = sized_here n is (omega (arith, less, first)); sum_is = omega (arith, sum, sum_here n is) }
+        record { sized = sized_here n is (omega arith); sum_is = omega (arith, sum_here n is) }
 
     -- so the values before it are cut off together
     pub cut_here : (at : ℕ) → AreTogether (numbered all) code at
         → (before : List (Numbered AttributeSpec)) → Ends all found before
         → (version : ℕ) (bytes : List ℕ) → values_end version 8 (items_of before) bytes ≡ rest_beyond at bytes
-    cut_here at together before ends version bytes =
-        let same : before ≡ here.before = append_cancel_right before here.before
-        (numbered_in (nodes_of all) (number_where (has_this code) (numbered all)))
-        (ap (λ (number : ℕ). before ++ numbered_in (nodes_of all) number) (sym from.first) ∙ sym ends.parts ∙ here.goes)
-        in
-        let items : items_of before ≡ before_code code (specs_in all) = ap items_of same ∙ sym before_here in
-        run version 8 before bytes (ap (list_any varies) items ∙ together.sized)
-        ∙ ap (λ (n : ℕ). rest_beyond n bytes) (ap (known_sum 8) items ∙ sym together.sum_is)
+    cut_here at together before ends version bytes = search (rules, here, append_cancel_right, before_here, run)
 
 -- what is known of a value that is there
 pub for_some : {X : Type 0} (P : X → Type 0) (o : Option X) → IfSome o P → ForSome o P

@@ -1,5 +1,5 @@
 -- What a lead says of the attribute that has it.
-use Rattle.std.proofs.Common.{◌≡◌, ◌≢◌, ℕ, Bool, true, false, refl}
+use Rattle.std.proofs.Common.{rules, ◌≡◌, ◌≢◌, ℕ, Bool, true, false, refl}
 use Rattle.std.specs.Prelude.{⊤, ◌==◌, ◌||◌, if◌then◌else◌}
 use Rattle.std.proofs.lemmas.Bool.{eqb-true, eqb-false}
 use Rattle.dw_forms.specs.declared.abbrev.AttributeSpec.{AttributeSpec}
@@ -37,14 +37,7 @@ reference_says code b false true a3 a4 a5 e1 e2 e3 e4 e5 = (refl, eqb-true code 
 reference_says code b false false true a4 a5 e1 e2 e3 e4 e5 = (refl, eqb-true code DW_AT_specification e3)
 reference_says code b false false false true a5 e1 e2 e3 e4 e5 = tt
 reference_says code b false false false false true e1 e2 e3 e4 e5 = tt
-reference_says code b false false false false false e1 e2 e3 e4 e5 = (
-  refl,
-  eqb-false code DW_AT_type e1,
-  eqb-false code DW_AT_sibling e2,
-  eqb-false code DW_AT_specification e3,
-  eqb-false code DW_AT_import e4,
-  eqb-false code DW_AT_signature e5,
-)
+reference_says code b false false false false false e1 e2 e3 e4 e5 = search (rules, eqb-false)
 
 value_says : (l : Lead) (form : Form) (code : ℕ) (b a : Bool) → (code == DW_AT_type) ≡ a
     → ((code ≢ DW_AT_type) → Says l form code b) → Says (if a then lead.Other else l) form code b

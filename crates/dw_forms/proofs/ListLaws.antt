@@ -7,7 +7,7 @@ pub rest_of : (section : List ℕ) (offset : ℕ) (text rest : List ℕ) → dro
     → rest ≡ drop (length section - length rest) section
 rest_of section offset text rest parts =
     let whole : section ≡ (take offset section ++ text) ++ rest = sym (take-append-drop offset section)
-    ∙ ap (λ (r : List ℕ). take offset section ++ r) parts ∙ sym (append_assoc (take offset section) text rest) in
+    ∙ (λ i. take offset section ++ parts i) ∙ sym (append_assoc (take offset section) text rest) in
     let long : length (take offset section ++ text)
     ≡ length section - length rest = omega
     (arith, ap length whole, length-append (take offset section ++ text) rest) in

@@ -10,7 +10,6 @@ use Rattle.dw_forms.specs.Abbrev.{IsCode16, attribute_of, specifications, broken
 use Rattle.dw_forms.specs.declared.rule.Rule.TheVariants.{AbbrevCut}
 use Rattle.dw_forms.specs.declared.fault.DeclFault.{DeclFault}
 use Rattle.dw_forms.specs.AbbrevReading.{pair_at}
-use Rattle.dw_forms.specs.Chains.{Numbered, items_of}
 use Rattle.dw_forms.specs.AttributeLists.{numbered_in, list_in, IsLast, AddedSpec}
 use Rattle.dw_forms.specs.Offsets.{BeginsAt, NothingAt, AreAlong, AreNew, Stay}
 use Rattle.dw_forms.specs.declared.shared_ends.SharedEnd.{SharedEnd}
@@ -35,11 +34,15 @@ reads_attributes = reads_next specifications (broken AbbrevCut 0)
 
 pub lists_stay : (more nodes : List Node) (number : ℕ) → number ≤ length nodes
     → numbered_in (nodes ++ more) number ≡ numbered_in nodes number
-lists_stay [] nodes number within = ap (λ (all : List Node). numbered_in all number) (append-nil nodes)
+lists_stay [] nodes number within = (λ i. numbered_in (append-nil nodes i) number)
 lists_stay (n ∷ more) nodes number within =
-    ap (λ (all : List Node). numbered_in all number) (sym (append_assoc nodes (n ∷ []) more))
-    ∙ lists_stay more (nodes ++ n ∷ []) number (omega (arith, within, length-append nodes (n ∷ [])))
-    ∙ old_list nodes n number within
+    search (
+      rules,
+      append_assoc,
+      length-append,
+      old_list,
+      (lists_stay more (nodes ++ n ∷ []) number (omega (arith, length-append nodes (n ∷ [])))),
+    )
 
 pub list_stays : (section : List ℕ) (old new : List Node) (offset number end : ℕ) → Stay old new
     → IsListAt section old offset number end → IsListAt section new offset number end
@@ -54,7 +57,7 @@ pub placed_more : (section : List ℕ) (nodes : List Node) (n : Node) (starts : 
     → ArePlaced section (nodes ++ n ∷ []) (starts ++ at ∷ []) more
 placed_more section nodes n starts ends more at end placed nothing less_at is added = record {
   apart = apart_push (length section) starts at placed.apart nothing less_at;
-  starts_long = omega (arith, placed.starts_long, long_starts, long_nodes);
+  starts_long = omega (arith, long_starts, long_nodes);
   rise = ends_rise (length nodes) end ends more added placed.below placed.rise;
   first = λ some. first_is;
   below =
@@ -64,12 +67,12 @@ placed_more section nodes n starts ends more at end placed nothing less_at is ad
         let ends_here = new_end (length nodes) end ends more added placed.below count e
         (subst (λ (m : ℕ). AreUpTo m more count) same up_to) read in
         let begins : get_or (starts ++ at ∷ []) k 0
-        ≡ at = get_or_at starts at [] 0 k (omega (arith, same, placed.starts_long)) in
+        ≡ at = get_or_at starts at [] 0 k (omega arith) in
         rw (same, ends_here) (rw (ap (λ (m : ℕ). get_or (starts ++ at ∷ []) m 0) (sym same) ∙ begins) is)
     | inr other ↦
-        let before : k < length nodes = omega (arith, other, less, long_nodes) in
+        let before : k < length nodes = omega (arith, long_nodes) in
         let begins : get_or (starts ++ at ∷ []) k 0
-        ≡ get_or starts k 0 = get_or_append_left starts (at ∷ []) 0 k (omega (arith, before, placed.starts_long)) in
+        ≡ get_or starts k 0 = get_or_append_left starts (at ∷ []) 0 k (omega arith) in
         let some = first_stays k more count first_is up_to in
         let old = old_end (length nodes) end ends more added placed.below k before count e up_to some read in
         rw begins (list_stays section nodes (nodes ++ n ∷ []) (get_or starts k 0) (suc k) e.end (n ∷ [], refl)
@@ -99,12 +102,10 @@ module _ {section : List ℕ} {old : List Node} {starts : List ℕ} {offset firs
     {all : List (Placed AttributeSpec)} (left : List (Placed AttributeSpec)) (p : Placed AttributeSpec)
     (parts : all ≡ left ++ p ∷ []) (leads : LeadsToList section old starts all offset first end) where
   popped : AreAlong (IsPairAt section) left offset p.at × IsPairAt section p.at p.item leads.next
-  popped =
-      along_pop (IsPairAt section) left offset leads.next p
-      (subst (λ (xs : List (Placed AttributeSpec)). AreAlong (IsPairAt section) xs offset leads.next) parts leads.along)
+  popped = search (rules, along_pop)
 
   pub pair_less : p.at < length section
-  pair_less = let e = popped.1 in omega (arith, e.rises, e.fits)
+  pair_less = let e = popped.1 in omega arith
 
   pub code_before : IsCode16 p.item.attribute
   code_before =
@@ -126,10 +127,7 @@ module _ {section : List ℕ} {old : List Node} {starts : List ℕ} {offset firs
     last = added.2
 
     made : list_in (old ++ last.node ∷ []) (suc (length old)) ≡ p.item ∷ list_in old first
-    made =
-        ap (λ (list : List (Numbered AttributeSpec)). items_of list) (new_list old last.node)
-        ∙ ap (λ (s : AttributeSpec). s ∷ list_in old last.node.next) last.spec_is
-        ∙ ap (λ (n : ℕ). p.item ∷ list_in old n) last.next_is
+    made = search (rules, new_list, last)
 
     here : IsListAt section (old ++ last.node ∷ []) p.at (suc (length old)) end
     here =
@@ -141,20 +139,13 @@ module _ {section : List ℕ} {old : List Node} {starts : List ℕ} {offset firs
               list_more reads_attributes (drop p.at section) (drop leads.next section) (drop end section) p.item
               (list_in old first) popped.1.is leads.list.list
               (lacks_from attribute_of p.item.attribute (list_in old first) added.0)
-              ∙ ap (λ (specs : List AttributeSpec). Ok (specs, drop end section)) (sym made);
-          rises = omega (arith, less, rises);
+              ∙ (λ i. Ok ((sym made i), drop end section));
+          rises = omega arith;
           fits = leads.list.fits;
         }
 
     pub next_leads : LeadsToList section new (starts ++ p.at ∷ []) left offset number end
-    next_leads = record {
-      next = p.at;
-      along = popped.0;
-      new = next_new.1;
-      list =
-          subst (λ (n : ℕ). IsListAt section new p.at n end) (sym added.1)
-          (subst (λ (ns : List Node). IsListAt section ns p.at (suc (length old)) end) (sym last.nodes) here);
-    }
+    next_leads = search (rules, popped, next_new, last, here)
 
     pub next_placed : (ends more : List SharedEnd) → ArePlaced section old starts ends
         → IsEndAdded (number - 1) end ends more → ArePlaced section new (starts ++ p.at ∷ []) more
@@ -194,7 +185,7 @@ pub some_end : (section : List ℕ) (nodes : List Node) (starts : List ℕ) (end
     → AreUpTo (number - 1) ends count → 0 < count
 some_end section nodes starts ends offset number count placed begins up_to =
     let at = begins_within starts number offset begins in
-    first_stays (number - 1) ends count (placed.first (omega (arith, at.0, placed.starts_long))) up_to
+    first_stays (number - 1) ends count (placed.first (omega (arith, at.0))) up_to
 
 -- and begins at its offset
 pub kept_list : (section : List ℕ) (nodes : List Node) (starts : List ℕ) (ends : List SharedEnd)
@@ -203,10 +194,10 @@ pub kept_list : (section : List ℕ) (nodes : List Node) (starts : List ℕ) (en
     → IsListAt section nodes offset number (get_or ends (count - 1) d).end
 kept_list section nodes starts ends offset number count placed begins some up_to d =
     let at = begins_within starts number offset begins in
-    let less : number - 1 < length nodes = omega (arith, at.0, placed.starts_long) in
+    let less : number - 1 < length nodes = omega (arith, at.0) in
     let e = get_or ends (count - 1) d in
     let there = some_end section nodes starts ends offset number count placed begins up_to in
-    let within : count - 1 < length ends = omega (arith, there, up_to.within) in
+    let within : count - 1 < length ends = omega arith in
     let is = placed.lists (number - 1) count e less up_to (get_or_default ends (count - 1) d e within) in
     subst (λ (m : ℕ). IsListAt section nodes m number e.end) at.1
-    (subst (λ (m : ℕ). IsListAt section nodes (get_or starts (number - 1) 0) m e.end) (omega (arith, some)) is)
+    (subst (λ (m : ℕ). IsListAt section nodes (get_or starts (number - 1) 0) m e.end) (omega arith) is)

@@ -1,10 +1,9 @@
 -- Codes are found in lists of attributes.
-use Rattle.std.proofs.Common.{rules, ◌≡◌, ℕ, zero, suc, ◌<◌, ◌≤◌, true, false, List, [], ◌∷◌, ◌++◌, length, sym, ap, ◌∙◌, inl, inr, arith}
+use Rattle.std.proofs.Common.{rules, ◌≡◌, ℕ, zero, suc, ◌<◌, ◌≤◌, true, false, List, [], ◌∷◌, ◌++◌, length, sym, ◌∙◌, inl, inr, arith}
 use Rattle.std.proofs.lemmas.Grind.{common_steps}
 use Rattle.std.specs.Prelude.{◌==◌, not, get_or}
 use Rattle.std.proofs.lemmas.Bool.{cases_eq}
 use Rattle.std.proofs.lemmas.List.{length-append, length-map, map-append, get_or_append_left, get_or_at, get_or_default}
-use Rattle.std.proofs.lemmas.List.Elements.{All-nil}
 use Rattle.dw_forms.specs.declared.abbrev.AttributeSpec.{AttributeSpec}
 use Rattle.dw_forms.specs.declared.attribute_lists.Node.{Node}
 use Rattle.dw_forms.specs.Abbrev.{IsCode16, AreAttributeSpecs}
@@ -63,14 +62,11 @@ attributes_more spec specs are code none = grind (arith, common_steps, apart_con
 
 pub attributes_in : (nodes : List Node) (number : ℕ) → AreKnown nodes → number ≤ length nodes
     → AreAttributeSpecs (list_in nodes number)
-attributes_in nodes zero known within = rw (chain_none (specs_of nodes)) (record {
-  each = All-nil (λ (s : AttributeSpec). IsCode16 s.attribute);
-  distinct = λ i j d lt long. absurd (omega arith);
-})
-attributes_in [] (suc k) known within = absurd (omega (arith, within))
+attributes_in nodes zero known within = search (rules, chain_none)
+attributes_in [] (suc k) known within = absurd (omega arith)
 attributes_in (d ∷ nodes) (suc k) known within =
-    (known k (get_or (d ∷ nodes) k d) (omega (arith, within))
-    (get_or_default (d ∷ nodes) k d (get_or (d ∷ nodes) k d) (omega (arith, within)))).attributes
+    (known k (get_or (d ∷ nodes) k d) (omega arith)
+    (get_or_default (d ∷ nodes) k d (get_or (d ∷ nodes) k d) (omega arith))).attributes
 
 -- there is room to count it
 pub few_more : (nodes : List Node) (spec : AttributeSpec) (rest : ℕ) (next : Node) → AreKnown nodes
@@ -79,8 +75,7 @@ pub few_more : (nodes : List Node) (spec : AttributeSpec) (rest : ℕ) (next : N
 few_more nodes spec rest next known within code none knows =
     let few = few_specs (spec ∷ list_in nodes rest)
     (attributes_more spec (list_in nodes rest) (attributes_in nodes rest known within) code none) in
-    let count = knows.count in
-    omega (arith, few, count, length-map (numbered_in nodes rest) (λ (n : Numbered AttributeSpec). n.item))
+    omega (arith, length-map (numbered_in nodes rest) (λ (n : Numbered AttributeSpec). n.item))
 
 module _ (nodes : List Node) (n : Node) where
   old_known : (number : ℕ) (x : Node) → number ≤ length nodes → IsKnown nodes number x
@@ -95,10 +90,11 @@ module _ (nodes : List Node) (n : Node) where
     | inl same ↦
         let is : x ≡ n = read ∙ get_or_at nodes n [] x k (sym same) in
         rw (is, same) (record {
-          next = omega (arith, within);
+          next = omega arith;
           begins =
-              new_list nodes n ∙ ap (λ (list : List (Numbered AttributeSpec)).
-              record { number = suc (length nodes); item = spec_of n } ∷ list) (sym (old_list nodes n n.next within));
+              new_list nodes n
+              ∙ (λ i. record { number = suc (length nodes); item = spec_of n }
+              ∷ sym (old_list nodes n n.next within) i);
           attributes =
               rw (new_list nodes n) (attributes_more (spec_of n) (list_in nodes n.next)
               (attributes_in nodes n.next known within) code none);
@@ -106,7 +102,7 @@ module _ (nodes : List Node) (n : Node) where
           after = rw (old_list nodes n n.next within) after;
         })
     | inr other ↦
-        let before : k < length nodes = omega (arith, other, less, length-append nodes (n ∷ [])) in
+        let before : k < length nodes = omega (arith, length-append nodes (n ∷ [])) in
         old_known (suc k) x before (known k x before (read ∙ get_or_append_left nodes (n ∷ []) x k before))
   ]
 

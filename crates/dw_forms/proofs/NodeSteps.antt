@@ -28,11 +28,7 @@ pub sum_more_4 : (spec : AttributeSpec) (specs : List AttributeSpec) (known addr
     → known ≡ known_sum 4 specs + 4 * addresses → own ≡ known_size 8 spec.form
     → known_size 8 spec.form ≡ known_size 4 spec.form + 4 * more
     → known + own ≡ known_sum 4 (spec ∷ specs) + 4 * (addresses + more)
-sum_more_4 spec specs known addresses own more e o address =
-    let sum : known_sum 4 (spec ∷ specs)
-    ≡ known_size 4 spec.form + known_sum 4 specs =
-    sum_by-cons (λ (s : AttributeSpec). known_size 4 s.form) spec specs in
-    omega (arith, e, o, address, sum)
+sum_more_4 spec specs known addresses own more e o address = search (rules, sum_by-cons)
 
 -- whether both hold, if the second one holds
 pub and_true : (own all result next : Bool) → next ≡ all → next ≡ true → result ≡ own → result ≡ (own && all)
@@ -53,17 +49,17 @@ few_in list are =
 pub known_small : (list : List (Numbered AttributeSpec)) (known : ℕ) → AreAttributeSpecs (items_of list)
     → known ≤ 0xff * length list → known ≤ 0xffffff
 known_small list known are le =
-    omega (arith, le, few_in list are)
+    omega (arith, few_in list are)
 
 -- one attribute more
 pub count_more : (list : List (Numbered AttributeSpec)) (first : Numbered AttributeSpec) (next count : ℕ)
     → next ≡ length list → count ≡ next + 1 → count ≡ length (first ∷ list)
-count_more list first next count before more = omega (arith, before, more)
+count_more list first next count before more = omega arith
 
 -- addresses are among the values
 pub addresses_less : (list : List (Numbered AttributeSpec)) (n : Node) → Knows list n
     → 4 * n.addresses ≤ n.known_with_8
-addresses_less list n is = let four = is.known_with_4 in omega (arith, four)
+addresses_less list n is = omega arith
 
 -- ---- the node that is read at the place before a number
 

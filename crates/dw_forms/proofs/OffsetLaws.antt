@@ -1,5 +1,5 @@
 -- What begins at an offset of a section.
-use Rattle.std.proofs.Common.{◌≡◌, ℕ, ◌-◌, ◌<◌, ◌≤◌, Bool, true, false, ◌||◌, ◌⊎◌, List, [], ◌∷◌, ◌++◌, length, refl, sym, ◌∙◌, inl, inr, subst, rules, arith, ap, append_assoc, append-nil}
+use Rattle.std.proofs.Common.{◌≡◌, ℕ, ◌-◌, ◌<◌, ◌≤◌, Bool, true, false, ◌||◌, ◌⊎◌, List, [], ◌∷◌, ◌++◌, length, refl, sym, ◌∙◌, inl, inr, subst, rules, arith, append_assoc, append-nil}
 use Rattle.std.specs.Prelude.{get_or, nat_eq}
 use Rattle.std.specs.List.{list_any}
 use Rattle.std.proofs.lemmas.Bool.{cases_eq, eqb-true}
@@ -41,7 +41,7 @@ either false false e = inl e
 
 pub apart_none : (end : ℕ) → AreApart end []
 apart_none end = record {
-  distinct = IsDistinct-from_apart nat_eq [] (λ i j d less within. absurd (omega (arith, within)));
+  distinct = IsDistinct-from_apart nat_eq [] (λ i j d less within. absurd (omega arith));
   before = λ offset any. let no : false ≡ true = any in absurd cc;
 }
 
@@ -78,9 +78,9 @@ module _ {T : Type 0} (Is : ℕ → T → ℕ → Type 0) where
 
   module _ (rises : (offset next : ℕ) (x : T) → Is offset x next → offset < next) where
     along_on : (xs : List (Placed T)) (offset end : ℕ) → AreAlong Is xs offset end → offset ≤ end
-    along_on [] offset end here = omega (arith, here)
+    along_on [] offset end here = omega arith
     along_on (x ∷ xs) offset end a =
-        let less = rises offset a.1 x.item a.2 in let on = along_on xs a.1 end a.3 in omega (arith, less, on)
+        let less = rises offset a.1 x.item a.2 in let on = along_on xs a.1 end a.3 in omega arith
 
     -- things before an offset are new when one is kept that begins there
     pub new_stay : (starts : List ℕ) (xs : List (Placed T)) (offset end : ℕ) → AreAlong Is xs offset end
@@ -89,7 +89,7 @@ module _ {T : Type 0} (Is : ℕ → T → ℕ → Type 0) where
     new_stay starts (x ∷ xs) offset end a new =
         let less = rises offset a.1 x.item a.2 in
         let on = along_on xs a.1 end a.3 in (
-          nothing_push starts end x.at new.0 (λ e. omega (arith, e, a.0, less, on)),
+          nothing_push starts end x.at new.0 (λ e. omega (arith, a.0)),
           new_stay starts xs a.1 end a.3
               new.1,
         )
@@ -118,4 +118,4 @@ stay_same xs = ([], sym (append-nil xs))
 
 pub stay_on : {X : Type 0} (old middle new : List X) → Stay old middle → Stay middle new → Stay old new
 stay_on {X} old middle new first second =
-    (first.0 ++ second.0, second.1 ∙ ap (λ (xs : List X). xs ++ second.0) first.1 ∙ append_assoc old first.0 second.0)
+    (first.0 ++ second.0, second.1 ∙ (λ i. first.1 i ++ second.0) ∙ append_assoc old first.0 second.0)

@@ -1,5 +1,5 @@
 -- An attribute that is looked for has a bit of its own.
-use Rattle.std.proofs.Common.{◌≡◌, ◌≢◌, ℕ, zero, suc, ◌*◌, ◌+◌, ◌^◌, ◌<◌, ◌≤◌, true, false, List, [], ◌∷◌, length, All, refl, sym, ap, ◌∙◌, inl, inr, arith}
+use Rattle.std.proofs.Common.{rules, ◌≡◌, ◌≢◌, ℕ, zero, suc, ◌*◌, ◌+◌, ◌^◌, ◌<◌, ◌≤◌, true, false, List, [], ◌∷◌, length, All, refl, sym, ap, ◌∙◌, inl, inr, arith}
 use Rattle.std.specs.Prelude.{◌==◌, ◌||◌, ◌↔◌, Bool, not, IsTrue, bit_or, bit_and}
 use Rattle.std.specs.Int.{bit_at}
 use Rattle.std.specs.List.{list_any}
@@ -16,11 +16,11 @@ use Rattle.dw_forms.specs.Keys.{lacks_from, lacks_test}
 
 no_product : (b p : ℕ) → 0 < p → b * p ≡ 0 → b ≡ 0
 no_product zero p some none = refl
-no_product (suc b) p some none = absurd (omega (arith, some, none))
+no_product (suc b) p some none = absurd (omega arith)
 
 one_of : (b p : ℕ) → b < 2 → b * p ≢ 0 → b ≡ 1
 one_of zero p less some = absurd (some (omega arith))
-one_of (suc b) p less some = omega (arith, less)
+one_of (suc b) p less some = omega arith
 
 -- ---- the places of codes
 
@@ -32,35 +32,22 @@ place_there k code c codes other = rw (differ code c other) refl
 
 place_least : (k code : ℕ) (codes : List ℕ) → k ≤ place_from k codes code
 place_least k code [] = omega arith
-place_least k code (c ∷ codes) = elim (cases_eq code c) [
-  | inl same ↦ omega (arith, place_here k code c codes same)
-  | inr other ↦ omega (arith, place_there k code c codes other, place_least (suc k) code codes)
-]
+place_least k code (c ∷ codes) = search (rules, cases_eq, place_here, place_there, (place_least (suc k) code codes))
 
 -- a code among these has a place of its own
 own_place : (k code other : ℕ) (codes : List ℕ) → place_from k codes code < k + length codes
     → place_from k codes other ≡ place_from k codes code → other ≡ code
-own_place k code other [] less same = absurd (omega (arith, less))
+own_place k code other [] less same = absurd (omega arith)
 own_place k code other (c ∷ codes) less same = elim (cases_eq code c) [
   | inl here ↦ elim (cases_eq other c) [
     | inl too ↦ too ∙ sym here
-    | inr there ↦ absurd (omega (
-      arith,
-      same,
-      place_here k code c codes here,
-      place_there k other c codes there,
-      place_least (suc k) other codes,
-    ))
+    | inr there ↦ absurd (omega
+        (arith, place_here k code c codes here, place_there k other c codes there, place_least (suc k) other codes))
   ]
   | inr there ↦ elim (cases_eq other c) [
-    | inl here ↦ absurd (omega (
-      arith,
-      same,
-      place_here k other c codes here,
-      place_there k code c codes there,
-      place_least (suc k) code codes,
-    ))
-    | inr too ↦ own_place (suc k) code other codes (omega (arith, less, place_there k code c codes there))
+    | inl here ↦ absurd (omega
+        (arith, place_here k other c codes here, place_there k code c codes there, place_least (suc k) code codes))
+    | inr too ↦ own_place (suc k) code other codes (omega (arith, place_there k code c codes there))
         (sym (place_there k other c codes too) ∙ same ∙ place_there k code c codes there)
   ]
 ]
@@ -70,11 +57,7 @@ unfolding bit_of
 own_bit code other less same = own_place 0 code other asked less same
 
 same_test : (code other : ℕ) → bit_of code < own_bits → (bit_of other == bit_of code) ≡ (other == code)
-same_test code other own = elim (cases_eq other code) [
-  | inl same ↦ eq_true (bit_of other) (bit_of code) (ap bit_of same) ∙ sym (eq_true other code same)
-  | inr differs ↦ differ (bit_of other) (bit_of code) (λ same. differs (own_bit code other own same))
-      ∙ sym (differ other code differs)
-]
+same_test code other own = search (rules, cases_eq, eq_true, differ, own_bit)
 
 -- ---- the bits of a list
 
@@ -82,16 +65,7 @@ pub no_bits : AreBitsOf [] 0
 no_bits i = rw (bit_at-zero i) refl
 
 or_one : (bits place i : ℕ) → (bit_at (bit_or bits (2 ^ place)) i == 1) ≡ ((place == i) || (bit_at bits i == 1))
-or_one bits place i = elim (cases_eq place i) [
-  | inl same ↦
-      let set : bit_at (2 ^ place) i ≡ 1 = ap (bit_at (2 ^ place)) (sym same) ∙ bit_at-pow_same place in
-      rw (eq_true place i same) (eq_true _ 1 (omega (arith, bit_at_or bits (2 ^ place) i, set, bit_at-lt bits i)))
-  | inr other ↦
-      let clear : bit_at (2 ^ place) i ≡ 0 = bit_at-pow_other place i (λ same. other (sym same)) in
-      let stays : bit_at (bit_or bits (2 ^ place)) i
-      ≡ bit_at bits i = omega (arith, bit_at_or bits (2 ^ place) i, clear) in
-      rw (differ place i other, stays) refl
-]
+or_one bits place i = search (rules, cases_eq, bit_at-pow_same, eq_true, bit_at_or, bit_at-lt, bit_at-pow_other, differ)
 
 pub more_bits : (bits bit : ℕ) (spec : AttributeSpec) (specs : List AttributeSpec) → bit ≡ 2 ^ bit_of spec.attribute
     → AreBitsOf specs bits → AreBitsOf (spec ∷ specs) (bit_or bits bit)
@@ -123,14 +97,14 @@ module _ (bits mask code : ℕ) (specs : List AttributeSpec) (are : AreBitsOf sp
     clear_bit none =
         let zero = zero_bit bits mask code is none in
         let lacks = lacks_from (λ (spec : AttributeSpec). bit_of spec.attribute) (bit_of code) specs
-        (sym (are (bit_of code)) ∙ ap (λ (b : ℕ). b == 1) zero) in
+        (sym (are (bit_of code)) ∙ (λ i. (zero i) == 1)) in
         lacks_test (λ (spec : AttributeSpec). spec.attribute) code specs
         (λ k d within same. lacks k d within (ap bit_of same))
 
     -- where a bit of its own is set, one has it
     pub own_bit_set : bit_of code < own_bits → bit_and bits mask ≢ 0 → has_attribute code specs ≡ true
     own_bit_set own some =
-        sym (any_own code specs own) ∙ sym (are (bit_of code)) ∙ ap (λ (b : ℕ). b == 1) (set_bit bits mask code is some)
+        sym (any_own code specs own) ∙ sym (are (bit_of code)) ∙ (λ i. (set_bit bits mask code is some i) == 1)
 
 -- a test that finds no attribute with the code says that all have another one
 pub lacks_is : (code : ℕ) (specs : List AttributeSpec) (found : Bool) → found ≡ has_attribute code specs

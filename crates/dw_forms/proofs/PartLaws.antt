@@ -12,7 +12,7 @@ use Rattle.dw_forms.proofs.NodeSteps.{node_read}
 
 -- ---- some list
 
-first_is : {X : Type 0} → (x y : X) (xs ys : List X) → (x ∷ xs) ≡ (y ∷ ys) → (x ≡ y) × (xs ≡ ys)
+pub first_is : {X : Type 0} → (x y : X) (xs ys : List X) → (x ∷ xs) ≡ (y ∷ ys) → (x ≡ y) × (xs ≡ ys)
 first_is x y xs ys e = (cc, cc)
 
 -- ---- numbers fall along a list
@@ -24,7 +24,7 @@ Falls bound (n ∷ list) = (n.number ≤ bound) × (0 < n.number) × Falls (n.nu
 
 falls_less : (few many : ℕ) (list : List (Numbered AttributeSpec)) → few ≤ many → Falls few list → Falls many list
 falls_less few many [] le falls = tt
-falls_less few many (n ∷ list) le falls = (omega (arith, le, falls.0), falls.1, falls.2)
+falls_less few many (n ∷ list) le falls = (omega (arith, falls.0), falls.1, falls.2)
 
 -- a list begins with its number
 abbrev pub StartsAt : ℕ → List (Numbered AttributeSpec) → Type 0
@@ -37,17 +37,17 @@ module _ (nodes : List Node) (known : AreKnown nodes) where
   known_at number some within = at nodes refl
     where
       at : (all : List Node) → all ≡ nodes → (n : Node) × IsKnown nodes number n
-      at [] e = absurd (let none : length nodes ≡ 0 = ap length (sym e) in omega (arith, some, within, none))
+      at [] e = absurd (let none : length nodes ≡ 0 = ap length (sym e) in omega (arith, within, none))
       at (d ∷ more) e =
           let n = get_or nodes (number - 1) d in (
             n,
             node_read nodes number n known some within
-                (get_or_default nodes (number - 1) d n (omega (arith, some, within))),
+                (get_or_default nodes (number - 1) d n (omega (arith, within))),
           )
 
   falls_to : (bound number : ℕ) → number ≤ bound → number ≤ length nodes → Falls number (numbered_in nodes number)
   falls_to bound zero le within = rw (chain_none (specs_of nodes)) tt
-  falls_to zero (suc k) le within = absurd (omega (arith, le))
+  falls_to zero (suc k) le within = absurd (omega arith)
   falls_to (suc bound) (suc k) le within =
       let (n, is) = known_at (suc k) (omega arith) within in
       let less = is.next in
@@ -55,7 +55,7 @@ module _ (nodes : List Node) (known : AreKnown nodes) where
         omega arith,
         omega arith,
         falls_less n.next (suc k - 1) (numbered_in nodes n.next)
-            (omega (arith, less)) (falls_to bound n.next (omega (arith, less, le)) (omega (arith, less, within))),
+            (omega arith) (falls_to bound n.next (omega arith) (omega (arith, within))),
       )
 
   pub falls : (number : ℕ) → number ≤ length nodes → Falls number (numbered_in nodes number)
@@ -72,14 +72,14 @@ head_above bound to m [] [] falls starts = omega (arith, starts, falls.1)
 head_above bound to m [] (n ∷ list) falls starts = omega (arith, starts, falls.1, falls.2.0)
 head_above bound to m (r ∷ before) list falls starts =
     let less = head_above (m.number - 1) to r before list falls.2 starts in
-    omega (arith, less, falls.1, falls.2.0)
+    omega (arith, falls.1, falls.2.0)
 
 -- a member of a list has a number of at most the list's
 pub member_below : (bound : ℕ) (before : List (Numbered AttributeSpec)) (n : Numbered AttributeSpec)
     (list : List (Numbered AttributeSpec)) → Falls bound (before ++ n ∷ list) → n.number ≤ bound
 member_below bound [] n list falls = falls.0
 member_below bound (m ∷ before) n list falls =
-    let less = member_below (m.number - 1) before n list falls.2 in omega (arith, less, falls.0)
+    let less = member_below (m.number - 1) before n list falls.2 in omega (arith, falls.0)
 
 -- ---- the next attribute of a kind
 
@@ -98,7 +98,7 @@ none_both false b e f = f
 
 first_passes : (test : AttributeSpec → Bool) (n m : Numbered AttributeSpec) (xs ys : List (Numbered AttributeSpec))
     → n ∷ xs ≡ m ∷ ys → test n.item ≡ true → test m.item ≡ true
-first_passes test n m xs ys e is = ap (λ (x : Numbered AttributeSpec). test x.item) (sym (first_is n m xs ys e).0) ∙ is
+first_passes test n m xs ys e is = (λ i. test (sym (first_is n m xs ys e).0 i).item) ∙ is
 
 no_first : (m : Numbered AttributeSpec) (list : List (Numbered AttributeSpec)) → [] ≡ m ∷ list → ⊥
 no_first m list e = cc
@@ -117,10 +117,10 @@ module _ (test : AttributeSpec → Bool) (nodes : List Node) (known : AreKnown n
       rw found (record {
         before = record { number = number; item = spec_of n } ∷ rest.before;
         goes =
-            is.begins ∙ ap (λ (list : List (Numbered AttributeSpec)). record { number = number; item = spec_of n }
-            ∷ list) rest.goes;
+            is.begins ∙ (λ i. record { number = number; item = spec_of n }
+            ∷ rest.goes i);
         none = none_both (test (spec_of n)) (list_any test (items_of rest.before)) here rest.none;
-        within = omega (arith, less, w);
+        within = omega arith;
         passes = rest.passes;
       })
 
@@ -128,12 +128,12 @@ module _ (test : AttributeSpec → Bool) (nodes : List Node) (known : AreKnown n
       → IsSplit test nodes number (number_where test (numbered_in nodes number))
   unfolding number_where
   split_to bound zero le within = search (rules, chain_none, no_first)
-  split_to zero (suc k) le within = absurd (omega (arith, le))
+  split_to zero (suc k) le within = absurd (omega arith)
   split_to (suc bound) (suc k) le within =
       let (n, is) = known_at nodes known (suc k) (omega arith) within in
       let less = is.next in
       split_here (suc k) n (test (spec_of n)) is refl
-      (split_to bound n.next (omega (arith, less, le)) (omega (arith, less, within)))
+      (split_to bound n.next (omega arith) (omega (arith, within)))
 
   -- the list up to the next attribute of the kind
   pub split : (number : ℕ) → number ≤ length nodes
@@ -150,7 +150,7 @@ none_here : (test : AttributeSpec → Bool) (bound to : ℕ) (m : Numbered Attri
 none_here test bound to m before list true is falls starts le rest =
     let found = where_first test m (before ++ list) is in
     let less = head_above bound to m before list falls starts in
-    absurd (omega (arith, found, less, le))
+    absurd (omega arith)
 none_here test bound to m before list false is falls starts le rest = search (rules, where_later, none_both)
 
 pub none_before : (test : AttributeSpec → Bool) (bound to : ℕ) (before list : List (Numbered AttributeSpec))
@@ -173,16 +173,16 @@ pub part_at : (to : ℕ) (z : Numbered AttributeSpec) (zs front before list : Li
     → Falls to list → StartsAt to list → to < z.number → before ++ list ≡ front ++ z ∷ zs
     → IsPart z zs front before list
 part_at to z zs [] [] list falls starts less e =
-    absurd (let same : z.number ≡ to = subst (StartsAt to) e starts in omega (arith, same, less))
+    absurd (let same : z.number ≡ to = subst (StartsAt to) e starts in omega arith)
 part_at to z zs (x ∷ front) [] list falls starts less e =
-    absurd (let le = member_below to (x ∷ front) z zs (subst (Falls to) e falls) in omega (arith, le, less))
+    absurd (let le = member_below to (x ∷ front) z zs (subst (Falls to) e falls) in omega arith)
 part_at to z zs [] (y ∷ before) list falls starts less e = search (rules, first_is)
 part_at to z zs (x ∷ front) (y ∷ before) list falls starts less e =
     let same = first_is y x (before ++ list) (front ++ z ∷ zs) e in
     let p = part_at to z zs front before list falls starts less same.1 in
     record {
       others = p.others;
-      parts = ap (λ (n : Numbered AttributeSpec). n ∷ before) same.0
-          ∙ ap (λ (ns : List (Numbered AttributeSpec)). x ∷ ns) p.parts;
+      parts = (λ i. same.0 i ∷ before)
+          ∙ (λ i. x ∷ p.parts i);
       goes = p.goes;
     }

@@ -1,6 +1,6 @@
 -- Values are passed run by run: from one value of no one size to the next.
 use Rattle.std.proofs.lemmas.Grind.{common_steps}
-use Rattle.std.proofs.Common.{◌≡◌, ℕ, ◌+◌, ◌⊎◌, false, List, [], ◌∷◌, ◌++◌, Option, Some, None, Result, Ok, Err, inl, inr, refl, sym, ap, ◌∙◌, rules, arith}
+use Rattle.std.proofs.Common.{◌≡◌, ℕ, ◌+◌, ◌⊎◌, false, List, [], ◌∷◌, ◌++◌, Option, Some, None, Result, Ok, Err, inl, inr, refl, sym, ◌∙◌, rules, arith}
 use Rattle.std.specs.Prelude.{is_none}
 use Rattle.std.specs.Option.{unwrap_or}
 use Rattle.std.specs.List.{list_any}
@@ -56,10 +56,10 @@ run_ends version size [] bytes e = sym (cut_long 0 bytes (omega arith))
 run_ends version size (spec ∷ specs) bytes e =
     bind_on (rest_at version spec.form size bytes) (λ rest. values_end version size specs rest)
     (λ rest. rest_beyond (known_sum size specs) rest) (λ rest. run_ends version size specs rest e.1)
-    ∙ ap (λ (q : Result (List ℕ) ValueFault). q >>= λ rest. rest_beyond (known_sum size specs) rest)
-    (rest_cut version spec.form size (known_size size spec.form) bytes (has_size spec.form size e.0))
+    ∙ (λ i. rest_cut version spec.form size (known_size size spec.form) bytes (has_size spec.form size e.0) i
+    >>= λ rest. rest_beyond (known_sum size specs) rest)
     ∙ cut_cut (known_size size spec.form) (known_sum size specs) bytes
-    ∙ ap (λ (n : ℕ). rest_beyond n bytes) (sym (sum_by-cons (λ (s : AttributeSpec). known_size size s.form) spec specs))
+    ∙ (λ i. rest_beyond (sym (sum_by-cons (λ (s : AttributeSpec). known_size size s.form) spec specs) i) bytes)
 
 -- ---- some values, and others after them
 
@@ -103,8 +103,8 @@ sum_goes size nodes from to before goes = search (rules, items_append, sum_appen
 
 pub known_is : (size : ℕ) (list : List (Numbered AttributeSpec)) (n : Node) → (size ≡ 4) ⊎ (size ≡ 8) → Knows list n
     → known_with size n ≡ known_sum size (items_of list)
-known_is size list n (inl e) k = rw e (let four = k.known_with_4 in omega (arith, four))
-known_is size list n (inr e) k = rw e (let eight = k.known_with_8 in omega (arith, eight))
+known_is size list n (inl e) k = rw e (omega arith)
+known_is size list n (inr e) k = rw e (omega arith)
 
 -- values that do not vary are cut off together
 pub run : (version size : ℕ) (before : List (Numbered AttributeSpec)) (bytes : List ℕ)

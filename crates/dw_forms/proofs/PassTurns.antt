@@ -1,4 +1,5 @@
 -- One turn of passing values: up to the next value of no one size, or up to the end.
+use Rattle.std.proofs.lemmas.Grind.{common_steps}
 use Rattle.std.proofs.Common.{◌≡◌, ℕ, ◌+◌, ◌-◌, ◌*◌, ◌<◌, ◌≤◌, ◌⊎◌, false, List, [], ◌∷◌, ◌++◌, length, Ok, Err, refl, sym, ap, subst, ◌∙◌, rules, arith}
 use Rattle.std.specs.Prelude.{get_or}
 use Rattle.std.specs.List.{list_any}
@@ -24,7 +25,7 @@ above_by at to [] here there e falls here_starts there_starts other = search (ru
 above_by at to (m ∷ before) here there e falls here_starts there_starts other =
     let first : m.number ≡ at = subst (StartsAt at) e here_starts in
     let less = head_above at to m before there (subst (Falls at) e falls) there_starts in
-    omega (arith, first, less)
+    omega (arith, less)
 
 -- some values have one size each, the one at the next number has none, and others come after it
 pub record Turn (nodes : List Node) (size at to : ℕ) (before : List (Numbered AttributeSpec)) (here varying : Node) :
@@ -74,15 +75,12 @@ module _ {all to : Attributes} {version size : ℕ} {bytes : List ℕ} {at : ℕ
   passes_last same before ends =
       let none : [] ≡ p.left = append_cancel_right [] p.left (numbered_in (nodes_of all) to.first)
       (ap (numbered_in (nodes_of all)) (sym same) ∙ p.goes) in
-      sym (p.same before ends) ∙ ap (λ (list : List (Numbered AttributeSpec)). values_end version size (items_of list)
-      rest) (sym none)
+      sym (p.same before ends) ∙ (λ i. values_end version size (items_of (sym none i))
+      rest)
 
   module _ (other : at ≡ to.first → ⊥) where
     pub some_left : 0 < at
-    some_left =
-        let above = above_by at to.first p.left (numbered_in (nodes_of all) at) (numbered_in (nodes_of all) to.first)
-        p.goes falling (starts (nodes_of all) all.lists.now.known at p.within) to_starts other in
-        omega (arith, above)
+    some_left = search (rules, above_by, falling, starts, to_starts)
 
     module _ {here : Node} (read : here ≡ get_or (nodes_of all) (at - 1) here) where
       is : IsKnown (nodes_of all) at here
@@ -96,10 +94,10 @@ module _ {all to : Attributes} {version size : ℕ} {bytes : List ℕ} {at : ℕ
 
       next_within : here.next_varying ≤ at
       next_within =
-          let w = (split varies (nodes_of all) all.lists.now.known at p.within).within in omega (arith, next_is, w)
+          let w = (split varies (nodes_of all) all.lists.now.known at p.within).within in omega (arith, next_is)
 
       pub next_number : here.next_varying ≤ length (nodes_of all)
-      next_number = let w = p.within in omega (arith, w, next_within)
+      next_number = omega (arith, next_within)
 
       here_sum : known_with size here ≡ known_sum size (list_in (nodes_of all) at)
       here_sum = known_is size (numbered_in (nodes_of all) at) here p.sized is.knows
@@ -107,10 +105,7 @@ module _ {all to : Attributes} {version size : ℕ} {bytes : List ℕ} {at : ℕ
       -- the values up to the end are cut off together
       module _ {sum : ℕ} (sum_is : sum ≡ known_sum size (specs_in to)) where
         last_sum : known_with size here ≡ known_sum size (items_of p.left) + sum
-        last_sum =
-            here_sum ∙ sum_goes size (nodes_of all) at to.first p.left p.goes
-            ∙ ap (λ (n : ℕ). known_sum size (items_of p.left) + n)
-            (sym (sum_is ∙ ap (λ (nodes : List Node). known_sum size (list_in nodes to.first)) p.nodes))
+        last_sum = grind (arith, common_steps, here_sum, sum_goes)
 
         pub last_less : sum ≤ known_with size here
         last_less = omega (arith, last_sum)
@@ -119,12 +114,7 @@ module _ {all to : Attributes} {version size : ℕ} {bytes : List ℕ} {at : ℕ
             → (before : List (Numbered AttributeSpec)) → Ends all to before
             → values_end version size (items_of before) bytes ≡ rest_beyond (len - sum) rest
         last_cut {len} len_is le before ends =
-            let parts : number_where varies (p.left ++ numbered_in (nodes_of all) to.first)
-            ≡ here.next_varying = ap (number_where varies) (sym p.goes) ∙ sym next_is in
-            let none = none_before varies at to.first p.left (numbered_in (nodes_of all) to.first)
-            (subst (Falls at) p.goes falling) to_starts (omega (arith, parts, le)) in
-            let same : known_sum size (items_of p.left) ≡ len - sum = omega (arith, last_sum) in
-            sym (p.same before ends) ∙ run version size p.left rest none ∙ ap (λ (n : ℕ). rest_beyond n rest) same
+            search (rules, next_is, none_before, falling, to_starts, sum, last_sum, run)
 
       -- up to the next value of no one size
       pub next_turn : to.first < here.next_varying → {varying : Node}
@@ -135,11 +125,11 @@ module _ {all to : Attributes} {version size : ℕ} {bytes : List ℕ} {at : ℕ
           let v = node_read (nodes_of all) here.next_varying varying all.lists.now.known (omega (arith, less))
           next_number there in
           let front_goes : EndsWith (nodes_of all) at here.next_varying s.before = s.goes
-          ∙ ap (λ (n : ℕ). s.before ++ numbered_in (nodes_of all) n) (sym next_is) in
+          ∙ (λ i. s.before ++ numbered_in (nodes_of all) (sym next_is i)) in
           let part = part_at to.first (record { number = here.next_varying; item = spec_of varying })
           (numbered_in (nodes_of all) varying.next) s.before p.left (numbered_in (nodes_of all) to.first)
           (falls (nodes_of all) all.lists.now.known to.first to_within) to_starts less
-          (sym p.goes ∙ front_goes ∙ ap (λ (list : List (Numbered AttributeSpec)). s.before ++ list) v.begins) in
+          (sym p.goes ∙ front_goes ∙ (λ i. s.before ++ v.begins i)) in
           let next = v.next in
           record {
             front = s.before;
@@ -148,11 +138,11 @@ module _ {all to : Attributes} {version size : ℕ} {bytes : List ℕ} {at : ℕ
             parts = part.parts;
             goes_on = part.goes;
             sum = here_sum ∙ sum_goes size (nodes_of all) at here.next_varying s.before front_goes
-                ∙ ap (λ (n : ℕ). known_sum size (items_of s.before) + n)
-                (sym (known_is size (numbered_in (nodes_of all) here.next_varying) varying p.sized v.knows));
+                ∙ (λ i. known_sum size (items_of s.before)
+                + sym (known_is size (numbered_in (nodes_of all) here.next_varying) varying p.sized v.knows) i);
             addresses = addresses_less (numbered_in (nodes_of all) here.next_varying) varying v.knows;
-            within = omega (arith, next, next_number);
-            less = omega (arith, next, next_within);
+            within = omega (arith, next_number);
+            less = omega (arith, next_within);
           }
 
   -- the values before it are cut off, it is passed, and the values after it are left
@@ -162,15 +152,7 @@ module _ {all to : Attributes} {version size : ℕ} {bytes : List ℕ} {at : ℕ
         → values_end version size (items_of before) bytes
         ≡ (rest_beyond (a - b) rest >>= λ mid. rest_at version varying.form size mid >>= λ more. values_end version size
         (items_of t.others) more)
-    passed before ends =
-        let all_sum = t.sum in
-        let len : known_sum size (items_of t.front) ≡ a - b = omega (arith, all_sum) in
-        sym (p.same before ends) ∙ ap (λ (list : List (Numbered AttributeSpec)). values_end version size (items_of list)
-        rest) t.parts
-        ∙ one version size t.front t.others (record { number = here.next_varying; item = spec_of varying }) rest t.none
-        ∙ ap (λ (n : ℕ). rest_beyond n rest >>= λ mid. rest_at version varying.form size mid >>= λ more. values_end
-        version
-        size (items_of t.others) more) len
+    passed before ends = search (rules, one)
 
     pub cut_fails : {f : ValueFault} → rest_beyond (a - b) rest ≡ Err f → (before : List (Numbered AttributeSpec))
         → Ends all to before → values_end version size (items_of before) bytes ≡ Err f

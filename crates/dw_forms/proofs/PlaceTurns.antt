@@ -1,5 +1,5 @@
 -- The places of attributes that have bits of their own, in the order of the bits.
-use Rattle.std.proofs.Common.{◌≡◌, ◌≢◌, ℕ, zero, suc, ◌+◌, ◌%◌, ◌^◌, ◌<◌, List, [], ◌∷◌, ◌++◌, length, refl, sym, ap, subst, ◌∙◌, inl, inr, arith}
+use Rattle.std.proofs.Common.{rules, ◌≡◌, ◌≢◌, ℕ, zero, suc, ◌+◌, ◌%◌, ◌^◌, ◌<◌, List, [], ◌∷◌, ◌++◌, length, refl, sym, ap, subst, ◌∙◌, inl, inr, arith}
 use Rattle.std.specs.Prelude.{get_or, bit_and, count_ones}
 use Rattle.std.specs.Int.{bit_at}
 use Rattle.std.proofs.lemmas.Bool.{cases_eq}
@@ -15,7 +15,7 @@ use Rattle.dw_forms.specs.declared.known_places.KnownPlace.{KnownPlace}
 use Rattle.dw_forms.specs.AttributeBits.{bit_of, own_bits}
 use Rattle.dw_forms.specs.AttributeLists.{numbered_in}
 use Rattle.dw_forms.specs.Chains.{Numbered}
-use Rattle.dw_forms.specs.DeclaredLists.{IsPlaced, HavePlacesBelow, HavePlaces}
+use Rattle.dw_forms.specs.DeclaredLists.{IsPlaced, HavePlacesBelow}
 use Rattle.dw_forms.specs.KeptDecls.{AreWithin, HaveAllPlaces}
 use Rattle.dw_forms.specs.Offsets.{Stay}
 use Rattle.dw_forms.proofs.ListStarts.{lists_stay}
@@ -27,28 +27,23 @@ use Rattle.dw_forms.proofs.OwnBits.{own_bit, zero_bit, set_bit}
 one_bit : (bit : ℕ) → bit < 2 → count_ones bit ≡ bit
 one_bit zero less = omega (arith, ones_le_self 0)
 one_bit (suc zero) less = ones-ones 1
-one_bit (suc (suc bit)) less = absurd (omega (arith, less))
+one_bit (suc (suc bit)) less = absurd (omega arith)
 
 pub count_next : (bits place : ℕ)
     → count_ones (bits % 2 ^ (place + 1)) ≡ bit_at bits place + count_ones (bits % 2 ^ place)
 count_next bits place =
     let next : place + 1 ≡ 1 + place = omega arith in
-    ap (λ (n : ℕ). count_ones (bits % 2 ^ n)) next
+    (λ i. count_ones (bits % 2 ^ (next i)))
     ∙ ap count_ones (mod-pow-add bits 1 place)
     ∙ ones_cat place (bit_at bits place) (bits % 2 ^ place) (mod-lt bits (pow_pos place))
-    ∙ ap (λ (n : ℕ). n + count_ones (bits % 2 ^ place)) (one_bit (bit_at bits place) (bit_at-lt bits place))
+    ∙ (λ i. (one_bit (bit_at bits place) (bit_at-lt bits place) i) + count_ones (bits % 2 ^ place))
 
 -- ---- what stays as more places are kept
 
 pub places_stay : (list : List (Numbered AttributeSpec)) (end bits first : ℕ) (old new : List KnownPlace) → Stay old new
     → HavePlacesBelow end list bits first old → HavePlacesBelow end list bits first new
 places_stay list end bits first old new stay have code less set =
-    let (within, is) = have code less set in
-    let number = first + count_ones (bits % 2 ^ bit_of code) in (
-      omega (arith, within, ap length stay.1, length-append old stay.0),
-      λ p read. is p (read ∙ ap (λ (ps : List KnownPlace). get_or ps number p) stay.1
-          ∙ get_or_append_left old stay.0 p number within),
-    )
+    search (rules, stay, length-append, get_or_append_left)
 
 -- ---- a turn: the next place
 
@@ -62,17 +57,17 @@ module _ (list : List (Numbered AttributeSpec)) (bits : ℕ) (old : List KnownPl
   placing_first = record {
     stay = stay_same old;
     long = omega (arith, ones_le_self (bits % 1));
-    placed = λ code less set. absurd (omega (arith, less));
+    placed = λ code less set. absurd (omega arith);
   }
 
   module _ (place : ℕ) (places : List KnownPlace) (turn : Placing list bits place old places) where
     next : bit_at bits place ≡ 0 → Placing list bits (place + 1) old places
     next clear = record {
       stay = turn.stay;
-      long = omega (arith, turn.long, clear, count_next bits place);
+      long = omega (arith, count_next bits place);
       placed = λ code less set. elim (cases_eq (bit_of code) place) [
-        | inl same ↦ absurd (omega (arith, set, clear, ap (bit_at bits) same))
-        | inr other ↦ turn.placed code (omega (arith, less, other)) set
+        | inl same ↦ absurd (omega (arith, ap (bit_at bits) same))
+        | inr other ↦ turn.placed code (omega arith) set
       ];
     }
 
@@ -80,17 +75,17 @@ module _ (list : List (Numbered AttributeSpec)) (bits : ℕ) (old : List KnownPl
         → Placing list bits (place + 1) old (places ++ p ∷ [])
     one set p is = record {
       stay = stay_on old places (places ++ p ∷ []) turn.stay (p ∷ [], refl);
-      long = omega (arith, turn.long, set, count_next bits place, length-append places (p ∷ []));
+      long = omega (arith, count_next bits place, length-append places (p ∷ []));
       placed = λ code less own. elim (cases_eq (bit_of code) place) [
         | inl same ↦
             let number : length old + count_ones (bits % 2 ^ bit_of code) ≡ length places = ap
             (λ (n : ℕ). length old + count_ones (bits % 2 ^ n)) same ∙ sym turn.long in (
-              omega (arith, number, length-append places (p ∷ [])),
+              omega (arith, length-append places (p ∷ [])),
               λ q read. subst (IsPlaced list code) (sym (read ∙ get_or_at places p [] q _ (sym number))) (is code same),
             )
         | inr other ↦
             places_stay list place bits (length old) places (places ++ p ∷ []) (p ∷ [], refl) turn.placed code
-            (omega (arith, less, other)) own
+            (omega arith) own
       ];
     }
 
@@ -104,7 +99,7 @@ module _ (list : List (Numbered AttributeSpec)) (bits : ℕ) (old : List KnownPl
       placing_one less some p is =
           one (sym (ap (bit_at bits) bit) ∙ set_bit bits mask code mask_is some) p
           (λ other same. subst (λ (c : ℕ). IsPlaced list c p)
-          (sym (own_bit code other (omega (arith, bit, less)) (same ∙ sym bit))) is)
+          (sym (own_bit code other (omega arith) (same ∙ sym bit))) is)
 
 -- ---- the places of all declarations
 
@@ -116,10 +111,4 @@ all_places_stay nodes kept old new stay have k d less =
 
 pub all_lists_stay : (old new : List Node) (kept : List KeptDecl) (places : List KnownPlace) → Stay old new
     → AreWithin old kept → HaveAllPlaces old places kept → HaveAllPlaces new places kept
-all_lists_stay old new kept places stay within have k d less =
-    let x = get_or kept k d in
-    let same : numbered_in new x.first ≡ numbered_in old x.first = ap
-    (λ (nodes : List Node). numbered_in nodes x.first) stay.1
-    ∙ lists_stay stay.0 old x.first (within k d less).within in
-    subst (λ (list : List (Numbered AttributeSpec)). HavePlaces list x.bits x.first_place places) (sym same)
-    (have k d less)
+all_lists_stay old new kept places stay within have k d less = search (rules, stay, lists_stay)

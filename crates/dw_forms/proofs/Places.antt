@@ -1,5 +1,5 @@
 -- The place of a declaration is kept as declarations are added, and it is the one that is found.
-use Rattle.std.proofs.Common.{rules, ◌≡◌, ◌≢◌, ℕ, zero, suc, ◌+◌, ◌<◌, Bool, true, false, List, [], ◌∷◌, ◌++◌, length, get_or, Option, Some, None, refl, sym, ap, ◌∙◌, All, arith}
+use Rattle.std.proofs.Common.{rules, ◌≡◌, ◌≢◌, ℕ, zero, suc, ◌+◌, ◌<◌, Bool, true, false, List, [], ◌∷◌, ◌++◌, length, get_or, Option, Some, None, refl, sym, ◌∙◌, All, arith}
 use Rattle.std.specs.Prelude.{find, option_and_then, slice_get, IfSome, IfNone, is_some, ◌||◌, ◌==◌}
 use Rattle.std.specs.List.{list_any}
 use Rattle.std.specs.Ordering.{nat_cmp}
@@ -33,7 +33,7 @@ found_view ds code i d e apart place is =
     let whole : find (λ d. d.code == code) (views ds)
     ≡ Some (table_view (get_or ds i d)) = rw
     (find_views code ds, find_at code_of_decl code ds i d apart place.0 (place.1 d)) refl in
-    ap (λ (x : Decl). Some (table_view x)) is ∙ sym whole
+    (λ i. Some (table_view (is i))) ∙ sym whole
 
 pub none_view : (ds : List Decl) (code : ℕ) → IsPlace ds code None → None ≡ find (λ d. d.code == code) (views ds)
 none_view ds code lacks =

@@ -17,7 +17,7 @@ module _ {X V E : Type 0} (f : Format V E) (view : X → V) (bytes : List ℕ) w
   pub found_by : (r : Result (X × ℕ) E) → IfOk r (λ x. x.1 ≤ length bytes) → IsRead r
       → IfOk r (λ x. BeginsWith f.Spells bytes (view x.0) x.1)
   found_by (Ok x) within e =
-      subst (BeginsWith f.Spells bytes (view x.0)) (omega (arith, within, length-drop x.1 bytes))
+      subst (BeginsWith f.Spells bytes (view x.0)) (omega (arith, length-drop x.1 bytes))
       (reader_begins f.read f.Spells f.Fails f.is_reader bytes (view x.0) (drop x.1 bytes) e)
   found_by (Err d) within e = tt
 
@@ -41,6 +41,6 @@ module _ {V : Type 0} (n : Numbers V) (bytes : List ℕ) where
       let rest = drop x.1 bytes in
       let t = takes (leb n).read n.Spells (leb n).Fails (leb n).is_reader bytes x.0 rest (number_read (Ok x) e) in
       let len : x.1 ≡ length t.text =
-      ap (λ (p : V × ℕ). p.1) (read_is (e ∙ ap n.at t.parts ∙ number_again n t.text rest x.0 t.spelled)) in
-      omega (arith, len, ap length t.parts, length-append t.text rest)
+      (λ i. (read_is (e ∙ ap n.at t.parts ∙ number_again n t.text rest x.0 t.spelled) i).1) in
+      omega (arith, ap length t.parts, length-append t.text rest)
   number_within (Err f) e = tt

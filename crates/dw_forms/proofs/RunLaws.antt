@@ -1,5 +1,5 @@
 -- Chains that begin with a run: codes that count up while the numbers of their links count down.
-use Rattle.std.proofs.Common.{◌≡◌, ℕ, zero, suc, ◌+◌, ◌-◌, ◌/◌, ◌%◌, ◌^◌, ◌<◌, ◌≤◌, Bool, true, false, List, ◌∷◌, ◌++◌, take, drop, refl, sym, ap, ◌∙◌, arith}
+use Rattle.std.proofs.Common.{rules, ◌≡◌, ℕ, zero, suc, ◌+◌, ◌-◌, ◌/◌, ◌%◌, ◌^◌, ◌<◌, ◌≤◌, Bool, true, false, List, ◌∷◌, ◌++◌, drop, refl, sym, ap, ◌∙◌, arith}
 use Rattle.std.specs.Prelude.{◌==◌}
 use Rattle.std.specs.Int.{bit_at}
 use Rattle.std.proofs.Math.Nat.{pow-suc}
@@ -14,38 +14,35 @@ use Rattle.dw_forms.proofs.BitLaws.{eq_true, differ, agrees_from, agreed_below, 
 -- codes at a smaller distance differ below the place
 apart : (place code far : ℕ) → 0 < far → far < 2 ^ place
     → ((i : ℕ) → i < place → bit_at code i ≡ bit_at (code + far) i) → ⊥
-apart zero code far some less same = omega (arith, some, less)
+apart zero code far some less same = omega arith
 apart (suc place) code far some less same =
     let low : code % 2 ≡ (code + far) % 2 =
     sym (bit_at_lowest code) ∙ same 0 (omega arith) ∙ bit_at_lowest (code + far) in
-    let half : (code + far) / 2 ≡ code / 2 + far / 2 = omega (arith, low) in
-    apart place (code / 2) (far / 2) (omega (arith, some, low)) (omega (arith, less, pow-suc 2 place))
-    (λ i l. sym (bit_at-suc code i) ∙ same (suc i) (omega (arith, l)) ∙ bit_at-suc (code + far) i
-    ∙ ap (λ (n : ℕ). bit_at n i) half)
+    let half : (code + far) / 2 ≡ code / 2 + far / 2 = omega arith in
+    apart place (code / 2) (far / 2) (omega arith) (omega (arith, pow-suc 2 place))
+    (λ i l. sym (bit_at-suc code i) ∙ same (suc i) (omega arith) ∙ bit_at-suc (code + far) i
+    ∙ (λ j. bit_at (half j) i))
 
 -- those at this distance have the same bits below it, and another one there
 half_more : (place code : ℕ) → (code + 2 ^ suc place) / 2 ≡ code / 2 + 2 ^ place
 half_more place code = omega (arith, pow-suc 2 place)
 
 same_below : (place code i : ℕ) → i < place → bit_at code i ≡ bit_at (code + 2 ^ place) i
-same_below zero code i less = absurd (omega (arith, less))
+same_below zero code i less = absurd (omega arith)
 same_below (suc place) code zero less =
     omega (arith, bit_at_lowest code, bit_at_lowest (code + 2 ^ suc place), pow-suc 2 place)
 same_below (suc place) code (suc i) less =
-    bit_at-suc code i ∙ same_below place (code / 2) i (omega (arith, less))
-    ∙ ap (λ (n : ℕ). bit_at n i) (sym (half_more place code)) ∙ sym (bit_at-suc (code + 2 ^ suc place) i)
+    search (rules, bit_at-suc, half_more, (same_below place (code / 2) i (omega arith)))
 
 other_there : (place code : ℕ) → bit_at code place ≡ bit_at (code + 2 ^ place) place → ⊥
-other_there zero code same = omega (arith, same, bit_at_lowest code, bit_at_lowest (code + 1))
+other_there zero code same = omega (arith, bit_at_lowest code, bit_at_lowest (code + 1))
 other_there (suc place) code same =
     other_there place (code / 2)
     (sym (bit_at-suc code place) ∙ same ∙ bit_at-suc (code + 2 ^ suc place) place
-    ∙ ap (λ (n : ℕ). bit_at n place) (half_more place code))
+    ∙ (λ i. bit_at (half_more place code i) place))
 
 parts_there : (code place : ℕ) → parts code place (code + 2 ^ place) ≡ true
-parts_there code place =
-    parts_on code place (code + 2 ^ place) (agrees_from code place (code + 2 ^ place) (same_below place code))
-    (differ (bit_at code place) (bit_at (code + 2 ^ place) place) (other_there place code))
+parts_there code place = search (rules, parts_on, agrees_from, same_below, differ, other_there)
 
 none_before : (code place far : ℕ) → far < 2 ^ place → parts code place (code + far) ≡ false
 none_before code place zero less =
@@ -63,7 +60,7 @@ pub run_where : (test : ℕ → Bool) (run code number far : ℕ) (more : List (
     → test (code + far) ≡ true → ((i : ℕ) → i < far → test (code + i) ≡ false)
     → number_where test (run_from run code number ++ more) ≡ number - far
 unfolding number_where
-run_where test zero code number far more less passes none = absurd (omega (arith, less))
+run_where test zero code number far more less passes none = absurd (omega arith)
 run_where test (suc run) code number zero more less passes none =
     let same : code + 0 ≡ code = omega arith in rw (sym (ap test same) ∙ passes) (omega arith)
 run_where test (suc run) code number (suc far) more less passes none =
@@ -71,26 +68,26 @@ run_where test (suc run) code number (suc far) more less passes none =
     let on : (i : ℕ) → code + suc i ≡ suc code + i = λ i. omega arith in
     let end : number - 1 - far ≡ number - suc far = omega arith in
     rw (sym (ap test same) ∙ none 0 (omega arith))
-    (run_where test run (suc code) (number - 1) far more (omega (arith, less)) (sym (ap test (on far)) ∙ passes)
-    (λ i l. sym (ap test (on i)) ∙ none (suc i) (omega (arith, l))) ∙ end)
+    (run_where test run (suc code) (number - 1) far more (omega arith) (sym (ap test (on far)) ∙ passes)
+    (λ i l. sym (ap test (on i)) ∙ none (suc i) (omega arith)) ∙ end)
 
 run_parts : (chain : List (Numbered ℕ)) (run code number : ℕ) → IsRun chain run code number
     → chain ≡ run_from run code number ++ drop run chain
 run_parts chain run code number is =
-    sym (take-append-drop run chain) ∙ ap (λ (c : List (Numbered ℕ)). c ++ drop run chain) is
+    sym (take-append-drop run chain) ∙ (λ i. is i ++ drop run chain)
 
 -- a code by its distance
 run_number : (chain : List (Numbered ℕ)) (run code number i : ℕ) → IsRun chain run code number → i < run
     → number_in chain (code + i) ≡ number - i
 run_number chain run code number i is less =
-    ap (λ (c : List (Numbered ℕ)). number_in c (code + i)) (run_parts chain run code number is)
+    (λ j. number_in (run_parts chain run code number is j) (code + i))
     ∙ run_where (λ c. c == code + i) run code number i (drop run chain) less (eq_true (code + i) (code + i) refl)
-    (λ j l. differ (code + j) (code + i) (λ e. omega (arith, l, e)))
+    (λ j l. differ (code + j) (code + i) (λ e. omega arith))
 
 pub run_found : (chain : List (Numbered ℕ)) (run base number code : ℕ) → IsRun chain run base number → base ≤ code
     → code - base < run → number - (code - base) ≡ number_in chain code
 run_found chain run base number code is from less =
-    let at : base + (code - base) ≡ code = omega (arith, from) in
+    let at : base + (code - base) ≡ code = omega arith in
     sym (run_number chain run base number (code - base) is less) ∙ ap (number_in chain) at
 
 -- the branch at a place, which is at a distance of a power of two
@@ -105,10 +102,4 @@ run_branch chain run code number place is less =
 pub run_more : (chain : List (Numbered ℕ)) (run code last : ℕ) → IsRun chain (run - 1) (code + 1) last
     → IsRun (record { number = suc last; item = code } ∷ chain) run code (suc last)
 run_more chain zero code last is = refl
-run_more chain (suc run) code last is =
-    let next : code + 1 ≡ suc code = omega arith in
-    let less : suc run - 1 ≡ run = omega arith in
-    let before : suc last - 1 ≡ last = omega arith in
-    let rest : take run chain ≡ run_from run (suc code) (suc last - 1) =
-    sym (ap (λ (n : ℕ). take n chain) less) ∙ is ∙ rw (next, less, before) refl in
-    ap (λ (c : List (Numbered ℕ)). record { number = suc last; item = code } ∷ c) rest
+run_more chain (suc run) code last is = search rules

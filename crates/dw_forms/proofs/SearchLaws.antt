@@ -1,12 +1,12 @@
 -- How a search for a code goes on at a link.
-use Rattle.std.proofs.Common.{rules, ◌≡◌, ℕ, ◌+◌, ◌-◌, ◌^◌, ◌<◌, ◌≤◌, ◌⊎◌, Bool, true, List, length, get_or, refl, sym, ap, ◌∙◌, inl, inr, arith}
+use Rattle.std.proofs.Common.{rules, ◌≡◌, ℕ, ◌+◌, ◌-◌, ◌^◌, ◌<◌, ◌≤◌, ◌⊎◌, Bool, true, List, length, get_or, refl, sym, ◌∙◌, inl, inr, arith}
 use Rattle.std.specs.Prelude.{◌==◌, bit_xor}
 use Rattle.std.specs.Int.{w64, trailing_zeros}
 use Rattle.std.proofs.lemmas.Bool.{eqb-true}
 use Rattle.std.proofs.lemmas.Nat.{pow_pos}
 use Rattle.dw_forms.specs.declared.chains.Link.{Link}
 use Rattle.dw_forms.specs.CodeBits.{parts}
-use Rattle.dw_forms.specs.Chains.{codes_in, codes_of, number_where, number_in, IsFoundBy, AreFound}
+use Rattle.dw_forms.specs.Chains.{codes_in, number_where, number_in, IsFoundBy, AreFound}
 use Rattle.dw_forms.proofs.BitLaws.{eq_true, parts_lowest}
 use Rattle.dw_forms.proofs.ChainLaws.{narrowed}
 use Rattle.dw_forms.proofs.CodeLaws.{codes_none}
@@ -42,23 +42,12 @@ module _ (branches : List ℕ) (links : List Link) (n : ℕ) (x : Link) (are : A
     ]
 
     pub branch_below : here < n
-    branch_below = elim (less_or_not (2 ^ place) x.run) [
-      | inl near ↦ let e = near_is near in omega (arith, e, some, pow_pos place)
-      | inr far ↦ elim (less_or_not place x.places) [
-        | inl less ↦ let b = is_found.below place less in let e = kept_is far less in omega (arith, b, e)
-        | inr past ↦ let e = none_is far past in omega (arith, e, some)
-      ]
-    ]
+    branch_below = search (rules, less_or_not, pow_pos, is_found)
 
     -- the search goes on there for a code that differs there and not below
     pub search_on : (code : ℕ) → parts x.code place code ≡ true
         → (here < n) × (number_in (codes_in links here) code ≡ number_in (codes_in links n) code)
-    search_on code differs = (
-      branch_below,
-      ap (λ (m : ℕ). number_in (codes_in links m) code) branch_is
-          ∙ sym (narrowed (λ c. c == code) (parts x.code place)
-          (λ c same. ap (parts x.code place) (eqb-true c code same) ∙ differs) (codes_of links) n),
-    )
+    search_on code differs = search (rules, branch_below, branch_is, narrowed, eqb-true)
 
   -- a turn of a search
   pub turn : (code : ℕ) → x.code < 2 ^ 64 → code < 2 ^ 64 → (bit_xor x.code code ≡ 0 → ⊥) → (here : ℕ)
@@ -69,10 +58,7 @@ module _ (branches : List ℕ) (links : List Link) (n : ℕ) (x : Link) (are : A
       → (x.run ≤ 2 ^ trailing_zeros w64 (bit_xor x.code code) → x.places ≤ trailing_zeros w64 (bit_xor x.code code)
       → here ≡ 0)
       → (here < n) × (number_in (codes_in links here) code ≡ number_in (codes_in links n) code)
-  turn code own_fits fits other here near_is kept_is none_is =
-      let lowest = parts_lowest x.code code own_fits fits other in
-      search_on (trailing_zeros w64 (bit_xor x.code code)) here near_is kept_is none_is lowest.0 code
-      lowest.1
+  turn code own_fits fits other here near_is kept_is none_is = search (rules, parts_lowest, search_on)
 
 pub search_none : (links : List Link) (n code : ℕ) → n ≡ 0 → 0 ≡ number_in (codes_in links n) code
 unfolding number_where

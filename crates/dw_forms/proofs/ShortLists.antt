@@ -1,5 +1,5 @@
 -- Attributes are found in lists that end with a short one, also with one attribute more.
-use Rattle.std.proofs.Common.{◌≡◌, ◌≢◌, ℕ, zero, suc, ◌+◌, ◌-◌, ◌<◌, ◌≤◌, Bool, true, false, cond, List, [], ◌∷◌, ◌++◌, length, take, drop, refl, sym, ap, subst, ◌∙◌, inl, inr, arith}
+use Rattle.std.proofs.Common.{rules, ◌≡◌, ◌≢◌, ℕ, zero, suc, ◌+◌, ◌-◌, ◌<◌, ◌≤◌, Bool, true, false, cond, List, [], ◌∷◌, ◌++◌, length, take, drop, refl, sym, ap, subst, ◌∙◌, inl, inr, arith}
 use Rattle.std.specs.Prelude.{◌==◌, nat_lt, get_or}
 use Rattle.std.proofs.lemmas.Bool.{cases_eq, lt-ltb, le-ltb, ltb-true, ltb-false}
 use Rattle.std.proofs.lemmas.List.{length-append, map-append, take-append-drop, length-drop, get_or_append_left, get_or_at}
@@ -8,9 +8,8 @@ use Rattle.dw_forms.specs.declared.attribute_lists.Node.{Node}
 use Rattle.dw_forms.specs.declared.chains.Link.{Link}
 use Rattle.dw_forms.specs.Abbrev.{attribute_of}
 use Rattle.dw_forms.specs.AbbrevReading.{has_attribute}
-use Rattle.dw_forms.specs.AttributeLists.{SHORT, spec_of, specs_of, numbered_in, list_in, has_this, link_of, links_of, long_part, short_part, numbered_codes, Knows, IsKnown, IsJoined, HasShortRest, IsLongNode, AreSearched}
+use Rattle.dw_forms.specs.AttributeLists.{SHORT, specs_of, numbered_in, list_in, has_this, link_of, links_of, long_part, short_part, Knows, IsKnown, IsJoined, HasShortRest, IsLongNode, AreSearched}
 use Rattle.dw_forms.specs.Chains.{Numbered, codes_in, number_in, number_where, AreNumbered, AreMore, AreBranches, AreBelow, AreFound}
-use Rattle.dw_forms.specs.CodeBits.{parts}
 use Rattle.dw_forms.proofs.BitLaws.{eq_true, differ}
 use Rattle.dw_forms.proofs.BranchLaws.{none_where}
 use Rattle.dw_forms.proofs.ChainLaws.{where_map, where_first, where_later, are_numbered, item_some}
@@ -28,13 +27,11 @@ found_before : (test : AttributeSpec → Bool) (before others : List (Numbered A
     → (number_where test before ≡ 0 → ⊥) → number_where test (before ++ others) ≡ number_where test before
 unfolding number_where
 found_before test [] others some = absurd (some refl)
-found_before test (n ∷ before) others some =
-    found_first n.number (number_where test before) (number_where test (before ++ others)) (test n.item)
-    (found_before test before others) some
+found_before test (n ∷ before) others some = search (rules, found_first, (found_before test before others))
 
 found_last : (number none all others : ℕ) (b : Bool) → 0 < number → (none ≡ 0 → all ≡ others)
     → cond b number none ≡ 0 → cond b number all ≡ others
-found_last number none all others true some rest e = absurd (omega (arith, some, e))
+found_last number none all others true some rest e = absurd (omega arith)
 found_last number none all others false some rest e = rest e
 
 found_after : (test : AttributeSpec → Bool) (specs : List (AttributeSpec × ℕ))
@@ -43,23 +40,16 @@ found_after : (test : AttributeSpec → Bool) (specs : List (AttributeSpec × �
 unfolding number_where
 found_after test specs [] others are none = refl
 found_after test specs (n ∷ before) others are none =
-    found_last n.number (number_where test before) (number_where test (before ++ others)) (number_where test others)
-    (test n.item) (item_some specs n.number n.item are.0) (found_after test specs before others are.1) none
+    search (rules, found_last, item_some, (found_after test specs before others are.1))
 
 -- ---- a search goes on after an attribute
 
 module _ (nodes : List Node) (number : ℕ) (n : Node) (is : IsKnown nodes number n) (code : ℕ) where
   pub found_here : n.attribute ≡ code → number ≡ attribute_in nodes number code
-  found_here same =
-      sym (ap (number_where (has_this code)) is.begins
-      ∙ where_first (has_this code) (record { number = number; item = spec_of n }) (numbered_in nodes n.next)
-      (eq_true n.attribute code same))
+  found_here same = search (rules, where_first, eq_true)
 
   pub found_later : (n.attribute ≡ code → ⊥) → attribute_in nodes n.next code ≡ attribute_in nodes number code
-  found_later other =
-      sym (ap (number_where (has_this code)) is.begins
-      ∙ where_later (has_this code) (record { number = number; item = spec_of n }) (numbered_in nodes n.next)
-      (differ n.attribute code other))
+  found_later other = search (rules, where_later, differ)
 
   pub one_less : length (numbered_in nodes number) ≡ suc (length (numbered_in nodes n.next))
   one_less = ap length is.begins
@@ -68,7 +58,7 @@ found_nowhere : (test : AttributeSpec → Bool) (list : List (Numbered Attribute
     → 0 ≡ number_where test list
 unfolding number_where
 found_nowhere test [] none = refl
-found_nowhere test (n ∷ list) none = absurd (omega (arith, none))
+found_nowhere test (n ∷ list) none = absurd (omega arith)
 
 pub none_left : (nodes : List Node) (number code : ℕ) → length (numbered_in nodes number) ≡ 0
     → 0 ≡ attribute_in nodes number code
@@ -81,21 +71,16 @@ module _ (nodes : List Node) (number chain short : ℕ) (is : IsJoined nodes num
   long = long_part (numbered_in nodes number)
 
   in_parts : numbered_in nodes number ≡ long ++ numbered_in nodes short
-  in_parts =
-      sym (take-append-drop (length (numbered_in nodes number) - SHORT) (numbered_in nodes number))
-      ∙ ap (λ (list : List (Numbered AttributeSpec)). long ++ list) (sym is.rest)
+  in_parts = search (rules, take-append-drop, long)
 
   chain_finds : number_in (codes_in (links_of nodes) chain) code ≡ number_where (has_this code) long
   chain_finds =
-      ap (λ (codes : List (Numbered ℕ)). number_in codes code) is.codes
+      (λ i. number_in (is.codes i) code)
       ∙ where_map (λ c. c == code) attribute_of long
 
   pub in_chain : (number_in (codes_in (links_of nodes) chain) code ≡ 0 → ⊥)
       → number_in (codes_in (links_of nodes) chain) code ≡ attribute_in nodes number code
-  in_chain some =
-      chain_finds
-      ∙ sym (found_before (has_this code) long (numbered_in nodes short) (λ e. some (chain_finds ∙ e)))
-      ∙ ap (number_where (has_this code)) (sym in_parts)
+  in_chain some = search (rules, chain_finds, found_before, long, in_parts)
 
   pub in_short : number_in (codes_in (links_of nodes) chain) code ≡ 0
       → attribute_in nodes short code ≡ attribute_in nodes number code
@@ -106,11 +91,7 @@ module _ (nodes : List Node) (number chain short : ℕ) (is : IsJoined nodes num
 
   -- the short list is short
   pub rest_few : length (numbered_in nodes short) ≤ SHORT
-  rest_few =
-      let list = numbered_in nodes number in
-      let long : length (numbered_in nodes short)
-      ≡ length list - (length list - SHORT) = ap length is.rest ∙ length-drop (length list - SHORT) list in
-      omega (arith, long)
+  rest_few = search (rules, length-drop)
 
   -- a code that is found in the chain is in the list
   pub lacks_none : has_attribute code (list_in nodes number) ≡ false
@@ -123,15 +104,13 @@ module _ (nodes : List Node) (number chain short : ℕ) (is : IsJoined nodes num
 -- a node that is read tells so
 pub rest_read : (branches : List ℕ) (nodes : List Node) (number : ℕ) (n : Node) → AreSearched branches nodes
     → 0 < number → number ≤ length nodes → n ≡ get_or nodes (number - 1) n → HasShortRest branches nodes number n
-rest_read branches nodes zero n are some within read = absurd (omega (arith, some))
+rest_read branches nodes zero n are some within read = absurd (omega arith)
 rest_read branches nodes (suc k) n are some within read =
     are.rests k n within (read ∙ ap (λ (m : ℕ). get_or nodes m n) (omega arith))
 
 short_rest : (nodes : List Node) (rest : ℕ) → rest ≤ length nodes → length (numbered_in nodes rest) ≤ SHORT
     → IsJoined nodes rest 0 rest
-short_rest nodes rest within few =
-    let none : length (numbered_in nodes rest) - SHORT ≡ 0 = omega (arith, few) in
-    record { codes = rw none (codes_none (links_of nodes)); rest = rw none refl; within = within }
+short_rest nodes rest within few = search (rules, codes_none)
 
 pub rest_joined : (branches : List ℕ) (nodes : List Node) (rest short : ℕ) (next : Node) (b : Bool)
     → rest ≤ length nodes → Knows (numbered_in nodes rest) next → HasShortRest branches nodes rest next
@@ -141,41 +120,20 @@ rest_joined branches nodes rest short next true within knows has long_is short_i
     let long = ltb-true SHORT next.count b_is in
     rw (long_is long) (has long).joined
 rest_joined branches nodes rest short next false within knows has long_is short_is b_is =
-    let few = ltb-false SHORT next.count b_is in
-    let count = knows.count in
-    rw (short_is few) (short_rest nodes rest within (omega (arith, few, count)))
+    search (rules, ltb-false, short_rest)
 
 -- ---- branches are appended
 
 pub more_searched : (old new : List ℕ) (nodes : List Node) → AreSearched old nodes → AreFound new (links_of nodes)
     → AreMore old new → AreSearched new nodes
-more_searched old new nodes are found more = record {
-  found = found;
-  rests = λ k n less read many.
-      let rest = are.rests k n less read many in
-      let some = rest.some in
-      let within = rest.within in
-      let long = more.long in
-      record {
-        some = some;
-        within = omega (arith, within, long);
-        joined =
-            subst (IsJoined nodes (suc k) (suc k)) (sym (more.same (n.branches - 1) (omega (arith, some, within))))
-            rest.joined;
-      };
-}
+more_searched old new nodes are found more = search rules
 
 pub pushed_more : (branches : List ℕ) (short : ℕ) → AreMore branches (branches ++ short ∷ [])
-pushed_more branches short = record {
-  long = omega (arith, length-append branches (short ∷ []));
-  same = λ i less. get_or_append_left branches (short ∷ []) 0 i less;
-}
+pushed_more branches short = search (rules, long, length-append, get_or_append_left)
 
 pub pushed_searched : (branches : List ℕ) (short : ℕ) (nodes : List Node) → AreSearched branches nodes
     → AreSearched (branches ++ short ∷ []) nodes
-pushed_searched branches short nodes are =
-    more_searched branches (branches ++ short ∷ []) nodes are (found_stay branches short (links_of nodes) are.found)
-    (pushed_more branches short)
+pushed_searched branches short nodes are = search (rules, more_searched, found_stay, pushed_more)
 
 -- the number of a short list is pushed, and branches after it
 module _ (old pushed new : List ℕ) (short : ℕ) (is : pushed ≡ old ++ short ∷ []) (more : AreMore pushed new) where
@@ -187,84 +145,51 @@ module _ (old pushed new : List ℕ) (short : ℕ) (is : pushed ≡ old ++ short
       more
 
   pub short_kept : (from : ℕ) → from ≡ length pushed → (0 < from) × (get_or new (from - 1) 0 ≡ short)
-  short_kept from from_is =
-      let long : length pushed ≡ length old + 1 = ap length is ∙ length-append old (short ∷ []) in (
-        omega (arith, from_is, long),
-        more.same (from - 1) (omega (arith, from_is, long))
-            ∙ ap (λ (branches : List ℕ). get_or branches (from - 1) 0) is
-            ∙ get_or_at old short [] 0 (from - 1) (omega (arith, from_is, long)),
-      )
+  short_kept from from_is = search (rules, length-append, get_or_at)
 
 -- ---- one attribute more
 
 long_more : (count : ℕ) (b : Bool) → nat_lt SHORT count ≡ b → nat_lt (suc SHORT) (count + 1) ≡ b
 long_more count true is =
-    let less = ltb-true SHORT count is in lt-ltb (suc SHORT) (count + 1) (omega (arith, less))
+    let less = ltb-true SHORT count is in lt-ltb (suc SHORT) (count + 1) (omega arith)
 long_more count false is =
-    let few = ltb-false SHORT count is in le-ltb (suc SHORT) (count + 1) (omega (arith, few))
+    let few = ltb-false SHORT count is in le-ltb (suc SHORT) (count + 1) (omega arith)
 
 -- a list that is not short has one attribute more before its last 32
 one_more : (list : List (Numbered AttributeSpec)) → SHORT ≤ length list
     → suc (length list) - SHORT ≡ suc (length list - SHORT)
-one_more list many = omega (arith, many)
+one_more list many = omega arith
 
 long_part_more : (n : Numbered AttributeSpec) (list : List (Numbered AttributeSpec)) → SHORT ≤ length list
     → long_part (n ∷ list) ≡ n ∷ long_part list
-long_part_more n list many = ap (λ (m : ℕ). take m (n ∷ list)) (one_more list many)
+long_part_more n list many = (λ i. take (one_more list many i) (n ∷ list))
 
 short_part_more : (n : Numbered AttributeSpec) (list : List (Numbered AttributeSpec)) → SHORT ≤ length list
     → short_part (n ∷ list) ≡ short_part list
-short_part_more n list many = ap (λ (m : ℕ). drop m (n ∷ list)) (one_more list many)
+short_part_more n list many = (λ i. drop (one_more list many i) (n ∷ list))
 
 no_branches : (branches : List ℕ) (links : List Link) (code : ℕ) → AreBranches branches 0 0 code (codes_in links 0)
-no_branches branches links code = record {
-  within = omega arith;
-  each = λ place less. absurd (omega (arith, less));
-  others = λ place past fits. none_where (parts code place) links;
-}
+no_branches branches links code = search (rules, none_where)
 
 module _ (nodes : List Node) (n : Node) where
   old_chain : (chain : ℕ) → chain ≤ length nodes
       → codes_in (links_of (nodes ++ n ∷ [])) chain ≡ codes_in (links_of nodes) chain
-  old_chain chain within =
-      ap (λ (links : List Link). codes_in links chain) (map-append link_of nodes (n ∷ []))
-      ∙ old_codes (links_of nodes) (link_of n) chain (omega (arith, within, links_long nodes))
+  old_chain chain within = search (rules, map-append, old_codes, links_long)
 
   joined_stay : (number short : ℕ) → number ≤ length nodes → IsJoined nodes number number short
       → IsJoined (nodes ++ n ∷ []) number number short
-  joined_stay number short within is = record {
-    codes = rw (old_list nodes n number within) (old_chain number within ∙ is.codes);
-    rest = rw (old_list nodes n number within) (old_list nodes n short is.within ∙ is.rest);
-    within = let w = is.within in omega (arith, w, length-append nodes (n ∷ []));
-  }
+  joined_stay number short within is = search (rules, old_list, old_chain, length-append)
 
   new_codes_are : (chain : ℕ) → (link_of n).rest ≡ chain
       → codes_in (links_of (nodes ++ n ∷ [])) (suc (length nodes))
       ≡ record { number = suc (length nodes); item = n.attribute } ∷ codes_in (links_of nodes) chain
-  new_codes_are chain rest_is =
-      ap (λ (links : List Link). codes_in links (suc (length nodes))) (map-append link_of nodes (n ∷ []))
-      ∙ ap (λ (m : ℕ). codes_in (links_of nodes ++ link_of n ∷ []) (suc m)) (sym (links_long nodes))
-      ∙ new_codes (links_of nodes) (link_of n)
-      ∙ ap (λ (m : ℕ). own (suc m) (link_of n) ∷ codes_in (links_of nodes) (link_of n).rest) (links_long nodes)
-      ∙ ap (λ (m : ℕ). own (suc (length nodes)) (link_of n) ∷ codes_in (links_of nodes) m) rest_is
+  new_codes_are chain rest_is = search (rules, map-append, links_long, new_codes, own)
 
   joined_more : (rest chain short : ℕ) → n.next ≡ rest → (link_of n).rest ≡ chain
       → SHORT ≤ length (numbered_in nodes rest) → IsJoined nodes rest chain short
       → IsJoined (nodes ++ n ∷ []) (suc (length nodes)) (suc (length nodes)) short
   joined_more rest chain short next_is rest_is many is =
-      let first : Numbered AttributeSpec = record { number = suc (length nodes); item = spec_of n } in
-      let list = numbered_in nodes rest in
-      let all : numbered_in (nodes ++ n ∷ []) (suc (length nodes)) ≡ first ∷ list = new_list nodes n
-      ∙ ap (λ (m : ℕ). first ∷ numbered_in nodes m) next_is in
-      record {
-        codes =
-            new_codes_are chain rest_is
-            ∙ ap (λ (codes : List (Numbered ℕ)). own (suc (length nodes)) (link_of n) ∷ codes) is.codes
-            ∙ ap numbered_codes (sym (ap long_part all ∙ long_part_more first list many));
-        rest =
-            old_list nodes n short is.within ∙ is.rest ∙ sym (ap short_part all ∙ short_part_more first list many);
-        within = let w = is.within in omega (arith, w, length-append nodes (n ∷ []));
-      }
+      search (rules, new_list, new_codes_are, own, long_part_more, old_list, short_part_more, length-append)
 
   -- a node whose branches are right
   searched_more : (branches : List ℕ) (chain : ℕ) → AreSearched branches nodes → (link_of n).rest ≡ chain
@@ -278,7 +203,7 @@ module _ (nodes : List Node) (n : Node) where
     rests = λ k x less read. elim (cases_eq k (length nodes)) [
       | inl same ↦ let x_is : x ≡ n = read ∙ get_or_at nodes n [] x k (sym same) in rw (x_is, same) last
       | inr other ↦
-          let before : k < length nodes = omega (arith, other, less, length-append nodes (n ∷ [])) in
+          let before : k < length nodes = omega (arith, length-append nodes (n ∷ [])) in
           λ long.
           let rest = are.rests k x before (read ∙ get_or_append_left nodes (n ∷ []) x k before) long in
           record { some = rest.some; within = rest.within; joined = joined_stay (suc k) _ before rest.joined }
@@ -290,10 +215,10 @@ module _ (nodes : List Node) (n : Node) where
       → next.count < SHORT → IsLongNode rest next attribute (0, 0) n → AreSearched branches (nodes ++ n ∷ [])
   short_more branches rest next attribute are few is =
       let count = is.count_is in
-      let none : nat_lt (suc SHORT) n.count ≡ false = le-ltb (suc SHORT) n.count (omega (arith, count, few)) in
-      searched_more branches 0 are (rw none refl) (rw is.places_are (λ place less. absurd (omega (arith, less))))
+      let none : nat_lt (suc SHORT) n.count ≡ false = le-ltb (suc SHORT) n.count (omega arith) in
+      searched_more branches 0 are (rw none refl) (rw is.places_are (λ place less. absurd (omega arith)))
       (rw (is.branches_are, is.places_are) (no_branches branches (links_of nodes) n.attribute))
-      (λ long. absurd (omega (arith, long, count, few)))
+      (λ long. absurd (omega (arith, long)))
 
   -- one in a longer list has them after the number of its short list
   pub joined_searched : (branches : List ℕ) (rest chain short from count : ℕ) (next : Node) (attribute : ℕ)
@@ -310,9 +235,9 @@ module _ (nodes : List Node) (n : Node) where
       (rw (is.branches_are, is.places_are, is.attribute_is) right)
       (λ long. record {
         some = rw is.branches_are some;
-        within = rw is.branches_are (let w = right.within in omega (arith, w));
+        within = rw is.branches_are (omega arith);
         joined =
             subst (IsJoined (nodes ++ n ∷ []) (suc (length nodes)) (suc (length nodes)))
-            (sym (ap (λ (start : ℕ). get_or branches (start - 1) 0) is.branches_are ∙ short_is))
+            (sym ((λ i. get_or branches (is.branches_are i - 1) 0) ∙ short_is))
             (joined_more rest chain short is.next_is rest_is many joined);
       })

@@ -1,6 +1,6 @@
 -- A value of a form with one size is skipped by that size, and the values of a declaration by the sum of theirs.
-use Rattle.std.proofs.Common.{◌≡◌, ℕ, ◌+◌, ◌<◌, ◌≤◌, Bool, true, false, cond, List, [], ◌∷◌, length, drop, Option, Some, None}
-use Rattle.std.proofs.Common.{Ok, Err, refl, sym, ap, subst, ◌∙◌, inl, inr, arith}
+use Rattle.std.proofs.Common.{arith, ◌≡◌, ℕ, ◌+◌, ◌<◌, ◌≤◌, Bool, true, false, cond, List, [], ◌∷◌, length, drop, Option, Some, None}
+use Rattle.std.proofs.Common.{Ok, Err, refl, sym, subst, ◌∙◌, inl, inr, arith}
 use Rattle.std.proofs.lemmas.Bool.{lt-ltb, le-ltb, cases_lt}
 use Rattle.std.proofs.lemmas.List.{drop-drop, length-drop}
 use Rattle.dw_forms.specs.declared.form.Form.{Form}
@@ -75,13 +75,13 @@ values_skip version size (spec ∷ specs) n bytes e le =
     parts_of (allowed_size version size spec.form) (fixed_sum version size specs) n e in
     let (allowed, sized) = allowed_of (is_allowed version spec.form) (fixed_size_of size spec.form) first is_first in
     let (v, read, rest) = bind_ok (value_at version spec.form size bytes) (λ x. Ok x.1) (drop first bytes)
-    (rest_skips version spec.form size first bytes sized (omega (arith, total, le))) in
+    (rest_skips version spec.form size first bytes sized (omega arith)) in
     let more = values_skip version size specs others (drop first bytes) are_others
-    (omega (arith, total, le, length-drop first bytes)) in (
+    (omega (arith, length-drop first bytes)) in (
       allowed,
       v.0,
       drop first bytes,
-      read ∙ ap (λ (after : List ℕ). Ok (v.0, after)) (read_is rest),
+      read ∙ (λ i. Ok (v.0, (read_is rest i))),
       subst (ValuesEnd version size specs (drop first bytes))
-          (drop-drop others first bytes ∙ ap (λ (k : ℕ). drop k bytes) (sym total)) more,
+          (drop-drop others first bytes ∙ (λ i. drop (sym total i) bytes)) more,
     )

@@ -32,7 +32,7 @@ number_kept [] (suc n) spec is = absurd (never_none is)
 number_kept (x ∷ nodes) (suc zero) spec is = (0, omega arith, some_is is)
 number_kept (x ∷ nodes) (suc (suc n)) spec is =
     let (k, within, same) = number_kept nodes (suc n) spec is in
-    (suc k, omega (arith, within), same)
+    (suc k, omega arith, same)
 
 list_kept : (nodes : List Node) (list : List (Numbered AttributeSpec)) → AreNumbered (specs_of nodes) list
     → All (λ (spec : AttributeSpec). Kept nodes spec) (items_of list)

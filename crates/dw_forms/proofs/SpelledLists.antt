@@ -54,14 +54,14 @@ module _ {X E : Type 0} {key : X → ℕ} {Spells : List ℕ → X → Type 0} {
       (ok_pair _ _ _ _ (sym ((h.is_reader []).again text rest None u.spelled) ∙ sym (ap (next []) parts) ∙ e)).0)
   less_by bytes after rest x (y ∷ ys) text e parts u =
       let p = u.spelled in
-      let regrouped : text ++ rest ≡ p.0 ++ (p.1 ++ rest) = ap (λ (t : List ℕ). t ++ rest) p.2
+      let regrouped : text ++ rest ≡ p.0 ++ (p.1 ++ rest) = (λ i. p.2 i ++ rest)
       ∙ append_assoc p.0 p.1 rest in
       let first = (h.is_reader []).again p.0 (p.1 ++ rest) (Some y) (p.3, λ k z lt. absurd (omega arith)) in
       let same = ok_pair _ _ _ _ (sym first ∙ ap (next []) (sym (parts ∙ regrouped)) ∙ e) in
       let is : y ≡ x = some_is same.0 in
       record {
         items = ys;
-        parts = ap (λ (z : X). z ∷ ys) is;
+        parts = (λ i. is i ∷ ys);
         lacks = subst (λ (z : X). Lacks key (key z) ys) is (apart_first key y ys u.distinct);
         list =
             ap (list_of next cut) (sym same.1)

@@ -1,6 +1,6 @@
 -- One byte more of a LEB128 number.
 use Rattle.std.proofs.lemmas.Grind.{common_steps}
-use Rattle.std.proofs.Common.{rules, ◌≡◌, ℕ, zero, suc, ◌+◌, ◌*◌, ◌^◌, ◌%◌, ◌<◌, ◌≤◌, List, length, get_or, drop, Ok, Err, refl, ap, ◌∙◌, arith, to_z, of_z}
+use Rattle.std.proofs.Common.{rules, ◌≡◌, ℕ, zero, suc, ◌+◌, ◌*◌, ◌^◌, ◌%◌, ◌<◌, ◌≤◌, List, length, get_or, drop, Ok, Err, refl, ◌∙◌, arith, to_z, of_z}
 use Rattle.std.specs.Prelude.{bit_and, pos, ◌-ℤ◌}
 use Rattle.std.specs.Int.{w128}
 use Rattle.std.proofs.lemmas.Int.{ints}
@@ -17,7 +17,7 @@ sevens : (k : ℕ) → 2 ^ (7 * k) ≡ 128 ^ k
 sevens zero = refl
 sevens (suc k) =
     let e : 7 * suc k ≡ 7 * k + 7 = omega arith in
-    rw (e, pow-add, pow-suc 128 k) (ap (λ (p : ℕ). p * 128) (sevens k))
+    rw (e, pow-add, pow-suc 128 k) (λ i. (sevens k i) * 128)
 
 -- the low seven bits of a byte, shifted to their place
 pub shifted : (b place low : ℕ) → low ≡ bit_and b 127 → place ≤ 9
@@ -26,7 +26,7 @@ shifted b place low is le =
     let low_seven : low ≡ b % 128 = is ∙ and_mask b 7 in
     let below : b % 128 < 2 ^ 7 = omega arith in
     let power : 2 ^ (7 * place) ≡ 128 ^ place = sevens place in
-    rw low_seven (shl_whole (b % 128) 7 (7 * place) 128 below (omega arith) ∙ ap (λ (p : ℕ). (b % 128) * p) power)
+    rw low_seven (shl_whole (b % 128) 7 (7 * place) 128 below (omega arith) ∙ (λ i. (b % 128) * (power i)))
 
 pub next_small : (b place sum : ℕ) → sum < 128 ^ place → sum + (b % 128) * 128 ^ place < 128 ^ (place + 1)
 next_small b place sum lt = grind (arith, common_steps, add-one, pow-suc, mul-add-lt)

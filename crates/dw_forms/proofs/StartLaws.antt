@@ -1,5 +1,5 @@
 -- Tables that begin at offsets of a section, as more declarations are kept.
-use Rattle.std.proofs.Common.{◌≡◌, ℕ, suc, ◌<◌, true, List, [], ◌∷◌, ◌++◌, length, Some, None, Ok, sym, ap, subst, ◌∙◌, inl, inr, rules, arith}
+use Rattle.std.proofs.Common.{◌≡◌, ℕ, suc, ◌<◌, true, List, [], ◌∷◌, ◌++◌, length, Some, None, Ok, sym, subst, ◌∙◌, inl, inr, rules, arith}
 use Rattle.std.specs.Prelude.{get_or}
 use Rattle.std.proofs.lemmas.Bool.{cases_eq}
 use Rattle.std.proofs.lemmas.List.{length-append, get_or_append_left, get_or_at}
@@ -7,7 +7,7 @@ use Rattle.dw_forms.specs.declared.attribute_lists.Node.{Node}
 use Rattle.dw_forms.specs.declared.decl.KeptDecl.{KeptDecl}
 use Rattle.dw_forms.specs.declared.offsets.Placed.{Placed}
 use Rattle.dw_forms.specs.Abbrev.{Declaration, AreDeclarations}
-use Rattle.dw_forms.specs.Chains.{Numbered, items_of, chain_in}
+use Rattle.dw_forms.specs.Chains.{items_of, chain_in}
 use Rattle.dw_forms.specs.AbbrevReading.{has_code}
 use Rattle.dw_forms.specs.KeptDecls.{Tables, kept_view, table_in, tables_of}
 use Rattle.dw_forms.specs.Offsets.{NothingAt, AreAlong, AreNew}
@@ -23,7 +23,7 @@ use Rattle.dw_forms.proofs.TailLaws.{table_more, twice_none, none_along, table_a
 pub table_stays : (old new : Tables) (number : ℕ) → Stay old new → number < length old
     → chain_in new number ≡ chain_in old number
 table_stays old new number stay within =
-    ap (λ (ts : Tables). chain_in ts number) stay.1 ∙ get_or_append_left old stay.0 [] number within
+    (λ i. chain_in (stay.1 i) number) ∙ get_or_append_left old stay.0 [] number within
 
 pub is_table_stays : (section : List ℕ) (old new : Tables) (offset number : ℕ) → Stay old new
     → IsTableIn section old offset number → IsTableIn section new offset number
@@ -54,13 +54,10 @@ module _ {section : List ℕ} {nodes : List Node} {old : Tables} {offset rest : 
     (left : List (Placed KeptDecl)) (s : Placed KeptDecl) (parts : all ≡ left ++ s ∷ [])
     (leads : Leads section nodes old all offset rest) where
   pub popped : AreAlong (IsDeclAt section nodes) left offset s.at × IsDeclAt section nodes s.at s.item leads.next
-  popped =
-      along_pop (IsDeclAt section nodes) left offset leads.next s
-      (subst (λ (xs : List (Placed KeptDecl)). AreAlong (IsDeclAt section nodes) xs offset leads.next) parts
-      leads.along)
+  popped = search (rules, along_pop)
 
   pub start_less : s.at < length section
-  start_less = let e = popped.1 in omega (arith, e.rises, e.fits)
+  start_less = let e = popped.1 in omega arith
 
   pub turn_none : (new : Tables) → IsAddedTable (kept_view nodes s.item) rest old new None → NoTable section offset
   turn_none new added =
@@ -79,16 +76,10 @@ module _ {section : List ℕ} {nodes : List Node} {old : Tables} {offset rest : 
     turn_stay = (_, added.2)
 
     long : length new ≡ suc (length old)
-    long =
-        omega (
-          arith,
-          ap length added.2,
-          length-append old
-              ((record { number = number; item = kept_view nodes s.item } ∷ chain_in old rest) ∷ []),
-        )
+    long = search (rules, length-append)
 
     new_is : chain_in new number ≡ record { number = number; item = kept_view nodes s.item } ∷ chain_in old rest
-    new_is = ap (λ (ts : Tables). chain_in ts number) added.2 ∙ get_or_at old _ [] [] number (sym added.1)
+    new_is = (λ i. chain_in (added.2 i) number) ∙ get_or_at old _ [] [] number (sym added.1)
 
     table : IsTableIn section new s.at number
     table = record {
@@ -96,7 +87,7 @@ module _ {section : List ℕ} {nodes : List Node} {old : Tables} {offset rest : 
       table =
           table_more section s.at leads.next (kept_view nodes s.item) (table_in old rest) popped.1.is leads.table.table
           (lacks_from code_of_decl s.item.code (table_in old rest) added.0)
-          ∙ ap (λ (t : List (Numbered Declaration)). Ok (items_of t)) (sym new_is);
+          ∙ (λ i. Ok (items_of (sym new_is i)));
     }
 
     -- one start more, with its table
@@ -104,14 +95,14 @@ module _ {section : List ℕ} {nodes : List Node} {old : Tables} {offset rest : 
         → AreStarts section new (starts ++ s.at ∷ [])
     turn_starts starts are nothing = record {
       apart = apart_push (length section) starts s.at are.apart nothing start_less;
-      long = omega (arith, are.long, long, length-append starts (s.at ∷ []));
+      long = omega (arith, long, length-append starts (s.at ∷ []));
       each = λ k less. elim (cases_eq k (length starts)) [
         | inl same ↦
             let start_is : get_or (starts ++ s.at ∷ []) k 0 ≡ s.at = get_or_at starts s.at [] 0 k (sym same) in
-            let last : suc k ≡ number = omega (arith, same, are.long, added.1) in
+            let last : suc k ≡ number = omega (arith, added.1) in
             rw (start_is, last) table
         | inr other ↦
-            let before : k < length starts = omega (arith, other, less, length-append starts (s.at ∷ [])) in
+            let before : k < length starts = omega (arith, length-append starts (s.at ∷ [])) in
             let start_is : get_or (starts ++ s.at ∷ []) k 0
             ≡ get_or starts k 0 = get_or_append_left starts (s.at ∷ []) 0 k before in
             rw start_is (is_table_stays section old new (get_or starts k 0) (suc k) turn_stay (are.each k before))

@@ -11,8 +11,8 @@ use Rattle.dw_forms.specs.LeadingWalks.{stops_at, step_in, skip_in, lead_of, lea
 pub skip_is : (size : ℕ) (list : List (Numbered AttributeSpec)) (s : Step) → (size ≡ 4) ⊎ (size ≡ 8)
     → IsFirstStep list s
     → s.skip_with_8 - (8 - size) * s.addresses ≡ skip_in size list
-skip_is size list s (inl e) is = rw e (let four = is.with_4 in omega (arith, four))
-skip_is size list s (inr e) is = rw e (let eight = is.with_8 in omega (arith, eight))
+skip_is size list s (inl e) is = rw e (omega arith)
+skip_is size list s (inr e) is = rw e (omega arith)
 
 -- the same where addresses have 8 bytes, and 4 for each fewer where they have 4
 pub sum_with_8 : (size with_8 addresses : ℕ) → size ≡ 8 → with_8 ≡ with_8 - (8 - size) * addresses
@@ -26,7 +26,7 @@ sum_with_4 size with_8 addresses (inr e) other = absurd (other e)
 -- a sum with values of addresses that have 8 bytes, by one with values that have 4
 pub sum_of_4 : (known sum addresses own_8 own_4 more : ℕ) → known ≡ sum + 4 * addresses → own_8 ≡ own_4 + 4 * more
     → known + own_8 ≡ (sum + own_4) + 4 * (addresses + more)
-sum_of_4 known sum addresses own_8 own_4 more e o = omega (arith, e, o)
+sum_of_4 known sum addresses own_8 own_4 more e o = omega arith
 
 module _ (number : ℕ) (spec : AttributeSpec) (list : List (Numbered AttributeSpec)) (after : Step)
     (is : IsFirstStep list after) where

@@ -1,10 +1,11 @@
 -- Attributes from one on: the first of them, those after it, and those from the next one of a kind on.
 use Rattle.std.proofs.lemmas.Grind.{common_steps}
-use Rattle.std.proofs.Common.{rules, ◌≡◌, ◌≢◌, ℕ, ◌-◌, ◌≤◌, Bool, true, false, List, [], ◌∷◌, ◌++◌, length, take, Result, Ok, Err, refl, sym, ap, subst, ◌∙◌, append-nil, arith}
+use Rattle.std.proofs.Common.{rules, ◌≡◌, ◌≢◌, ℕ, ◌-◌, ◌≤◌, Bool, true, false, List, [], ◌∷◌, ◌++◌, length, Result, Ok, Err, refl, sym, ap, ◌∙◌, append-nil, arith}
 use Rattle.std.specs.Prelude.{All, find, Some, None}
 use Rattle.std.specs.List.{list_any, slice_range}
-use Rattle.std.proofs.lemmas.Bool.{eqb-true, or_parts}
-use Rattle.std.proofs.lemmas.List.{length-append, get_or_append_left, get_or_at}
+use Rattle.std.proofs.lemmas.Bool.{eqb-true}
+use Rattle.std.proofs.lemmas.List.{length-append, get_or_append_left, get_or_at, take_at}
+use Rattle.std.proofs.lemmas.List.Folds.{find-append}
 use Rattle.dw_forms.specs.declared.abbrev.AttributeSpec.{AttributeSpec}
 use Rattle.dw_forms.specs.declared.attribute_lists.Node.{Node}
 use Rattle.dw_forms.specs.declared.attributes.Attributes.{Attributes}
@@ -18,7 +19,7 @@ use Rattle.dw_forms.specs.Suffixes.{nodes_of, numbered, specs_in, Ends, IsFrom}
 use Rattle.dw_forms.specs.Value.{Datum}
 use Rattle.dw_forms.specs.ValueReading.{value_at}
 use Rattle.dw_forms.proofs.ChainLaws.{chain_none, are_numbered, none_has, some_has}
-use Rattle.dw_forms.specs.Keys.{lacks_from}
+use Rattle.dw_forms.specs.Keys.{lacks_from, find_none}
 use Rattle.dw_forms.specs.Abbrev.{attribute_of}
 use Rattle.dw_forms.proofs.PartLaws.{IsSplit, split}
 use Rattle.dw_forms.proofs.PassSteps.{items_append, run}
@@ -41,7 +42,7 @@ none_ends a rest same none = search (rules, append-nil, chain_none)
 -- the attributes in another list that one ends with
 pub numbered_ends : (a b : Attributes) (before : List (Numbered AttributeSpec)) → Ends a b before
     → numbered a ≡ before ++ numbered b
-numbered_ends a b before e = e.parts ∙ ap (λ (nodes : List Node). before ++ numbered_in nodes b.first) (sym e.nodes)
+numbered_ends a b before e = e.parts ∙ (λ i. before ++ numbered_in (sym e.nodes i) b.first)
 
 pub specs_ends : (a b : Attributes) (before : List (Numbered AttributeSpec)) → Ends a b before
     → specs_in a ≡ items_of before ++ specs_in b
@@ -60,7 +61,7 @@ module _ (test : AttributeSpec → Bool) (all : Attributes) where
 
   -- they are among those that are kept
   pub number_is_within : number_where test (numbered all) ≤ length (nodes_of all)
-  number_is_within = let w = parted.within in let v = all.within in omega (arith, w, v)
+  number_is_within = omega (arith, parted.within)
 
   -- those before them fail the test, and the first of them passes it
   pub record Follow (found : Attributes) : Type 0 where
@@ -80,7 +81,7 @@ module _ (test : AttributeSpec → Bool) (all : Attributes) where
   none_follow found is none =
       let f = follow found is in
       ap (list_any test) (specs_ends all found f.before f.ends
-      ∙ ap (λ (specs : List AttributeSpec). items_of f.before ++ specs) none ∙ append-nil (items_of f.before))
+      ∙ (λ i. items_of f.before ++ none i) ∙ append-nil (items_of f.before))
       ∙ f.none
 
 -- none of no attributes is of the kind
@@ -95,16 +96,13 @@ none_from test all none is = record { nodes = refl; first = none ∙ sym (ap (nu
 -- the one of a code
 pub found_within : (all : Attributes) (code found : ℕ) → found ≡ number_where (has_this code) (numbered all)
     → found ≤ length (nodes_of all)
-found_within all code found is = let w = number_is_within (has_this code) all in omega (arith, is, w)
+found_within all code found is = let w = number_is_within (has_this code) all in omega arith
 
 -- ---- the size of all values together
 
 pub whole_some : (a : Attributes) (n : Node) → IsKnown (nodes_of a) a.first n → n.next_varying ≡ 0
     → Some n.known_with_8 ≡ whole_in 8 (specs_in a)
-whole_some a n is none =
-    let fixed = none_has varies (specs_of (nodes_of a)) (numbered a) (are_numbered (specs_of (nodes_of a)) a.first)
-    (sym is.knows.varying ∙ none) in
-    rw fixed (ap (λ (size : ℕ). Some size) is.knows.known_with_8)
+whole_some a n is none = search (rules, none_has, are_numbered, none)
 
 pub whole_none : (a : Attributes) (n : Node) → IsKnown (nodes_of a) a.first n → (n.next_varying ≡ 0 → ⊥)
     → None ≡ whole_in 8 (specs_in a)
@@ -124,28 +122,27 @@ whole_cut version size list bytes is = by_kind (list_any varies (items_of list))
     by_kind : (b : Bool) → list_any varies (items_of list) ≡ b
         → values_end version 8 (items_of list) bytes ≡ rest_beyond size bytes
     by_kind true e = absurd (other (is ∙ rw e refl))
-    by_kind false e = run version 8 list bytes e ∙ ap (λ (n : ℕ). rest_beyond n bytes) (sym (same (is ∙ rw e refl)))
+    by_kind false e = run version 8 list bytes e ∙ (λ i. rest_beyond ((sym (same (is ∙ rw e refl))) i) bytes)
+
+-- where there are none from it on, none has the code
+pub none_has_it : (code : ℕ) (all found : Attributes) → IsFrom (has_this code) all found → specs_in found ≡ []
+    → All (λ (spec : AttributeSpec). spec.attribute ≢ code) (specs_in all)
+none_has_it code all found is none =
+    lacks_from attribute_of code (specs_in all) (none_follow (has_this code) all found is none)
 
 -- ---- a flag, as its form says
-
-find_none : (code : ℕ) (specs : List AttributeSpec) → list_any (has_this code) specs ≡ false
-    → find (has_this code) specs ≡ None
-find_none code [] none = refl
-find_none code (s ∷ specs) none =
-    let parts = or_parts (has_this code s) (list_any (has_this code) specs) none in
-    rw parts.0 (find_none code specs parts.1)
 
 find_first : (code : ℕ) (front : List AttributeSpec) (spec : AttributeSpec) (back : List AttributeSpec)
     → list_any (has_this code) front ≡ false → has_this code spec ≡ true
     → find (has_this code) (front ++ spec ∷ back) ≡ Some spec
-find_first code [] spec back none is = rw is refl
-find_first code (s ∷ front) spec back none is =
-    let parts = or_parts (has_this code s) (list_any (has_this code) front) none in
-    rw parts.0 (find_first code front spec back parts.1 is)
+find_first code front spec back none is =
+    let others : find (has_this code) front ≡ None =
+    find_none attribute_of code front (lacks_from attribute_of code front none) in
+    rw (find-append (has_this code) front (spec ∷ back), others, is) refl
 
 module _ (code : ℕ) (all found : Attributes) (is : IsFrom (has_this code) all found) where
   pub flag_none : specs_in found ≡ [] → flag_in code (specs_in all) ≡ Some false
-  flag_none none = ap flag_by (find_none code (specs_in all) (none_follow (has_this code) all found is none))
+  flag_none none = ap flag_by (find_none attribute_of code (specs_in all) (none_has_it code all found is none))
 
   pub flag_some : (spec : AttributeSpec) (rest : Attributes)
       → Ends found rest (record { number = found.first; item = spec } ∷ [])
@@ -154,7 +151,7 @@ module _ (code : ℕ) (all found : Attributes) (is : IsFrom (has_this code) all 
       let f = follow (has_this code) all found is in
       let parts : specs_in all ≡ items_of f.before ++ (spec ∷ specs_in rest) =
       specs_ends all found f.before f.ends
-      ∙ ap (λ (specs : List AttributeSpec). items_of f.before ++ specs) (first_specs found rest spec first) in
+      ∙ (λ i. items_of f.before ++ (first_specs found rest spec first i)) in
       ap flag_by (ap (find (has_this code)) parts
       ∙ find_first code (items_of f.before) spec (specs_in rest) f.none (f.passes spec rest first))
 
@@ -167,13 +164,8 @@ stands_first : (code : ℕ) (front : List AttributeSpec) (spec : AttributeSpec) 
 stands_first code front spec back none is =
     search (rules, common_steps, length-append, attribute_of, get_or_at, eqb-true, lacks_from, get_or_append_left)
 
-take_front : (xs ys : List AttributeSpec) → take (length xs) (xs ++ ys) ≡ xs
-take_front [] ys = refl
-take_front (x ∷ xs) ys = ap (λ (zs : List AttributeSpec). x ∷ zs) (take_front xs ys)
-
 front_range : (xs ys : List AttributeSpec) → slice_range (xs ++ ys) 0 (length xs) ≡ xs
-front_range xs ys =
-    let n : length xs - 0 ≡ length xs = omega arith in ap (λ (k : ℕ). take k (xs ++ ys)) n ∙ take_front xs ys
+front_range xs ys = take_at xs ys (length xs - 0) (omega arith)
 
 reads_front : (version size code : ℕ) (front : List AttributeSpec) (spec : AttributeSpec) (back : List AttributeSpec)
     (bytes : List ℕ) (answer : Result Datum ValueFault)
@@ -185,12 +177,6 @@ reads_front version size code front spec back bytes answer none is e = record {
   first = stands_first code front spec back none is;
   reads = search (rules, get_or_at, front_range);
 }
-
--- where there are none from it on, none has the code
-pub none_has_it : (code : ℕ) (all found : Attributes) → IsFrom (has_this code) all found → specs_in found ≡ []
-    → All (λ (spec : AttributeSpec). spec.attribute ≢ code) (specs_in all)
-none_has_it code all found is none =
-    lacks_from attribute_of code (specs_in all) (none_follow (has_this code) all found is none)
 
 module _ (version size code : ℕ) (all found : Attributes) (is : IsFrom (has_this code) all found) where
   before_it : Follow (has_this code) all found
@@ -205,14 +191,7 @@ module _ (version size code : ℕ) (all found : Attributes) (is : IsFrom (has_th
     reads_it : (answer : Result Datum ValueFault)
         → answer ≡ value_behind version size spec.form (values_end version size (items_of before_it.before) bytes)
         → ReadsFirst version size (specs_in all) code bytes answer
-    reads_it answer e =
-        let parts : specs_in all ≡ items_of before_it.before ++ (spec ∷ specs_in rest) =
-        specs_ends all found before_it.before before_it.ends
-        ∙ ap (λ (specs : List AttributeSpec). items_of before_it.before ++ specs)
-        (specs_ends found rest (record { number = found.first; item = spec } ∷ []) first) in
-        subst (λ (specs : List AttributeSpec). ReadsFirst version size specs code bytes answer) (sym parts)
-        (reads_front version size code (items_of before_it.before) spec (specs_in rest) bytes answer before_it.none
-        (before_it.passes spec rest first) e)
+    reads_it answer e = search (rules, before_it, specs_ends, reads_front)
 
     -- the values before it fail
     pub before_fails : (f : ValueFault) → values_end version size (items_of before_found.0) bytes ≡ Err f
@@ -227,7 +206,7 @@ module _ (version size code : ℕ) (all found : Attributes) (is : IsFrom (has_th
       unfolding before_found
       value_here r e =
           ap (value_behind version size spec.form) passed
-          ∙ ap (λ (q : Result (Datum × List ℕ) ValueFault). q >>= λ v. Ok v.0) e
+          ∙ (λ i. (e i) >>= λ v. Ok v.0)
 
       pub it_fails : (f : ValueFault) → value_at version spec.form size mid ≡ Err f
           → ReadsFirst version size (specs_in all) code bytes (Err f)

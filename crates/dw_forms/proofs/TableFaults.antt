@@ -24,7 +24,7 @@ table_refuses section offset fault within f =
       parts = f.parts;
       spelled = f.spelled;
       distinct = f.distinct;
-      fails = (f.reason, f.fails, f.is ∙ ap (λ (p : ℕ). fault_at p f.reason) (sym place));
+      fails = (f.reason, f.fails, f.is ∙ (λ i. fault_at (sym place i) f.reason));
     }) in
     rw read refl
 

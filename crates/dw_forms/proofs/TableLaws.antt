@@ -44,7 +44,7 @@ module _ (section : List ℕ) (offset : ℕ) where
         distinct = f.distinct;
         reason = f.fails.0;
         fails = f.fails.1;
-        is = f.fails.2 ∙ ap (λ (p : ℕ). fault_at p f.fails.0) place;
+        is = f.fails.2 ∙ (λ i. fault_at (place i) f.fails.0);
       }
 
   pub table_result : (r : Result (List Declaration × List ℕ) AbbrevFault) (ds : List Declaration)

@@ -1,5 +1,5 @@
 -- A declaration and the table after it: they are a table where no code occurs twice, and no other table begins there.
-use Rattle.std.proofs.Common.{◌≡◌, ◌≤◌, ℕ, ◌-◌, ◌<◌, List, [], ◌∷◌, length, take, drop, Option, Some, None, Ok, Err, refl, sym, ap, ◌∙◌, arith}
+use Rattle.std.proofs.Common.{◌≡◌, ◌≤◌, ℕ, ◌-◌, ◌<◌, List, [], ◌∷◌, length, take, drop, Option, Some, None, Ok, Err, refl, sym, ◌∙◌, arith}
 use Rattle.std.proofs.lemmas.List.{length-take, length-drop}
 use Rattle.dw_forms.specs.declared.fault.DeclFault.{DeclFault}
 use Rattle.dw_forms.specs.declared.decl.KeptDecl.{KeptDecl}
@@ -96,7 +96,7 @@ module _ (section : List ℕ) where
       → AreAlong (IsDeclAt section old) xs offset end → AreAlong (IsDeclAt section new) xs offset end
   decls_stay old new stay = along_same (IsDeclAt section new) (IsDeclAt section old) (λ offset next d e. record {
     is =
-        e.is ∙ ap (λ (v : Declaration). Ok (Some v, drop next section)) (sym (view_stays old new d stay e.kept.within));
+        e.is ∙ (λ i. Ok (Some (sym (view_stays old new d stay e.kept.within) i), drop next section));
     kept = has_stays old new _ _ _ _ _ stay e.kept;
     rises = e.rises;
     fits = e.fits;
@@ -120,7 +120,7 @@ table_fewer section offset ds is =
     let (len, b) = table_found section offset ds is in
     let few = each_fits (reads_decls 0) (SpellsEnd declarations) 1 end_some ds
     (take len (drop offset section)) b.spelled.spelled in
-    omega (arith, few, length-take len (drop offset section), length-drop offset section)
+    omega (arith, length-take len (drop offset section), length-drop offset section)
 
 -- the fault that plain reading gives is the table's
 pub broken_by : (section : List ℕ) (offset : ℕ) (fault : Stop AbbrevFault) → offset ≤ length section

@@ -1,6 +1,6 @@
 -- Where the first step in the list of a number goes to, and what comes before that attribute.
-use Rattle.std.proofs.Common.{rules, ◌≡◌, ℕ, zero, suc, ◌+◌, ◌<◌, ◌≤◌, Bool, true, false, not, List, [], ◌∷◌, length, refl, sym, ap, subst, ◌∙◌, arith}
-use Rattle.std.specs.Prelude.{◌==◌, ◌&&◌, ◌||◌}
+use Rattle.std.proofs.Common.{rules, ◌≡◌, ℕ, zero, suc, ◌<◌, ◌≤◌, Bool, true, false, not, List, [], ◌∷◌, length, refl, sym, ap, subst, ◌∙◌, arith}
+use Rattle.std.specs.Prelude.{◌==◌, ◌&&◌}
 use Rattle.std.specs.List.{list_any}
 use Rattle.std.proofs.lemmas.Bool.{ne_eqb, or_parts}
 use Rattle.std.proofs.lemmas.List.Sums.{sum_by-cons}
@@ -14,39 +14,9 @@ use Rattle.dw_forms.specs.declared.leading_steps.Lead.TheVariants.{Nothing}
 use Rattle.dw_forms.specs.LeadingWalks.{does_lead, stops_at, step_in, skip_in, lead_of, lead_in, IsFirstStep}
 use Rattle.dw_forms.proofs.ChainLaws.{chain_none}
 use Rattle.dw_forms.proofs.LeadLaws.{lead_says}
-use Rattle.dw_forms.proofs.PartLaws.{known_at, none_both}
+use Rattle.dw_forms.proofs.PartLaws.{first_is, known_at, none_both}
 
 -- ---- one attribute
-
-stops_first : (n : Numbered AttributeSpec) (list : List (Numbered AttributeSpec))
-    → stops_at (step_in list) n.item ≡ true → step_in (n ∷ list) ≡ n.number
-unfolding step_in
-stops_first n list is = rw is refl
-
-stops_later : (n : Numbered AttributeSpec) (list : List (Numbered AttributeSpec))
-    → stops_at (step_in list) n.item ≡ false → step_in (n ∷ list) ≡ step_in list
-unfolding step_in
-stops_later n list is = rw is refl
-
-leads_first : (n : Numbered AttributeSpec) (list : List (Numbered AttributeSpec))
-    → stops_at (step_in list) n.item ≡ true → lead_in (n ∷ list) ≡ lead_of n.item
-unfolding lead_in
-leads_first n list is = rw is refl
-
-leads_later : (n : Numbered AttributeSpec) (list : List (Numbered AttributeSpec))
-    → stops_at (step_in list) n.item ≡ false → lead_in (n ∷ list) ≡ lead_in list
-unfolding lead_in
-leads_later n list is = rw is refl
-
-skips_none : (size : ℕ) (n : Numbered AttributeSpec) (list : List (Numbered AttributeSpec))
-    → stops_at (step_in list) n.item ≡ true → skip_in size (n ∷ list) ≡ 0
-unfolding skip_in
-skips_none size n list is = rw is refl
-
-skips_more : (size : ℕ) (n : Numbered AttributeSpec) (list : List (Numbered AttributeSpec))
-    → stops_at (step_in list) n.item ≡ false → skip_in size (n ∷ list) ≡ skip_in size list + known_size size n.item.form
-unfolding skip_in
-skips_more size n list is = rw is refl
 
 -- a value that is passed before a step does not vary
 never_varies : (next : ℕ) (b : Bool) → (next ≡ 0 → ⊥) → (b && not (next == 0)) ≡ false → b ≡ false
@@ -55,20 +25,7 @@ never_varies next true some e =
     cc)
 never_varies next false some e = refl
 
--- where a step is made, the value leads elsewhere or varies
-leads_or_varies : (a b c : Bool) → (a || (b && c)) ≡ true → (a || b) ≡ true
-leads_or_varies true b c e = refl
-leads_or_varies false true c e = refl
-leads_or_varies false false c e = e
-
 -- ---- the list of a number
-
--- the attribute that the list of the found number begins with leads elsewhere or varies
-abbrev pub StopsThere : List Node → ℕ → Type 0
-StopsThere nodes found =
-    (spec : AttributeSpec) (list : List (Numbered AttributeSpec))
-    → numbered_in nodes found ≡ record { number = found; item = spec } ∷ list
-    → (does_lead spec || does_vary spec.form) ≡ true
 
 -- the lead is that of the attribute that the list of the found number begins with
 abbrev pub LeadsTo : List Node → ℕ → ℕ → Type 0
@@ -84,7 +41,6 @@ pub record GoesTo (nodes : List Node) (number found : ℕ) : Type 0 where
   pub none_leads : list_any does_lead (items_of before) ≡ false
   pub none_varies : list_any varies (items_of before) ≡ false
   pub skips : (size : ℕ) → skip_in size (numbered_in nodes number) ≡ known_sum size (items_of before)
-  pub stops : StopsThere nodes found
   pub leads : LeadsTo nodes number found
 
 -- no step is made where no value leads elsewhere, or one is made to an attribute
@@ -94,65 +50,48 @@ pub record Walks (nodes : List Node) (number found : ℕ) : Type 0 where
   pub no_lead : found ≡ 0 → lead_in (numbered_in nodes number) ≡ Nothing
   pub goes : (found ≡ 0 → ⊥) → GoesTo nodes number found
 
-first_item : (m n : Numbered AttributeSpec) (ms ns : List (Numbered AttributeSpec))
-    → ◌≡◌ {A = List (Numbered AttributeSpec)} (m ∷ ms) (n ∷ ns) → m.item ≡ n.item
-first_item m n ms ns e = let same : m ≡ n = cc in ap (λ (x : Numbered AttributeSpec). x.item) same
-
 module _ (nodes : List Node) (known : AreKnown nodes) where
   walks_here : (number : ℕ) (n : Node) (b : Bool) → 0 < number → IsKnown nodes number n
       → stops_at (step_in (numbered_in nodes n.next)) (spec_of n) ≡ b
       → Walks nodes n.next (step_in (numbered_in nodes n.next))
       → Walks nodes number (step_in (numbered_in nodes number))
+  unfolding step_in skip_in lead_in
   walks_here number n true some is stops rest =
-      let first : Numbered AttributeSpec = record { number = number; item = spec_of n } in
-      let there : StopsThere nodes number = λ spec list begins.
-      let same : ◌≡◌ {A = List (Numbered AttributeSpec)} (record { number = number; item = spec } ∷ list)
-      (record { number = number; item = spec_of n } ∷ numbered_in nodes n.next) = sym begins ∙ is.begins in
-      ap (λ (s : AttributeSpec). does_lead s || does_vary s.form) (first_item _ _ list (numbered_in nodes n.next) same)
-      ∙ leads_or_varies (does_lead (spec_of n)) (does_vary n.form) (not (step_in (numbered_in nodes n.next) == 0)) stops
-      in
-      let leads : LeadsTo nodes number number = λ spec list begins.
-      let same : ◌≡◌ {A = List (Numbered AttributeSpec)} (record { number = number; item = spec } ∷ list)
-      (record { number = number; item = spec_of n } ∷ numbered_in nodes n.next) = sym begins ∙ is.begins in
-      ap lead_in is.begins ∙ leads_first first (numbered_in nodes n.next) stops
-      ∙ ap lead_of (sym (first_item _ _ list (numbered_in nodes n.next) same)) in
-      let found : step_in (numbered_in nodes number)
-      ≡ number = ap step_in is.begins ∙ stops_first first (numbered_in nodes n.next) stops in
+      let found : step_in (numbered_in nodes number) ≡ number = rw (is.begins, stops) refl in
       rw found (record {
         within = omega arith;
-        none = λ e. absurd (omega (arith, e, some));
-        no_lead = λ e. absurd (omega (arith, e, some));
+        none = λ e. absurd (omega arith);
+        no_lead = λ e. absurd (omega arith);
         goes = λ other. record {
           before = [];
           goes = refl;
           none_leads = refl;
           none_varies = refl;
-          skips = λ size. ap (skip_in size) is.begins ∙ skips_none size first (numbered_in nodes n.next) stops;
-          stops = there;
-          leads = leads;
+          skips = λ size. rw (is.begins, stops) refl;
+          leads = λ spec list begins.
+              rw (is.begins, stops)
+              (λ i. lead_of ((first_is _ _ _ _ (sym is.begins ∙ begins)).0 i).item);
         };
       })
   walks_here number n false some is stops rest =
       let first : Numbered AttributeSpec = record { number = number; item = spec_of n } in
-      let found : step_in (numbered_in nodes number)
-      ≡ step_in (numbered_in nodes n.next) = ap step_in is.begins
-      ∙ stops_later first (numbered_in nodes n.next) stops in
+      let found : step_in (numbered_in nodes number) ≡ step_in (numbered_in nodes n.next) =
+      rw (is.begins, stops) refl in
       let parts = or_parts (does_lead (spec_of n)) (does_vary n.form && not (step_in (numbered_in nodes n.next) == 0))
       stops in
       let less = is.next in
       let w = rest.within in
       rw found (record {
-        within = omega (arith, less, w);
-        none =
-            λ e. ap (λ (list : List (Numbered AttributeSpec)). list_any does_lead (items_of list)) is.begins
+        within = omega arith;
+        none = λ e. (λ i. list_any does_lead (items_of (is.begins i)))
             ∙ none_both (does_lead (spec_of n)) (list_any does_lead (items_of (numbered_in nodes n.next))) parts.0
             (rest.none e);
-        no_lead = λ e. ap lead_in is.begins ∙ leads_later first (numbered_in nodes n.next) stops ∙ rest.no_lead e;
+        no_lead = λ e. rw (is.begins, stops) (rest.no_lead e);
         goes = λ other.
             let g = rest.goes other in
             record {
               before = first ∷ g.before;
-              goes = is.begins ∙ ap (λ (list : List (Numbered AttributeSpec)). first ∷ list) g.goes;
+              goes = is.begins ∙ (λ i. first ∷ g.goes i);
               none_leads =
                   none_both (does_lead (spec_of n)) (list_any does_lead (items_of g.before)) parts.0 g.none_leads;
               none_varies =
@@ -160,13 +99,8 @@ module _ (nodes : List Node) (known : AreKnown nodes) where
                   (never_varies (step_in (numbered_in nodes n.next)) (does_vary n.form) other parts.1) g.none_varies;
               skips = λ size.
                   let more = sum_by-cons (λ (s : AttributeSpec). known_size size s.form) (spec_of n) (items_of g.before)
-                  in
-                  let here = ap (skip_in size) is.begins ∙ skips_more size first (numbered_in nodes n.next) stops in
-                  omega (arith, here, g.skips size, more);
-              stops = g.stops;
-              leads =
-                  λ spec list begins. ap lead_in is.begins ∙ leads_later first (numbered_in nodes n.next) stops
-                  ∙ g.leads spec list begins;
+                  in rw (is.begins, stops) (omega (arith, g.skips size, more));
+              leads = λ spec list begins. rw (is.begins, stops) (g.leads spec list begins);
             };
       })
 
@@ -174,12 +108,12 @@ module _ (nodes : List Node) (known : AreKnown nodes) where
       → Walks nodes number (step_in (numbered_in nodes number))
   unfolding step_in lead_in
   walks_to bound zero le within = search (rules, chain_none)
-  walks_to zero (suc k) le within = absurd (omega (arith, le))
+  walks_to zero (suc k) le within = absurd (omega arith)
   walks_to (suc bound) (suc k) le within =
       let (n, is) = known_at nodes known (suc k) (omega arith) within in
       let less = is.next in
       walks_here (suc k) n (stops_at (step_in (numbered_in nodes n.next)) (spec_of n)) (omega arith) is refl
-      (walks_to bound n.next (omega (arith, less, le)) (omega (arith, less, within)))
+      (walks_to bound n.next (omega arith) (omega (arith, within)))
 
   module _ (number : ℕ) (within : number ≤ length nodes) (step : Step)
       (is : IsFirstStep (numbered_in nodes number) step)
@@ -188,7 +122,7 @@ module _ (nodes : List Node) (known : AreKnown nodes) where
       walks = subst (Walks nodes number) (sym is.to) (walks_to number number (omega arith) within)
 
       pub step_within : step.to ≤ length nodes
-      step_within = let w = walks.within in omega (arith, w, within)
+      step_within = omega (arith, walks.within)
 
       -- where no step is made, no value leads elsewhere
       pub step_none : step.to ≡ 0 → list_any does_lead (items_of (numbered_in nodes number)) ≡ false
@@ -203,7 +137,7 @@ module _ (nodes : List Node) (known : AreKnown nodes) where
 
       has_lead : (step.to ≡ 0 → ⊥) → HasLead
       has_lead some =
-          let (node, at) = known_at nodes known step.to (omega (arith, some)) step_within in
+          let (node, at) = known_at nodes known step.to (omega arith) step_within in
           record {
             spec = spec_of node;
             list = numbered_in nodes node.next;
@@ -218,7 +152,7 @@ module _ (nodes : List Node) (known : AreKnown nodes) where
           by_number : (n : ℕ) → step.to ≡ n → step.to ≡ 0
           by_number zero e = e
           by_number (suc n) e =
-              let h = has_lead (λ none. omega (arith, none, e)) in absurd (lead_says h.spec Nothing (h.leads ∙ nothing))
+              let h = has_lead (λ none. omega (arith, none)) in absurd (lead_says h.spec Nothing (h.leads ∙ nothing))
 
       -- and where it leads to something, one is
       pub step_lead : (step.lead ≡ Nothing → ⊥) → HasLead

@@ -13,13 +13,13 @@ pub push-requires-clause-rest : goal.push-requires-clause-rest
 push-requires-clause-rest c =
     let long = links_long c.args.codes.now.links.items c.args.labels.now.long c.args.kept.now.items
     c.requires.kept.coded in
-    omega (arith, c.requires.rest, long)
+    omega (arith, c.requires.rest)
 
 pub push-requires-clause-few : goal.push-requires-clause-few
 push-requires-clause-few c =
     let long = links_long c.args.codes.now.links.items c.args.labels.now.long c.args.kept.now.items
     c.requires.kept.coded in
-    omega (arith, c.requires.few, long)
+    omega (arith, c.requires.few)
 
 pub returns-in_default-clause-kept : goal.returns-in_default-clause-kept
 returns-in_default-clause-kept c =
@@ -47,7 +47,7 @@ returns-in_default-clause-added c =
     let twice = (rw c.in_default.is at c.in_ok-number.ensures.added).0 in
     let same = labelled_is links old new nodes kept c.args.rest c.args.decl.code c.enter.new.self.labels stay
     c.requires.kept.labelled c.requires.kept.coded c.in_ok-label.label c.in_ok-label.ensures.label in (
-      some_code nodes kept c.args.rest c.args.decl.code (omega (arith, twice, same)),
+      some_code nodes kept c.args.rest c.args.decl.code (omega arith),
       ap (tables_of nodes) c.reserve.ensures.items,
     )
 

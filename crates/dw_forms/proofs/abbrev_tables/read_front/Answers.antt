@@ -46,12 +46,12 @@ loop-decls-preserved c =
     let i = c.loop-decls.invariant in
     let next = rw c.in-Some.is at c.in-Ok.ensures.next in
     let none = c.if-rest-ne0.false in
-    let nothing = c.find-rest.ensures.none (omega (arith, none)) c.args.offset c.requires.known i.from in
+    let nothing = c.find-rest.ensures.none (omega arith) c.args.offset c.requires.known i.from in
     let before = decls_stay c.args.section.now _ _ c.in-Ok.ensures.more.stay c.loop-decls.decls.items c.args.offset
     c.loop-decls.end i.along in
     let from = i.from in
     record {
-      from = omega (arith, from, next.rises);
+      from = omega arith;
       within = next.fits;
       more = record { lists = c.in-Ok.ensures.more.lists; stay = stay_on _ _ _ i.more.stay c.in-Ok.ensures.more.stay };
       along =

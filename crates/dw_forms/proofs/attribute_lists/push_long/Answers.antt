@@ -49,6 +49,6 @@ returns-clause-more c n is =
     c.in_ok-push.ensures.items c.in_ok-places.ensures.more c.len-start.result start in
     joined_searched nodes n branches c.args.rest _ c.short_end-short.result c.len-start.result c.in-Some.places
     c.args.next.now c.args.attribute kept is refl first.0 first.1
-    (omega (arith, c.if-next-lt-SHORT.false, count)) joined
+    (omega (arith, c.if-next-lt-SHORT.false)) joined
     (rw (c.in-Some.is, sym start) at c.in_ok-places.ensures.below)
     (rw (c.in-Some.is, code, sym start, c.number_or-chain.ensures) at c.in_ok-places.ensures.branches)

@@ -24,7 +24,7 @@ loop-place-preserved g c =
     let n = c.loop-place.number in
     rw c.in_ok-push.ensures.items
     (appended c.args.branches.now.items c.loop-place.branches.items links c.args.rest c.args.code c.loop-place.place n
-    c.link-first.result c.loop-place.invariant (omega (arith, some)) c.link-first.ensures c.branch_at-other.result
+    c.link-first.result c.loop-place.invariant (omega arith) c.link-first.ensures c.branch_at-other.result
     c.branch_at-other.ensures.near (rw c.deref.ensures.value at c.branch_at-other.ensures.kept)
     c.branch_at-other.ensures.none c.loop-place-test.true
     c.same_bit-same.result c.number_or.result c.number_or-number.result c.same_bit-same.ensures c.number_or.ensures
@@ -44,8 +44,8 @@ unreachable-requires g c =
     let end = c.loop-place.auto.place-end in
     c.if-last-code.true
     (appended_same c.args.branches.now.items c.loop-place.branches.items links c.args.rest c.args.code
-    c.loop-place.place n c.link-last.result c.loop-place.invariant (omega (arith, other))
-    c.link-last.ensures (omega (arith, past, end))
+    c.loop-place.place n c.link-last.result c.loop-place.invariant (omega arith)
+    c.link-last.ensures (omega arith)
     (search rules) c.ranges.code.fits)
 
 pub returns-clause-twice : goal.returns-clause-twice
@@ -54,5 +54,5 @@ returns-clause-twice g c =
     let links = g.L.Links.links c.args.links.now in
     let n = c.loop-place.number in
     appended_twice c.args.branches.now.items c.loop-place.branches.items links c.args.rest c.args.code
-    c.loop-place.place n c.link-last.result c.loop-place.invariant (omega (arith, other))
+    c.loop-place.place n c.link-last.result c.loop-place.invariant (omega arith)
     c.link-last.ensures c.if-last-code.false

@@ -9,7 +9,7 @@ returns-then-differing-eq0 g c =
     let n = c.loop-number.number in
     let x = c.link-first.result in
     let test = c.loop-number-test.true in
-    search_ends c.args.branches.now links n x c.requires.found (omega (arith, test)) c.loop-number.invariant.within
+    search_ends c.args.branches.now links n x c.requires.found (omega arith) c.loop-number.invariant.within
     c.link-first.ensures c.args.code
     (same_codes x.code c.args.code (search rules) c.ranges.code.fits c.if-differing-eq0.true)
     ∙ c.loop-number.invariant.same
@@ -24,7 +24,7 @@ loop-number-smaller g c =
     let n = c.loop-number.number in
     let x = c.link-first.result in
     let test = c.loop-number-test.true in
-    (turn c.args.branches.now links n x c.requires.found (omega (arith, test)) c.loop-number.invariant.within
+    (turn c.args.branches.now links n x c.requires.found (omega arith) c.loop-number.invariant.within
     c.link-first.ensures c.args.code (search rules) c.ranges.code.fits c.if-differing-eq0.false
     c.branch_at-number.result c.branch_at-number.ensures.near c.branch_at-number.ensures.kept
     c.branch_at-number.ensures.none).0
@@ -36,11 +36,11 @@ loop-number-preserved g c =
     let x = c.link-first.result in
     let test = c.loop-number-test.true in
     let within : n ≤ length links = c.loop-number.invariant.within in
-    let on = turn c.args.branches.now links n x c.requires.found (omega (arith, test)) within c.link-first.ensures
+    let on = turn c.args.branches.now links n x c.requires.found (omega arith) within c.link-first.ensures
     c.args.code (search rules) c.ranges.code.fits c.if-differing-eq0.false c.branch_at-number.result
     c.branch_at-number.ensures.near c.branch_at-number.ensures.kept c.branch_at-number.ensures.none in
     let less = on.0 in
-    record { within = omega (arith, less, within); same = on.1 ∙ c.loop-number.invariant.same }
+    record { within = omega (arith, less); same = on.1 ∙ c.loop-number.invariant.same }
 
 pub returns : goal.returns
 returns g c =

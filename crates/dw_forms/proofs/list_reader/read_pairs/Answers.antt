@@ -16,21 +16,21 @@ loop-end-init c =
 pub overflow_sub-end : goal.overflow_sub-end
 overflow_sub-end c =
     let some = c.if-first-ne0.true in
-    let begins = c.find-first.ensures.begins (omega (arith, some)) in
+    let begins = c.find-first.ensures.begins (omega arith) in
     some_end c.args.section.now c.args.lists.now.nodes.items c.args.starts.now.starts.items c.args.ends.now
     c.loop-end.at c.find-first.result c.ends_up_to.result c.requires.placed begins c.ends_up_to.ensures
 
 pub returns-then-first-ne0-clause-leads : goal.returns-then-first-ne0-clause-leads
 returns-then-first-ne0-clause-leads c =
     let some = c.if-first-ne0.true in
-    let begins = c.find-first.ensures.begins (omega (arith, some)) in
+    let begins = c.find-first.ensures.begins (omega arith) in
     record {
       next = c.loop-end.at;
       along = c.loop-end.invariant.along;
       new = c.loop-end.invariant.new;
       list =
           kept_list c.args.section.now c.args.lists.now.nodes.items c.args.starts.now.starts.items c.args.ends.now
-          c.loop-end.at c.find-first.result c.ends_up_to.result c.requires.placed begins (omega (arith, some))
+          c.loop-end.at c.find-first.result c.ends_up_to.result c.requires.placed begins (omega arith)
           c.ends_up_to.ensures (record { before = 0; end = 0 });
     }
 
@@ -45,11 +45,11 @@ returns-in_default-clause-leads c = search (rules, end_list)
 pub loop-end-preserved : goal.loop-end-preserved
 loop-end-preserved c =
     let none = c.if-first-ne0.false in
-    let nothing = c.find-first.ensures.none (omega (arith, none)) c.args.offset c.requires.known
+    let nothing = c.find-first.ensures.none (omega arith) c.args.offset c.requires.known
     c.loop-end.invariant.from in
     let from = c.loop-end.invariant.from in
     record {
-      from = omega (arith, from, c.in-Ok.ensures.rises);
+      from = omega (arith, c.in-Ok.ensures.rises);
       new =
           rw c.in_ok-push.ensures.items (new_push c.args.starts.now.starts.items c.loop-end.pairs.items _
           c.loop-end.invariant.new nothing);

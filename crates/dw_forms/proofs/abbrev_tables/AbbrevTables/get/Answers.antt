@@ -30,8 +30,8 @@ returns-clause-decl c =
     let some = c.if-number-eq0.false in
     ap (λ (lists : AttributeLists). Some (kept_view lists.nodes.items c.new.result.kept.now)) c.new.ensures.lists
     ∙ ap (λ (k : KeptDecl). Some (kept_view nodes k)) c.new.ensures.kept
-    ∙ sym (decl_read nodes a.kept.items c.find-number.result c.index-kept.result.now (omega (arith, some))
-    (omega (arith, c.find-number.ensures, within)) c.index-kept.ensures)
+    ∙ sym (decl_read nodes a.kept.items c.find-number.result c.index-kept.result.now (omega arith)
+    (omega (arith, c.find-number.ensures)) c.index-kept.ensures)
     ∙ ap (decl_of nodes a.kept.items) (rw c.find-label.ensures at c.find-number.ensures)
     ∙ found_by a.codes.links.items a.labels.long nodes a.kept.items c.args.table c.args.code a.labels.labels
     c.requires.searchable.labelled c.requires.searchable.coded
@@ -42,7 +42,7 @@ new-requires c =
     let within = found_within a.codes.links.items a.labels.long a.kept.items c.args.table c.find-label.result
     c.requires.searchable.coded in
     let some = c.if-number-eq0.false in
-    let less : c.find-number.result - 1 < length a.kept.items = omega (arith, c.find-number.ensures, within, some) in
+    let less : c.find-number.result - 1 < length a.kept.items = omega (arith, c.find-number.ensures) in
     record {
       list =
           subst (λ (k : KeptDecl). HasList a.lists.lists.nodes.items k.first k.step k.bits k.declared k.whole)

@@ -49,4 +49,4 @@ loop-at-preserved c =
 pub overflow_cast-at : goal.overflow_cast-at
 overflow_cast-at c =
     let less = start_less c.pop.new.self.items c.in-Some.field-0 c.in-Some.ensures.items c.loop-at.invariant.leads in
-    omega (arith, less, c.requires.fits)
+    omega (arith, c.requires.fits)

@@ -11,7 +11,7 @@ returns-clause-tables c = λ section. record {
       rw (c.new.ensures.items, c.new-6.ensures)
       (record {
         long = sym (tables_long c.new-4.result.lists.nodes.items []);
-        each = λ k less. absurd (omega (arith, less));
+        each = λ k less. absurd (omega arith);
         apart = apart_none (length section);
       });
 }

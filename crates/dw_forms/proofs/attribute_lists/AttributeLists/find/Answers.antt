@@ -20,7 +20,7 @@ find_short-requires-clause-short c =
     let is = node_read a.nodes.items c.args.list n a.known (omega (arith, c.if-list-eq0.false)) c.requires
     c.index-node.ensures in
     let count = is.knows.count in
-    omega (arith, count, c.if-node-le-SHORT.true)
+    omega (arith, c.if-node-le-SHORT.true)
 
 pub search-found-requires-clause-chain : goal.search-found-requires-clause-chain
 search-found-requires-clause-chain c = omega (arith, c.requires, links_long c.args.self.now.nodes.items)

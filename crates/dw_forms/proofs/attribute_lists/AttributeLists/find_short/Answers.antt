@@ -18,7 +18,7 @@ returns-then-number-eq0 c =
 
 pub index-node-requires : goal.index-node-requires
 index-node-requires c =
-    let within = c.loop-turn.invariant.within in omega (arith, within, c.if-number-eq0.false)
+    let within = c.loop-turn.invariant.within in omega (arith, c.if-number-eq0.false)
 
 pub returns-then-eq : goal.returns-then-eq
 returns-then-eq c =
@@ -41,8 +41,8 @@ loop-turn-preserved c =
     c.index-node.ensures in
     let next = is.next in
     record {
-      within = omega (arith, next, within);
-      few = omega (arith, few, one_less a.nodes.items number n is c.args.attribute);
+      within = omega arith;
+      few = omega (arith, one_less a.nodes.items number n is c.args.attribute);
       same =
           found_later a.nodes.items number n is c.args.attribute
           (eqb-false n.attribute c.args.attribute (sym c.eq.ensures ∙ c.if-eq.false))
@@ -53,5 +53,5 @@ pub returns : goal.returns
 returns c =
     let a = c.args.self.now in
     let few = c.loop-turn.invariant.few in
-    none_left a.nodes.items c.loop-turn.number c.args.attribute (omega (arith, few, c.loop-turn-test.false))
+    none_left a.nodes.items c.loop-turn.number c.args.attribute (omega (arith, c.loop-turn-test.false))
     ∙ c.loop-turn.invariant.same

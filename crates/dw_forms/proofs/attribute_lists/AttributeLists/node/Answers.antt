@@ -10,18 +10,18 @@ returns-then-number-eq0-clause-knows c =
     rw (c.if-number-eq0.true, chain_none (specs_of c.args.self.now.nodes.items)) c.no_node.ensures
 
 pub returns-then-number-eq0-clause-short : goal.returns-then-number-eq0-clause-short
-returns-then-number-eq0-clause-short c long = let none = c.no_node.ensures.count in absurd (omega (arith, long, none))
+returns-then-number-eq0-clause-short c long = let none = c.no_node.ensures.count in absurd (omega arith)
 
 pub returns-clause-small : goal.returns-clause-small
 returns-clause-small c =
     let some = c.if-number-eq0.false in
     let is = node_read c.args.self.now.nodes.items c.args.number c.index.result.now c.args.self.now.known
-    (omega (arith, some)) c.requires c.index.ensures in
+    (omega arith) c.requires c.index.ensures in
     known_small (numbered_in c.args.self.now.nodes.items c.args.number) _ is.attributes is.knows.small
 
 pub returns-clause-short : goal.returns-clause-short
 returns-clause-short c =
     let some = c.if-number-eq0.false in
     let a = c.args.self.now in
-    rest_read a.branches.items a.nodes.items c.args.number c.index.result.now a.found (omega (arith, some)) c.requires
+    rest_read a.branches.items a.nodes.items c.args.number c.index.result.now a.found (omega arith) c.requires
     c.index.ensures

@@ -15,7 +15,7 @@ pub node_before-node-requires-clause-addresses : goal.node_before-node-requires-
 node_before-node-requires-clause-addresses c =
     let count = c.node-next.ensures.knows.count in
     let few = c.node-next.ensures.knows.addresses in
-    omega (arith, count, few)
+    omega arith
 
 pub invariant_of-self-2 : goal.invariant_of-self-2
 invariant_of-self-2 c =

@@ -21,7 +21,7 @@ step_before-requires-clause-few c =
     let few = is.after.few in
     let all = few_in (numbered_in a.nodes.items c.args.number) is.attributes in
     let more = one_less a.nodes.items c.args.number n is n.attribute in
-    omega (arith, few, all, more)
+    omega arith
 
 pub step_before-requires-clause-small : goal.step_before-requires-clause-small
 step_before-requires-clause-small c =
@@ -31,7 +31,7 @@ step_before-requires-clause-small c =
     c.index-node.ensures in
     let less = is.next in
     known_small (numbered_in a.nodes.items n.next) _
-    (attributes_in a.nodes.items n.next a.known (omega (arith, less, c.requires))) is.after.small
+    (attributes_in a.nodes.items n.next a.known (omega (arith, c.requires))) is.after.small
 
 pub returns : goal.returns
 returns c =

@@ -7,4 +7,4 @@ pub returns-in-Some : goal.returns-in-Some
 returns-in-Some c = lacks_is c.args.attribute (specs_in c.args.self.now) c.has.result c.has.ensures
 
 pub returns-in-None : goal.returns-in-None
-returns-in-None c = (λ _. rw c.in-None.ensures.none (λ k d less. absurd (omega (arith, less))), λ _. refl)
+returns-in-None c = (λ _. rw c.in-None.ensures.none (λ k d less. absurd (omega arith)), λ _. refl)

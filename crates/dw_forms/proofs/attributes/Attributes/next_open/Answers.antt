@@ -6,7 +6,7 @@ use Rattle.dw_forms.proofs.attributes.Attributes.next_open.Goals as goal
 pub new-requires : goal.new-requires
 new-requires c =
     let within = number_is_within is_open c.args.self.now in
-    omega (arith, within, c.in-Some.ensures.known.knows.next_open)
+    omega (arith, c.in-Some.ensures.known.knows.next_open)
 
 pub returns-in-Some : goal.returns-in-Some
 returns-in-Some c =

@@ -7,12 +7,12 @@ pub loop-at-init : goal.loop-at-init
 loop-at-init c = passes_first c.requires.ends.0 c.requires.ends.1 c.requires.size
 
 pub overflow_sub-at : goal.overflow_sub-at
-overflow_sub-at c = let some = some_left c.loop-at.invariant c.loop-at-test.true in omega (arith, some)
+overflow_sub-at c = let some = some_left c.loop-at.invariant c.loop-at-test.true in omega arith
 
 pub index-here-requires : goal.index-here-requires
 index-here-requires c =
     let within = c.loop-at.invariant.within in let some = some_left c.loop-at.invariant c.loop-at-test.true in
-    omega (arith, within, some)
+    omega arith
 
 pub known-requires-clause-within : goal.known-requires-clause-within
 known-requires-clause-within c = here_addresses c.loop-at.invariant c.loop-at-test.true c.index-here.ensures
@@ -20,7 +20,7 @@ known-requires-clause-within c = here_addresses c.loop-at.invariant c.loop-at-te
 pub overflow_sub-known : goal.overflow_sub-known
 overflow_sub-known c =
     let less = last_less c.loop-at.invariant c.loop-at-test.true c.index-here.ensures c.known-then-here-to.ensures in
-    omega (arith, less, c.known.ensures)
+    omega (arith, c.known.ensures)
 
 -- the values up to the end are cut off together
 pub returns-then-here-to : goal.returns-then-here-to
@@ -31,7 +31,7 @@ returns-then-here-to c before ends =
 pub index-varying-requires : goal.index-varying-requires
 index-varying-requires c =
     let within = next_number c.loop-at.invariant c.loop-at-test.true c.index-here.ensures in
-    omega (arith, within, c.if-here-to.false)
+    omega (arith, c.if-here-to.false)
 
 pub known-requires-in-loop-at-clause-within : goal.known-requires-in-loop-at-clause-within
 known-requires-in-loop-at-clause-within c = here_addresses c.loop-at.invariant c.loop-at-test.true c.index-here.ensures
@@ -46,8 +46,7 @@ pub overflow_sub-known-in-loop-at : goal.overflow_sub-known-in-loop-at
 overflow_sub-known-in-loop-at c =
     let t = next_turn c.loop-at.invariant c.loop-at-test.true c.index-here.ensures c.if-here-to.false
     c.index-varying.ensures in
-    let sum = t.sum in
-    omega (arith, sum, c.known-in-loop-at.ensures, c.known-in-loop-at-2.ensures)
+    omega (arith, c.known-in-loop-at.ensures, c.known-in-loop-at-2.ensures)
 
 pub returns-in_err-rest : goal.returns-in_err-rest
 returns-in_err-rest c before ends =
@@ -69,8 +68,7 @@ pub loop-at-smaller : goal.loop-at-smaller
 loop-at-smaller c =
     let t = next_turn c.loop-at.invariant c.loop-at-test.true c.index-here.ensures c.if-here-to.false
     c.index-varying.ensures in
-    let less = t.less in
-    omega (arith, less)
+    omega arith
 
 pub loop-at-preserved : goal.loop-at-preserved
 loop-at-preserved c =

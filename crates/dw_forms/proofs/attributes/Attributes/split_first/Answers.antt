@@ -7,7 +7,7 @@ pub new-requires : goal.new-requires
 new-requires c =
     let less = c.in-Some.ensures.known.next in
     let within = c.args.self.now.within in
-    omega (arith, less, within)
+    omega arith
 
 pub returns-in-Some : goal.returns-in-Some
 returns-in-Some c = search (rules, first_ends)

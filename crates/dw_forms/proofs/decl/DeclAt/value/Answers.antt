@@ -22,4 +22,4 @@ pub new-found-requires : goal.new-found-requires
 new-found-requires c =
     let within = number_is_within (has_this c.args.attribute) c.new-attributes.result in
     let list = rw (c.new-attributes.ensures.lists, c.new-attributes.ensures.first) at within in
-    omega (arith, list, c.place-place.ensures.list_is)
+    omega (arith, c.place-place.ensures.list_is)

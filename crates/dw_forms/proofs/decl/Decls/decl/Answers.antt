@@ -15,7 +15,7 @@ new-requires c =
     let a = c.args.self.now in
     let some = c.requires.some in
     let within = c.requires.within in
-    let less : c.args.number - 1 < length a.kept.items = omega (arith, some, within) in
+    let less : c.args.number - 1 < length a.kept.items = omega arith in
     record {
       list =
           subst (λ (k : KeptDecl). HasList a.lists.nodes.items k.first k.step k.bits k.declared k.whole)
