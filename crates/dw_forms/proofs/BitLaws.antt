@@ -38,8 +38,7 @@ agrees_at code place other e = eqb-true _ _ (and_parts (agrees code place other)
 
 agrees_below : (code place later other : ℕ) → place ≤ later → agrees code later other ≡ true
     → agrees code place other ≡ true
-agrees_below code place zero other less e =
-    let same : zero ≡ place = omega arith in sym (λ i. agrees code (same i) other) ∙ e
+agrees_below code place zero other less e = search rules
 agrees_below code place (suc later) other less e = elim (cases_eq place (suc later)) [
   | inl same ↦ (λ i. agrees code (same i) other) ∙ e
   | inr fewer ↦ agrees_below code place later other (omega arith) (agrees_less code later other e)
@@ -71,8 +70,7 @@ agrees_as code (suc place) first other e =
 -- also at the place, where both have the same bit
 pub parts_as : (code place first other : ℕ) → agrees code place first ≡ true → same_bit code place first ≡ true
     → parts first place other ≡ parts code place other
-parts_as code place first other e same =
-    rw (agrees_as code place first other e, eqb-true (bit_at code place) (bit_at first place) same) refl
+parts_as code place first other e same = search (rules, agrees_as, eqb-true)
 
 other_bit : (a b c : ℕ) → a < 2 → b < 2 → c < 2 → (a == b) ≡ false → not (b == c) ≡ (a == c)
 other_bit a b c la lb lc apart = search (rules, cases_eq, differ, eqb-false, eq_true)
@@ -95,14 +93,11 @@ parts_on code place other e apart = rw (e, apart) refl
 -- a code that first differs at a later place agrees below this one
 pub parts_later : (code place later other : ℕ) → place ≤ later → parts code later other ≡ true
     → agrees code place other ≡ true
-parts_later code place later other less e =
-    agrees_below code place later other less
-    (and_parts (agrees code later other) (not (same_bit code later other)) e).0
+parts_later code place later other less e = search (rules, agrees_below, and_parts)
 
 -- the code itself differs nowhere
 pub parts_self : (code place : ℕ) → parts code place code ≡ false
-parts_self code place =
-    rw (agrees_same code place code refl, eq_true (bit_at code place) (bit_at code place) refl) refl
+parts_self code place = search (rules, agrees_same, eq_true)
 
 -- ---- the lowest place at which two codes differ
 

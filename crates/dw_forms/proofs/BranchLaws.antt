@@ -89,9 +89,7 @@ module _ (old branches : List ℕ) (links : List Link) (rest code place number :
   -- what is searched for in the chain from the link on
   from_there : (p : ℕ → Bool) → ((c : ℕ) → p c ≡ true → agrees code place c ≡ true)
       → number_where p (codes_in links number) ≡ number_where p (codes_in links rest)
-  from_there p narrower =
-      (λ i. number_where p (codes_in links (are.first i)))
-      ∙ sym (narrowed p (agrees code place) narrower (codes_of links) rest)
+  from_there p narrower = search (rules, narrowed)
 
   from_parts : number_where (parts code place) (codes_in links number)
       ≡ number_where (parts code place) (codes_in links rest)
@@ -120,7 +118,7 @@ module _ (old branches : List ℕ) (links : List Link) (rest code place number :
       (kept_is : x.run ≤ 2 ^ place → place < x.places → here ≡ get_or branches (x.branches + place) 0)
       (none_is : x.run ≤ 2 ^ place → x.places ≤ place → here ≡ 0) (fits : place < 64) where
     here_is : here ≡ number_where (parts x.code place) (codes_in links number)
-    here_is = branch_is branches links number x are.found some are.within read place here near_is kept_is none_is fits
+    here_is = search (rules, branch_is)
 
     here_within : here ≤ length links
     here_within = search (rules, branch_below)

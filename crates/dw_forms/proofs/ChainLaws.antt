@@ -125,8 +125,7 @@ pub where_alike : {X : Type 0} → (items : List (X × ℕ)) (p q : X → Bool)
     → AreNumbered items chain → number_where p chain ≡ number_where q chain
 unfolding number_where
 where_alike items p q same [] are = refl
-where_alike items p q same (n ∷ chain) are =
-    same_here n.number _ _ (p n.item) (q n.item) (same n.number n.item are.0) (where_alike items p q same chain are.1)
+where_alike items p q same (n ∷ chain) are = search (rules, same_here, same, (where_alike items p q same chain are.1))
 
 -- the first item passes the test, or is passed over
 pub where_first : {X : Type 0} → (p : X → Bool) (n : Numbered X) (chain : List (Numbered X)) → p n.item ≡ true
@@ -152,8 +151,7 @@ pub where_passes : {X : Type 0} → (items : List (X × ℕ)) (p : X → Bool) (
     → (d : X) × (item_of items (number_where p chain) ≡ Some d) × (p d ≡ true)
 unfolding number_where
 where_passes items p [] are some = absurd (omega arith)
-where_passes items p (n ∷ chain) are some =
-    passes_here items n (number_where p chain) p (p n.item) refl are.0 (where_passes items p chain are.1) some
+where_passes items p (n ∷ chain) are some = search (rules, passes_here, (where_passes items p chain are.1))
 
 -- the item that passes the narrower test is in the chain that begins with the one that passes the wider test
 module _ {X : Type 0} (p q : X → Bool) (narrower : (c : X) → p c ≡ true → q c ≡ true) where
@@ -288,6 +286,4 @@ pub some_has : {X : Type 0} → (test : X → Bool) (chain : List (Numbered X)) 
     → list_any test (items_of chain) ≡ true
 unfolding number_where
 some_has test [] some = absurd (some refl)
-some_has test (n ∷ chain) some =
-    some_here n.number (number_where test chain) (list_any test (items_of chain)) (test n.item) (some_has test chain)
-    some
+some_has test (n ∷ chain) some = search (rules, some_here, (some_has test chain))

@@ -77,8 +77,7 @@ module _ (branches : List ℕ) (links : List Link) (k : Link) (are : AreFound br
       (is : AreBranches branches k.branches k.places k.code (codes_in links k.rest)) where
     later : (place : ℕ) → number_where (parts k.code place) (own (suc (length links)) k ∷ codes_in links k.rest)
         ≡ number_where (parts k.code place) (codes_in links k.rest)
-    later place =
-        where_later (parts k.code place) (own (suc (length links)) k) (codes_in links k.rest) (parts_self k.code place)
+    later place = search (rules, where_later, own, parts_self)
 
     new_found : IsFoundBy branches (links ++ k ∷ []) (suc (length links)) k
     new_found = search (rules, new_codes, where_first, own, run_more, later)

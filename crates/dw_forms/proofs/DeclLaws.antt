@@ -56,8 +56,7 @@ pair_good text p s =
     code16_pair a c e = search (rules, or_parts, eqb-false, ltb-false)
 
 pub attribute_good : (text : List ℕ) (s : AttributeSpec) → SpellsElement specifications text s → IsCode16 s.attribute
-attribute_good text s h =
-    subst IsCode16 (sym (specifications.named h.begins h.others s h.is_rest)) (pair_good h.first h.begins h.is_first)
+attribute_good text s h = search (rules, pair_good)
 
 -- each element of a list is good, if what is spelled is
 each_good : {X : Type 0} (Spells : List ℕ → X → Type 0) (End : List ℕ → Type 0) (Good : X → Type 0)
@@ -88,8 +87,7 @@ decl_good : (text : List ℕ) (d : Declaration) → SpellsElement declarations t
 decl_good text d s = search (rules, code_good, tag_good, attributes_good)
 
 pub decls_good : (text : List ℕ) (ds : List Declaration) → Decls text ds → AreDeclarations ds
-decls_good text ds s =
-    record { each = each_good _ _ IsDeclaration decl_good ds text s.spelled; distinct = s.distinct }
+decls_good text ds s = search (rules, each_good, decl_good)
 
 -- ---- the bytes after a code, and after a tag and the byte of the children
 

@@ -39,8 +39,7 @@ pub tables_more : (nodes : List Node) (kept : List KeptDecl) (k : KeptDecl)
     → tables_of nodes (kept ++ k ∷ [])
     ≡ tables_of nodes kept ++ (record { number = length (tables_of nodes kept); item = kept_view nodes k }
     ∷ chain_in (tables_of nodes kept) k.rest) ∷ []
-tables_more nodes kept k =
-    ap chains_of (map-append (part nodes) kept (k ∷ [])) ∙ chains_more (decls_of nodes kept) (part nodes k)
+tables_more nodes kept k = search (rules, map-append, part, chains_more)
 
 -- more attributes change no table
 pub view_stays : (old new : List Node) (k : KeptDecl) → Stay old new → k.first ≤ length old
@@ -59,8 +58,7 @@ views_same nodes more (k ∷ kept) within =
 
 pub tables_same : (old new : List Node) (kept : List KeptDecl) → Stay old new → AreWithin old kept
     → tables_of new kept ≡ tables_of old kept
-tables_same old new kept stay within =
-    (λ i. tables_of (stay.1 i) kept) ∙ ap chains_of (views_same old stay.0 kept within)
+tables_same old new kept stay within = search (rules, views_same)
 
 pub has_stays : (old new : List Node) (first : ℕ) (step : Step) (bits : ℕ) (declared : Option Bool)
     (whole : Option ℕ) → Stay old new → HasList old first step bits declared whole
@@ -109,8 +107,7 @@ code_is links long nodes kept table code labels has are =
 
 pub links_long : (links : List Link) (long : BTreeMap ℕ ℕ) (kept : List KeptDecl) → HaveDeclCodes links long kept
     → length links ≡ length kept
-links_long links long kept are =
-    sym (codes_long links) ∙ ap length are ∙ length-map {B = ℕ × ℕ} kept (λ (k : KeptDecl). (label long k.code, k.rest))
+links_long links long kept are = search (rules, codes_long, length-map)
 
 -- codes with new labels change no others
 pub coded_stay : (links : List Link) (old new : BTreeMap ℕ ℕ) (kept : List KeptDecl) → LabelsStay old new
@@ -169,9 +166,7 @@ none_code nodes kept table code none = search (rules, none_has, own_numbers)
 pub some_code : (nodes : List Node) (kept : List KeptDecl) (table code : ℕ)
     → 0 < decl_number_in (chain_in (tables_of nodes kept) table) code
     → has_code code (table_in (tables_of nodes kept) table) ≡ true
-some_code nodes kept table code some =
-    some_has (λ (d : Declaration). d.code == code) (chain_in (tables_of nodes kept) table)
-    (λ none. omega arith)
+some_code nodes kept table code some = search (rules, some_has)
 
 -- the declaration that is found by its code
 pub found_by : (links : List Link) (long : BTreeMap ℕ ℕ) (nodes : List Node) (kept : List KeptDecl) (table code : ℕ)

@@ -61,9 +61,7 @@ module _ (all : Attributes) (code : ℕ) where
 
     pub are_together : (n : Node) (at : ℕ) → IsKnown (nodes_of all) all.first n → n.next_varying ≤ found.first
         → at ≡ known_with 8 n - known_sum 8 (specs_in found) → AreTogether (numbered all) code at
-    are_together n at is less sum =
-        let first = from.first in
-        record { sized = sized_here n is (omega arith); sum_is = omega (arith, sum_here n is) }
+    are_together n at is less sum = search (rules, sized_here, sum_here)
 
     -- so the values before it are cut off together
     pub cut_here : (at : ℕ) → AreTogether (numbered all) code at

@@ -51,10 +51,10 @@ other_says form code false = refl
 -- by the form
 by_form : (form : Form) (spec : AttributeSpec) → Says (lead_by form spec) form spec.attribute (does_lead spec)
 by_form Ref4 spec = reference_says spec.attribute (does_lead spec) _ _ _ _ _ refl refl refl refl refl
-by_form Strp spec = value_says lead.Text Strp spec.attribute (does_lead spec) _ refl (λ other. (refl, other))
-by_form Strx1 spec = value_says lead.Index1 Strx1 spec.attribute (does_lead spec) _ refl (λ other. (refl, other))
-by_form Strx2 spec = value_says lead.Index2 Strx2 spec.attribute (does_lead spec) _ refl (λ other. (refl, other))
-by_form Addrx spec = value_says lead.Address Addrx spec.attribute (does_lead spec) _ refl (λ other. (refl, other))
+by_form Strp spec = search (rules, value_says)
+by_form Strx1 spec = search (rules, value_says)
+by_form Strx2 spec = search (rules, value_says)
+by_form Addrx spec = search (rules, value_says)
 by_form form spec = other_says form spec.attribute (does_lead spec)
 
 -- what the lead of an attribute says of it is so

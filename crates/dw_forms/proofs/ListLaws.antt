@@ -1,5 +1,5 @@
 -- Bytes from an offset of a section on.
-use Rattle.std.proofs.Common.{◌≡◌, ℕ, ◌-◌, List, ◌++◌, length, take, drop, sym, ap, ◌∙◌, append_assoc, arith}
+use Rattle.std.proofs.Common.{rules, ◌≡◌, ℕ, ◌-◌, List, ◌++◌, length, take, drop, sym, ap, ◌∙◌, append_assoc, arith}
 use Rattle.std.proofs.lemmas.List.{length-append, length-drop, take-append-drop, take_all, drop_at}
 
 -- bytes at the end of those from an offset on are an end of the section
@@ -17,5 +17,4 @@ rest_of section offset text rest parts =
 -- the bytes from an offset on
 pub bytes_from : (section : List ℕ) (offset : ℕ)
     → take (length section - offset) (drop offset section) ≡ drop offset section
-bytes_from section offset =
-    take_all (length section - offset) (drop offset section) (omega (arith, length-drop offset section))
+bytes_from section offset = search (rules, take_all, length-drop)

@@ -163,8 +163,7 @@ module _ {section : List ℕ} {old : List Node} {starts : List ℕ} {offset firs
 -- what is left after a pair is an end of the section
 pub pair_rest : (section : List ℕ) (offset : ℕ) (o : Option AttributeSpec) (after : List ℕ)
     → pair_at [] (drop offset section) ≡ Ok (o, after) → after ≡ drop (length section - length after) section
-pair_rest section offset o after e =
-    let t = taken reads_attributes (drop offset section) o after e in rest_of section offset t.text after t.parts
+pair_rest section offset o after e = search (rules, taken, reads_attributes, rest_of)
 
 -- at the pair 0, 0 begins the list without attributes
 pub end_list : (section : List ℕ) (nodes : List Node) (at after : ℕ)
@@ -176,8 +175,7 @@ end_list section nodes at after e rises fits = search (rules, (list_end pair_at 
 pub pairs_break : (section : List ℕ) (pairs : List (Placed AttributeSpec)) (offset at : ℕ)
     → AreAlong (IsPairAt section) pairs offset at → (fault : DeclFault) → pair_at [] (drop at section) ≡ Err fault
     → NoListAt section offset
-pairs_break section pairs offset at after fault e =
-    none_along section pairs offset at after (none_broken pair_at _ (drop at section) fault e)
+pairs_break section pairs offset at after fault e = search (rules, none_along, none_broken)
 
 -- a list that is kept has an end
 pub some_end : (section : List ℕ) (nodes : List Node) (starts : List ℕ) (ends : List SharedEnd)

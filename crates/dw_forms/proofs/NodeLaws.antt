@@ -22,8 +22,7 @@ attribute_in nodes number code = number_where (has_this code) (numbered_in nodes
 
 lacks : (nodes : List Node) (number code : ℕ) → attribute_in nodes number code ≡ 0
     → has_attribute code (list_in nodes number) ≡ false
-lacks nodes number code none =
-    none_has (has_this code) (specs_of nodes) (numbered_in nodes number) (are_numbered (specs_of nodes) number) none
+lacks nodes number code none = search (rules, none_has, are_numbered)
 
 pub has : (nodes : List Node) (number code : ℕ) → (attribute_in nodes number code ≡ 0 → ⊥)
     → has_attribute code (list_in nodes number) ≡ true

@@ -43,8 +43,7 @@ and_false false all result next e failed is = is ∙ failed
 -- ---- there are few attributes, and the sums are small
 
 pub few_in : (list : List (Numbered AttributeSpec)) → AreAttributeSpecs (items_of list) → length list ≤ 0xffff
-few_in list are =
-    omega (arith, few_specs (items_of list) are, length-map list (λ (n : Numbered AttributeSpec). n.item))
+few_in list are = search (rules, few_specs, length-map)
 
 pub known_small : (list : List (Numbered AttributeSpec)) (known : ℕ) → AreAttributeSpecs (items_of list)
     → known ≤ 0xff * length list → known ≤ 0xffffff

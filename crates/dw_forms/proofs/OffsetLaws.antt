@@ -16,8 +16,7 @@ use Rattle.dw_forms.proofs.BitLaws.{differ}
 -- what begins at an offset is one of those that are kept
 pub begins_within : (starts : List ℕ) (number offset : ℕ) → BeginsAt starts number offset
     → (number - 1 < length starts) × (get_or starts (number - 1) 0 ≡ offset)
-begins_within starts number offset e =
-    (slice_get_within starts (number - 1) offset e, get_or_from_slice_get starts (number - 1) offset 0 e)
+begins_within starts number offset e = search (rules, slice_get_within, get_or_from_slice_get)
 
 -- ---- nothing begins at an offset
 
@@ -66,8 +65,7 @@ module _ {T : Type 0} (Is : ℕ → T → ℕ → Type 0) where
 
   pub along_pop : (xs : List (Placed T)) (offset end : ℕ) (x : Placed T) → AreAlong Is (xs ++ x ∷ []) offset end
       → AreAlong Is xs offset x.at × Is x.at x.item end
-  along_pop [] offset end x a =
-      (sym a.0, subst (λ (n : ℕ). Is n x.item end) (sym a.0) (subst (λ (n : ℕ). Is offset x.item n) a.3 a.2))
+  along_pop [] offset end x a = search rules
   along_pop (y ∷ xs) offset end x a = let r = along_pop xs a.1 end x a.3 in ((a.0, a.1, a.2, r.0), r.1)
 
   -- what passes from the end of each to its offset passes from the end of all
@@ -79,8 +77,7 @@ module _ {T : Type 0} (Is : ℕ → T → ℕ → Type 0) where
   module _ (rises : (offset next : ℕ) (x : T) → Is offset x next → offset < next) where
     along_on : (xs : List (Placed T)) (offset end : ℕ) → AreAlong Is xs offset end → offset ≤ end
     along_on [] offset end here = omega arith
-    along_on (x ∷ xs) offset end a =
-        let less = rises offset a.1 x.item a.2 in let on = along_on xs a.1 end a.3 in omega arith
+    along_on (x ∷ xs) offset end a = search (rules, (along_on xs a.1 end a.3))
 
     -- things before an offset are new when one is kept that begins there
     pub new_stay : (starts : List ℕ) (xs : List (Placed T)) (offset end : ℕ) → AreAlong Is xs offset end
@@ -117,5 +114,4 @@ pub stay_same : {X : Type 0} (xs : List X) → Stay xs xs
 stay_same xs = ([], sym (append-nil xs))
 
 pub stay_on : {X : Type 0} (old middle new : List X) → Stay old middle → Stay middle new → Stay old new
-stay_on {X} old middle new first second =
-    (first.0 ++ second.0, second.1 ∙ (λ i. first.1 i ++ second.0) ∙ append_assoc old first.0 second.0)
+stay_on {X} old middle new first second = search (rules, append_assoc)

@@ -82,13 +82,10 @@ module _ (bits mask code : ℕ) (is : mask ≡ 2 ^ bit_of code) where
   masked = ap (bit_and bits) is ∙ and_pow bits (bit_of code)
 
   pub zero_bit : bit_and bits mask ≡ 0 → bit_at bits (bit_of code) ≡ 0
-  zero_bit none =
-      no_product (bit_at bits (bit_of code)) (2 ^ bit_of code) (pow_pos (bit_of code)) (sym masked ∙ none)
+  zero_bit none = search (rules, no_product, pow_pos, masked)
 
   pub set_bit : bit_and bits mask ≢ 0 → bit_at bits (bit_of code) ≡ 1
-  set_bit some =
-      one_of (bit_at bits (bit_of code)) (2 ^ bit_of code) (bit_at-lt bits (bit_of code))
-      (λ none. some (masked ∙ none))
+  set_bit some = search (rules, one_of, bit_at-lt, masked)
 
 module _ (bits mask code : ℕ) (specs : List AttributeSpec) (are : AreBitsOf specs bits) (is : mask ≡ 2 ^ bit_of code)
   where

@@ -174,8 +174,7 @@ pub part_at : (to : ℕ) (z : Numbered AttributeSpec) (zs front before list : Li
     → IsPart z zs front before list
 part_at to z zs [] [] list falls starts less e =
     absurd (let same : z.number ≡ to = subst (StartsAt to) e starts in omega arith)
-part_at to z zs (x ∷ front) [] list falls starts less e =
-    absurd (let le = member_below to (x ∷ front) z zs (subst (Falls to) e falls) in omega arith)
+part_at to z zs (x ∷ front) [] list falls starts less e = search (rules, member_below, falls)
 part_at to z zs [] (y ∷ before) list falls starts less e = search (rules, first_is)
 part_at to z zs (x ∷ front) (y ∷ before) list falls starts less e =
     let same = first_is y x (before ++ list) (front ++ z ∷ zs) e in

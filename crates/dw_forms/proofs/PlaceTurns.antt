@@ -1,6 +1,6 @@
 -- The places of attributes that have bits of their own, in the order of the bits.
 use Rattle.std.proofs.Common.{rules, ◌≡◌, ◌≢◌, ℕ, zero, suc, ◌+◌, ◌%◌, ◌^◌, ◌<◌, List, [], ◌∷◌, ◌++◌, length, refl, sym, ap, subst, ◌∙◌, inl, inr, arith}
-use Rattle.std.specs.Prelude.{get_or, bit_and, count_ones}
+use Rattle.std.specs.Prelude.{bit_and, count_ones}
 use Rattle.std.specs.Int.{bit_at}
 use Rattle.std.proofs.lemmas.Bool.{cases_eq}
 use Rattle.std.proofs.lemmas.List.{length-append, get_or_append_left, get_or_at}
@@ -13,7 +13,6 @@ use Rattle.dw_forms.specs.declared.attribute_lists.Node.{Node}
 use Rattle.dw_forms.specs.declared.decl.KeptDecl.{KeptDecl}
 use Rattle.dw_forms.specs.declared.known_places.KnownPlace.{KnownPlace}
 use Rattle.dw_forms.specs.AttributeBits.{bit_of, own_bits}
-use Rattle.dw_forms.specs.AttributeLists.{numbered_in}
 use Rattle.dw_forms.specs.Chains.{Numbered}
 use Rattle.dw_forms.specs.DeclaredLists.{IsPlaced, HavePlacesBelow}
 use Rattle.dw_forms.specs.KeptDecls.{AreWithin, HaveAllPlaces}
@@ -105,9 +104,7 @@ module _ (list : List (Numbered AttributeSpec)) (bits : ℕ) (old : List KnownPl
 
 pub all_places_stay : (nodes : List Node) (kept : List KeptDecl) (old new : List KnownPlace) → Stay old new
     → HaveAllPlaces nodes old kept → HaveAllPlaces nodes new kept
-all_places_stay nodes kept old new stay have k d less =
-    let x = get_or kept k d in
-    places_stay (numbered_in nodes x.first) own_bits x.bits x.first_place old new stay (have k d less)
+all_places_stay nodes kept old new stay have k d less = search (rules, places_stay, stay)
 
 pub all_lists_stay : (old new : List Node) (kept : List KeptDecl) (places : List KnownPlace) → Stay old new
     → AreWithin old kept → HaveAllPlaces old places kept → HaveAllPlaces new places kept

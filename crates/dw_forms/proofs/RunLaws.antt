@@ -29,8 +29,7 @@ half_more place code = omega (arith, pow-suc 2 place)
 
 same_below : (place code i : ℕ) → i < place → bit_at code i ≡ bit_at (code + 2 ^ place) i
 same_below zero code i less = absurd (omega arith)
-same_below (suc place) code zero less =
-    omega (arith, bit_at_lowest code, bit_at_lowest (code + 2 ^ suc place), pow-suc 2 place)
+same_below (suc place) code zero less = search (rules, bit_at_lowest, pow-suc)
 same_below (suc place) code (suc i) less =
     search (rules, bit_at-suc, half_more, (same_below place (code / 2) i (omega arith)))
 
@@ -45,8 +44,7 @@ parts_there : (code place : ℕ) → parts code place (code + 2 ^ place) ≡ tru
 parts_there code place = search (rules, parts_on, agrees_from, same_below, differ, other_there)
 
 none_before : (code place far : ℕ) → far < 2 ^ place → parts code place (code + far) ≡ false
-none_before code place zero less =
-    let none : code + 0 ≡ code = omega arith in ap (parts code place) none ∙ parts_self code place
+none_before code place zero less = search (rules, parts_self)
 none_before code place (suc far) less = by_bits (agrees code place (code + suc far)) refl
   where
     by_bits : (b : Bool) → agrees code place (code + suc far) ≡ b → parts code place (code + suc far) ≡ false
@@ -61,8 +59,7 @@ pub run_where : (test : ℕ → Bool) (run code number far : ℕ) (more : List (
     → number_where test (run_from run code number ++ more) ≡ number - far
 unfolding number_where
 run_where test zero code number far more less passes none = absurd (omega arith)
-run_where test (suc run) code number zero more less passes none =
-    let same : code + 0 ≡ code = omega arith in rw (sym (ap test same) ∙ passes) (omega arith)
+run_where test (suc run) code number zero more less passes none = search rules
 run_where test (suc run) code number (suc far) more less passes none =
     let same : code + 0 ≡ code = omega arith in
     let on : (i : ℕ) → code + suc i ≡ suc code + i = λ i. omega arith in

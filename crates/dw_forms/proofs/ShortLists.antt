@@ -96,8 +96,7 @@ module _ (nodes : List Node) (number chain short : ℕ) (is : IsJoined nodes num
   -- a code that is found in the chain is in the list
   pub lacks_none : has_attribute code (list_in nodes number) ≡ false
       → number_in (codes_in (links_of nodes) chain) code ≢ 0 → ⊥
-  lacks_none lacks some =
-      let no : true ≡ false = sym (has nodes number code (λ e. some (in_chain some ∙ e))) ∙ lacks in absurd cc
+  lacks_none lacks some = search (rules, has, in_chain)
 
 -- ---- a list that begins with the chain of this number, or is short
 

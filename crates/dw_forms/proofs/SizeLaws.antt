@@ -1,6 +1,6 @@
 -- A value of a form with one size is skipped by that size, and the values of a declaration by the sum of theirs.
-use Rattle.std.proofs.Common.{arith, ◌≡◌, ℕ, ◌+◌, ◌<◌, ◌≤◌, Bool, true, false, cond, List, [], ◌∷◌, length, drop, Option, Some, None}
-use Rattle.std.proofs.Common.{Ok, Err, refl, sym, subst, ◌∙◌, inl, inr, arith}
+use Rattle.std.proofs.Common.{rules, arith, ◌≡◌, ℕ, ◌+◌, ◌<◌, ◌≤◌, Bool, true, false, cond, List, [], ◌∷◌, length, drop, Option, Some, None}
+use Rattle.std.proofs.Common.{Ok, Err, refl, sym, subst, ◌∙◌, arith}
 use Rattle.std.proofs.lemmas.Bool.{lt-ltb, le-ltb, cases_lt}
 use Rattle.std.proofs.lemmas.List.{drop-drop, length-drop}
 use Rattle.dw_forms.specs.declared.form.Form.{Form}
@@ -36,10 +36,8 @@ cut_long len bytes le = rw (le-ltb _ _ le) refl
 layout_cut : (layout : Layout) (n : ℕ) (bytes : List ℕ) → size_of layout ≡ Some n
     → (layout_at layout bytes >>= λ x. Ok x.1) ≡ rest_beyond n bytes
 unfolding laid_out taken_at
-layout_cut (fixed size of) n bytes e = rw (← some_is e) (elim (cases_lt (length bytes) size)
-    [ inl lt ↦ rw (lt-ltb _ _ lt) refl | inr le ↦ rw (le-ltb _ _ le) refl ])
-layout_cut (exactly size of) n bytes e = rw (← some_is e) (elim (cases_lt (length bytes) size)
-    [ inl lt ↦ rw (lt-ltb _ _ lt) refl | inr le ↦ rw (le-ltb _ _ le) refl ])
+layout_cut (fixed size of) n bytes e = search (rules, some_is, cases_lt, lt-ltb, le-ltb)
+layout_cut (exactly size of) n bytes e = search (rules, some_is, cases_lt, lt-ltb, le-ltb)
 layout_cut (nothing datum) n bytes e = rw (← some_is e) (sym (cut_long 0 bytes (omega arith)))
 layout_cut _ n bytes e = absurd (never_none e)
 

@@ -22,8 +22,7 @@ use Rattle.dw_forms.proofs.TailLaws.{table_more, twice_none, none_along, table_a
 
 pub table_stays : (old new : Tables) (number : ℕ) → Stay old new → number < length old
     → chain_in new number ≡ chain_in old number
-table_stays old new number stay within =
-    (λ i. chain_in (stay.1 i) number) ∙ get_or_append_left old stay.0 [] number within
+table_stays old new number stay within = search (rules, get_or_append_left)
 
 pub is_table_stays : (section : List ℕ) (old new : Tables) (offset number : ℕ) → Stay old new
     → IsTableIn section old offset number → IsTableIn section new offset number

@@ -91,7 +91,7 @@ none_number test = refl
 
 pub none_from : (test : AttributeSpec → Bool) (all : Attributes) → all.first ≡ 0 → numbered all ≡ []
     → IsFrom test all all
-none_from test all none is = record { nodes = refl; first = none ∙ sym (ap (number_where test) is ∙ none_number test) }
+none_from test all none is = search (rules, none, none_number)
 
 -- the one of a code
 pub found_within : (all : Attributes) (code found : ℕ) → found ≡ number_where (has_this code) (numbered all)
@@ -122,7 +122,7 @@ whole_cut version size list bytes is = by_kind (list_any varies (items_of list))
     by_kind : (b : Bool) → list_any varies (items_of list) ≡ b
         → values_end version 8 (items_of list) bytes ≡ rest_beyond size bytes
     by_kind true e = absurd (other (is ∙ rw e refl))
-    by_kind false e = run version 8 list bytes e ∙ (λ i. rest_beyond ((sym (same (is ∙ rw e refl))) i) bytes)
+    by_kind false e = search (rules, run, same)
 
 -- where there are none from it on, none has the code
 pub none_has_it : (code : ℕ) (all found : Attributes) → IsFrom (has_this code) all found → specs_in found ≡ []
@@ -204,9 +204,7 @@ module _ (version size code : ℕ) (all found : Attributes) (is : IsFrom (has_th
           → value_behind version size spec.form (values_end version size (items_of before_it.before) bytes)
           ≡ (r >>= λ v. Ok v.0)
       unfolding before_found
-      value_here r e =
-          ap (value_behind version size spec.form) passed
-          ∙ (λ i. (e i) >>= λ v. Ok v.0)
+      value_here r e = search rules
 
       pub it_fails : (f : ValueFault) → value_at version spec.form size mid ≡ Err f
           → ReadsFirst version size (specs_in all) code bytes (Err f)

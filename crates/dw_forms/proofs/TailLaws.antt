@@ -1,5 +1,5 @@
 -- A declaration and the table after it: they are a table where no code occurs twice, and no other table begins there.
-use Rattle.std.proofs.Common.{◌≡◌, ◌≤◌, ℕ, ◌-◌, ◌<◌, List, [], ◌∷◌, length, take, drop, Option, Some, None, Ok, Err, refl, sym, ◌∙◌, arith}
+use Rattle.std.proofs.Common.{rules, ◌≡◌, ◌≤◌, ℕ, ◌-◌, ◌<◌, List, [], ◌∷◌, length, take, drop, Option, Some, None, Ok, Err, refl, sym, ◌∙◌, arith}
 use Rattle.std.proofs.lemmas.List.{length-take, length-drop}
 use Rattle.dw_forms.specs.declared.fault.DeclFault.{DeclFault}
 use Rattle.dw_forms.specs.declared.decl.KeptDecl.{KeptDecl}
@@ -30,8 +30,7 @@ module _ (section : List ℕ) where
   no_list offset none ds rest is = none ds (rw is refl)
 
   no_table : (offset : ℕ) → NoList (reads_decls (length section)) (drop offset section) → NoTable section offset
-  no_table offset none ds is =
-      let r = table_result section offset (decls_at (length section) (drop offset section)) ds is in none ds r.0 r.1
+  no_table offset none ds is = search (rules, table_result)
 
   next_is : (offset : ℕ) (o : Option Declaration) (after : List ℕ) → decl_at [] (drop offset section) ≡ Ok (o, after)
       → placed_decl_at (length section) [] (drop offset section) ≡ Ok (o, after)
@@ -106,8 +105,7 @@ module _ (section : List ℕ) where
 
 pub table_allowed : (section : List ℕ) (offset : ℕ) (ds : List Declaration) → table_at section offset ≡ Ok ds
     → AreDeclarations ds
-table_allowed section offset ds is = let (len, b) = table_found section offset ds is in
-    decls_good (take len (drop offset section)) ds b.spelled
+table_allowed section offset ds is = search (rules, table_found, decls_good)
 
 -- the end has a byte
 end_some : (text : List ℕ) → SpellsEnd declarations text → 1 ≤ length text

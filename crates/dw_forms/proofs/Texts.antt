@@ -1,5 +1,5 @@
 -- The text before the first zero byte.
-use Rattle.std.proofs.Common.{◌≡◌, ◌≢◌, ℕ, zero, suc, ◌+◌, ◌<◌, List, [], ◌∷◌, length, get_or, take, drop, Ok, Err, refl, arith}
+use Rattle.std.proofs.Common.{rules, ◌≡◌, ◌≢◌, ℕ, zero, suc, ◌+◌, ◌<◌, List, [], ◌∷◌, length, get_or, take, drop, Ok, Err, refl, arith}
 use Rattle.std.proofs.lemmas.List.{length-take-le}
 use Rattle.std.proofs.Math.Numerals.{add-one}
 use Rattle.dw_forms.specs.BaseFormats.{null_terminated_at}
@@ -25,5 +25,4 @@ module _ {E : Type 0} (cut : E) where
   pub text_taken : (bytes : List ℕ) (k : ℕ) → k < length bytes → ((j : ℕ) → j < k → get_or bytes j 0 ≢ 0)
       → get_or bytes k 0 ≡ 0
       → null_terminated_at cut bytes ≡ Ok (take k bytes, drop (length (take k bytes) + 1) bytes)
-  text_taken bytes k lt before here =
-      rw (length-take-le k bytes (omega arith), add-one) (text_found bytes k lt before here)
+  text_taken bytes k lt before here = search (rules, length-take-le, add-one, text_found)

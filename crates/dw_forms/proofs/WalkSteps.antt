@@ -1,5 +1,5 @@
 -- Where the first step in the list of a number goes to, and what comes before that attribute.
-use Rattle.std.proofs.Common.{rules, ◌≡◌, ℕ, zero, suc, ◌<◌, ◌≤◌, Bool, true, false, not, List, [], ◌∷◌, length, refl, sym, ap, subst, ◌∙◌, arith}
+use Rattle.std.proofs.Common.{rules, ◌≡◌, ℕ, zero, suc, ◌<◌, ◌≤◌, Bool, true, false, not, List, [], ◌∷◌, length, refl, sym, subst, ◌∙◌, arith}
 use Rattle.std.specs.Prelude.{◌==◌, ◌&&◌}
 use Rattle.std.specs.List.{list_any}
 use Rattle.std.proofs.lemmas.Bool.{ne_eqb, or_parts}
@@ -20,9 +20,7 @@ use Rattle.dw_forms.proofs.PartLaws.{first_is, known_at, none_both}
 
 -- a value that is passed before a step does not vary
 never_varies : (next : ℕ) (b : Bool) → (next ≡ 0 → ⊥) → (b && not (next == 0)) ≡ false → b ≡ false
-never_varies next true some e =
-    absurd (let other : (next == 0) ≡ false = ne_eqb next 0 some in let no : not (next == 0) ≡ true = ap not other in
-    cc)
+never_varies next true some e = search (rules, ne_eqb)
 never_varies next false some e = refl
 
 -- ---- the list of a number
