@@ -1,9 +1,8 @@
-use Rattle.std.proofs.Common.{◌≡◌, ℕ, length, rules, sym, ap, ◌∙◌, subst, arith}
+use Rattle.std.proofs.Common.{◌≡◌, ℕ, length, rules, subst, arith}
 use Rattle.std.proofs.lemmas.List.Elements.{All-push}
 use Rattle.dw_forms.specs.declared.decl.KeptDecl.{KeptDecl}
 use Rattle.dw_forms.specs.DeclaredLists.{HasList, HavePlaces}
 use Rattle.dw_forms.specs.AttributeLists.{numbered_in}
-use Rattle.dw_forms.specs.KeptDecls.{tables_of}
 use Rattle.dw_forms.specs.Labels.{HasLabel}
 use Rattle.dw_forms.proofs.KeptLaws.{links_long, labels_stay, coded_stay, labelled_is, none_code, some_code, coded_more, tables_long, tables_more}
 use Rattle.dw_forms.proofs.PlaceTurns.{all_places_stay}
@@ -37,34 +36,10 @@ returns-in_default-clause-kept c =
     })
 
 pub returns-in_default-clause-added : goal.returns-in_default-clause-added
-returns-in_default-clause-added c =
-    let nodes = c.args.lists.now.nodes.items in
-    let kept = c.args.kept.now.items in
-    let links = c.args.codes.now.links.items in
-    let old = c.args.labels.now.long in
-    let new = c.enter.new.self.long in
-    let stay = c.in_ok-label.ensures.stay in
-    let twice = (rw c.in_default.is at c.in_ok-number.ensures.added).0 in
-    let same = labelled_is links old new nodes kept c.args.rest c.args.decl.code c.enter.new.self.labels stay
-    c.requires.kept.labelled c.requires.kept.coded c.in_ok-label.label c.in_ok-label.ensures.label in (
-      some_code nodes kept c.args.rest c.args.decl.code (omega arith),
-      ap (tables_of nodes) c.reserve.ensures.items,
-    )
+returns-in_default-clause-added c = search (rules, labelled_is, some_code)
 
 pub returns-clause-added : goal.returns-clause-added
-returns-clause-added c =
-    let nodes = c.args.lists.now.nodes.items in
-    let kept = c.args.kept.now.items in
-    let links = c.args.codes.now.links.items in
-    let old = c.args.labels.now.long in
-    let new = c.enter.new.self.long in
-    let added = rw c.in-Some.is at c.in_ok-number.ensures.added in
-    let same = labelled_is links old new nodes kept c.args.rest c.args.decl.code c.enter.new.self.labels
-    c.in_ok-label.ensures.stay c.requires.kept.labelled c.requires.kept.coded c.in_ok-label.label
-    c.in_ok-label.ensures.label in
-    let long = links_long links old kept c.requires.kept.coded in
-    let none = sym same ∙ added.0 in
-    search (rules, tables_long, none_code, tables_more, added, none, long)
+returns-clause-added c = search (rules, labelled_is, links_long, tables_long, none_code, tables_more)
 
 pub returns-clause-kept : goal.returns-clause-kept
 returns-clause-kept c =

@@ -1,18 +1,11 @@
-use Rattle.std.proofs.Common.{refl, rules, arith}
+use Rattle.std.proofs.Common.{rules, arith}
 use Rattle.dw_forms.specs.TableStarts.{IsDeclAt}
 use Rattle.dw_forms.proofs.OffsetLaws.{along_push, new_push, stay_same, stay_on}
 use Rattle.dw_forms.proofs.TailLaws.{table_end, decls_stay, front_fails}
 use Rattle.dw_forms.proofs.abbrev_tables.read_front.Goals as goal
 
 pub loop-decls-init : goal.loop-decls-init
-loop-decls-init c =
-    record {
-      from = omega arith;
-      within = c.requires.offset.within;
-      more = record { lists = c.requires.lists; stay = stay_same _ };
-      along = rw c.new-decls.ensures.items refl;
-      new = rw c.new-decls.ensures.items tt;
-    }
+loop-decls-init c = search (rules, stay_same)
 
 pub returns-then-rest-ne0-clause-front : goal.returns-then-rest-ne0-clause-front
 returns-then-rest-ne0-clause-front c =

@@ -12,10 +12,7 @@ short_end-short-requires c long =
     let rest = c.requires.short long in (rest.some, rw c.deref.ensures.value rest.within)
 
 pub returns-in_err-places-clause-kept : goal.returns-in_err-places-clause-kept
-returns-in_err-places-clause-kept c =
-    branches_kept c.args.branches.now.items c.push.new.self.items c.push_branches.new.branches.items
-    c.short_end-short.result c.in_ok-push.ensures.items c.in_err-places.ensures.more c.args.nodes.now.items
-    c.requires.found c.in_err-places.ensures.found
+returns-in_err-places-clause-kept c = search (rules, branches_kept)
 
 pub unreachable-requires : goal.unreachable-requires
 unreachable-requires c =
@@ -28,10 +25,7 @@ unreachable-requires c =
     (rw (c.in-None.is, code, c.number_or-chain.ensures) at c.in_ok-places.ensures.twice)
 
 pub returns-clause-kept : goal.returns-clause-kept
-returns-clause-kept c =
-    branches_kept c.args.branches.now.items c.push.new.self.items c.push_branches.new.branches.items
-    c.short_end-short.result c.in_ok-push.ensures.items c.in_ok-places.ensures.more c.args.nodes.now.items
-    c.requires.found c.in_ok-places.ensures.found
+returns-clause-kept c = search (rules, branches_kept)
 
 pub returns-clause-more : goal.returns-clause-more
 returns-clause-more c n is =

@@ -1,4 +1,4 @@
-use Rattle.std.proofs.Common.{rules, ◌≡◌, ℕ, ◌-◌, ◌*◌, ap, ◌∙◌}
+use Rattle.std.proofs.Common.{rules}
 use Rattle.dw_forms.proofs.StepLaws.{sum_with_8, sum_with_4}
 use Rattle.dw_forms.proofs.attributes.known.Goals as goal
 
@@ -8,8 +8,4 @@ returns-then-address_size-eq8 c =
     sum_with_8 c.args.address_size n.known_with_8 n.addresses c.if-address_size-eq8.true
 
 pub returns-else-address_size-eq8 : goal.returns-else-address_size-eq8
-returns-else-address_size-eq8 c =
-    let n = c.args.node.now in
-    let own : c.from.result ≡ n.addresses = search rules in
-    ap (λ (m : ℕ). n.known_with_8 - 4 * m) own
-    ∙ sum_with_4 c.args.address_size n.known_with_8 n.addresses c.requires.size c.if-address_size-eq8.false
+returns-else-address_size-eq8 c = search (rules, sum_with_4)

@@ -8,14 +8,10 @@ loop-place-init g c =
     c.requires.rest
 
 pub returns-then-number-eq0-clause-branches : goal.returns-then-number-eq0-clause-branches
-returns-then-number-eq0-clause-branches g c =
-    appended_ends c.args.branches.now.items c.loop-place.branches.items (g.L.Links.links c.args.links.now)
-    c.args.rest c.args.code c.loop-place.place c.loop-place.number c.loop-place.invariant c.if-number-eq0.true
+returns-then-number-eq0-clause-branches g c = search (rules, appended_ends)
 
 pub returns-then-number-eq0-clause-new : goal.returns-then-number-eq0-clause-new
-returns-then-number-eq0-clause-new g c =
-    appended_new c.args.branches.now.items c.loop-place.branches.items (g.L.Links.links c.args.links.now)
-    c.args.rest c.args.code c.loop-place.place c.loop-place.number c.loop-place.invariant c.if-number-eq0.true
+returns-then-number-eq0-clause-new g c = search (rules, appended_new)
 
 pub loop-place-preserved : goal.loop-place-preserved
 loop-place-preserved g c =
@@ -31,28 +27,10 @@ loop-place-preserved g c =
     c.number_or-number.ensures)
 
 pub returns-then-number-eq0-2-clause-new : goal.returns-then-number-eq0-2-clause-new
-returns-then-number-eq0-2-clause-new g c =
-    appended_new c.args.branches.now.items c.loop-place.branches.items (g.L.Links.links c.args.links.now)
-    c.args.rest c.args.code c.loop-place.place c.loop-place.number c.loop-place.invariant c.if-number-eq0-2.true
+returns-then-number-eq0-2-clause-new g c = search (rules, appended_new)
 
 pub unreachable-requires : goal.unreachable-requires
-unreachable-requires g c =
-    let other = c.if-number-eq0-2.false in
-    let links = g.L.Links.links c.args.links.now in
-    let n = c.loop-place.number in
-    let past = c.loop-place-test.false in
-    let end = c.loop-place.auto.place-end in
-    c.if-last-code.true
-    (appended_same c.args.branches.now.items c.loop-place.branches.items links c.args.rest c.args.code
-    c.loop-place.place n c.link-last.result c.loop-place.invariant (omega arith)
-    c.link-last.ensures (omega arith)
-    (search rules) c.ranges.code.fits)
+unreachable-requires g c = search (rules, appended_same)
 
 pub returns-clause-twice : goal.returns-clause-twice
-returns-clause-twice g c =
-    let other = c.if-number-eq0-2.false in
-    let links = g.L.Links.links c.args.links.now in
-    let n = c.loop-place.number in
-    appended_twice c.args.branches.now.items c.loop-place.branches.items links c.args.rest c.args.code
-    c.loop-place.place n c.link-last.result c.loop-place.invariant (omega arith)
-    c.link-last.ensures c.if-last-code.false
+returns-clause-twice g c = search (rules, appended_twice)

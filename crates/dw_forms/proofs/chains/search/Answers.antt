@@ -4,30 +4,14 @@ use Rattle.dw_forms.proofs.SearchLaws.{search_ends, search_none, turn}
 use Rattle.dw_forms.proofs.chains.search.Goals as goal
 
 pub returns-then-differing-eq0 : goal.returns-then-differing-eq0
-returns-then-differing-eq0 g c =
-    let links = g.L.Links.links c.args.links.now in
-    let n = c.loop-number.number in
-    let x = c.link-first.result in
-    let test = c.loop-number-test.true in
-    search_ends c.args.branches.now links n x c.requires.found (omega arith) c.loop-number.invariant.within
-    c.link-first.ensures c.args.code
-    (same_codes x.code c.args.code (search rules) c.ranges.code.fits c.if-differing-eq0.true)
-    ∙ c.loop-number.invariant.same
+returns-then-differing-eq0 g c = search (rules, search_ends, same_codes)
 
 pub branch_at-number-requires-clause-place : goal.branch_at-number-requires-clause-place
 branch_at-number-requires-clause-place g c =
     (parts_lowest c.link-first.result.code c.args.code (search rules) c.ranges.code.fits c.if-differing-eq0.false).0
 
 pub loop-number-smaller : goal.loop-number-smaller
-loop-number-smaller g c =
-    let links = g.L.Links.links c.args.links.now in
-    let n = c.loop-number.number in
-    let x = c.link-first.result in
-    let test = c.loop-number-test.true in
-    (turn c.args.branches.now links n x c.requires.found (omega arith) c.loop-number.invariant.within
-    c.link-first.ensures c.args.code (search rules) c.ranges.code.fits c.if-differing-eq0.false
-    c.branch_at-number.result c.branch_at-number.ensures.near c.branch_at-number.ensures.kept
-    c.branch_at-number.ensures.none).0
+loop-number-smaller g c = search (rules, turn)
 
 pub loop-number-preserved : goal.loop-number-preserved
 loop-number-preserved g c =

@@ -1,3 +1,4 @@
+use Rattle.std.proofs.Common.{rules}
 use Rattle.dw_forms.proofs.FewBytes.{uleb_one, uleb_two}
 use Rattle.dw_forms.proofs.leb.uleb.Goals as goal
 
@@ -6,7 +7,4 @@ returns-in-len1-up c =
     uleb_one c.args.bytes.now c.from.result c.in-len1-up.len_at_least c.from.ensures c.if-byte-lt128.true
 
 pub returns-in-len2-up : goal.returns-in-len2-up
-returns-in-len2-up c =
-    let more = c.if-byte-lt128.false in
-    uleb_two c.args.bytes.now c.from-in-len2-up.result c.from-in-len2-up-2.result c.in-len2-up.len_at_least
-    c.from-in-len2-up.ensures c.from-in-len2-up-2.ensures more c.if-high-lt128.true
+returns-in-len2-up c = search (rules, uleb_two)

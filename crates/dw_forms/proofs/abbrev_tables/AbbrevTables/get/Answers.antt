@@ -1,8 +1,6 @@
-use Rattle.std.proofs.Common.{rules, ◌-◌, ◌<◌, Some, length, ◌∙◌, sym, ap, subst, arith}
+use Rattle.std.proofs.Common.{rules, Some, ◌∙◌, sym, ap, arith}
 use Rattle.dw_forms.specs.declared.decl.KeptDecl.{KeptDecl}
-use Rattle.dw_forms.specs.DeclaredLists.{HasList, HavePlaces}
 use Rattle.dw_forms.specs.declared.attribute_lists.AttributeLists.{AttributeLists}
-use Rattle.dw_forms.specs.AttributeLists.{numbered_in}
 use Rattle.dw_forms.specs.KeptDecls.{kept_view, decl_of}
 use Rattle.dw_forms.proofs.KeptLaws.{code_is, links_long, found_by, found_within, decl_read, tables_long}
 use Rattle.dw_forms.proofs.abbrev_tables.AbbrevTables.get.Goals as goal
@@ -37,27 +35,7 @@ returns-clause-decl c =
     c.requires.searchable.labelled c.requires.searchable.coded
 
 pub new-requires : goal.new-requires
-new-requires c =
-    let a = c.args.self.now in
-    let within = found_within a.codes.links.items a.labels.long a.kept.items c.args.table c.find-label.result
-    c.requires.searchable.coded in
-    let some = c.if-number-eq0.false in
-    let less : c.find-number.result - 1 < length a.kept.items = omega (arith, c.find-number.ensures) in
-    record {
-      list =
-          subst (λ (k : KeptDecl). HasList a.lists.lists.nodes.items k.first k.step k.bits k.declared k.whole)
-          (sym c.index-kept.ensures) (c.requires.searchable.within (c.find-number.result - 1) c.index-kept.result.now
-          less);
-      placed =
-          rw c.deref.ensures.value (subst
-          (λ (k : KeptDecl). HavePlaces (numbered_in a.lists.lists.nodes.items k.first) k.bits k.first_place
-          a.places.items) (sym c.index-kept.ensures) (c.requires.searchable.placed (c.find-number.result - 1)
-          c.index-kept.result.now less));
-    }
+new-requires c = search (rules, found_within)
 
 pub returns-clause-number : goal.returns-clause-number
-returns-clause-number c =
-    let a = c.args.self.now in
-    rw c.find-label.ensures at c.find-number.ensures
-    ∙ code_is a.codes.links.items a.labels.long a.lists.lists.nodes.items a.kept.items c.args.table c.args.code
-    a.labels.labels c.requires.searchable.labelled c.requires.searchable.coded
+returns-clause-number c = search (rules, code_is)

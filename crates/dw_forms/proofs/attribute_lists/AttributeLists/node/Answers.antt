@@ -1,4 +1,4 @@
-use Rattle.std.proofs.Common.{arith}
+use Rattle.std.proofs.Common.{rules, arith}
 use Rattle.dw_forms.specs.AttributeLists.{specs_of, numbered_in}
 use Rattle.dw_forms.proofs.ChainLaws.{chain_none}
 use Rattle.dw_forms.proofs.NodeSteps.{known_small, node_read}
@@ -20,8 +20,4 @@ returns-clause-small c =
     known_small (numbered_in c.args.self.now.nodes.items c.args.number) _ is.attributes is.knows.small
 
 pub returns-clause-short : goal.returns-clause-short
-returns-clause-short c =
-    let some = c.if-number-eq0.false in
-    let a = c.args.self.now in
-    rest_read a.branches.items a.nodes.items c.args.number c.index.result.now a.found (omega arith) c.requires
-    c.index.ensures
+returns-clause-short c = search (rules, rest_read)

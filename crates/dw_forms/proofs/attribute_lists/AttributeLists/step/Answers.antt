@@ -1,6 +1,4 @@
-use Rattle.std.proofs.Common.{◌∷◌, subst, arith}
-use Rattle.dw_forms.specs.declared.abbrev.AttributeSpec.{AttributeSpec}
-use Rattle.dw_forms.specs.LeadingWalks.{IsFirstStep}
+use Rattle.std.proofs.Common.{rules, arith}
 use Rattle.dw_forms.specs.AttributeLists.{specs_of, numbered_in}
 use Rattle.dw_forms.proofs.ChainLaws.{chain_none}
 use Rattle.dw_forms.proofs.NodeSteps.{few_in, known_small, node_read}
@@ -13,15 +11,7 @@ returns-then-number-eq0 c =
     record { step = rw (c.if-number-eq0.true, chain_none (specs_of c.args.self.now.nodes.items)) c.no_step.ensures }
 
 pub step_before-requires-clause-few : goal.step_before-requires-clause-few
-step_before-requires-clause-few c =
-    let a = c.args.self.now in
-    let n = c.index-node.result.now in
-    let is = node_read a.nodes.items c.args.number n a.known (omega (arith, c.if-number-eq0.false)) c.requires
-    c.index-node.ensures in
-    let few = is.after.few in
-    let all = few_in (numbered_in a.nodes.items c.args.number) is.attributes in
-    let more = one_less a.nodes.items c.args.number n is n.attribute in
-    omega arith
+step_before-requires-clause-few c = search (rules, node_read, few_in, one_less)
 
 pub step_before-requires-clause-small : goal.step_before-requires-clause-small
 step_before-requires-clause-small c =
@@ -34,15 +24,4 @@ step_before-requires-clause-small c =
     (attributes_in a.nodes.items n.next a.known (omega (arith, c.requires))) is.after.small
 
 pub returns : goal.returns
-returns c =
-    let a = c.args.self.now in
-    let n = c.index-node.result.now in
-    let is = node_read a.nodes.items c.args.number n a.known (omega (arith, c.if-number-eq0.false)) c.requires
-    c.index-node.ensures in
-    let before = c.step_before.ensures (numbered_in a.nodes.items n.next) is.after in
-    record {
-      step = rw is.begins (subst
-          (λ (s : AttributeSpec). IsFirstStep
-          (record { number = c.args.number; item = s } ∷ numbered_in a.nodes.items n.next)
-          c.step_before.result) c.spec.ensures before);
-    }
+returns c = search (rules, node_read)

@@ -1,5 +1,4 @@
-use Rattle.std.proofs.Common.{false, refl, sym, arith}
-use Rattle.dw_forms.specs.AttributeLists.{has_this}
+use Rattle.std.proofs.Common.{rules, false, refl, sym}
 use Rattle.dw_forms.specs.KeptDecls.{decl_view}
 use Rattle.dw_forms.proofs.OwnBits.{clear_bit, set_bit, lacks_is}
 use Rattle.dw_forms.proofs.SuffixLaws.{number_is_within}
@@ -19,7 +18,4 @@ place-place-requires-clause-some c =
     c.if-self-mask_of-eq0.false
 
 pub new-found-requires : goal.new-found-requires
-new-found-requires c =
-    let within = number_is_within (has_this c.args.attribute) c.new-attributes.result in
-    let list = rw (c.new-attributes.ensures.lists, c.new-attributes.ensures.first) at within in
-    omega (arith, c.place-place.ensures.list_is)
+new-found-requires c = search (rules, number_is_within)
