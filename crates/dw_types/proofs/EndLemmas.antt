@@ -9,7 +9,7 @@ use Rattle.dw_types.specs.Paths.{ReachesCycle, Leads}
 use Rattle.dw_types.specs.Cycles.{AreClear}
 use Rattle.dw_types.specs.declared.walk.Mark.{Mark}
 use Rattle.dw_types.specs.declared.walk.Mark.TheVariants.{Fresh, Open, Ranked}
-use Rattle.dw_types.specs.Graphs.{Graph, FallsAlong, IsStep, FollowsSteps, step_at, steps_of}
+use Rattle.dw_types.specs.Graphs.{AreFirsts, Graph, FallsAlong, IsStep, FollowsSteps, step_at, steps_of}
 use Rattle.dw_types.specs.Orders.{IsOrderOf}
 use Rattle.dw_types.specs.Walks.{HasStack, IsKept, IsWalk, KeepsTaken, is_taken, IsAtCycle}
 use Rattle.dw_types.specs.RanksListed.{ranks_listed}
@@ -24,6 +24,20 @@ get_or-same n k x =
     elim (cases_lt k n) [
       | inl below ↦ get_or-replicate n k x x below
       | inr above ↦ get_or_past (replicate n x) k x (let e = length-replicate n x in omega arith)
+    ]
+
+-- where first steps lead: nothing is known, and that of one node more
+
+pub no-firsts : (graph : Graph) (n : ℕ) → AreFirsts graph (replicate n 0)
+no-firsts graph n node to is = let none : 0 ≡ suc to = sym (get_or-same n node 0) ∙ is in absurd (omega arith)
+
+pub more-firsts : (graph : Graph) (firsts : List ℕ) (node first : ℕ) → node < length firsts
+    → AreFirsts graph firsts → ((to : ℕ) → first ≡ suc to → step_at graph node 0 ≡ to)
+    → AreFirsts graph (set firsts node first)
+more-firsts graph firsts node first inside known here other to is =
+    elim (at_set firsts node other first 0 inside) [
+      | inl p ↦ rw p.0 (here to (sym p.1 ∙ is))
+      | inr p ↦ known other to (sym p.1 ∙ is)
     ]
 
 pub sum-zeros : (n : ℕ) → sum (replicate n 0) ≡ 0

@@ -1,5 +1,5 @@
 -- Chapter: graphs of steps, lists of nodes along steps, and cycles.
-use Rattle.std.specs.Prelude.{◌≡◌, ◌≢◌, ℕ, ◌+◌, ◌-◌, ◌<◌, ◌≤◌, List, [], length, slice_index, slice_index_or, sum_by}
+use Rattle.std.specs.Prelude.{◌≡◌, ◌≢◌, ℕ, suc, ◌+◌, ◌-◌, ◌<◌, ◌≤◌, List, [], length, slice_index, slice_index_or, sum_by}
 
 -- the steps of each node, in order: the node k has the k-th list, and a step is the node that it goes to
 abbrev pub Graph : Type 0
@@ -12,6 +12,10 @@ steps_of graph node = slice_index_or graph node []
 -- the node that the k-th step of a node goes to
 abbrev pub step_at : Graph → ℕ → ℕ → ℕ
 step_at graph node k = slice_index (steps_of graph node) k
+
+-- a number tells where the first step of a node goes: it is the one after that of the target. 0 tells nothing
+abbrev pub AreFirsts : Graph → List ℕ → Type 0
+AreFirsts graph firsts = (node to : ℕ) → slice_index firsts node ≡ suc to → step_at graph node 0 ≡ to
 
 -- some step goes from one node to another
 abbrev pub IsStep : Graph → ℕ → ℕ → Type 0

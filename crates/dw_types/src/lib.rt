@@ -4,6 +4,7 @@
 mod by_value;
 mod children;
 mod count;
+mod firsts;
 mod flags;
 mod graph;
 mod kind;

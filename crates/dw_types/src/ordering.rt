@@ -12,6 +12,7 @@ ghost use Rattle.dw_types.specs.WalkStates.{mark_in, opened, with_hand};
 ghost use Rattle.dw_types.specs.declared.ordering.OrderFault.TheVariants.{Memory};
 ghost use Rattle.dw_types.specs.declared.walk.Mark.TheVariants.{Fresh};
 
+use crate::firsts::WithFirsts;
 use crate::graph::{Order, StepGraph};
 use crate::numbers::Numbers;
 use crate::walk::{Hand, Mark, Walk};
@@ -43,10 +44,11 @@ pub fn order<G: StepGraph>(alloc: Global, graph: &G) -> Result<Order, OrderFault
     ensures err { IfErr result (IsOrderFault (G.graph graph.now)) }
 {
     let nodes = graph.nodes();
-    let mut walk = Walk::new(alloc, graph)?;
+    let (firsts, mut walk) = Walk::new(alloc, graph)?;
+    let with_firsts = WithFirsts { graph, firsts };
     for start in 0..nodes {
         if let Mark::Fresh = walk.mark(start) {
-            if let Some(to) = walk_from(graph, &mut walk, start)? {
+            if let Some(to) = walk_from(&with_firsts, &mut walk, start)? {
                 let cycle = cycle_to(alloc, graph, walk.stack(), to)?;
                 return Err(OrderFault::Cycle(cycle));
             }
@@ -61,10 +63,11 @@ pub fn clear_nodes<G: StepGraph>(alloc: Global, graph: &G) -> Result<Numbers, Al
     ensures { IfOk result (AreClear (G.graph graph.now)) }
 {
     let nodes = graph.nodes();
-    let mut walk = Walk::new(alloc, graph)?;
+    let (firsts, mut walk) = Walk::new(alloc, graph)?;
+    let with_firsts = WithFirsts { graph, firsts };
     for start in 0..nodes {
         if let Mark::Fresh = walk.mark(start) {
-            if let Some(_) = walk_from(graph, &mut walk, start)? {
+            if let Some(_) = walk_from(&with_firsts, &mut walk, start)? {
                 walk.give_up();
             }
         }

@@ -1,9 +1,11 @@
 //! The state of a walk over a graph.
 
 ghost use Rattle.std.specs.Prelude.{◌≡◌, ◌+◌, ◌^◌, ◌<◌, [], false, length, IfOk, MatchOption, OnOk};
+ghost use Rattle.dw_types.specs.Graphs.{AreFirsts};
 ghost use Rattle.dw_types.specs.Walks.{IsKept};
 ghost use Rattle.dw_types.specs.WalkStates.{mark_in, opened, ranked, turned, with_hand, without_stack};
 
+use crate::firsts::first_of;
 use crate::graph::{Order, StepGraph};
 use crate::numbers::Numbers;
 use std::alloc::{AllocError, Global};
@@ -59,25 +61,32 @@ impl Model for Walk {
 }
 
 impl Walk {
-    /// The walk before it takes up a node with steps. Each node without steps whose number has four bytes has its rank
-    /// already, which took one turn.
-    pub(crate) fn new<G: StepGraph>(alloc: Global, graph: &G) -> Result<Self, AllocError>
-        ensures kept { IfOk result (IsKept (G.graph graph.now)) }
-        ensures empty { IfOk result (λ walk. walk.stack ≡ []) }
-        ensures gave_up { IfOk result (λ walk. walk.gave_up ≡ false) }
+    /// Where the first step of each node leads, and the walk before it takes up a node with steps. Each node without
+    /// steps whose number has four bytes has its rank already, which took one turn.
+    pub(crate) fn new<G: StepGraph>(
+        alloc: Global,
+        graph: &G,
+    ) -> Result<(Vec<u32>, Self), AllocError>
+        ensures firsts { IfOk result (λ made. AreFirsts (G.graph graph.now) made.0.items) }
+        ensures kept { IfOk result (λ made. IsKept (G.graph graph.now) made.1) }
+        ensures empty { IfOk result (λ made. made.1.stack ≡ []) }
+        ensures gave_up { IfOk result (λ made. made.1.gave_up ≡ false) }
     {
         let nodes = graph.nodes();
         let small = nodes.min(1 << 32);
+        let mut firsts = vec![in alloc; 0; small]?;
         let mut marks = vec![in alloc; Mark::Fresh; nodes]?;
         let mut by_rank = Vec::with_capacity(alloc, small)?;
         for node in 0..small {
             if graph.steps(node) == 0 {
                 marks[node] = Mark::Ranked;
                 by_rank.push_reserved(node as u32);
+            } else {
+                firsts[node] = first_of(graph, node);
             }
         }
         let turns = by_rank.len() as u128;
-        Ok(Walk {
+        let walk = Walk {
             marks,
             nodes,
             by_rank: Numbers::from_small(alloc, by_rank),
@@ -85,7 +94,8 @@ impl Walk {
             looked: Numbers::with_room(alloc, 0)?,
             turns,
             gave_up: false,
-        })
+        };
+        Ok((firsts, walk))
     }
 
     /// How far it has come with a node.
