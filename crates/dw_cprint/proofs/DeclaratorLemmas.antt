@@ -3,9 +3,9 @@ use Rattle.std.proofs.Common.{◌≡◌, ℕ, Bool, true, List, [], ◌∷◌, �
 use Rattle.std.specs.Prelude.{◌||◌}
 use Rattle.std.proofs.lemmas.List.{append-nil}
 use Rattle.dw_types.specs.Sizes.{has_elements}
-use Rattle.dw_cprint.specs.Terms.{Qualifier, OfAggregate, Enum, Term, Void, Named, Basic, Tagged, Body, Enumeration, Qualified, Pointer, Array, Function}
-use Rattle.dw_cprint.specs.Tokens.{Token, Blank, Star, Open, Close, LeftBrace, RightBrace, VoidWord, TagWord, QualifierWord, Identifier, LeftBracket, RightBracket, Number}
-use Rattle.dw_cprint.specs.Writing.{spell, spaced, qualifying, qualified_declarator, basic, enclosed, count_tokens, constants, signature_tokens, members_tokens}
+use Rattle.dw_cprint.specs.Terms.{Qualifier, Term, Void, Named, Basic, Tagged, Unnamed, Qualified, Pointer, Array, Function}
+use Rattle.dw_cprint.specs.Tokens.{Token, Blank, Star, Open, Close, VoidWord, TagWord, QualifierWord, Identifier, LeftBracket, RightBracket, Number}
+use Rattle.dw_cprint.specs.Writing.{spell, spaced, qualifying, qualified_declarator, basic, enclosed, count_tokens, body_tokens, signature_tokens}
 use Rattle.dw_cprint.specs.Declarators.{gap, pointer_row, opening, closing, before, after}
 
 spaced-gap : (d : List Token) → spaced d ≡ gap (has_elements d) ++ d
@@ -54,11 +54,6 @@ parts-many : (front core d : List Token)
     → front ++ (core ++ spaced d) ≡ (front ++ (core ++ gap (has_elements d))) ++ (d ++ [])
 parts-many front core d = rw (spaced-gap d) (simp (append_assoc, append-nil))
 
-parts-body : (front begin core close d : List Token)
-    → front ++ (begin ++ (core ++ (close ++ spaced d)))
-    ≡ (front ++ ((begin ++ (core ++ close)) ++ gap (has_elements d))) ++ (d ++ [])
-parts-body front begin core close d = rw (spaced-gap d) (simp (append_assoc, append-nil))
-
 pointed : (t : Term) (qs : List Qualifier) (d : List Token) (b : Bool → List Token) (a : List Token)
     → b (has_elements (enclosed t (Star ∷ qualified_declarator qs d)))
     ++ (enclosed t (Star ∷ qualified_declarator qs d) ++ a)
@@ -86,12 +81,7 @@ in_parts qs Void d = parts-many (qualifying qs) (VoidWord ∷ []) d
 in_parts qs (Named name) d = parts-many (qualifying qs) (Identifier name ∷ []) d
 in_parts qs (Basic words) d = parts-many (qualifying qs) (basic words) d
 in_parts qs (Tagged tag name) d = parts-many (qualifying qs) (TagWord tag ∷ Blank ∷ Identifier name ∷ []) d
-in_parts qs (Body word members) d =
-    parts-body (qualifying qs) (TagWord (OfAggregate word) ∷ Blank ∷ LeftBrace ∷ Blank ∷ []) (members_tokens members)
-    (RightBrace ∷ []) d
-in_parts qs (Enumeration cs) d =
-    parts-body (qualifying qs) (TagWord Enum ∷ Blank ∷ LeftBrace ∷ Blank ∷ []) (constants cs) (Blank ∷ RightBrace ∷ [])
-    d
+in_parts qs (Unnamed b) d = parts-many (qualifying qs) (body_tokens None b) d
 in_parts qs (Qualified q t) d = in_parts (qs ++ q ∷ []) t d
 in_parts qs (Pointer t) d =
     let inner = in_parts [] t (enclosed t (Star ∷ qualified_declarator qs d)) in

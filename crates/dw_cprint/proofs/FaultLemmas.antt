@@ -6,25 +6,25 @@ use Rattle.std.specs.List.{list_any}
 use Rattle.std.proofs.lemmas.List.Elements.{All-weaker, All-nil}
 use Rattle.std.proofs.lemmas.List.Folds.{Any-from_list_any, list_any-from_Any}
 use Rattle.dw_cprint.specs.Declarations.{is_cut_short, is_misplaced}
-use Rattle.dw_cprint.specs.Shapes.{Parameter, TypeAt, ShapeOf, array, qualified, function, body, Enum, SubjectOf, variable_subject, aggregate_subject, enumeration_subject, declared_subject}
+use Rattle.dw_cprint.specs.Shapes.{Parameter, TypeAt, aggregate, ShapeOf, array, qualified, function, body, Enum, SubjectOf, variable_subject, defined_subject, declared_subject}
 use Rattle.dw_cprint.specs.Steps.{parameter_types, types_declared, types_reached}
 use Rattle.dw_cprint.specs.Summaries.{IsBase, KnowsType, base_known, has_void, is_own_unspeakable, is_unspeakable, kind_known}
 use Rattle.dw_cprint.specs.declared.survey.Survey.{Survey}
-use Rattle.dw_cprint.specs.Wrong.{TypeKind, kind_at, StandsUnder, nothing, itself, below, IsVoidLike, has_bad_name, has_own_bad_name, is_void, is_wrong, is_wrong_row, object_types, IsUnspeakable, wrong, void_object, row, IsOwnUnspeakable, void_variable, unspeakable, wrong_enumeration, declared_enumeration}
+use Rattle.dw_cprint.specs.Wrong.{TypeKind, kind_at, StandsUnder, nothing, itself, below, IsVoidLike, has_bad_name, has_own_bad_name, is_void, is_wrong, is_wrong_row, object_types, IsUnspeakable, wrong, void_object, row, IsOwnUnspeakable, void_variable, unspeakable, declared_enumeration}
 use Rattle.dw_cprint.proofs.KindLemmas.{first-of, names-alike, others-of, own-names-alike, wrong-alike}
 use Rattle.dw_cprint.proofs.OptionLemmas.{or_left, or_right}
 
 -- a test that is another
-pub test-same : {A : Type 0} (a b : Bool) → a ≡ b → IsTrue b ↔ A → IsTrue a ↔ A
-test-same a b same f = (λ h. f.0 (sym same ∙ h), λ x. same ∙ f.1 x)
+pub test-same : {A : Type 0} {a b : Bool} → a ≡ b → IsTrue b ↔ A → IsTrue a ↔ A
+test-same same f = (λ h. f.0 (sym same ∙ h), λ x. same ∙ f.1 x)
 
-pub test-itself : (b c : Bool) → b ≡ c → IsTrue b ↔ (c ≡ true)
-test-itself b c same = (λ h. sym same ∙ h, λ h. same ∙ h)
+pub test-itself : {b c : Bool} → b ≡ c → IsTrue b ↔ (c ≡ true)
+test-itself same = (λ h. sym same ∙ h, λ h. same ∙ h)
 
 -- one of two tests
-pub either : {A B C : Type 0} (a b all : Bool) → IsTrue a ↔ A → IsTrue b ↔ B → all ≡ (a || b) → (A ⊎ B) ↔ C
+pub either : {A B C : Type 0} {a b all : Bool} → IsTrue a ↔ A → IsTrue b ↔ B → all ≡ (a || b) → (A ⊎ B) ↔ C
     → IsTrue all ↔ C
-either a b all one other is joins = search (rules, or_cases, or_left, or_right)
+either one other is joins = search (rules, or_cases, or_left, or_right)
 
 -- a test of each element, that says whether a fact holds of it
 any-iff : {X : Type 0} (P : X → Type 0) (p : X → Bool) (xs : List X) → All (λ x. IsTrue (p x) ↔ P x) xs
@@ -68,7 +68,7 @@ module _ (shapes : ℕ → ShapeOf) (at : TypeAt) (k : TypeKind) (known : IsBase
 pub objects-of : (P : TypeAt → Type 0) (shape : ShapeOf) → All P (types_reached shape) → All P (object_types shape)
 objects-of P (array counts strange at) all = all
 objects-of P (function at (Some ps)) all = others-of P at (parameter_types ps) all
-objects-of P (body word odd ms) all = all
+objects-of P (body (aggregate word odd ms)) all = all
 objects-of P _ all = All-nil P
 
 module _ (shapes : ℕ → ShapeOf) (s : Survey) where
@@ -129,11 +129,9 @@ module _ (shapes : ℕ → ShapeOf) (s : Survey) where
   own-unspeakable-known (variable_subject name at) all =
       let void = void-known at (first-of (KnowsType shapes s) at [] all) in
       (λ h. void_variable (void.0 h), λ h. elim h [ void_variable v ↦ void.1 v ])
-  own-unspeakable-known (aggregate_subject word name odd ms) all =
-      let known = unspeakable-known (body word odd ms) all in
+  own-unspeakable-known (defined_subject name b) all =
+      let known = unspeakable-known (body b) all in
       (λ h. unspeakable (known.0 h), λ h. elim h [ unspeakable u ↦ known.1 u ])
-  own-unspeakable-known (enumeration_subject name odd es) all =
-      (λ h. wrong_enumeration h, λ h. elim h [ wrong_enumeration w ↦ w ])
   own-unspeakable-known (declared_subject Enum name) all = (λ h. declared_enumeration, λ h. refl)
   own-unspeakable-known _ all = (λ h. absurd (cc), λ h. elim h [ ])
 

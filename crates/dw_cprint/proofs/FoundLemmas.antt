@@ -146,24 +146,18 @@ module _ (shapes : ℕ → ShapeOf) where
   pub found-none : (f : Findings) → f.bad_name ≡ false → f.foreign ≡ false → f.unspeakable ≡ false → f.depth ≡ 0
       → AreFindings shapes [] f
   found-none f a b c d = record {
-    bad_name = test-same f.bad_name false a (one-none (HasBadName shapes) shapes);
-    foreign_type = test-same f.foreign false b (one-none IsForeign shapes);
-    unspeakable = test-same f.unspeakable false c (one-none (IsUnspeakable shapes) shapes);
+    bad_name = test-same a (one-none (HasBadName shapes) shapes);
+    foreign_type = test-same b (one-none IsForeign shapes);
+    unspeakable = test-same c (one-none (IsUnspeakable shapes) shapes);
     deep = subst (IsDepth shapes []) (sym d) (depth-none shapes);
   }
 
   pub found-join : (us bs : List TypeAt) (f g all : Findings) → AreFindings shapes us f → AreFindings shapes bs g
       → IsEither f g all → all.depth ≡ max f.depth g.depth → AreFindings shapes (us ++ bs) all
   found-join us bs f g all one two is depth = record {
-    bad_name =
-        either f.bad_name g.bad_name all.bad_name one.bad_name two.bad_name is.bad_name
-        (one-join (HasBadName shapes) shapes us bs);
-    foreign_type =
-        either f.foreign g.foreign all.foreign one.foreign_type two.foreign_type is.foreign_type
-        (one-join IsForeign shapes us bs);
-    unspeakable =
-        either f.unspeakable g.unspeakable all.unspeakable one.unspeakable two.unspeakable is.unspeakable
-        (one-join (IsUnspeakable shapes) shapes us bs);
+    bad_name = either one.bad_name two.bad_name is.bad_name (one-join (HasBadName shapes) shapes us bs);
+    foreign_type = either one.foreign_type two.foreign_type is.foreign_type (one-join IsForeign shapes us bs);
+    unspeakable = either one.unspeakable two.unspeakable is.unspeakable (one-join (IsUnspeakable shapes) shapes us bs);
     deep =
         let joined = depth-join shapes (entries_among us) (entries_among bs) f.depth g.depth one.deep two.deep in
         rw (depth, entries-append us bs) joined;
@@ -179,16 +173,13 @@ module _ (shapes : ℕ → ShapeOf) where
       → AreFindings shapes (Some first ∷ []) all
   found-shape known first own under all knows mine rest both depth = record {
     bad_name =
-        either own.bad_name under.bad_name all.bad_name
-        (test-itself own.bad_name _ (mine.bad_name ∙ names-known shapes known (shapes first) knows)) rest.bad_name
-        both.bad_name (one-entry (HasBadName shapes) shapes first);
+        either (test-itself (mine.bad_name ∙ names-known shapes known (shapes first) knows)) rest.bad_name both.bad_name
+        (one-entry (HasBadName shapes) shapes first);
     foreign_type =
-        either own.foreign under.foreign all.foreign (test-itself own.foreign _ mine.foreign_type) rest.foreign_type
-        both.foreign_type (one-entry IsForeign shapes first);
+        either (test-itself mine.foreign_type) rest.foreign_type both.foreign_type (one-entry IsForeign shapes first);
     unspeakable =
-        either own.unspeakable under.unspeakable all.unspeakable
-        (test-same own.unspeakable _ mine.unspeakable (unspeakable-known shapes known (shapes first) knows))
-        rest.unspeakable both.unspeakable (one-entry (IsUnspeakable shapes) shapes first);
+        either (test-same mine.unspeakable (unspeakable-known shapes known (shapes first) knows)) rest.unspeakable
+        both.unspeakable (one-entry (IsUnspeakable shapes) shapes first);
     deep = depth-entry shapes first under.depth all.depth depth rest.deep;
   }
 
@@ -200,24 +191,21 @@ module _ (shapes : ℕ → ShapeOf) where
       → AreFindingsOf shapes subject all
   found-subject known subject own under all knows mine rest is depth = record {
     bad_name =
-        either own.bad_name under.bad_name all.bad_name
-        (test-itself own.bad_name _ (mine.bad_name ∙ own-names-known shapes known subject knows)) rest.bad_name
+        either (test-itself (mine.bad_name ∙ own-names-known shapes known subject knows)) rest.bad_name
         is.bad_name (
           λ s. elim s [ inl h ↦ own_name h | inr h ↦ name_reached h.0 h.1 h.2 ],
           λ h. elim h
               [ own_name x ↦ inl x | name_reached e r x ↦ inr (e, r, x) ],
         );
     foreign_type =
-        either own.foreign under.foreign all.foreign (test-itself own.foreign _ mine.foreign_type) rest.foreign_type
-        is.foreign_type (
+        either (test-itself mine.foreign_type) rest.foreign_type is.foreign_type (
           λ s. elim s [ inl h ↦ own_child h | inr h ↦ foreign_reached h.0 h.1 h.2 ],
           λ h. elim h
               [ own_child x ↦ inl x | foreign_reached e r x ↦ inr (e, r, x) ],
         );
     unspeakable =
-        either own.unspeakable under.unspeakable all.unspeakable
-        (test-same own.unspeakable _ mine.unspeakable (own-unspeakable-known shapes known subject knows))
-        rest.unspeakable is.unspeakable (
+        either (test-same mine.unspeakable (own-unspeakable-known shapes known subject knows)) rest.unspeakable
+        is.unspeakable (
           λ s. elim s [ inl h ↦ own_shape h | inr h ↦ shape_reached h.0 h.1 h.2 ],
           λ h. elim h
               [ own_shape x ↦ inl x | shape_reached e r x ↦ inr (e, r, x) ],

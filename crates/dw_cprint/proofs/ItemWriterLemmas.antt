@@ -5,13 +5,13 @@ use Rattle.std.specs.Prelude.{Bool, true, option_map, if◌then◌else◌}
 use Rattle.std.specs.List.{cons_option}
 use Rattle.std.proofs.lemmas.Option.{same_Some}
 use Rattle.std.proofs.lemmas.List.{drop_more}
-use Rattle.dw_cprint.specs.Declarations.{is_cut_short, has_more, constants_of, parameters_by, members_by}
+use Rattle.dw_cprint.specs.Declarations.{is_cut_short, has_more, constants_of, parameters_by, members_by, body_by}
 use Rattle.dw_cprint.specs.Declarators.{comma}
 use Rattle.dw_cprint.specs.Kept.{Writes, EnumeratorsLeft, constants_left, WritesEnumerator, WritesEnumerators, WritesParameter, WritesParameters, kept_term}
-use Rattle.dw_cprint.specs.Shapes.{Parameter, Typed, More, Name, TypeAt, MemberOf, EnumeratorOf}
-use Rattle.dw_cprint.specs.Terms.{Constant, Valued, Term, Parameters, Parameter as ParameterTerm, Members, Member as MemberTerm}
-use Rattle.dw_cprint.specs.Tokens.{Token, Blank, LeftBrace, RightBrace, Semicolon, Comma, Dot, text_of}
-use Rattle.dw_cprint.specs.Writing.{body_tokens, spell, name_tokens, bits_tokens, ellipsis, constant_tokens, constants, more_constants, more_parameters, members_tokens, written}
+use Rattle.dw_cprint.specs.Shapes.{AggregateKeyword, OfAggregate, Enum, Parameter, Typed, More, Name, TypeAt, MemberOf, EnumeratorOf, aggregate, enumeration}
+use Rattle.dw_cprint.specs.Terms.{Constant, Valued, Term, Body, Aggregate, Constants, Parameters, Parameter as ParameterTerm, Members, Member as MemberTerm}
+use Rattle.dw_cprint.specs.Tokens.{Token, Blank, LeftBrace, RightBrace, Semicolon, Comma, Dot, TagWord, text_of}
+use Rattle.dw_cprint.specs.Writing.{body_tokens, front_tokens, spell, name_tokens, bits_tokens, ellipsis, constant_tokens, constants, more_constants, more_parameters, members_tokens, written}
 use Rattle.dw_cprint.specs.declared.survey.Survey.{Survey}
 use Rattle.dw_cprint.proofs.OptionLemmas.{both_hold, map_holds, map_inverted, then_inverted, unless_holds}
 use Rattle.dw_cprint.proofs.WriterLemmas.{both, text-append}
@@ -82,15 +82,20 @@ members_next term all m left old out out' so_far written = left-next (members_le
     ))))
 
 -- the members, in braces
-pub members_done : (term : TypeAt → Option Term) (all : List MemberOf) (begin old out new : List ℕ)
-    → Writes (LeftBrace ∷ Blank ∷ []) begin old
-    → IsLeft (members_left term) all old [] out → Writes (RightBrace ∷ []) out new → (us : Members)
-    → members_by term all ≡ Some us → Writes (body_tokens us) begin new
-members_done term all begin old out new opens left closes us e =
-    let inner = left-done (members_left term) all old out (members_tokens us) refl left
-    (ap (option_map members_tokens) e) in
-    both (LeftBrace ∷ Blank ∷ []) (members_tokens us ++ RightBrace ∷ []) begin old new opens
-    (both (members_tokens us) (RightBrace ∷ []) old out new inner closes)
+pub members_done : (term : TypeAt → Option Term) (word : AggregateKeyword) (name : Name) (odd : Bool)
+    (all : List MemberOf) (begin mid old out new : List ℕ)
+    → Writes (TagWord (OfAggregate word) ∷ Blank ∷ front_tokens name) begin mid
+    → Writes (LeftBrace ∷ Blank ∷ []) mid old
+    → IsLeft (members_left term) all old [] out → Writes (RightBrace ∷ []) out new → (u : Body)
+    → body_by term (aggregate word odd all) ≡ Some u → Writes (body_tokens name u) begin new
+members_done term word name odd all begin mid old out new front opens left closes =
+    map_holds (λ (u : Body). Writes (body_tokens name u) begin new) (Aggregate word) (members_by term all)
+    (λ us e. both (TagWord (OfAggregate word) ∷ Blank ∷ front_tokens name)
+    (LeftBrace ∷ Blank ∷ (members_tokens us ++ RightBrace ∷ [])) begin mid new front
+    (both (LeftBrace ∷ Blank ∷ []) (members_tokens us ++ RightBrace ∷ []) mid old new opens
+    (both (members_tokens us) (RightBrace ∷ []) old out new
+    (left-done (members_left term) all old out (members_tokens us) refl left (ap (option_map members_tokens) e))
+    closes)))
 
 -- ---- enumerators
 
@@ -152,6 +157,16 @@ enumerators_done all begin old out new others opens left closes us is =
     nothing : (others : Bool) → [] ≡ constants_left others []
     nothing false = refl
     nothing true = refl
+
+-- and after the keyword and a name
+pub enumeration_done : (term : TypeAt → Option Term) (name : Name) (odd : Bool) (es : List EnumeratorOf)
+    (begin mid new : List ℕ) → Writes (TagWord Enum ∷ Blank ∷ front_tokens name) begin mid
+    → WritesEnumerators es mid new → (u : Body) → body_by term (enumeration odd es) ≡ Some u
+    → Writes (body_tokens name u) begin new
+enumeration_done term name odd es begin mid new front inner =
+    map_holds (λ (u : Body). Writes (body_tokens name u) begin new) Constants (constants_of es)
+    (λ cs e. both (TagWord Enum ∷ Blank ∷ front_tokens name)
+    (LeftBrace ∷ Blank ∷ (constants cs ++ Blank ∷ RightBrace ∷ [])) begin mid new front (inner cs e))
 
 -- ---- parameters
 

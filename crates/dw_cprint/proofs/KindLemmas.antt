@@ -3,7 +3,7 @@ use Rattle.std.proofs.Common.{◌≡◌, ℕ, zero, suc, Bool, List, [], ◌∷�
 use Rattle.std.specs.Prelude.{All, Contains, ◌||◌}
 use Rattle.std.specs.List.{list_any}
 use Rattle.dw_cprint.specs.Declarations.{is_miscounted, is_misplaced}
-use Rattle.dw_cprint.specs.Shapes.{TypeAt, MemberOf, ShapeOf, array, function, body, SubjectOf, aggregate_subject}
+use Rattle.dw_cprint.specs.Shapes.{TypeAt, MemberOf, aggregate, ShapeOf, array, function, body, SubjectOf, defined_subject}
 use Rattle.dw_cprint.specs.Steps.{entries_among, member_types, parameter_types, types_declared, types_reached}
 use Rattle.dw_cprint.specs.Wrong.{TypeKind, has_bad_name, has_own_bad_name, is_bracketed, is_function, is_open_array, is_wrong, is_wrong_bits, lacks_member_name, lacks_name}
 
@@ -37,13 +37,13 @@ module _ (f g : TypeAt → TypeKind) where
       rw (here, rest) refl
 
   pub names-alike : (shape : ShapeOf) → All Same (types_reached shape) → has_bad_name f shape ≡ has_bad_name g shape
-  names-alike (body word odd ms) same = members-alike (λ k m. lacks_member_name k m.bits m.name) ms same
+  names-alike (body (aggregate word odd ms)) same = members-alike (λ k m. lacks_member_name k m.bits m.name) ms same
   names-alike _ same = refl
 
   pub own-names-alike : (subject : SubjectOf) → All Same (types_declared subject)
       → has_own_bad_name f subject ≡ has_own_bad_name g subject
-  own-names-alike (aggregate_subject word name odd ms) same =
-      ap (λ (b : Bool). lacks_name name || b) (names-alike (body word odd ms) same)
+  own-names-alike (defined_subject name b) same =
+      ap (λ (bad : Bool). lacks_name name || bad) (names-alike (body b) same)
   own-names-alike _ same = refl
 
   pub wrong-alike : (shape : ShapeOf) → All Same (types_reached shape) → is_wrong f shape ≡ is_wrong g shape
@@ -53,5 +53,6 @@ module _ (f g : TypeAt → TypeKind) where
   wrong-alike (function at None) same = ap is_bracketed (first-of Same at [] same)
   wrong-alike (function at (Some ps)) same =
       ap (λ (k : TypeKind). is_bracketed k || is_misplaced ps) (first-of Same at (parameter_types ps) same)
-  wrong-alike (body word odd ms) same = members-alike (λ k m. is_function k || is_wrong_bits k m.bits) ms same
+  wrong-alike (body (aggregate word odd ms)) same =
+      members-alike (λ k m. is_function k || is_wrong_bits k m.bits) ms same
   wrong-alike _ same = refl

@@ -1,137 +1,89 @@
--- The term of an entry that is not wrong can be read back from its text.
-use Rattle.std.proofs.Common.{rules, ◌≡◌, ℕ, zero, suc, Bool, true, false, List, [], ◌∷◌, Option, Some, None, refl, sym, ◌∙◌, ap, subst, arith}
-use Rattle.std.specs.Prelude.{option_map, option_and_then, All, Any, IsSome, not}
+-- An entry that is not wrong has a term that can be read back from its text, or a path from it is too long.
+use Rattle.std.proofs.Common.{◌≡◌, ℕ, zero, suc, ℤ, Bool, true, false, List, [], ◌∷◌, Option, Some, None, refl, sym, ◌∙◌, ap, subst, arith}
+use Rattle.std.specs.Prelude.{option_map, option_and_then, All, Any, Contains, IsSome, ◌==◌, ◌||◌, is_some, not, if◌then◌else◌}
 use Rattle.std.specs.List.{list_any}
+use Rattle.std.proofs.lemmas.List.Splits.{length-slice_split}
 use Rattle.std.proofs.lemmas.Option.{same_Some}
-use Rattle.dw_cprint.specs.Declarations.{is_miscounted, is_misplaced, nested_arrays, constants_of, has_more, parameters_by, members_by, term_by, term_at, declaration_by}
-use Rattle.dw_cprint.specs.Legible.{is_identifier, IsIdentifier, IsName, AreConstants, IsQualifiable, IsPresent, IsLegible, IsSignature, AreParameters, AreMembers, IsLegibleDeclaration}
-use Rattle.dw_cprint.specs.Shapes.{Parameter, Typed, More, Name, TypeAt, MemberOf, EnumeratorOf, ShapeOf, base, typedef, Qualifier, Restrict, qualified, pointer, array, function, tagged, body, enumeration, SubjectOf, typedef_subject, variable_subject, aggregate_subject, enumeration_subject, declared_subject, other_subject}
-use Rattle.dw_cprint.specs.Steps.{parameter_types, member_types, types_declared, types_reached, root, further, IsReached, HasPath}
-use Rattle.dw_cprint.specs.Terms.{Constant, Term, Void, Named, Tagged, Body, Enumeration, Qualified, Pointer, Function, Unprototyped, Prototyped, Parameters, NoParameter, Parameter as ParameterTerm, Members, NoMember, Member as MemberTerm, CDeclaration, Typedef, Variable, Aggregate, Constants, Declared}
-use Rattle.dw_cprint.specs.Wrong.{TypeKind, StandsUnder, nothing, itself, IsVoidLike, is_bracketed, is_wrong_row, kind_at, kind_in, lacks_identifier, lacks_member_name, row, void_object, has_own_bad_name, wrong_enumeration}
+use Rattle.dw_cprint.specs.Declarations.{words_of, parts_of, is_miscounted, is_misplaced, nested_arrays, constants_of, has_more, parameters_by, members_by, body_by, term_by, term_at, declaration_by}
+use Rattle.dw_cprint.specs.Legible.{is_identifier, IsIdentifier, IsName, AreConstants, IsQualifiable, IsPresent, IsLegible, IsLegibleBody, IsSignature, AreParameters, AreMembers, IsLegibleDeclaration}
+use Rattle.dw_cprint.specs.Shapes.{AggregateKeyword, Parameter, Typed, More, Name, TypeAt, MemberOf, EnumeratorOf, BodyOf, aggregate, enumeration, ShapeOf, base, typedef, Qualifier, Restrict, qualified, pointer, array, function, tagged, body, foreign, other, SubjectOf, typedef_subject, variable_subject, defined_subject, declared_subject, other_subject}
+use Rattle.dw_cprint.specs.Steps.{parameter_types, member_types, types_declared, types_reached, entries_among, steps_reached, root, further, IsReached, HasPath, HasPathFrom}
+use Rattle.dw_cprint.specs.Terms.{TypeWord, Constant, Valued, Term, Named, Basic, Tagged, Unnamed, Aggregate, Constants, Qualified, Pointer, Function, Unprototyped, Prototyped, Parameters, Parameter as ParameterTerm, Member as MemberTerm, CDeclaration, Typedef, Variable, Defined}
+use Rattle.dw_cprint.specs.Wrong.{TypeKind, shape_of, StandsUnder, nothing, itself, IsVoidLike, is_bracketed, is_wrong_row, kind_at, kind_in, lacks_identifier, lacks_member_name, lacks_value, lacks_name, lacks_base_name, HasBadName, is_foreign, is_wrong, is_wrong_enumeration, IsUnspeakable, wrong, row, void_object, has_bad_name, has_own_bad_name, unspeakable}
 use Rattle.dw_cprint.specs.Refusals.{other_kind, own_name, own_shape, name_reached, foreign_reached, shape_reached, HoldsNoneBelow, NotPrintable, BadName, Foreign, Unspeakable}
 use Rattle.dw_cprint.specs.declared.shape.TypeKind.TheVariants as kind
 use Rattle.dw_cprint.proofs.KindLemmas.{all-types, first-of, others-of}
-use Rattle.dw_cprint.proofs.OptionLemmas.{both_hold, map_holds, map_inverted, then_inverted, unless_holds, unless_inverted, not_refuted, or_left, or_right, map_some}
-use Rattle.dw_cprint.proofs.ItemWriterLemmas.{more-constants}
-use Rattle.dw_cprint.proofs.HasTermLemmas.{AreKept, IsBaseTerm, IsFine, any_here, base_is, name_there, HasTerm, constants_some, entry_some, members_some, unvalued}
+use Rattle.dw_cprint.proofs.NameLemmas.{words-length}
+use Rattle.dw_cprint.proofs.OptionLemmas.{not_refuted, or_left, or_right}
 
--- ---- an entry that is not wrong is legible
+-- ---- a value that is right, or a reason for which there is none
 
-member_legible : (k : TypeKind) (bits : Option ℕ) (name : Name) → (lacks_member_name k bits name ≡ true → ⊥)
-    → IsName name
-member_legible k bits None h = tt
-member_legible k bits (Some n) h = not_refuted (is_identifier n) h
+abbrev pub Reads : {X : Type 0} → (X → Type 0) → Type 0 → Option X → Type 0
+Reads P D None = D
+Reads P D (Some x) = P x
 
--- a member without a name that it needs
-abbrev pub nameless_member : (ℕ → ShapeOf) → MemberOf → Bool
-nameless_member shapes m = lacks_member_name (kind_at shapes m.type_at) m.bits m.name
+reads_some : {X : Type 0} (P : X → Type 0) (D : Type 0) (o : Option X) → Reads P D o → (D → ⊥) → IsSome o
+reads_some P D None r none = absurd (none r)
+reads_some P D (Some x) r none = refl
 
-pub constants_legible : (es : List EnumeratorOf) → (list_any lacks_identifier es ≡ true → ⊥)
-    → (cs : List Constant) → constants_of es ≡ Some cs → AreConstants cs
-constants_legible [] named cs e = let same : [] ≡ cs = cc in subst AreConstants same tt
-constants_legible (x ∷ es) named cs e =
-    let m = more-constants x es cs e in
-    let there = name_there x.name (λ w. named (or_left (lacks_identifier x) (list_any lacks_identifier es) w)) in
-    subst AreConstants m.is (
-      subst IsIdentifier (same_Some there.0 m.name (sym there.1 ∙ m.is_name)) there.2,
-      constants_legible es (λ w. named (or_right (lacks_identifier x) (list_any lacks_identifier es) w)) m.others
-          m.are_others,
-    )
+reads_at : {X : Type 0} (P : X → Type 0) (D : Type 0) (o : Option X) → Reads P D o → (x : X) → o ≡ Some x → P x
+reads_at P D None r x e = absurd (cc)
+reads_at P D (Some y) r x e = subst P (same_Some y x e) r
 
-module _ (term : TypeAt → Option Term) where
-  -- the term of a type is legible, where it has one
-  abbrev pub ReadsAt : TypeAt → Type 0
-  ReadsAt at = (t : Term) → term at ≡ Some t → IsLegible t
+reads_wider : {X : Type 0} (P : X → Type 0) (D E : Type 0) (o : Option X) → (D → E) → Reads P D o → Reads P E o
+reads_wider P D E None f r = f r
+reads_wider P D E (Some x) f r = r
 
-  parameters_legible : (ps : List Parameter) → All ReadsAt (parameter_types ps) → (us : Parameters)
-      → parameters_by term ps ≡ Some us → AreParameters us
-  parameters_legible [] h us e = let same : NoParameter ≡ us = cc in subst AreParameters same tt
-  parameters_legible (Typed at ∷ ps) h us e =
-      both_hold AreParameters ParameterTerm (term at) (parameters_by term ps)
-      (λ t is vs are. (
-        first-of ReadsAt at (parameter_types ps) h t is,
-        parameters_legible ps (others-of ReadsAt at (parameter_types ps) h) vs are,
-      )) us e
-  parameters_legible (More ∷ ps) h us e = parameters_legible ps h us e
+module _ (D : Type 0) where
+  reads_map : {X Y : Type 0} (P : X → Type 0) (Q : Y → Type 0) (f : X → Y) (o : Option X) → Reads P D o
+      → ((x : X) → P x → Q (f x)) → Reads Q D (option_map f o)
+  reads_map P Q f None r on = r
+  reads_map P Q f (Some x) r on = on x r
 
-  signature_legible : (shapes : ℕ → ShapeOf) (ps : List Parameter)
-      → (Any (IsVoidLike shapes) (parameter_types ps) → ⊥) → is_misplaced ps ≡ false
-      → ((n : ℕ) (t : Term) → term (Some n) ≡ Some t → IsPresent t) → All ReadsAt (parameter_types ps)
-      → (us : Parameters) → parameters_by term ps ≡ Some us → IsSignature (Prototyped us (has_more ps))
-  signature_legible shapes [] voids placed there h us e =
-      let same : NoParameter ≡ us = cc in
-      let P : Parameters → Type 0 = λ ps. IsSignature (Prototyped ps false) in subst P same refl
-  signature_legible shapes (More ∷ ps) voids placed there h us e = absurd (cc)
-  signature_legible shapes (Typed None ∷ ps) voids placed there h us e =
-      absurd (voids (any_here (IsVoidLike shapes) None (parameter_types ps) nothing))
-  signature_legible shapes (Typed (Some n) ∷ ps) voids placed there h us e =
-      both_hold (λ (vs : Parameters). IsSignature (Prototyped vs (has_more ps))) ParameterTerm (term (Some n))
-      (parameters_by term ps)
-      (λ t is vs are. (
-        there n t is,
-        first-of ReadsAt (Some n) (parameter_types ps) h t is,
-        parameters_legible ps (others-of ReadsAt (Some n) (parameter_types ps) h) vs are,
-      )) us e
+  reads_both : {X Y Z : Type 0} (P : X → Type 0) (Q : Y → Type 0) (R : Z → Type 0) (f : X → Y → Z) (o : Option X)
+      (p : Option Y) → Reads P D o → Reads Q D p → ((x : X) (y : Y) → P x → Q y → R (f x y))
+      → Reads R D (option_and_then (λ x. option_map (f x) p) o)
+  reads_both P Q R f None p r s on = r
+  reads_both P Q R f (Some x) p r s on = reads_map Q R (f x) p s (λ y. on x y r)
 
-  pub members_legible : (shapes : ℕ → ShapeOf) (ms : List MemberOf)
-      → (list_any (nameless_member shapes) ms ≡ true → ⊥) → All ReadsAt (member_types ms) → (us : Members)
-      → members_by term ms ≡ Some us → AreMembers us
-  members_legible shapes [] named h us e = let same : NoMember ≡ us = cc in subst AreMembers same tt
-  members_legible shapes (m ∷ ms) named h us e =
-      both_hold AreMembers (λ (t : Term). MemberTerm m.name t m.bits) (term m.type_at) (members_by term ms)
-      (λ t is vs are. (
-        member_legible (kind_at shapes m.type_at) m.bits m.name
-            (λ w. named (or_left (nameless_member shapes m) (list_any (nameless_member shapes) ms) w)),
-        first-of ReadsAt m.type_at (member_types ms) h t is,
-        members_legible shapes ms (λ w. named
-            (or_right (nameless_member shapes m) (list_any (nameless_member shapes) ms) w))
-            (others-of ReadsAt m.type_at (member_types ms) h) vs are,
-      )) us e
+  reads_unless : {X : Type 0} (P : X → Type 0) (b : Bool) (o : Option X) → (b ≡ true → ⊥)
+      → (b ≡ false → Reads P D o) → Reads P D (if b then None else o)
+  reads_unless P true o bad r = absurd (bad refl)
+  reads_unless P false o bad r = r refl
+
+any_here : {X : Type 0} (P : X → Type 0) (x : X) (xs : List X) → P x → Any P (x ∷ xs)
+any_here P x xs p = (0, x, omega arith, refl, p)
+
+-- ---- one entry
+
+-- nothing is wrong with an entry by the second, third and fourth refusal
+record IsFine (shapes : ℕ → ShapeOf) (s : ShapeOf) : Type 0 where
+  named : HasBadName shapes s → ⊥
+  ours : is_foreign s ≡ true → ⊥
+  speakable : IsUnspeakable shapes s → ⊥
+
+-- the term of a type can be read back: no entry's is void, and it is an array or a function only if the shape is one
+record IsGood (s : Option ShapeOf) (t : Term) : Type 0 where
+  legible : IsLegible t
+  present : (s ≡ None → ⊥) → IsPresent t
+  qualifiable : (is_bracketed (kind_in s) ≡ true → ⊥) → IsQualifiable t
+
+good : (s : Option ShapeOf) (t : Term) → IsLegible t → IsPresent t → IsQualifiable t → IsGood s t
+good s t legible present qualifiable =
+    record { legible = legible; present = λ _. present; qualifiable = λ _. qualifiable }
+
+bracketed : (s : Option ShapeOf) (t : Term) → IsLegible t → IsPresent t → is_bracketed (kind_in s) ≡ true → IsGood s t
+bracketed s t legible present is =
+    record { legible = legible; present = λ _. present; qualifiable = λ plain. absurd (plain is) }
 
 arrays_legible : (counts : List (Option ℕ)) (t : Term) → IsLegible t → IsLegible (nested_arrays counts t)
 arrays_legible [] t h = h
 arrays_legible (c ∷ cs) t h = arrays_legible cs t h
 
--- no void, and an array or a function only where the shape is one
-abbrev IsHead : ShapeOf → Term → Type 0
-IsHead s t = IsPresent t × ((is_bracketed (kind_in (Some s)) ≡ true → ⊥) → IsQualifiable t)
-
--- the type of an entry
-head_is : (term : TypeAt → Option Term) (s : ShapeOf) (t : Term) → term_by term s ≡ Some t → IsHead s t
-head_is term (base (Some n)) t e = (IsBaseTerm.present (base_is n t e), λ a. IsBaseTerm.qualifiable (base_is n t e))
-head_is term (typedef (Some n)) t e =
-    let same : Named n ≡ t = cc in subst (IsHead (typedef (Some n))) same (tt, λ a. tt)
-head_is term (qualified q at) t e =
-    map_holds (IsHead (qualified q at)) (Qualified q) (term at) (λ u is. (tt, λ a. tt)) t e
-head_is term (pointer at) t e = map_holds (IsHead (pointer at)) Pointer (term at) (λ u is. (tt, λ a. tt)) t e
-head_is term (array (c ∷ cs) strange at) t e = search (rules, unless_inverted, map_inverted)
-head_is term (function at None) t e =
-    map_holds (IsHead (function at None)) (λ (t : Term). Function t Unprototyped) (term at)
-    (λ u is. (tt, λ a. absurd (a refl))) t e
-head_is term (function at (Some ps)) t e = search (rules, unless_inverted, then_inverted, map_inverted)
-head_is term (tagged word name) t e =
-    let same : Tagged word name ≡ t = cc in subst (IsHead (tagged word name)) same (tt, λ a. tt)
-head_is term (body word odd ms) t e =
-    map_holds (IsHead (body word odd ms)) (Body word) (members_by term ms) (λ us are. (tt, λ a. tt)) t e
-head_is term (enumeration odd es) t e =
-    map_holds (IsHead (enumeration odd es)) Enumeration (constants_of es) (λ cs are. (tt, λ a. tt)) t e
-head_is term _ t e = absurd (cc)
-
--- what a qualifier stands over is no array and no function
-module _ (shapes : ℕ → ShapeOf) where
-  abbrev IsNotBracketed : TypeAt → Type 0
-  IsNotBracketed at = (under : TypeAt) → StandsUnder shapes at under → is_bracketed (kind_at shapes under) ≡ true → ⊥
-
-  qualifiable : (k : ℕ) (at : TypeAt) → IsNotBracketed at → (t : Term) → term_at k shapes at ≡ Some t → IsQualifiable t
-  qualifiable zero at free t e = absurd (cc)
-  qualifiable (suc k) None free t e = let same : Void ≡ t = cc in subst IsQualifiable same tt
-  qualifiable (suc k) (Some n) free t e = (head_is (term_at k shapes) (shapes n) t e).1 (λ w. free (Some n) (alone w) w)
-    where
-      alone : is_bracketed (kind_in (Some (shapes n))) ≡ true → StandsUnder shapes (Some n) (Some n)
-      alone w =
-          itself (λ q to same. (let clash : true
-          ≡ false = sym w ∙ ap (λ (s : ShapeOf). is_bracketed (kind_in (Some s))) same in absurd (cc)))
+member_legible : (k : TypeKind) (bits : Option ℕ) (name : Name) → (lacks_member_name k bits name ≡ true → ⊥)
+    → IsName name
+member_legible k bits None h = tt
+member_legible k bits (Some n) h = not_refuted (is_identifier n) h
 
 -- no row of qualifiers is over an array or a function
 bracketed_row : (q : Qualifier) (k : TypeKind) → is_bracketed k ≡ true → is_wrong_row q k ≡ true
@@ -140,143 +92,212 @@ bracketed_row Restrict kind.Function h = refl
 bracketed_row Restrict _ h = absurd (cc)
 bracketed_row _ k h = h
 
-pub void_legible : (k : ℕ) (shapes : ℕ → ShapeOf) (t : Term) → term_at k shapes None ≡ Some t → IsLegible t
-void_legible zero shapes t e = absurd (cc)
-void_legible (suc k) shapes t e = let same : Void ≡ t = cc in subst IsLegible same tt
+-- one without a number
+unvalued : (es : List EnumeratorOf) → list_any lacks_value es ≡ true → is_wrong_enumeration es ≡ true
+unvalued [] w = refl
+unvalued (e ∷ es) w = w
 
-module _ (shapes : ℕ → ShapeOf) (k : ℕ) where
-  shape_legible : (s : ShapeOf) → IsFine shapes s
-      → ((n : ℕ) (t : Term) → term_at k shapes (Some n) ≡ Some t → IsPresent t)
-      → All (ReadsAt (term_at k shapes)) (types_reached s) → (t : Term)
-      → term_by (term_at k shapes) s ≡ Some t → IsLegible t
-  shape_legible (base (Some n)) fine there h t e = IsBaseTerm.legible (base_is n t e)
-  shape_legible (typedef (Some n)) fine there h t e =
-      let same : Named n ≡ t = cc in subst IsLegible same (not_refuted (is_identifier n) fine.named)
-  shape_legible (qualified q at) fine there h t e =
-      map_holds IsLegible (Qualified q) (term_at k shapes at) (λ u is. (
-        qualifiable shapes k at (λ under stands w. fine.speakable
-            (row under stands (bracketed_row q (kind_at shapes under) w))) u is,
-        first-of (ReadsAt (term_at k shapes)) at [] h u is,
-      )) t e
-  shape_legible (pointer at) fine there h t e =
-      map_holds IsLegible Pointer (term_at k shapes at)
-      (λ u is. first-of (ReadsAt (term_at k shapes)) at [] h u is) t e
-  shape_legible (array counts strange at) fine there h t e =
-      unless_holds IsLegible (is_miscounted counts) (option_map (nested_arrays counts) (term_at k shapes at))
-      (λ placed. map_holds IsLegible (nested_arrays counts) (term_at k shapes at)
-      (λ u is. arrays_legible counts u (first-of (ReadsAt (term_at k shapes)) at [] h u is))) t e
-  shape_legible (function at None) fine there h t e =
-      map_holds IsLegible (λ (t : Term). Function t Unprototyped) (term_at k shapes at)
-      (λ u is. (first-of (ReadsAt (term_at k shapes)) at [] h u is, tt)) t e
-  shape_legible (function at (Some ps)) fine there h t e =
-      let term = term_at k shapes in
-      let called : Term → Parameters → Term = λ t us. Function t (Prototyped us (has_more ps)) in
-      unless_holds IsLegible (is_misplaced ps)
-      (option_and_then (λ (t : Term). option_map (called t) (parameters_by term ps)) (term at))
-      (λ placed. both_hold IsLegible called (term at) (parameters_by term ps) (λ r is us are. (
-        first-of (ReadsAt term) at (parameter_types ps) h r is,
-        signature_legible term shapes ps (λ w. fine.speakable (void_object w)) placed there
-            (others-of (ReadsAt term) at (parameter_types ps) h) us are,
-      ))) t e
-  shape_legible (tagged word name) fine there h t e =
-      let same : Tagged word name ≡ t = cc in subst IsLegible same (not_refuted (is_identifier name) fine.named)
-  shape_legible (body word odd ms) fine there h t e =
-      map_holds IsLegible (Body word) (members_by (term_at k shapes) ms)
-      (λ us are. members_legible (term_at k shapes) shapes ms fine.named h us are) t e
-  shape_legible (enumeration odd es) fine there h t e =
-      map_holds IsLegible Enumeration (constants_of es) (λ cs are. constants_legible es fine.named cs are) t e
-  shape_legible _ fine there h t e = absurd (cc)
+module _ (shapes : ℕ → ShapeOf) (term : TypeAt → Option Term) (D : Type 0) where
+  abbrev Good : TypeAt → Type 0
+  Good at = Reads (IsGood (shape_of shapes at)) D (term at)
 
-entry_present : (shapes : ℕ → ShapeOf) (k n : ℕ) (t : Term) → term_at k shapes (Some n) ≡ Some t → IsPresent t
-entry_present shapes zero n t e = absurd (cc)
-entry_present shapes (suc k) n t e = (head_is (term_at k shapes) (shapes n) t e).0
+  base_reads : (name : Name) → (lacks_base_name name ≡ true → ⊥)
+      → Reads (IsGood (Some (base name))) D (term_by term (base name))
+  base_reads None fine = absurd (fine refl)
+  base_reads (Some n) fine = by_name (is_identifier n) refl (words_of 4 (parts_of n)) refl (not_refuted _ fine)
+    where
+      by_name : (b : Bool) → is_identifier n ≡ b → (o : Option (List TypeWord)) → words_of 4 (parts_of n) ≡ o
+          → (b || is_some o) ≡ true
+          → Reads (IsGood (Some (base (Some n)))) D (if b then Some (Named n) else option_map Basic o)
+      by_name true i o w h = good _ (Named n) i tt tt
+      by_name false i None w h = absurd (cc)
+      by_name false i (Some ws) w h =
+          let long = words-length 4 (parts_of n) ws w in
+          good _ (Basic ws) (omega (arith, length-slice_split (λ (b : ℕ). b == 32) n)) tt tt
 
-pub entry_legible : (shapes : ℕ → ShapeOf) (Good : ℕ → Type 0) → AreKept shapes Good
-    → (k n : ℕ) → Good n → (t : Term) → term_at k shapes (Some n) ≡ Some t → IsLegible t
-entry_legible shapes Good kept zero n good t e = absurd (cc)
-entry_legible shapes Good kept (suc k) n good t e =
-    let P = ReadsAt (term_at k shapes) in
-    shape_legible shapes k (shapes n) (kept.fine n good) (entry_present shapes k)
-    (all-types P (void_legible k shapes) (types_reached (shapes n))
-    (λ m leads. entry_legible shapes Good kept k m (kept.on n m good leads))) t e
+  parameters_read : (ps : List Parameter) → All Good (parameter_types ps)
+      → Reads AreParameters D (parameters_by term ps)
+  parameters_read [] h = tt
+  parameters_read (Typed at ∷ ps) h =
+      reads_both D _ AreParameters AreParameters ParameterTerm (term at) (parameters_by term ps)
+      (first-of Good at (parameter_types ps) h) (parameters_read ps (others-of Good at (parameter_types ps) h))
+      (λ t us g are. (g.legible, are))
+  parameters_read (More ∷ ps) h = parameters_read ps h
 
--- ---- where an entry has a declaration, and where that can be read back
+  signature_reads : (ps : List Parameter) → (Any (IsVoidLike shapes) (parameter_types ps) → ⊥)
+      → is_misplaced ps ≡ false → All Good (parameter_types ps)
+      → Reads (λ us. IsSignature (Prototyped us (has_more ps))) D (parameters_by term ps)
+  signature_reads [] voids placed h = refl
+  signature_reads (More ∷ ps) voids placed h = absurd (cc)
+  signature_reads (Typed None ∷ ps) voids placed h =
+      absurd (voids (any_here (IsVoidLike shapes) None (parameter_types ps) nothing))
+  signature_reads (Typed (Some n) ∷ ps) voids placed h =
+      reads_both D _ AreParameters _ ParameterTerm (term (Some n)) (parameters_by term ps)
+      (first-of Good (Some n) (parameter_types ps) h)
+      (parameters_read ps (others-of Good (Some n) (parameter_types ps) h))
+      (λ t us g are. (g.present (λ e. absurd (cc)), g.legible, are))
 
-module _ (shapes : ℕ → ShapeOf) (subject : SubjectOf) where
-  kept_reached : HoldsNoneBelow 5 shapes subject → AreKept shapes (IsReached shapes subject)
-  kept_reached none = record {
-    fine = λ entry reached. record {
-      named = λ w. none BadName (omega arith) (name_reached entry reached w);
-      ours = λ w. none Foreign (omega arith) (foreign_reached entry reached w);
-      speakable = λ w. none Unspeakable (omega arith) (shape_reached entry reached w);
-    };
-    on = λ from to reached leads. further reached leads;
-  }
+  members_read : (odd : Bool) (word : AggregateKeyword) (ms : List MemberOf)
+      → (has_bad_name (kind_at shapes) (body (aggregate word odd ms)) ≡ true → ⊥) → All Good (member_types ms)
+      → Reads AreMembers D (members_by term ms)
+  members_read odd word [] named h = tt
+  members_read odd word (m ∷ ms) named h =
+      reads_both D _ AreMembers AreMembers (λ (t : Term). MemberTerm m.name t m.bits) (term m.type_at)
+      (members_by term ms) (first-of Good m.type_at (member_types ms) h)
+      (members_read odd word ms (λ w. named (or_right _ _ w)) (others-of Good m.type_at (member_types ms) h))
+      (λ t us g are. (
+        member_legible (kind_at shapes m.type_at) m.bits m.name (λ w. named (or_left _ _ w)),
+        g.legible,
+        are,
+      ))
 
--- where nothing is wrong and no row of steps is too long, there is a declaration
-pub subject_some : (k : ℕ) (shapes : ℕ → ShapeOf) (subject : SubjectOf) → HoldsNoneBelow 5 shapes subject
-    → (HasPath shapes subject (suc k) → ⊥) → IsSome (declaration_by (term_at (suc k) shapes) subject)
-subject_some k shapes subject none short =
-    by_subject subject none (all-types (HasTerm (term_at (suc k) shapes)) refl (types_declared subject)
-    (λ n leads. entry_some shapes (IsReached shapes subject) (kept_reached shapes subject none) k n (root leads)
-    (λ to path. short (n, to, leads, path))))
+  constants_read : (es : List EnumeratorOf) → (list_any lacks_identifier es ≡ true → ⊥)
+      → (list_any lacks_value es ≡ true → ⊥) → Reads AreConstants D (constants_of es)
+  constants_read [] named valued = tt
+  constants_read (e ∷ es) named valued =
+      one e.name e.value (λ w. named (or_left _ _ w)) (λ w. valued (or_left _ _ w))
+      (constants_read es (λ w. named (or_right _ _ w)) (λ w. valued (or_right _ _ w)))
+    where
+      one : (name : Name) (value : Option ℤ) → (lacks_name name ≡ true → ⊥) → (not (is_some value) ≡ true → ⊥)
+          → Reads AreConstants D (constants_of es)
+          → Reads AreConstants D (option_and_then (λ (n : List ℕ). option_and_then
+          (λ (v : ℤ). option_map (λ (cs : List Constant). Valued n v ∷ cs) (constants_of es)) value) name)
+      one None value there number rest = absurd (there refl)
+      one (Some n) None there number rest = absurd (number refl)
+      one (Some n) (Some v) there number rest =
+          reads_map D AreConstants AreConstants (λ (cs : List Constant). Valued n v ∷ cs) (constants_of es) rest
+          (λ cs are. (not_refuted (is_identifier n) there, are))
+
+  body_reads : (b : BodyOf) → (has_bad_name (kind_at shapes) (body b) ≡ true → ⊥)
+      → (is_wrong (kind_at shapes) (body b) ≡ true → ⊥) → All Good (types_reached (body b))
+      → Reads IsLegibleBody D (body_by term b)
+  body_reads (aggregate word odd ms) named right h =
+      reads_map D AreMembers IsLegibleBody (Aggregate word) (members_by term ms) (members_read odd word ms named h)
+      (λ us are. are)
+  body_reads (enumeration odd es) named right h =
+      reads_map D AreConstants IsLegibleBody Constants (constants_of es)
+      (constants_read es named (λ w. right (unvalued es w))) (λ cs are. are)
+
+  -- what a qualifier is over is no array and no function
+  plain_under : (q : Qualifier) (at : TypeAt) → (IsUnspeakable shapes (qualified q at) → ⊥)
+      → is_bracketed (kind_at shapes at) ≡ true → ⊥
+  plain_under q None fine w = absurd (cc)
+  plain_under q (Some n) fine w = fine (row (Some n) alone (bracketed_row q (kind_at shapes (Some n)) w))
+    where
+      alone : StandsUnder shapes (Some n) (Some n)
+      alone =
+          itself (λ r to same. (let clash : true
+          ≡ false = sym w ∙ ap (λ (s : ShapeOf). is_bracketed (kind_in (Some s))) same in absurd (cc)))
+
+  shape_reads : (s : ShapeOf) → IsFine shapes s → All Good (types_reached s)
+      → Reads (IsGood (Some s)) D (term_by term s)
+  shape_reads (base name) fine h = base_reads name fine.named
+  shape_reads (typedef (Some n)) fine h = good _ (Named n) (not_refuted (is_identifier n) fine.named) tt tt
+  shape_reads (qualified q at) fine h =
+      reads_map D _ (IsGood _) (Qualified q) (term at) (first-of Good at [] h)
+      (λ t g. good _ (Qualified q t) (g.qualifiable (plain_under q at fine.speakable), g.legible) tt tt)
+  shape_reads (pointer at) fine h =
+      reads_map D _ (IsGood _) Pointer (term at) (first-of Good at [] h) (λ t g. good _ (Pointer t) g.legible tt tt)
+  shape_reads (array [] strange at) fine h = absurd (fine.speakable (wrong (or_right strange _ refl)))
+  shape_reads (array (c ∷ cs) strange at) fine h =
+      reads_unless D _ (is_miscounted (c ∷ cs)) _
+      (λ w. fine.speakable (wrong (or_right strange _ (or_left (is_miscounted (c ∷ cs)) _ w))))
+      (λ placed. reads_map D _ (IsGood _) (nested_arrays (c ∷ cs)) (term at) (first-of Good at [] h)
+      (λ t g. bracketed _ (nested_arrays (c ∷ cs) t) (arrays_legible (c ∷ cs) t g.legible) tt refl))
+  shape_reads (function at None) fine h =
+      reads_map D _ (IsGood _) (λ (t : Term). Function t Unprototyped) (term at) (first-of Good at [] h)
+      (λ t g. bracketed _ (Function t Unprototyped) (g.legible, tt) tt refl)
+  shape_reads (function at (Some ps)) fine h =
+      reads_unless D _ (is_misplaced ps) _ (λ w. fine.speakable (wrong (or_right _ _ w)))
+      (λ placed. reads_both D _ _ (IsGood _) (λ (t : Term) (us : Parameters). Function t (Prototyped us (has_more ps)))
+      (term at) (parameters_by term ps) (first-of Good at (parameter_types ps) h)
+      (signature_reads ps (λ w. fine.speakable (void_object w)) placed (others-of Good at (parameter_types ps) h))
+      (λ t us g are. bracketed _ (Function t (Prototyped us (has_more ps))) (g.legible, are) tt refl))
+  shape_reads (tagged word n) fine h = good _ (Tagged word n) (not_refuted (is_identifier n) fine.named) tt tt
+  shape_reads (body b) fine h =
+      reads_map D IsLegibleBody (IsGood _) Unnamed (body_by term b)
+      (body_reads b fine.named (λ w. fine.speakable (wrong w)) h) (λ u are. good _ (Unnamed u) are tt tt)
+  shape_reads foreign fine h = absurd (fine.ours refl)
+  shape_reads other fine h = absurd (fine.ours refl)
+  shape_reads _ fine h = absurd (fine.named refl)
+
+-- ---- those that are reached, and the declared one
+
+module _ (shapes : ℕ → ShapeOf) where
+  void_reads : (k : ℕ) (D : Type 0) (roots : List ℕ) → (HasPathFrom shapes roots k → D)
+      → Reads (IsGood None) D (term_at k shapes None)
+  void_reads zero D roots deeper = deeper tt
+  void_reads (suc k) D roots deeper =
+      record { legible = tt; present = λ entry. absurd (entry refl); qualifiable = λ _. tt }
+
+  -- a path goes on from an entry to those that it leads to
+  longer : (k n : ℕ) (roots : List ℕ) → Contains roots n → HasPathFrom shapes (steps_reached shapes n) k
+      → HasPathFrom shapes roots (suc k)
+  longer zero n roots c path = (n, n, c, refl)
+  longer (suc k) n roots c (next, to, step, led) = (n, to, c, (next, step, led))
+
+  entry_reads : (Fine : ℕ → Type 0) → ((n : ℕ) → Fine n → IsFine shapes (shapes n))
+      → ((n to : ℕ) → Fine n → Contains (steps_reached shapes n) to → Fine to) → (k n : ℕ) → Fine n → (roots : List ℕ)
+      → Contains roots n → Reads (IsGood (Some (shapes n))) (HasPathFrom shapes roots k) (term_at k shapes (Some n))
+  entry_reads Fine fine on zero n here roots c = tt
+  entry_reads Fine fine on (suc k) n here roots c =
+      let types = types_reached (shapes n) in
+      let D = HasPathFrom shapes roots (suc k) in
+      shape_reads shapes (term_at k shapes) D (shapes n) (fine n here)
+      (all-types (Good shapes (term_at k shapes) D) (void_reads k D (entries_among types) (longer k n roots c)) types
+      (λ m leads. reads_wider _ _ D (term_at k shapes (Some m)) (longer k n roots c)
+      (entry_reads Fine fine on k m (on n m here leads) (entries_among types) leads)))
+
+-- where nothing is wrong, there is a declaration that can be read back, or a path is too long
+subject_reads : (k : ℕ) (shapes : ℕ → ShapeOf) (subject : SubjectOf) → HoldsNoneBelow 5 shapes subject
+    → Reads IsLegibleDeclaration (HasPath shapes subject k) (declaration_by (term_at k shapes) subject)
+subject_reads k shapes subject none =
+    by_subject subject none (all-types (Good shapes (term_at k shapes) D)
+    (void_reads shapes k D (entries_among (types_declared subject)) (λ path. path)) (types_declared subject)
+    (λ n leads. entry_reads shapes (IsReached shapes subject) fine (λ from to r c. further r c) k n (root leads)
+    (entries_among (types_declared subject)) leads))
   where
-    by_subject : (s : SubjectOf) → HoldsNoneBelow 5 shapes s
-        → All (HasTerm (term_at (suc k) shapes)) (types_declared s)
-        → IsSome (declaration_by (term_at (suc k) shapes) s)
+    D : Type 0
+    D = HasPath shapes subject k
+
+    term : TypeAt → Option Term
+    term = term_at k shapes
+
+    fine : (n : ℕ) → IsReached shapes subject n → IsFine shapes (shapes n)
+    fine n reached = record {
+      named = λ w. none BadName (omega arith) (name_reached n reached w);
+      ours = λ w. none Foreign (omega arith) (foreign_reached n reached w);
+      speakable = λ w. none Unspeakable (omega arith) (shape_reached n reached w);
+    }
+
+    identifier : (s : SubjectOf) (n : List ℕ) → HoldsNoneBelow 5 shapes s
+        → (lacks_name (Some n) ≡ true → has_own_bad_name (kind_at shapes) s ≡ true) → IsIdentifier n
+    identifier s n none bad = not_refuted (is_identifier n) (λ w. none BadName (omega arith) (own_name (bad w)))
+
+    by_subject : (s : SubjectOf) → HoldsNoneBelow 5 shapes s → All (Good shapes term D) (types_declared s)
+        → Reads IsLegibleDeclaration D (declaration_by term s)
     by_subject (typedef_subject (Some n) at) none h =
-        map_some (Typedef n) (term_at (suc k) shapes at) (first-of (HasTerm (term_at (suc k) shapes)) at [] h)
+        reads_map D _ IsLegibleDeclaration (Typedef n) (term at) (first-of (Good shapes term D) at [] h)
+        (λ t g. (identifier (typedef_subject (Some n) at) n none (λ w. w), g.legible))
     by_subject (variable_subject (Some n) at) none h =
-        map_some (Variable n) (term_at (suc k) shapes at) (first-of (HasTerm (term_at (suc k) shapes)) at [] h)
-    by_subject (aggregate_subject word (Some n) odd ms) none h =
-        map_some (Aggregate word n) (members_by (term_at (suc k) shapes) ms)
-        (members_some (term_at (suc k) shapes) ms h)
-    by_subject (enumeration_subject (Some n) odd es) none h =
-        map_some (Constants n) (constants_of es)
-        (constants_some es (λ w. none BadName (omega arith) (own_name (or_right _ _ w)))
-        (λ w. none Unspeakable (omega arith) (own_shape (wrong_enumeration (unvalued es w)))))
-    by_subject (declared_subject word (Some n)) none h = refl
+        reads_map D _ IsLegibleDeclaration (Variable n) (term at) (first-of (Good shapes term D) at [] h)
+        (λ t g. (identifier (variable_subject (Some n) at) n none (λ w. w), g.legible))
+    by_subject (defined_subject (Some n) b) none h =
+        reads_map D IsLegibleBody IsLegibleDeclaration (Defined n) (body_by term b)
+        (body_reads shapes term D b (λ w. none BadName (omega arith) (own_name (or_right _ _ w)))
+        (λ w. none Unspeakable (omega arith) (own_shape (unspeakable (wrong w)))) h)
+        (λ u are. (identifier (defined_subject (Some n) b) n none (λ w. or_left _ _ w), are))
+    by_subject (declared_subject word (Some n)) none h =
+        identifier (declared_subject word (Some n)) n none (λ w. w)
     by_subject other_subject none h = absurd (none NotPrintable (omega arith) (other_kind refl))
     by_subject _ none h = absurd (none BadName (omega arith) (own_name refl))
 
--- where nothing is wrong, the declaration can be read back
+pub subject_some : (k : ℕ) (shapes : ℕ → ShapeOf) (subject : SubjectOf) → HoldsNoneBelow 5 shapes subject
+    → (HasPath shapes subject k → ⊥) → IsSome (declaration_by (term_at k shapes) subject)
+subject_some k shapes subject none short =
+    reads_some IsLegibleDeclaration (HasPath shapes subject k) _ (subject_reads k shapes subject none) short
+
 pub subject_legible : (k : ℕ) (shapes : ℕ → ShapeOf) (subject : SubjectOf) → HoldsNoneBelow 5 shapes subject
     → (d : CDeclaration) → declaration_by (term_at k shapes) subject ≡ Some d → IsLegibleDeclaration d
-subject_legible k shapes subject none d e =
-    by_subject subject none (all-types (ReadsAt (term_at k shapes)) (void_legible k shapes) (types_declared subject)
-    (λ n leads. entry_legible shapes (IsReached shapes subject) (kept_reached shapes subject none) k n (root leads))) e
-  where
-    identifier : (s : SubjectOf) (n : List ℕ) → HoldsNoneBelow 5 shapes s
-        → (not (is_identifier n) ≡ true → has_own_bad_name (kind_at shapes) s ≡ true) → IsIdentifier n
-    identifier s n none bad = not_refuted (is_identifier n) (λ w. none BadName (omega arith) (own_name (bad w)))
-
-    by_subject : (s : SubjectOf) → HoldsNoneBelow 5 shapes s
-        → All (ReadsAt (term_at k shapes)) (types_declared s)
-        → declaration_by (term_at k shapes) s ≡ Some d → IsLegibleDeclaration d
-    by_subject (typedef_subject (Some n) at) none h e =
-        map_holds IsLegibleDeclaration (Typedef n) (term_at k shapes at)
-        (λ u is. (
-          identifier (typedef_subject (Some n) at) n none (λ w. w),
-          first-of (ReadsAt (term_at k shapes)) at [] h u is,
-        )) d e
-    by_subject (variable_subject (Some n) at) none h e =
-        map_holds IsLegibleDeclaration (Variable n) (term_at k shapes at)
-        (λ u is. (
-          identifier (variable_subject (Some n) at) n none (λ w. w),
-          first-of (ReadsAt (term_at k shapes)) at [] h u is,
-        )) d e
-    by_subject (aggregate_subject word (Some n) odd ms) none h e =
-        map_holds IsLegibleDeclaration (Aggregate word n) (members_by (term_at k shapes) ms) (λ us are. (
-          identifier (aggregate_subject word (Some n) odd ms) n none (λ w. or_left _ _ w),
-          members_legible (term_at k shapes) shapes ms
-              (λ w. none BadName (omega arith) (own_name (or_right _ _ w))) h us are,
-        )) d e
-    by_subject (enumeration_subject (Some n) odd es) none h e =
-        map_holds IsLegibleDeclaration (Constants n) (constants_of es) (λ cs are. (
-          identifier (enumeration_subject (Some n) odd es) n none (λ w. or_left _ _ w),
-          constants_legible es (λ w. none BadName (omega arith) (own_name (or_right _ _ w))) cs are,
-        )) d e
-    by_subject (declared_subject word (Some n)) none h e =
-        let same : Declared word n ≡ d = cc in
-        subst IsLegibleDeclaration same (identifier (declared_subject word (Some n)) n none (λ w. w))
-    by_subject _ none h e = absurd (cc)
+subject_legible k shapes subject none =
+    reads_at IsLegibleDeclaration (HasPath shapes subject k) _ (subject_reads k shapes subject none)

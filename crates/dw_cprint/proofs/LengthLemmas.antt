@@ -3,20 +3,20 @@ use Rattle.std.proofs.Common.{◌≡◌, ℕ, ◌+◌, Bool, true, false, List, 
 use Rattle.std.specs.Prelude.{All, sum_by, flat_map, if◌then◌else◌, ◌||◌, not}
 use Rattle.std.proofs.lemmas.List.Sums.{sum_by-cons}
 use Rattle.dw_types.specs.Sizes.{has_elements}
-use Rattle.dw_cprint.specs.Declarations.{nested_arrays, constants_of, declaration_by, has_more, is_miscounted, members_by, term_by}
+use Rattle.dw_cprint.specs.Declarations.{nested_arrays, body_by, declaration_by, has_more, is_miscounted, term_by}
 use Rattle.dw_cprint.specs.Declarators.{gap, opening, closing, pointer_row, before, after, core}
-use Rattle.dw_cprint.specs.Lengths.{byte_count, capped, count_bytes, type_bytes, space, has_gap, qualifier_bytes, IsLength, tag_bytes, bytes_around, named_bytes, members_bytes, parameters_bytes, shape_bytes, base_kind, declared_bytes}
-use Rattle.dw_cprint.specs.Shapes.{Qualifier, OfAggregate, Enum, TypeAt, ShapeOf, base, typedef, qualified, pointer, array, function, tagged, body, enumeration, SubjectOf, typedef_subject, variable_subject, aggregate_subject, enumeration_subject, declared_subject}
+use Rattle.dw_cprint.specs.Lengths.{byte_count, capped, count_bytes, type_bytes, space, has_gap, qualifier_bytes, IsLength, tag_bytes, shape_bytes, base_kind, declared_bytes}
+use Rattle.dw_cprint.specs.Shapes.{Qualifier, TypeAt, BodyOf, aggregate, enumeration, ShapeOf, base, typedef, qualified, pointer, array, function, tagged, body, SubjectOf, typedef_subject, variable_subject, defined_subject, declared_subject}
 use Rattle.dw_cprint.specs.Steps.{parameter_types, types_declared, types_reached}
 use Rattle.dw_cprint.specs.Summaries.{Summary}
-use Rattle.dw_cprint.specs.Terms.{Term, Void, Body, Enumeration, Qualified, Pointer, Function, Unprototyped, Prototyped, CDeclaration, Typedef, Variable, Aggregate, Constants}
+use Rattle.dw_cprint.specs.Terms.{Term, Void, Unnamed, Qualified, Pointer, Function, Unprototyped, Prototyped, CDeclaration, Typedef, Variable, Defined}
 use Rattle.dw_cprint.specs.Tokens.{Token, Blank, Star, Open, Close, Semicolon, TypedefWord, TagWord, QualifierWord, Identifier, qualifier_spelling}
-use Rattle.dw_cprint.specs.Writing.{body_tokens, enumeration_tokens, spell, qualifying, count_tokens, signature_tokens, written}
+use Rattle.dw_cprint.specs.Writing.{body_tokens, front_tokens, spell, qualifying, count_tokens, signature_tokens, written}
 use Rattle.dw_cprint.specs.Wrong.{TypeKind, is_bracketed, is_pointer, kind_in}
 use Rattle.dw_cprint.specs.declared.shape.TypeKind.TheVariants as kind
 use Rattle.dw_cprint.proofs.KindLemmas.{first-of, others-of}
 use Rattle.dw_cprint.proofs.OptionLemmas.{map_holds, map_inverted, unless_holds}
-use Rattle.dw_cprint.proofs.PartLengthLemmas.{count-append, count-cons, Tells, bare-length, bare-known, body-length, around-length, defined-length, named-length, signature-length, enumerators-length}
+use Rattle.dw_cprint.proofs.PartLengthLemmas.{count-append, count-cons, Tells, bare-length, bare-known, body-length, around-length, named-length, signature-length}
 use Rattle.dw_cprint.proofs.WriterLemmas.{IsSpecifier, specifier-of, base-core, before-arrays, after-arrays, function-parts}
 
 -- a specifier
@@ -180,6 +180,11 @@ counts-length (c ∷ cs) =
     ∙ ap (λ (m : ℕ). byte_count (count_tokens c) + m) (counts-length cs)
     ∙ sym (sum_by-cons count_bytes c cs)
 
+plain-body : (b : BodyOf)
+    → (is_bracketed (kind_in (Some (body b))) ≡ false) × (is_pointer (kind_in (Some (body b))) ≡ false)
+plain-body (aggregate word odd ms) = (refl, refl)
+plain-body (enumeration odd es) = (refl, refl)
+
 module _ (term : TypeAt → Option Term) (known : TypeAt → Summary) where
   -- what is counted for a shape is right
   pub shape-length : (s : ShapeOf) (t : Term) → All (Tells term known) (types_reached s) → term_by term s ≡ Some t
@@ -253,26 +258,16 @@ module _ (term : TypeAt → Option Term) (known : TypeAt → Summary) where
             (Identifier name ∷ []),
         count-cons (Identifier name) [],
       )) refl refl
-  shape-length (body word odd ms) t all e =
-      let f = map_inverted (Body word) (members_by term ms) t e in
+  shape-length (body b) t all e =
+      let k = kind_in (Some (body b)) in
+      let f = map_inverted Unnamed (body_by term b) t e in
       let own = byte_count (core t) in
       let long = ap (λ (u : Term). byte_count (core u)) f.2 in
-      let tag = count-cons (TagWord (OfAggregate word)) (Blank ∷ body_tokens f.0) in
-      let same : capped (shape_bytes known (body word odd ms)) ≡ capped own =
-      omega (arith, body-length term known ms f.0 all f.1, tag, long) in
-      subst (λ (n : ℕ). IsLength t kind.UnnamedAggregate kind.UnnamedAggregate n) (sym same)
-      (core-length t kind.UnnamedAggregate own (specifier-of term (body word odd ms) t refl e) refl refl refl)
-  shape-length (enumeration odd es) t all e =
-      let f = map_inverted Enumeration (constants_of es) t e in
-      let long = ap (λ (u : Term). byte_count (core u)) f.2 in
-      core-length t kind.Other (shape_bytes known (enumeration odd es))
-      (specifier-of term (enumeration odd es) t refl e)
-      (omega (
-        arith,
-        count-cons (TagWord Enum) (Blank ∷ enumeration_tokens f.0),
-        long,
-        enumerators-length es f.0 f.1,
-      )) refl refl
+      let none : byte_count (front_tokens None) ≡ 0 = refl in
+      let same : capped (shape_bytes known (body b)) ≡ capped own =
+      omega (arith, body-length term known b f.0 None all f.1, none, long) in
+      subst (λ (n : ℕ). IsLength t k k n) (sym same)
+      (core-length t k own (specifier-of term (body b) t refl e) refl (plain-body b).0 (plain-body b).1)
   shape-length _ t all e = absurd (cc)
 
   -- and for a declaration
@@ -292,15 +287,15 @@ module _ (term : TypeAt → Option Term) (known : TypeAt → Summary) where
       let text = spell [] t (Identifier name ∷ []) in
       let own = named-length term known t at (Some name) (first-of (Tells term known) at [] all t is) in
       omega (arith, own, count-append text (Semicolon ∷ []))) d e
-  declared-length (aggregate_subject word (Some name) odd ms) d all e =
-      map_holds (λ (d : CDeclaration). capped (declared_bytes known (aggregate_subject word (Some name) odd ms))
-      ≡ capped (length (written d))) (Aggregate word name) (members_by term ms) (λ us are.
-      omega (arith, body-length term known ms us all are, defined-length (OfAggregate word) name (body_tokens us)))
-      d e
-  declared-length (enumeration_subject (Some name) odd es) d all e =
-      map_holds (λ (d : CDeclaration). capped (declared_bytes known (enumeration_subject (Some name) odd es))
-      ≡ capped (length (written d))) (Constants name) (constants_of es) (λ cs are.
-      omega (arith, enumerators-length es cs are, defined-length Enum name (enumeration_tokens cs))) d e
+  declared-length (defined_subject (Some name) b) d all e =
+      map_holds (λ (d : CDeclaration). capped (declared_bytes known (defined_subject (Some name) b))
+      ≡ capped (length (written d))) (Defined name) (body_by term b) (λ u are.
+      omega (
+        arith,
+        body-length term known b u (Some name) all are,
+        count-cons (Identifier name) (Blank ∷ []),
+        count-append (body_tokens (Some name) u) (Semicolon ∷ []),
+      )) d e
   declared-length (declared_subject word (Some name)) d all e =
       let a = count-cons (TagWord word) (Blank ∷ Identifier name ∷ Semicolon ∷ []) in
       ap (λ (n : ℕ). capped n) (omega

@@ -1,7 +1,6 @@
 pub mod CheckedLemmas
 pub mod CountLemmas
 pub mod DeclaratorLemmas
-pub mod HasTermLemmas
 pub mod LegibleLemmas
 pub mod OptionLemmas
 pub mod NameLemmas

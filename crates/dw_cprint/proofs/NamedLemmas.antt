@@ -9,11 +9,11 @@ use Rattle.dw_forms.specs.Codes.{DW_TAG_typedef, DW_TAG_variable}
 use Rattle.dw_image.specs.References.{is_declared}
 use Rattle.dw_image.specs.declared.image.Image.{Image}
 use Rattle.dw_image.specs.Images.{entries_in}
-use Rattle.dw_cprint.specs.EntryShapes.{defined_in, members_in, subject_in, tag_in, tag_word}
+use Rattle.dw_cprint.specs.EntryShapes.{body_in, members_in, subject_in, tag_in, tag_word}
 use Rattle.dw_cprint.specs.Listings.{AreNamedTypes, IsNamedType, is_named_type, named_number}
 use Rattle.dw_cprint.specs.LookUps.{entry_by, name_at, tag_at, type_at}
 use Rattle.dw_cprint.specs.Judgements.{AreNames, IsNameOf}
-use Rattle.dw_cprint.specs.Shapes.{AggregateKeyword, TagKeyword, OfAggregate, Enum, SubjectOf, declared_subject, typedef_subject, variable_subject}
+use Rattle.dw_cprint.specs.Shapes.{AggregateKeyword, TagKeyword, OfAggregate, Enum, SubjectOf, declared_subject, defined_subject, typedef_subject, variable_subject}
 use Rattle.dw_cprint.specs.Steps.{member_types, types_declared}
 use Rattle.dw_cprint.specs.declared.words.Text.{Text}
 use Rattle.dw_cprint.proofs.ListingLemmas.{named_done}
@@ -36,7 +36,13 @@ module _ (image : Image) (id : ℕ) where
   -- what is declared at a named type: a typedef, or a structure, union or enumeration with its body
   abbrev pub named_subject : Option TagKeyword → SubjectOf
   named_subject None = typedef_subject (name_at image id) (type_at image id)
-  named_subject (Some word) = defined_in image id word (name_at image id)
+  named_subject (Some word) = defined_subject (name_at image id) (body_in image id word)
+
+  -- a structure, union or enumeration that is only declared, or with its body
+  abbrev told : Bool → TagKeyword → SubjectOf
+  told declared word =
+      if declared then declared_subject word (name_at image id)
+      else defined_subject (name_at image id) (body_in image id word)
 
   chosen_is : (a b : Bool) (o : Option TagKeyword) → (a ≡ true → o ≡ None)
       → is_named_type (chosen a b o) ≡ true → chosen a b o ≡ named_subject o
@@ -46,12 +52,8 @@ module _ (image : Image) (id : ℕ) where
   chosen_is false false None none is = absurd (cc)
   chosen_is false false (Some word) none is = whole (is_declared (entry_by image id)) word is
     where
-      whole : (declared : Bool) (word : TagKeyword)
-          → is_named_type
-          (if declared then declared_subject word (name_at image id) else defined_in image id word (name_at image id))
-          ≡ true
-          → (if declared then declared_subject word (name_at image id) else defined_in image id word (name_at image id))
-          ≡ defined_in image id word (name_at image id)
+      whole : (declared : Bool) (word : TagKeyword) → is_named_type (told declared word) ≡ true
+          → told declared word ≡ named_subject (Some word)
       whole true word is = absurd (cc)
       whole false word is = refl
 
@@ -62,12 +64,9 @@ module _ (image : Image) (id : ℕ) where
   chosen_word false false word none other = whole (is_declared (entry_by image id)) word
     where
       whole : (declared : Bool) (word : TagKeyword)
-          → is_named_type
-          (if declared then declared_subject word (name_at image id) else defined_in image id word (name_at image id))
-          ≡ (not declared && is_some (name_at image id))
+          → is_named_type (told declared word) ≡ (not declared && is_some (name_at image id))
       whole true word = refl
-      whole false (OfAggregate word) = refl
-      whole false Enum = refl
+      whole false word = refl
 
   chosen_none : (a b : Bool) → is_named_type (chosen a b None) ≡ (a && is_some (name_at image id))
   chosen_none true b = refl

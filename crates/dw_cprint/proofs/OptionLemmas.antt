@@ -35,15 +35,6 @@ pub some_value : {A : Type 0} → (o : Option A) → IsSome o → (x : A) × (o 
 some_value None h = absurd (cc)
 some_value (Some x) h = (x, refl)
 
-pub map_some : {A B : Type 0} → (f : A → B) (o : Option A) → IsSome o → IsSome (option_map f o)
-map_some f None h = h
-map_some f (Some x) h = refl
-
-pub then_some : {A B : Type 0} → (f : A → Option B) (o : Option A) → IsSome o → ((x : A) → IsSome (f x))
-    → IsSome (option_and_then f o)
-then_some f None h g = absurd (cc)
-then_some f (Some x) h g = g x
-
 pub not_refuted : (b : Bool) → (not b ≡ true → ⊥) → b ≡ true
 not_refuted true h = refl
 not_refuted false h = absurd (h refl)
@@ -53,10 +44,6 @@ pub unless_inverted : {A : Type 0} → (b : Bool) (o : Option A) (y : A) → (if
     → (b ≡ false) × (o ≡ Some y)
 unless_inverted true o y h = absurd (cc)
 unless_inverted false o y h = (refl, h)
-
-pub unless_some : {A : Type 0} → (b : Bool) (o : Option A) → (b ≡ true → ⊥) → IsSome o → IsSome (if b then None else o)
-unless_some true o h s = absurd (h refl)
-unless_some false o h s = s
 
 -- what follows where a call succeeds
 pub ok_then : {A E : Type 0} (r : Result A E) (P Q : Type 0) → (P → Q) → OnOk r P → OnOk r Q

@@ -1,23 +1,23 @@
 -- The text of what a type lists, members, parameters or enumerators, has as many bytes as are counted for it, up to
 -- the limit.
-use Rattle.std.proofs.Common.{◌≡◌, ℕ, ◌+◌, Bool, true, false, List, [], ◌∷◌, ◌++◌, Option, Some, None, refl, sym, ap, subst, ◌∙◌, length, length-append, arith}
+use Rattle.std.proofs.Common.{◌≡◌, ℕ, ◌+◌, Bool, true, false, List, [], ◌∷◌, ◌++◌, Option, Some, None, sym, ap, subst, ◌∙◌, length, length-append, arith}
 use Rattle.std.proofs.lemmas.Grind.{flat_map-append}
 use Rattle.std.specs.Prelude.{All, sum_by}
 use Rattle.std.proofs.lemmas.List.Sums.{sum_by-cons}
-use Rattle.dw_cprint.specs.Declarations.{constants_of, has_more, is_misplaced, is_cut_short, members_by, parameters_by}
+use Rattle.dw_cprint.specs.Declarations.{body_by, constants_of, has_more, is_misplaced, is_cut_short, members_by, parameters_by}
 use Rattle.dw_cprint.specs.Declarators.{before, after}
-use Rattle.dw_cprint.specs.Lengths.{byte_count, capped, type_bytes, space, has_gap, IsLength, name_bytes, value_bytes, enumerator_bytes, enumerators_bytes, named_bytes, member_bytes, members_bytes, parameter_bytes, parameters_bytes, tag_bytes}
-use Rattle.dw_cprint.specs.Shapes.{Parameter, Typed, More, Name, TagKeyword, TypeAt, MemberOf, EnumeratorOf}
-use Rattle.dw_cprint.specs.Steps.{member_types, parameter_types}
+use Rattle.dw_cprint.specs.Lengths.{byte_count, capped, type_bytes, space, has_gap, IsLength, name_bytes, value_bytes, enumerator_bytes, enumerators_bytes, named_bytes, member_bytes, parameter_bytes, parameters_bytes, shape_bytes, tag_bytes}
+use Rattle.dw_cprint.specs.Shapes.{Parameter, Typed, More, Name, TagKeyword, OfAggregate, Enum, TypeAt, MemberOf, EnumeratorOf, BodyOf, aggregate, enumeration, body}
+use Rattle.dw_cprint.specs.Steps.{member_types, parameter_types, types_reached}
 use Rattle.dw_cprint.specs.Summaries.{Summary}
-use Rattle.dw_cprint.specs.Terms.{Constant, Valued, Term, Prototyped, Parameters, NoParameter, Parameter as ParameterTerm, Members, NoMember, Member as MemberTerm}
+use Rattle.dw_cprint.specs.Terms.{Constant, Valued, Term, Body, Aggregate, Constants, Prototyped, Parameters, NoParameter, Parameter as ParameterTerm, Members, NoMember, Member as MemberTerm}
 use Rattle.dw_cprint.specs.Tokens.{Token, Blank, LeftBrace, RightBrace, Semicolon, Comma, Equals, TagWord, Identifier, spelling, text_of}
-use Rattle.dw_cprint.specs.Writing.{body_tokens, enumeration_tokens, spell, bits_tokens, constant_tokens, constants, ellipsis, members_tokens, more_constants, more_parameters, name_tokens, signature_tokens, value_tokens}
+use Rattle.dw_cprint.specs.Writing.{body_tokens, front_tokens, spell, bits_tokens, constant_tokens, constants, ellipsis, members_tokens, more_constants, more_parameters, name_tokens, signature_tokens, value_tokens}
 use Rattle.dw_cprint.specs.Wrong.{TypeKind}
 use Rattle.dw_cprint.proofs.DeclaratorLemmas.{in_parts}
 use Rattle.dw_cprint.proofs.ItemWriterLemmas.{more-constants}
 use Rattle.dw_cprint.proofs.KindLemmas.{first-of, others-of}
-use Rattle.dw_cprint.proofs.OptionLemmas.{both_hold}
+use Rattle.dw_cprint.proofs.OptionLemmas.{both_hold, map_holds}
 
 -- ---- counts
 
@@ -103,17 +103,6 @@ module _ (term : TypeAt → Option Term) (known : TypeAt → Summary) where
         count-append (Semicolon ∷ Blank ∷ []) (members_tokens vs),
       )) us e
 
-  -- the same in braces
-  pub body-length : (ms : List MemberOf) (us : Members) → All (Tells term known) (member_types ms)
-      → members_by term ms ≡ Some us → capped (members_bytes known ms) ≡ capped (byte_count (body_tokens us))
-  body-length ms us all e =
-      omega (
-        arith,
-        members-length ms us all e,
-        count-append (LeftBrace ∷ Blank ∷ []) (members_tokens us ++ RightBrace ∷ []),
-        count-append (members_tokens us) (RightBrace ∷ []),
-      )
-
   -- those after the first, and the dots
   parameters-length : (ps : List Parameter) (us : Parameters) → is_cut_short ps ≡ false
       → All (Tells term known) (parameter_types ps) → parameters_by term ps ≡ Some us
@@ -184,31 +173,56 @@ more-length : (c : Constant) (cs : List Constant)
 more-length c cs =
     omega (arith, count-append (Comma ∷ Blank ∷ []) (constant_tokens c ++ more_constants cs))
 
-pub enumerators-length : (es : List EnumeratorOf) (cs : List Constant) → constants_of es ≡ Some cs
-    → enumerators_bytes es ≡ byte_count (enumeration_tokens cs)
+enumerators-length : (es : List EnumeratorOf) (cs : List Constant) → constants_of es ≡ Some cs
+    → enumerators_bytes es ≡ 2 + byte_count (constants cs ++ Blank ∷ RightBrace ∷ [])
 enumerators-length [] cs e =
-    (let same : [] ≡ cs = cc in ap (λ (u : List Constant). byte_count (enumeration_tokens u)) same)
+    (let same : [] ≡ cs = cc in
+    ap (λ (u : List Constant). 2 + byte_count (constants u ++ Blank ∷ RightBrace ∷ [])) same)
 enumerators-length (x ∷ es) cs e =
     let m = more-constants x es cs e in
     let P : List Constant → Type 0 = λ u. sum_by enumerator_bytes (x ∷ es) ≡ byte_count (more_constants u) in
-    let Q : List Constant → Type 0 = λ u. enumerators_bytes (x ∷ es) ≡ byte_count (enumeration_tokens u) in
+    let Q : List Constant → Type 0 = λ u. enumerators_bytes (x ∷ es)
+    ≡ 2 + byte_count (constants u ++ Blank ∷ RightBrace ∷ []) in
     let all = constants (Valued m.name m.value ∷ m.others) in
     subst Q m.is (omega (
       arith,
       subst P (sym m.is) (constants-length (x ∷ es) cs e),
       more-length (Valued m.name m.value) m.others,
-      count-append (LeftBrace ∷ Blank ∷ []) (all ++ Blank ∷ RightBrace ∷ []),
       count-append all (Blank ∷ RightBrace ∷ []),
     ))
 
--- what is declared with a name and a body
-pub defined-length : (tag : TagKeyword) (name : List ℕ) (body : List Token)
-    → byte_count (TagWord tag ∷ Blank ∷ Identifier name ∷ Blank ∷ (body ++ Semicolon ∷ []))
-    ≡ tag_bytes tag (Some name) + 2 + byte_count body
-defined-length tag name body =
+-- ---- bodies
+
+-- what is in braces after a keyword and a name
+braces-length : (tag : TagKeyword) (name : Name) (inner : List Token)
+    → byte_count (TagWord tag ∷ Blank ∷ (front_tokens name ++ LeftBrace ∷ Blank ∷ inner))
+    ≡ tag_bytes tag None + byte_count (front_tokens name) + (2 + byte_count inner)
+braces-length tag name inner =
     omega (
       arith,
-      count-cons (TagWord tag) (Blank ∷ Identifier name ∷ Blank ∷ (body ++ Semicolon ∷ [])),
-      count-cons (Identifier name) (Blank ∷ (body ++ Semicolon ∷ [])),
-      count-append body (Semicolon ∷ []),
+      count-cons (TagWord tag) (Blank ∷ (front_tokens name ++ LeftBrace ∷ Blank ∷ inner)),
+      count-cons Blank (front_tokens name ++ LeftBrace ∷ Blank ∷ inner),
+      count-append (front_tokens name) (LeftBrace ∷ Blank ∷ inner),
+      count-append (LeftBrace ∷ Blank ∷ []) inner,
     )
+
+pub body-length : (term : TypeAt → Option Term) (known : TypeAt → Summary) (b : BodyOf) (u : Body) (name : Name)
+    → All (Tells term known) (types_reached (body b)) → body_by term b ≡ Some u
+    → capped (shape_bytes known (body b) + byte_count (front_tokens name)) ≡ capped (byte_count (body_tokens name u))
+body-length term known (aggregate word odd ms) u name all e =
+    map_holds (λ (u : Body). capped (shape_bytes known (body (aggregate word odd ms)) + byte_count (front_tokens name))
+    ≡ capped (byte_count (body_tokens name u))) (Aggregate word) (members_by term ms) (λ us are.
+    omega (
+      arith,
+      members-length term known ms us all are,
+      braces-length (OfAggregate word) name (members_tokens us ++ RightBrace ∷ []),
+      count-append (members_tokens us) (RightBrace ∷ []),
+    )) u e
+body-length term known (enumeration odd es) u name all e =
+    map_holds (λ (u : Body). capped (shape_bytes known (body (enumeration odd es)) + byte_count (front_tokens name))
+    ≡ capped (byte_count (body_tokens name u))) Constants (constants_of es) (λ cs are.
+    omega (
+      arith,
+      enumerators-length es cs are,
+      braces-length Enum name (constants cs ++ Blank ∷ RightBrace ∷ []),
+    )) u e

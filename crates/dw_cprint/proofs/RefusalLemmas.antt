@@ -68,7 +68,7 @@ module _ (shapes : ℕ → ShapeOf) (subject : SubjectOf) where
   there-declared : HoldsNoneBelow 6 shapes subject → (d : CDeclaration) × (declaration_of shapes subject ≡ Some d)
   unfolding declaration_of
   there-declared none =
-      let there = subject_some 64 shapes subject (λ rule below holds. none rule (omega arith) holds)
+      let there = subject_some 65 shapes subject (λ rule below holds. none rule (omega arith) holds)
       (λ path. none TooDeep (omega arith) (deep path)) in
       some_value (declaration_by (term_at 65 shapes) subject) there
 

@@ -3,12 +3,12 @@ use Rattle.std.proofs.Common.{◌≡◌, ℕ, zero, suc, List, [], ◌∷◌, Op
 use Rattle.std.specs.Prelude.{option_map, All, Any, if◌then◌else◌}
 use Rattle.std.proofs.lemmas.List.Elements.{All-weaker}
 use Rattle.dw_types.specs.Paths.{Leads}
-use Rattle.dw_cprint.specs.Declarations.{nested_arrays, is_miscounted, parameters_by, members_by, term_by, declaration_by, term_at, declaration_of}
+use Rattle.dw_cprint.specs.Declarations.{nested_arrays, is_miscounted, parameters_by, members_by, body_by, term_by, declaration_by, term_at, declaration_of}
 use Rattle.dw_cprint.specs.Refusals.{PrintFault, Holds, other_kind, cycle, own_name, name_reached, own_child, foreign_reached, own_shape, shape_reached, deep, long, number_of, HoldsNoneBelow, Refuses, HasOneReading, IsPrinted}
-use Rattle.dw_cprint.specs.Shapes.{Parameter, Typed, More, TypeAt, MemberOf, ShapeOf, base, typedef, qualified, pointer, array, function, body, SubjectOf, typedef_subject, variable_subject, aggregate_subject, enumeration_subject, declared_subject, other_subject}
+use Rattle.dw_cprint.specs.Shapes.{Parameter, Typed, More, TypeAt, MemberOf, BodyOf, aggregate, enumeration, ShapeOf, base, typedef, qualified, pointer, array, function, body, SubjectOf, typedef_subject, variable_subject, defined_subject, declared_subject, other_subject}
 use Rattle.dw_cprint.specs.Steps.{AreSameFor, parameter_types, member_types, types_reached, types_declared, first_steps, root, further, IsReached, StepsTo}
-use Rattle.dw_cprint.specs.Terms.{Term, Qualified, Pointer, Function, Unprototyped, Body, Typedef, Variable, Aggregate}
-use Rattle.dw_cprint.specs.Wrong.{shape_of, StandsUnder, nothing, itself, below, HasBadName, is_wrong_row, kind_at, kind_in, object_types, IsVoidLike, IsUnspeakable, wrong, void_object, row, IsOwnUnspeakable, void_variable, unspeakable, wrong_enumeration, declared_enumeration}
+use Rattle.dw_cprint.specs.Terms.{Term, Qualified, Pointer, Function, Unprototyped, Unnamed, Aggregate, Typedef, Variable, Defined}
+use Rattle.dw_cprint.specs.Wrong.{shape_of, StandsUnder, nothing, itself, below, HasBadName, is_wrong_row, kind_at, kind_in, object_types, IsVoidLike, IsUnspeakable, wrong, void_object, row, IsOwnUnspeakable, void_variable, unspeakable, declared_enumeration}
 use Rattle.dw_cprint.specs.Kept.{kept}
 use Rattle.dw_cprint.specs.Summaries.{AreAmong, IsSurveyOf}
 use Rattle.dw_cprint.specs.declared.survey.Survey.{Survey}
@@ -102,6 +102,10 @@ module _ (shapes others : ℕ → ShapeOf) (subject : SubjectOf) (same : AreSame
         let rest = members-same ms (others-of SameTerm m.type_at (member_types ms) h) in
         rw (first, rest) refl
 
+    body-same : (b : BodyOf) → All SameTerm (types_reached (body b)) → body_by one b ≡ body_by two b
+    body-same (aggregate word odd ms) h = ap (option_map (Aggregate word)) (members-same ms h)
+    body-same (enumeration odd es) h = refl
+
     by-shape-same : (shape : ShapeOf) → All SameTerm (types_reached shape) → term_by one shape ≡ term_by two shape
     by-shape-same (base None) h = refl
     by-shape-same (typedef None) h = refl
@@ -116,7 +120,7 @@ module _ (shapes others : ℕ → ShapeOf) (subject : SubjectOf) (same : AreSame
         let first = first-of SameTerm at (parameter_types ps) h in
         let rest = parameters-same ps (others-of SameTerm at (parameter_types ps) h) in
         rw (first, rest) refl
-    by-shape-same (body word odd ms) h = ap (option_map (Body word)) (members-same ms h)
+    by-shape-same (body b) h = ap (option_map Unnamed) (body-same b h)
     by-shape-same _ h = refl
 
     by-subject-same : (subject : SubjectOf) → All SameTerm (types_declared subject)
@@ -124,8 +128,7 @@ module _ (shapes others : ℕ → ShapeOf) (subject : SubjectOf) (same : AreSame
     by-subject-same (typedef_subject (Some name) at) h = ap (option_map (Typedef name)) (first-of SameTerm at [] h)
     by-subject-same (variable_subject (Some name) at) h =
         ap (option_map (Variable name)) (first-of SameTerm at [] h)
-    by-subject-same (aggregate_subject word (Some name) odd ms) h =
-        ap (option_map (Aggregate word name)) (members-same ms h)
+    by-subject-same (defined_subject (Some name) b) h = ap (option_map (Defined name)) (body-same b h)
     by-subject-same _ h = refl
 
   void-term : (k : ℕ) → term_at k shapes None ≡ term_at k others None
@@ -165,9 +168,8 @@ module _ (shapes others : ℕ → ShapeOf) (subject : SubjectOf) (same : AreSame
   own-unspeakable-same (typedef_subject name at) goods h = elim h [ ]
   own-unspeakable-same (variable_subject name at) goods (void_variable h) =
       void_variable (void-same at (first-of GoodAt at [] goods) h)
-  own-unspeakable-same (aggregate_subject word name odd ms) goods (unspeakable h) =
-      unspeakable (unspeakable-same (body word odd ms) goods h)
-  own-unspeakable-same (enumeration_subject name odd es) goods (wrong_enumeration h) = wrong_enumeration h
+  own-unspeakable-same (defined_subject name b) goods (unspeakable h) =
+      unspeakable (unspeakable-same (body b) goods h)
   own-unspeakable-same (declared_subject word name) goods declared_enumeration = declared_enumeration
   own-unspeakable-same other_subject goods h = elim h [ ]
 

@@ -10,9 +10,9 @@ use Rattle.dw_image.specs.declared.image.Image.{Image}
 use Rattle.dw_image.specs.Images.{entries_in, type_in}
 use Rattle.dw_image.specs.Lookups.{type_number}
 use Rattle.dw_forms.specs.Codes.{DW_AT_prototyped, DW_TAG_array_type, DW_TAG_atomic_type, DW_TAG_base_type, DW_TAG_const_type, DW_TAG_enumeration_type, DW_TAG_pointer_type, DW_TAG_restrict_type, DW_TAG_structure_type, DW_TAG_subroutine_type, DW_TAG_typedef, DW_TAG_union_type, DW_TAG_variable, DW_TAG_volatile_type, is_type_tag}
-use Rattle.dw_cprint.specs.EntryShapes.{member_at, parameter_at, parameters_in, shape_in, subject_in, body_in, defined_in, tag_in, tag_word, tag_shape, dimension_counts, is_strange}
+use Rattle.dw_cprint.specs.EntryShapes.{member_at, parameter_at, parameters_in, shape_in, subject_in, body_in, tag_in, tag_word, tag_shape, dimension_counts, is_strange}
 use Rattle.dw_cprint.specs.LookUps.{entry_by, tag_at, type_at, name_at, flag_at, children_at}
-use Rattle.dw_cprint.specs.Shapes.{Parameter, Typed, More, TagKeyword, OfAggregate, Struct, Union, Enum, Const, Volatile, Restrict, Atomic, base, typedef, qualified, pointer, array, function, foreign, other, Name, TypeAt, MemberOf, ShapeOf, nameless, SubjectOf, typedef_subject, variable_subject, declared_subject, other_subject}
+use Rattle.dw_cprint.specs.Shapes.{Parameter, Typed, More, TagKeyword, OfAggregate, Struct, Union, Enum, Const, Volatile, Restrict, Atomic, base, typedef, qualified, pointer, array, function, foreign, other, Name, TypeAt, MemberOf, ShapeOf, nameless, body, SubjectOf, typedef_subject, variable_subject, declared_subject, defined_subject}
 use Rattle.dw_cprint.specs.Steps.{entries_among, parameter_types, member_types, types_reached, types_declared, first_steps}
 
 one_within : (b : Bool) (n id to : ℕ) → id < n → (if b then Some id else None) ≡ Some to → to < n
@@ -93,7 +93,7 @@ function_within image id true ids =
 function_within image id false ids = type_more image id [] (none_within (length (entries_in image)))
 
 body_within : (image : Image) (id : ℕ) (word : TagKeyword)
-    → NamesWithin (length (entries_in image)) (body_in image id word)
+    → NamesWithin (length (entries_in image)) (body (body_in image id word))
 body_within image id (OfAggregate word) = members_within image (children_at image id)
 body_within image id Enum = none_within (length (entries_in image))
 
@@ -102,7 +102,7 @@ tag_within : (image : Image) (id : ℕ) (word : TagKeyword) (name : Name)
 tag_within image id word (Some name) = none_within (length (entries_in image))
 tag_within image id word None =
     let n = length (entries_in image) in
-    either (NamesWithin n) (is_declared (entry_by image id)) (nameless word) (body_in image id word)
+    either (NamesWithin n) (is_declared (entry_by image id)) (nameless word) (body (body_in image id word))
     (none_within n) (body_within image id word)
 
 -- those that a shape of an image names
@@ -149,11 +149,6 @@ shape_within image id =
 abbrev pub DeclaresWithin : ℕ → SubjectOf → Type 0
 DeclaresWithin n s = AreWithin n (types_declared s)
 
-defined_within : (image : Image) (id : ℕ) (word : TagKeyword) (name : Name)
-    → DeclaresWithin (length (entries_in image)) (defined_in image id word name)
-defined_within image id (OfAggregate word) name = members_within image (children_at image id)
-defined_within image id Enum name = none_within (length (entries_in image))
-
 -- those that a declaration of an image names
 pub subject_within : (image : Image) (id : ℕ) → DeclaresWithin (length (entries_in image)) (subject_in image id)
 unfolding subject_in
@@ -182,7 +177,7 @@ subject_within image id =
     tag None = none_within n
     tag (Some word) =
         either (DeclaresWithin n) (is_declared (entry_by image id)) (declared_subject word name)
-        (defined_in image id word name) (none_within n) (defined_within image id word name)
+        (defined_subject name (body_in image id word)) (none_within n) (body_within image id word)
 
 -- and so are the roots of some declarations
 pub roots_within : (image : Image) (ids : List ℕ)

@@ -4,13 +4,13 @@ use Rattle.std.proofs.Common.{arith, rules, ◌≡◌, ℕ, zero, suc, Bool, tru
 use Rattle.std.specs.Global.{Global}
 use Rattle.std.specs.Prelude.{is_some, Vec, flat_map, option_map}
 use Rattle.dw_types.specs.Sizes.{has_elements}
-use Rattle.dw_cprint.specs.Declarations.{base_term, nested_arrays, is_miscounted, is_misplaced, has_more, constants_of, parameters_by, members_by, term_by, declaration_by, term_at}
+use Rattle.dw_cprint.specs.Declarations.{base_term, nested_arrays, is_miscounted, is_misplaced, has_more, parameters_by, body_by, term_by, declaration_by, term_at}
 use Rattle.dw_cprint.specs.Declarators.{gap, pointer_row, opening, closing, before, after, core}
 use Rattle.dw_cprint.specs.Kept.{Writes}
-use Rattle.dw_cprint.specs.Shapes.{Qualifier, AggregateKeyword, OfAggregate, Parameter, Name, TypeAt, MemberOf, EnumeratorOf, ShapeOf, base, typedef, qualified, pointer, array, function, tagged, body, enumeration, typedef_subject, variable_subject, aggregate_subject, enumeration_subject, view_shape}
-use Rattle.dw_cprint.specs.Terms.{Enum, Term, Void, Named, Tagged, Body, Function, Prototyped, Parameters, Members, Constant, CDeclaration, Aggregate}
-use Rattle.dw_cprint.specs.Tokens.{Token, Blank, Star, Open, Close, Semicolon, TypedefWord, TagWord, Identifier, spelling, text_of}
-use Rattle.dw_cprint.specs.Writing.{body_tokens, enumeration_tokens, spell, qualifying, count_tokens, name_tokens, signature_tokens, written}
+use Rattle.dw_cprint.specs.Shapes.{Qualifier, Parameter, Name, TypeAt, BodyOf, ShapeOf, base, typedef, qualified, pointer, array, function, tagged, body, typedef_subject, variable_subject, defined_subject, view_shape}
+use Rattle.dw_cprint.specs.Terms.{Term, Void, Named, Tagged, Unnamed, Body, Function, Prototyped, Parameters, CDeclaration}
+use Rattle.dw_cprint.specs.Tokens.{Token, Blank, Star, Open, Close, Semicolon, TypedefWord, Identifier, spelling, text_of}
+use Rattle.dw_cprint.specs.Writing.{body_tokens, spell, qualifying, count_tokens, name_tokens, signature_tokens, written}
 use Rattle.dw_cprint.specs.declared.shape.Shape.{Shape}
 use Rattle.dw_cprint.specs.declared.shape.Shape.TheVariants as shape
 use Rattle.dw_cprint.proofs.DeclaratorLemmas.{in_parts}
@@ -68,8 +68,7 @@ specifier-of term (typedef (Some name)) t is e =
 specifier-of term (tagged word name) t is e =
     let same : Tagged word name ≡ t = cc in
     subst IsSpecifier same (record { front = λ qs inside. refl; back = refl; not_opened = refl; not_closed = refl })
-specifier-of term (body word odd ms) t is e = search (rules, map_inverted)
-specifier-of term (enumeration odd es) t is e = search (rules, map_inverted)
+specifier-of term (body b) t is e = search (rules, map_inverted)
 specifier-of term _ t is e = absurd (cc)
 
 pub before-arrays : (counts : List (Option ℕ)) (u : Term) → before [] (nested_arrays counts u) true ≡ before [] u true
@@ -190,20 +189,9 @@ module _ (term : TypeAt → Option Term) (old new : List ℕ) where
   base_core None h t e = absurd (cc)
   base_core (Some name) h t e = as_text (Identifier name ∷ []) (core t) old new (base-core name t e) h
 
-  pub body_core : (mid mid2 : List ℕ) (word : AggregateKeyword) (odd : Bool) (ms : List MemberOf)
-      → Writes (TagWord (OfAggregate word) ∷ []) old mid → Writes (Blank ∷ []) mid mid2
-      → ((us : Members) → members_by term ms ≡ Some us → Writes (body_tokens us) mid2 new) → (t : Term)
-      → term_by term (body word odd ms) ≡ Some t → Writes (core t) old new
-  body_core mid mid2 word odd ms tag blank inner t e =
-      map_holds (λ (u : Term). Writes (core u) old new) (Body word) (members_by term ms)
-      (λ us are. both (TagWord (OfAggregate word) ∷ []) (Blank ∷ body_tokens us) old mid new tag
-      (both (Blank ∷ []) (body_tokens us) mid mid2 new blank (inner us are))) t e
-
-  pub enumeration_core : (mid : List ℕ) (odd : Bool) (es : List EnumeratorOf)
-      → Writes (TagWord Enum ∷ Blank ∷ []) old mid
-      → ((cs : List Constant) → constants_of es ≡ Some cs → Writes (enumeration_tokens cs) mid new) → (t : Term)
-      → term_by term (enumeration odd es) ≡ Some t → Writes (core t) old new
-  enumeration_core mid odd es tag inner t e = grind (arith, common_steps, map_inverted, both)
+  pub body_core : (b : BodyOf) → ((u : Body) → body_by term b ≡ Some u → Writes (body_tokens None u) old new)
+      → (t : Term) → term_by term (body b) ≡ Some t → Writes (core t) old new
+  body_core b inner t e = map_holds (λ (u : Term). Writes (core u) old new) Unnamed (body_by term b) inner t e
 
 -- ---- declarations
 
@@ -222,32 +210,11 @@ module _ (term : TypeAt → Option Term) (old mid mid2 new : List ℕ) where
   variable_done None at inner last d e = absurd (cc)
   variable_done (Some name) at inner last d e = search (rules, map_inverted, both)
 
-  pub aggregate_done : (mid3 : List ℕ) (word : AggregateKeyword) (name : Name) (odd : Bool)
-      (ms : List MemberOf)
-      → Writes (TagWord (OfAggregate word) ∷ Blank ∷ name_tokens name) old mid → Writes (Blank ∷ []) mid mid2
-      → ((us : Members) → members_by term ms ≡ Some us → Writes (body_tokens us) mid2 mid3)
-      → Writes (Semicolon ∷ []) mid3 new
-      → (d : CDeclaration) → declaration_by term (aggregate_subject word name odd ms) ≡ Some d
-      → new ≡ old ++ written d
-  aggregate_done mid3 word None odd ms first gap inner last d e = absurd (cc)
-  aggregate_done mid3 word (Some name) odd ms first gap inner last d e =
-      let tag = TagWord (OfAggregate word) ∷ Blank ∷ Identifier name ∷ [] in
-      map_holds (λ (d : CDeclaration). new ≡ old ++ written d) (Aggregate word name) (members_by term ms)
-      (λ us are.
-      let body = body_tokens us in
-      both tag (Blank ∷ (body ++ Semicolon ∷ [])) old mid new first
-      (both (Blank ∷ []) (body ++ Semicolon ∷ []) mid mid2 new gap
-      (both body (Semicolon ∷ []) mid2 mid3 new (inner us are) last))) d e
-
-  pub constants_done : (mid3 : List ℕ) (name : Name) (odd : Bool) (es : List EnumeratorOf)
-      → Writes (TagWord Enum ∷ Blank ∷ name_tokens name) old mid → Writes (Blank ∷ []) mid mid2
-      → ((cs : List Constant) → constants_of es ≡ Some cs → Writes (enumeration_tokens cs) mid2 mid3)
-      → Writes (Semicolon ∷ []) mid3 new
-      → (d : CDeclaration) → declaration_by term (enumeration_subject name odd es) ≡ Some d
-      → new ≡ old ++ written d
-  constants_done mid3 None odd es first gap inner last d e = absurd (cc)
-  constants_done mid3 (Some name) odd es first gap inner last d e =
-      grind (arith, common_steps, map_inverted, both)
+  pub defined_done : (name : Name) (b : BodyOf)
+      → ((u : Body) → body_by term b ≡ Some u → Writes (body_tokens name u) old mid) → Writes (Semicolon ∷ []) mid new
+      → (d : CDeclaration) → declaration_by term (defined_subject name b) ≡ Some d → new ≡ old ++ written d
+  defined_done None b inner last d e = absurd (cc)
+  defined_done (Some name) b inner last d e = search (rules, map_inverted, both)
 
 -- ---- shapes as the code has them
 

@@ -1,17 +1,16 @@
 -- Chapter: the declaration of an entry as a term, by the shapes of the entries that it reaches.
-use Rattle.std.specs.Prelude.{ℕ, ℤ, zero, suc, ◌==◌, Bool, true, false, not, List, [], ◌∷◌, Option, Some, None, is_none}
+use Rattle.std.specs.Prelude.{ℕ, ℤ, zero, suc, ◌==◌, Bool, true, false, List, [], ◌∷◌, Option, Some, None, is_none}
 use Rattle.std.specs.Prelude.{option_map, option_and_then, bytes_eq, if◌then◌else◌}
 use Rattle.std.specs.List.{find, list_any, slice_split}
 use Rattle.dw_cprint.specs.Legible.{is_identifier}
-use Rattle.dw_cprint.specs.Terms.{TypeWord, Constant, Valued, Term, Void, Named, Basic, Tagged, Body, Enumeration}
-use Rattle.dw_cprint.specs.Terms.{Qualified, Pointer, Array as ArrayTerm, Function, Unprototyped, Prototyped}
-use Rattle.dw_cprint.specs.Terms.{Parameters}
-use Rattle.dw_cprint.specs.Terms.{NoParameter, Parameter as ParameterTerm, Members, NoMember, Member as MemberTerm}
-use Rattle.dw_cprint.specs.Terms.{CDeclaration, Typedef, Variable, Aggregate, Constants, Declared}
+use Rattle.dw_cprint.specs.Terms.{TypeWord, Constant, Valued, Term, Void, Named, Basic, Tagged, Unnamed, Body}
+use Rattle.dw_cprint.specs.Terms.{Aggregate, Constants, Qualified, Pointer, Array as ArrayTerm, Function, Unprototyped}
+use Rattle.dw_cprint.specs.Terms.{Prototyped, Parameters, NoParameter, Parameter as ParameterTerm, Members, NoMember}
+use Rattle.dw_cprint.specs.Terms.{Member as MemberTerm, CDeclaration, Typedef, Variable, Defined, Declared}
 use Rattle.dw_cprint.specs.Tokens.{type_word_spelling, type_words}
-use Rattle.dw_cprint.specs.Shapes.{Parameter, Typed, More, TypeAt, MemberOf, EnumeratorOf, ShapeOf, base}
-use Rattle.dw_cprint.specs.Shapes.{typedef, qualified, pointer, array, function, tagged, body, enumeration, SubjectOf}
-use Rattle.dw_cprint.specs.Shapes.{typedef_subject, variable_subject, aggregate_subject, enumeration_subject}
+use Rattle.dw_cprint.specs.Shapes.{Parameter, Typed, More, TypeAt, MemberOf, EnumeratorOf, BodyOf, aggregate}
+use Rattle.dw_cprint.specs.Shapes.{enumeration, ShapeOf, base, typedef, qualified, pointer, array, function, tagged}
+use Rattle.dw_cprint.specs.Shapes.{body, SubjectOf, typedef_subject, variable_subject, defined_subject}
 use Rattle.dw_cprint.specs.Shapes.{declared_subject}
 
 -- ---- names of base types
@@ -91,6 +90,11 @@ module _ (term : TypeAt → Option Term) where
   members_by (m ∷ ms) =
       option_and_then (λ (t : Term). option_map (MemberTerm m.name t m.bits) (members_by ms)) (term m.type_at)
 
+  -- a body
+  abbrev pub body_by : BodyOf → Option Body
+  body_by (aggregate word odd ms) = option_map (Aggregate word) (members_by ms)
+  body_by (enumeration odd es) = option_map Constants (constants_of es)
+
   -- the term of an entry that is reached, by its shape, if it has one
   abbrev pub term_by : ShapeOf → Option Term
   term_by (base (Some name)) = base_term name
@@ -105,18 +109,14 @@ module _ (term : TypeAt → Option Term) where
       (λ (t : Term). option_map (λ (us : Parameters). Function t (Prototyped us (has_more ps))) (parameters_by ps))
       (term at)
   term_by (tagged word name) = Some (Tagged word name)
-  term_by (body word odd members) = option_map (Body word) (members_by members)
-  term_by (enumeration odd enumerators) = option_map Enumeration (constants_of enumerators)
+  term_by (body b) = option_map Unnamed (body_by b)
   term_by _ = None
 
   -- the declaration of the entry that is declared
   abbrev pub declaration_by : SubjectOf → Option CDeclaration
   declaration_by (typedef_subject (Some name) at) = option_map (Typedef name) (term at)
   declaration_by (variable_subject (Some name) at) = option_map (Variable name) (term at)
-  declaration_by (aggregate_subject word (Some name) odd members) =
-      option_map (Aggregate word name) (members_by members)
-  declaration_by (enumeration_subject (Some name) odd enumerators) =
-      option_map (Constants name) (constants_of enumerators)
+  declaration_by (defined_subject (Some name) b) = option_map (Defined name) (body_by b)
   declaration_by (declared_subject word (Some name)) = Some (Declared word name)
   declaration_by _ = None
 

@@ -1,10 +1,10 @@
 -- State: the text of a type in two parts: before its declarator, and after it.
-use Rattle.std.specs.Prelude.{Bool, true, false, ◌||◌, List, [], ◌∷◌, ◌++◌}
+use Rattle.std.specs.Prelude.{Bool, true, false, ◌||◌, List, [], ◌∷◌, ◌++◌, None}
 use Rattle.dw_types.specs.Sizes.{has_elements}
-use Rattle.dw_cprint.specs.Terms.{Qualifier, OfAggregate, Enum, Term, Void, Named, Basic, Tagged, Body, Enumeration}
-use Rattle.dw_cprint.specs.Terms.{Qualified, Pointer, Array, Function}
+use Rattle.dw_cprint.specs.Terms.{Qualifier, Term, Void, Named, Basic, Tagged, Unnamed, Qualified}
+use Rattle.dw_cprint.specs.Terms.{Pointer, Array, Function}
 use Rattle.dw_cprint.specs.Tokens.{Token, Blank, Star, Open, Close, VoidWord, TagWord, QualifierWord, Identifier, Comma}
-use Rattle.dw_cprint.specs.Writing.{basic, body_tokens, count_tokens, enumeration_tokens, qualifying, signature_tokens}
+use Rattle.dw_cprint.specs.Writing.{basic, body_tokens, count_tokens, qualifying, signature_tokens}
 
 -- a space, where a declarator that is not empty comes inside
 abbrev pub gap : Bool → List Token
@@ -39,8 +39,7 @@ core Void = VoidWord ∷ []
 core (Named name) = Identifier name ∷ []
 core (Basic words) = basic words
 core (Tagged tag name) = TagWord tag ∷ Blank ∷ Identifier name ∷ []
-core (Body word members) = TagWord (OfAggregate word) ∷ Blank ∷ body_tokens members
-core (Enumeration cs) = TagWord Enum ∷ Blank ∷ enumeration_tokens cs
+core (Unnamed b) = body_tokens None b
 core _ = []
 
 -- what comes before the declarator of the type t under the qualifiers

@@ -18,10 +18,10 @@ use Rattle.dw_image.specs.declared.image.Image.{Image}
 use Rattle.dw_image.specs.Images.{units_in}
 use Rattle.dw_cprint.specs.LookUps.{entry_by, tag_at, name_at, type_at, children_at, flag_at}
 use Rattle.dw_cprint.specs.Shapes.{Const, Volatile, Restrict, Atomic, TagKeyword, OfAggregate, Struct, Union, Enum}
-use Rattle.dw_cprint.specs.Shapes.{Parameter, Typed, More, Name, MemberOf, EnumeratorOf, ShapeOf, base}
-use Rattle.dw_cprint.specs.Shapes.{typedef, qualified, pointer, array, function, tagged, nameless, body, enumeration}
-use Rattle.dw_cprint.specs.Shapes.{foreign, other, SubjectOf, typedef_subject, variable_subject, aggregate_subject}
-use Rattle.dw_cprint.specs.Shapes.{enumeration_subject, declared_subject, other_subject}
+use Rattle.dw_cprint.specs.Shapes.{Parameter, Typed, More, Name, MemberOf, EnumeratorOf, BodyOf, aggregate, enumeration}
+use Rattle.dw_cprint.specs.Shapes.{ShapeOf, base, typedef, qualified, pointer, array, function, tagged, nameless, body}
+use Rattle.dw_cprint.specs.Shapes.{foreign, other, SubjectOf, typedef_subject, variable_subject, defined_subject}
+use Rattle.dw_cprint.specs.Shapes.{declared_subject, other_subject}
 
 -- no body of C has the child: it is an inheritance or a variant part
 abbrev pub is_odd_child : Image → ℕ → Bool
@@ -106,15 +106,15 @@ enumerators_in image id = filter_map (enumerator_at image) (children_at image id
 
 -- ---- all entries
 
--- a structure, union or enumeration with its body
-abbrev pub body_in : Image → ℕ → TagKeyword → ShapeOf
-body_in image id (OfAggregate word) = body word (is_odd image id) (members_in image id)
+-- the body of a structure, union or enumeration
+abbrev pub body_in : Image → ℕ → TagKeyword → BodyOf
+body_in image id (OfAggregate word) = aggregate word (is_odd image id) (members_in image id)
 body_in image id Enum = enumeration (is_odd image id) (enumerators_in image id)
 
 -- one that is printed by a name; without a name one that is only declared, or its body
 abbrev pub tag_shape : Image → ℕ → TagKeyword → Name → ShapeOf
 tag_shape image id word (Some name) = tagged word name
-tag_shape image id word None = if is_declared (entry_by image id) then nameless word else body_in image id word
+tag_shape image id word None = if is_declared (entry_by image id) then nameless word else body (body_in image id word)
 
 -- an entry that is reached, by its tag
 abbrev pub shape_by : Image → ℕ → (tag : ℕ) → ShapeOf
@@ -138,11 +138,6 @@ shape_by image id tag =
 unfoldable pub shape_in : Image → ℕ → ShapeOf
 shape_in image id = shape_by image id (tag_at image id)
 
--- a structure, union or enumeration that is declared to C with its body
-abbrev pub defined_in : Image → ℕ → TagKeyword → Name → SubjectOf
-defined_in image id (OfAggregate word) name = aggregate_subject word name (is_odd image id) (members_in image id)
-defined_in image id Enum name = enumeration_subject name (is_odd image id) (enumerators_in image id)
-
 -- the word of a structure, union or enumeration, by the tag
 abbrev pub tag_word : (tag : ℕ) → Option TagKeyword
 tag_word tag =
@@ -151,12 +146,13 @@ tag_word tag =
     else if tag == DW_TAG_enumeration_type then Some Enum
     else None
 
--- the same, or only by its name, if that is all that DWARF declares; no word is an entry of another kind
+-- a structure, union or enumeration with its body, or only by its name, if that is all that DWARF declares; no word is
+-- an entry of another kind
 abbrev pub tag_in : Image → ℕ → Option TagKeyword → SubjectOf
 tag_in image id None = other_subject
 tag_in image id (Some word) =
     if is_declared (entry_by image id) then declared_subject word (name_at image id)
-    else defined_in image id word (name_at image id)
+    else defined_subject (name_at image id) (body_in image id word)
 
 -- the entry that is declared, by its tag
 abbrev pub subject_by : Image → ℕ → (tag : ℕ) → SubjectOf

@@ -5,9 +5,9 @@ use Rattle.std.specs.Prelude.{length, sum_by, if◌then◌else◌}
 use Rattle.dw_types.specs.Sizes.{has_elements}
 use Rattle.dw_cprint.specs.Declarators.{before, after, opening, closing}
 use Rattle.dw_cprint.specs.Shapes.{Qualifier, TagKeyword, OfAggregate, Enum, Name, Parameter, Typed, More, TypeAt}
-use Rattle.dw_cprint.specs.Shapes.{MemberOf, EnumeratorOf, ShapeOf, base, typedef, qualified, pointer, array, function}
-use Rattle.dw_cprint.specs.Shapes.{tagged, body, enumeration, SubjectOf, typedef_subject, variable_subject}
-use Rattle.dw_cprint.specs.Shapes.{aggregate_subject, enumeration_subject, declared_subject, other_subject}
+use Rattle.dw_cprint.specs.Shapes.{MemberOf, EnumeratorOf, aggregate, enumeration, ShapeOf, base, typedef, qualified}
+use Rattle.dw_cprint.specs.Shapes.{pointer, array, function, tagged, body, SubjectOf, typedef_subject}
+use Rattle.dw_cprint.specs.Shapes.{variable_subject, defined_subject, declared_subject, other_subject}
 use Rattle.dw_cprint.specs.Terms.{Term}
 use Rattle.dw_cprint.specs.Tokens.{Token, text_of, qualifier_spelling, tag_spelling}
 use Rattle.dw_cprint.specs.Writing.{spell, bits_tokens, count_tokens, value_tokens}
@@ -114,8 +114,8 @@ module _ (known : TypeAt → Summary) where
   shape_bytes (function at None) = bytes_around at + 2
   shape_bytes (function at (Some ps)) = bytes_around at + parameters_bytes ps
   shape_bytes (tagged word name) = tag_bytes word (Some name)
-  shape_bytes (body word odd ms) = tag_bytes (OfAggregate word) None + members_bytes ms
-  shape_bytes (enumeration odd es) = 5 + enumerators_bytes es
+  shape_bytes (body (aggregate word odd ms)) = tag_bytes (OfAggregate word) None + members_bytes ms
+  shape_bytes (body (enumeration odd es)) = tag_bytes Enum None + enumerators_bytes es
   shape_bytes _ = 0
 
   -- the kind of what is under a row of qualifiers that begins with the shape
@@ -123,11 +123,10 @@ module _ (known : TypeAt → Summary) where
   base_kind (qualified q at) = (known at).base
   base_kind shape = kind_in (Some shape)
 
-  -- the bytes of a declaration; a typedef has `typedef ` before and `;` after it
+  -- the bytes of a declaration; a typedef has `typedef ` before and `;` after it, a body ` ` and `;`
   abbrev pub declared_bytes : SubjectOf → ℕ
   declared_bytes (typedef_subject name at) = named_bytes at name + 9
   declared_bytes (variable_subject name at) = named_bytes at name + 1
-  declared_bytes (aggregate_subject word name odd ms) = tag_bytes (OfAggregate word) name + 2 + members_bytes ms
-  declared_bytes (enumeration_subject name odd es) = tag_bytes Enum name + 2 + enumerators_bytes es
+  declared_bytes (defined_subject name b) = shape_bytes (body b) + name_bytes name + 2
   declared_bytes (declared_subject word name) = tag_bytes word name + 1
   declared_bytes other_subject = 0

@@ -14,7 +14,7 @@ use Rattle.dw_cprint.specs.EntryShapes.{shape_in, subject_in}
 use Rattle.dw_cprint.specs.FaultTexts.{code_text, name_text}
 use Rattle.dw_cprint.specs.LookUps.{entry_offset}
 use Rattle.dw_cprint.specs.Refusals.{PrintFault, Refuses, IsPrinted}
-use Rattle.dw_cprint.specs.Shapes.{SubjectOf, typedef_subject, aggregate_subject, enumeration_subject}
+use Rattle.dw_cprint.specs.Shapes.{SubjectOf, typedef_subject, defined_subject}
 use Rattle.dw_cprint.specs.Steps.{first_steps}
 use Rattle.dw_cprint.specs.Terms.{CDeclaration}
 use Rattle.dw_cprint.specs.Writing.{written}
@@ -22,8 +22,7 @@ use Rattle.dw_cprint.specs.Writing.{written}
 -- a typedef, or a structure, union or enumeration that is not declared, with a name
 abbrev pub is_named_type : SubjectOf → Bool
 is_named_type (typedef_subject name at) = is_some name
-is_named_type (aggregate_subject word name odd members) = is_some name
-is_named_type (enumeration_subject name odd enumerators) = is_some name
+is_named_type (defined_subject name b) = is_some name
 is_named_type _ = false
 
 -- the entry of this number is a named type

@@ -14,6 +14,8 @@ pub use Rattle.dw_cprint.specs.declared.shape.Parameter.TheVariants.{Typed, More
 use Rattle.dw_cprint.specs.declared.words.Text.{Text}
 use Rattle.dw_cprint.specs.declared.shape.Member.{Member}
 use Rattle.dw_cprint.specs.declared.enumerators.Enumerator.{Enumerator}
+use Rattle.dw_cprint.specs.declared.shape.Body.{Body}
+use Rattle.dw_cprint.specs.declared.shape.Body.TheVariants as contents
 use Rattle.dw_cprint.specs.declared.shape.Shape.{Shape}
 use Rattle.dw_cprint.specs.declared.shape.Shape.TheVariants as shape
 use Rattle.dw_cprint.specs.declared.shape.Subject.{Subject}
@@ -29,6 +31,12 @@ pub record MemberOf : Type 0 where
   pub type_at : TypeAt
   pub bits : Option ℕ
 
+-- a body: the members of a structure or union, or the enumerators of an enumeration; odd: a child is an inheritance or
+-- a variant part
+pub data BodyOf : Type 0 where
+  aggregate : AggregateKeyword → (odd : Bool) → List MemberOf → BodyOf
+  enumeration : (odd : Bool) → List EnumeratorOf → BodyOf
+
 -- an entry that is reached
 pub data ShapeOf : Type 0 where
   base : Name → ShapeOf
@@ -39,12 +47,10 @@ pub data ShapeOf : Type 0 where
   array : (counts : List (Option ℕ)) → (strange : Bool) → TypeAt → ShapeOf
   -- the result, and the parameters where it is prototyped
   function : TypeAt → Option (List Parameter) → ShapeOf
-  -- a structure, union or enumeration with a name, one that is declared and has none, and the bodies of those without;
-  -- odd: a child is an inheritance or a variant part
+  -- a structure, union or enumeration with a name, one that is declared and has none, and the body of one without
   tagged : TagKeyword → List ℕ → ShapeOf
   nameless : TagKeyword → ShapeOf
-  body : AggregateKeyword → (odd : Bool) → List MemberOf → ShapeOf
-  enumeration : (odd : Bool) → List EnumeratorOf → ShapeOf
+  body : BodyOf → ShapeOf
   foreign : ShapeOf
   other : ShapeOf
 
@@ -53,8 +59,7 @@ pub data ShapeOf : Type 0 where
 pub data SubjectOf : Type 0 where
   typedef_subject : Name → TypeAt → SubjectOf
   variable_subject : Name → TypeAt → SubjectOf
-  aggregate_subject : AggregateKeyword → Name → (odd : Bool) → List MemberOf → SubjectOf
-  enumeration_subject : Name → (odd : Bool) → List EnumeratorOf → SubjectOf
+  defined_subject : Name → BodyOf → SubjectOf
   declared_subject : TagKeyword → Name → SubjectOf
   other_subject : SubjectOf
 
@@ -76,6 +81,11 @@ view_enumerator e = record { name = view_name e.name; value = e.value }
 abbrev pub parameter_items : Option (Vec Parameter Global) → Option (List Parameter)
 parameter_items parameters = option_map (λ (ps : Vec Parameter Global). ps.items) parameters
 
+-- the body that a value of the code represents
+abbrev pub view_body : Body → BodyOf
+view_body (contents.Aggregate word odd members) = aggregate word odd (map view_member members.items)
+view_body (contents.Enumeration odd enumerators) = enumeration odd enumerators
+
 -- the shape that a value of the code represents
 abbrev pub view_shape : Shape → ShapeOf
 view_shape (shape.Base name) = base (view_name name)
@@ -86,8 +96,7 @@ view_shape (shape.Array dimensions strange element) = array dimensions strange e
 view_shape (shape.Function at parameters) = function at (parameter_items parameters)
 view_shape (shape.Tagged word name) = tagged word name.bytes.now
 view_shape (shape.Nameless word) = nameless word
-view_shape (shape.Body word odd members) = body word odd (map view_member members.items)
-view_shape (shape.Enumeration odd enumerators) = enumeration odd enumerators
+view_shape (shape.Body b) = body (view_body b)
 view_shape shape.Foreign = foreign
 view_shape shape.Other = other
 
@@ -95,8 +104,6 @@ view_shape shape.Other = other
 abbrev pub view_subject : Subject → SubjectOf
 view_subject (subject.Typedef name at) = typedef_subject (view_name name) at
 view_subject (subject.Variable name at) = variable_subject (view_name name) at
-view_subject (subject.Aggregate word name odd members) =
-    aggregate_subject word (view_name name) odd (map view_member members.items)
-view_subject (subject.Enumeration name odd enumerators) = enumeration_subject (view_name name) odd enumerators
+view_subject (subject.Defined name b) = defined_subject (view_name name) (view_body b)
 view_subject (subject.Declared word name) = declared_subject word (view_name name)
 view_subject subject.Other = other_subject

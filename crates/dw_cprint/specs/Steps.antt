@@ -2,8 +2,8 @@
 -- steps of the same entry where it is reached.
 use Rattle.std.specs.Prelude.{◌≡◌, ℕ, zero, suc, List, [], ◌∷◌, Option, Some, None, Contains, map}
 use Rattle.dw_types.specs.Paths.{Leads, IsOnCycle}
-use Rattle.dw_cprint.specs.Shapes.{Parameter, Typed, More, MemberOf, ShapeOf, qualified, pointer, array, function, body}
-use Rattle.dw_cprint.specs.Shapes.{SubjectOf, typedef_subject, variable_subject, aggregate_subject}
+use Rattle.dw_cprint.specs.Shapes.{Parameter, Typed, More, MemberOf, aggregate, ShapeOf, qualified, pointer, array}
+use Rattle.dw_cprint.specs.Shapes.{function, body, SubjectOf, typedef_subject, variable_subject, defined_subject}
 
 -- the entries among types; void is none
 abbrev pub entries_among : List (Option ℕ) → List ℕ
@@ -28,14 +28,14 @@ types_reached (pointer at) = at ∷ []
 types_reached (array counts strange at) = at ∷ []
 types_reached (function at None) = at ∷ []
 types_reached (function at (Some parameters)) = at ∷ parameter_types parameters
-types_reached (body word odd members) = member_types members
+types_reached (body (aggregate word odd ms)) = member_types ms
 types_reached _ = []
 
 -- the types that the declared entry leads to
 abbrev pub types_declared : SubjectOf → List (Option ℕ)
 types_declared (typedef_subject name at) = at ∷ []
 types_declared (variable_subject name at) = at ∷ []
-types_declared (aggregate_subject word name odd members) = member_types members
+types_declared (defined_subject name b) = types_reached (body b)
 types_declared _ = []
 
 -- the spelling steps of an entry that is reached

@@ -9,12 +9,12 @@ use Rattle.dw_cprint.specs.Declarations.{term_at}
 use Rattle.dw_cprint.specs.Kept.{found_at, kept}
 use Rattle.dw_cprint.specs.Lengths.{IsLength}
 use Rattle.dw_cprint.specs.Refusals.{Holds, BadName, Foreign, Unspeakable, TooDeep}
-use Rattle.dw_cprint.specs.Shapes.{Enum, TypeAt, MemberOf, ShapeOf, qualified, SubjectOf, variable_subject}
-use Rattle.dw_cprint.specs.Shapes.{aggregate_subject, enumeration_subject, declared_subject, view_shape}
-use Rattle.dw_cprint.specs.Steps.{entries_among, member_types, steps_reached, StepsTo, IsReachedFrom, HasPathFrom}
+use Rattle.dw_cprint.specs.Shapes.{Enum, TypeAt, ShapeOf, qualified, body, SubjectOf, variable_subject, defined_subject}
+use Rattle.dw_cprint.specs.Shapes.{declared_subject, view_shape}
+use Rattle.dw_cprint.specs.Steps.{entries_among, steps_reached, StepsTo, IsReachedFrom, HasPathFrom}
 use Rattle.dw_cprint.specs.Terms.{Term}
 use Rattle.dw_cprint.specs.Wrong.{kind_at, StandsUnder, is_void, HasBadName, is_foreign, IsUnspeakable}
-use Rattle.dw_cprint.specs.Wrong.{is_wrong, is_wrong_enumeration, is_wrong_member, is_wrong_row, object_types}
+use Rattle.dw_cprint.specs.Wrong.{is_wrong, is_wrong_row, object_types}
 use Rattle.dw_cprint.specs.declared.shape.Shape.{Shape}
 use Rattle.dw_cprint.specs.declared.survey.TheConstants.{UNKNOWN, VOID}
 pub use Rattle.dw_cprint.specs.Wrong.{TypeKind}
@@ -106,11 +106,7 @@ base_known s at = (known_of s at).base
 abbrev pub has_void : Survey → List TypeAt → Bool
 has_void s types = list_any (λ at. is_void (base_known s at)) types
 
--- the fourth refusal holds for a body of these members, by what it tells
-abbrev pub are_unspeakable : Survey → List MemberOf → Bool
-are_unspeakable s members = has_void s (member_types members) || list_any (is_wrong_member (kind_known s)) members
-
--- the same of a shape
+-- the fourth refusal holds for a shape, by what it tells
 abbrev pub is_unspeakable : Survey → ShapeOf → Bool
 is_unspeakable s (qualified q at) = is_wrong_row q (base_known s at)
 is_unspeakable s shape = has_void s (object_types shape) || is_wrong (kind_known s) shape
@@ -118,8 +114,7 @@ is_unspeakable s shape = has_void s (object_types shape) || is_wrong (kind_known
 -- the same for the declared entry
 abbrev pub is_own_unspeakable : Survey → SubjectOf → Bool
 is_own_unspeakable s (variable_subject name at) = is_void (base_known s at)
-is_own_unspeakable s (aggregate_subject word name odd members) = are_unspeakable s members
-is_own_unspeakable s (enumeration_subject name odd enumerators) = is_wrong_enumeration enumerators
+is_own_unspeakable s (defined_subject name b) = is_unspeakable s (body b)
 is_own_unspeakable s (declared_subject Enum name) = true
 is_own_unspeakable s _ = false
 

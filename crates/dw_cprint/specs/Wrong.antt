@@ -5,10 +5,10 @@ use Rattle.std.specs.List.{list_any}
 use Rattle.dw_cprint.specs.Declarations.{words_of, parts_of}
 pub use Rattle.dw_cprint.specs.Declarations.{is_miscounted, is_misplaced}
 use Rattle.dw_cprint.specs.Legible.{is_identifier}
-use Rattle.dw_cprint.specs.Shapes.{Qualifier, Restrict, AggregateKeyword, OfAggregate, Enum, Name, TypeAt, MemberOf}
-use Rattle.dw_cprint.specs.Shapes.{EnumeratorOf, ShapeOf, base, typedef, qualified, pointer, array, function, tagged}
-use Rattle.dw_cprint.specs.Shapes.{nameless, body, enumeration, foreign, other, SubjectOf, typedef_subject}
-use Rattle.dw_cprint.specs.Shapes.{variable_subject, aggregate_subject, enumeration_subject, declared_subject}
+use Rattle.dw_cprint.specs.Shapes.{Qualifier, Restrict, OfAggregate, Enum, Name, TypeAt, MemberOf, EnumeratorOf}
+use Rattle.dw_cprint.specs.Shapes.{BodyOf, aggregate, enumeration, ShapeOf, base, typedef, qualified, pointer, array}
+use Rattle.dw_cprint.specs.Shapes.{function, tagged, nameless, body, foreign, other, SubjectOf, typedef_subject}
+use Rattle.dw_cprint.specs.Shapes.{variable_subject, defined_subject, declared_subject}
 use Rattle.dw_cprint.specs.Steps.{parameter_types, member_types}
 pub use Rattle.dw_cprint.specs.declared.shape.TypeKind.{TypeKind}
 use Rattle.dw_cprint.specs.declared.shape.TypeKind.TheVariants as kind
@@ -34,7 +34,7 @@ kind_in (Some (pointer at)) = kind.Pointer
 kind_in (Some (array counts strange at)) = kind.Array (starts_open counts)
 kind_in (Some (function at parameters)) = kind.Function
 kind_in (Some (nameless (OfAggregate word))) = kind.UnnamedAggregate
-kind_in (Some (body word odd members)) = kind.UnnamedAggregate
+kind_in (Some (body (aggregate word odd ms))) = kind.UnnamedAggregate
 kind_in (Some _) = kind.Other
 
 -- the kind of a type
@@ -123,18 +123,15 @@ abbrev pub lacks_member_name : TypeKind → Option ℕ → Name → Bool
 lacks_member_name k bits None = not (is_unnamed_aggregate k && is_none bits)
 lacks_member_name k bits (Some name) = not (is_identifier name)
 
--- one of the members lacks a name that it needs
-abbrev pub lack_names : (TypeAt → TypeKind) → List MemberOf → Bool
-lack_names kinds members = list_any (λ (m : MemberOf). lacks_member_name (kinds m.type_at) m.bits m.name) members
-
 -- the second refusal, at an entry that is reached, by the kinds of the types that it names
 abbrev pub has_bad_name : (TypeAt → TypeKind) → ShapeOf → Bool
 has_bad_name kinds (base name) = lacks_base_name name
 has_bad_name kinds (typedef name) = lacks_name name
 has_bad_name kinds (tagged word name) = lacks_name (Some name)
 has_bad_name kinds (nameless word) = true
-has_bad_name kinds (body word odd members) = lack_names kinds members
-has_bad_name kinds (enumeration odd enumerators) = list_any lacks_identifier enumerators
+has_bad_name kinds (body (aggregate word odd ms)) =
+    list_any (λ (m : MemberOf). lacks_member_name (kinds m.type_at) m.bits m.name) ms
+has_bad_name kinds (body (enumeration odd es)) = list_any lacks_identifier es
 has_bad_name kinds _ = false
 
 -- the same
@@ -145,9 +142,7 @@ HasBadName shapes shape = has_bad_name (kind_at shapes) shape ≡ true
 abbrev pub has_own_bad_name : (TypeAt → TypeKind) → SubjectOf → Bool
 has_own_bad_name kinds (typedef_subject name at) = lacks_name name
 has_own_bad_name kinds (variable_subject name at) = lacks_name name
-has_own_bad_name kinds (aggregate_subject word name odd members) = lacks_name name || lack_names kinds members
-has_own_bad_name kinds (enumeration_subject name odd enumerators) =
-    lacks_name name || list_any lacks_identifier enumerators
+has_own_bad_name kinds (defined_subject name b) = lacks_name name || has_bad_name kinds (body b)
 has_own_bad_name kinds (declared_subject word name) = lacks_name name
 has_own_bad_name kinds _ = false
 
@@ -158,14 +153,13 @@ has_own_bad_name kinds _ = false
 abbrev pub is_foreign : ShapeOf → Bool
 is_foreign foreign = true
 is_foreign other = true
-is_foreign (body word odd members) = odd
-is_foreign (enumeration odd enumerators) = odd
+is_foreign (body (aggregate word odd ms)) = odd
+is_foreign (body (enumeration odd es)) = odd
 is_foreign _ = false
 
 -- the same of the declared entry: its body has a child that C does not have
 abbrev pub is_own_foreign : SubjectOf → Bool
-is_own_foreign (aggregate_subject word name odd members) = odd
-is_own_foreign (enumeration_subject name odd enumerators) = odd
+is_own_foreign (defined_subject name b) = is_foreign (body b)
 is_own_foreign _ = false
 
 -- ---- what C has no words for
@@ -198,15 +192,15 @@ is_wrong kinds (array counts strange at) =
     strange || (is_miscounted counts || (is_function (kinds at) || is_open_array (kinds at)))
 is_wrong kinds (function at None) = is_bracketed (kinds at)
 is_wrong kinds (function at (Some parameters)) = is_bracketed (kinds at) || is_misplaced parameters
-is_wrong kinds (body word odd members) = list_any (is_wrong_member kinds) members
-is_wrong kinds (enumeration odd enumerators) = is_wrong_enumeration enumerators
+is_wrong kinds (body (aggregate word odd ms)) = list_any (is_wrong_member kinds) ms
+is_wrong kinds (body (enumeration odd es)) = is_wrong_enumeration es
 is_wrong kinds _ = false
 
 -- the types that cannot be void: those of elements, of parameters and of members
 abbrev pub object_types : ShapeOf → List TypeAt
 object_types (array counts strange at) = at ∷ []
 object_types (function at (Some parameters)) = parameter_types parameters
-object_types (body word odd members) = member_types members
+object_types (body (aggregate word odd ms)) = member_types ms
 object_types _ = []
 
 -- a qualifier cannot be over an array or a function, and restrict only over what may have it
@@ -225,9 +219,6 @@ pub data IsUnspeakable (shapes : ℕ → ShapeOf) : ShapeOf → Type 0 where
 pub data IsOwnUnspeakable (shapes : ℕ → ShapeOf) : SubjectOf → Type 0 where
   void_variable : {name : Name} {at : TypeAt} → IsVoidLike shapes at
       → IsOwnUnspeakable shapes (variable_subject name at)
-  unspeakable : {word : AggregateKeyword} {name : Name} {odd : Bool} {members : List MemberOf}
-      → IsUnspeakable shapes (body word odd members)
-      → IsOwnUnspeakable shapes (aggregate_subject word name odd members)
-  wrong_enumeration : {name : Name} {odd : Bool} {enumerators : List EnumeratorOf}
-      → is_wrong_enumeration enumerators ≡ true → IsOwnUnspeakable shapes (enumeration_subject name odd enumerators)
+  unspeakable : {name : Name} {b : BodyOf} → IsUnspeakable shapes (body b)
+      → IsOwnUnspeakable shapes (defined_subject name b)
   declared_enumeration : {name : Name} → IsOwnUnspeakable shapes (declared_subject Enum name)

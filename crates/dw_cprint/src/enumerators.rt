@@ -1,25 +1,22 @@
 //! The enumerators of an enumeration. What one pass over them finds is kept, and their text if it is short compared
 //! with the entries that it is made from. Otherwise they are read from the image each time that they are written.
 
-ghost use Rattle.std.specs.Prelude.{◌≡◌, ◌<◌, ◌+◌, ◌&&◌, ◌||◌, Bool, List, [], ℕ, length, IfOk, OnOk};
+ghost use Rattle.std.specs.Prelude.{◌≡◌, ◌<◌, ◌+◌, ◌&&◌, ◌||◌, List, [], ℕ, length, IfOk, OnOk};
 ghost use Rattle.std.specs.Prelude.{if◌then◌else◌, IfSome, nat_lt, option_map, is_some, not};
 ghost use Rattle.std.specs.List.{cons_option, list_any};
 ghost use Rattle.dw_image.specs.Images.{entries_in};
 ghost use Rattle.dw_cprint.specs.Counted.{AreEnumerators, EnumeratorsSoFar};
 ghost use Rattle.dw_cprint.specs.EntryShapes.{enumerator_at, enumerators_in};
-ghost use Rattle.dw_cprint.specs.Kept.{EnumeratorsLeft, WritesDeclaration, WritesEnumerator, WritesEnumerators};
+ghost use Rattle.dw_cprint.specs.Kept.{EnumeratorsLeft, WritesEnumerator, WritesEnumerators};
 ghost use Rattle.dw_cprint.specs.Lengths.{capped, enumerator_bytes, enumerators_bytes};
 ghost use Rattle.dw_cprint.specs.LookUps.{is_short};
-ghost use Rattle.dw_cprint.specs.Shapes.{EnumeratorOf, enumeration_subject, view_enumerator, view_name};
-ghost use Rattle.dw_cprint.specs.declared.survey.Survey.{Survey};
+ghost use Rattle.dw_cprint.specs.Shapes.{EnumeratorOf, view_enumerator};
 ghost use Rattle.dw_cprint.specs.Wrong.{is_wrong_enumeration, lacks_identifier, lacks_value};
 
 use crate::names::lacks_name;
 use crate::source::{Source, integer_at, is_short, tag_at};
-use crate::text::{
-    LIMIT, name_length, plus, put, put_comma, put_name, put_tag, put_value, value_length,
-};
-use crate::words::{Name, TagKeyword};
+use crate::text::{LIMIT, name_length, plus, put, put_comma, put_name, put_value, value_length};
+use crate::words::Name;
 use dw_entries::constants::*;
 use dw_image::EntryId;
 use std::alloc::{AllocError, Global};
@@ -168,7 +165,7 @@ fn tally_of(source: &Source<'_>, id: EntryId) -> EnumeratorTally
 }
 
 /// Writes the enumerators of an enumeration, in braces.
-fn put_all(out: &mut Vec<u8>, source: &Source<'_>, id: EntryId) -> Result<(), AllocError>
+pub fn put_all(out: &mut Vec<u8>, source: &Source<'_>, id: EntryId) -> Result<(), AllocError>
     requires { id < length (entries_in source.now.image.now) }
     ensures { OnOk result (WritesEnumerators (enumerators_in source.now.image.now id) out.old.items out.new.items) }
 {
@@ -178,24 +175,6 @@ fn put_all(out: &mut Vec<u8>, source: &Source<'_>, id: EntryId) -> Result<(), Al
         some = put_next(out, some, enumerator_at(source, child))?;
     }
     put(out, b" }")
-}
-
-/// Writes an enumeration with its body.
-pub fn put_enumeration(
-    out: &mut Vec<u8>,
-    source: &Source<'_>,
-    id: EntryId,
-    name: Name<'_>,
-) -> Result<(), AllocError>
-    requires { id < length (entries_in source.now.image.now) }
-    ensures { OnOk result ((s : Survey) (odd : Bool) → WritesDeclaration s
-        (enumeration_subject (view_name name.entry) odd (enumerators_in source.now.image.now id))
-        out.old.items out.new.items) }
-{
-    put_tag(out, TagKeyword::Enum, name)?;
-    put(out, b" ")?;
-    put_all(out, source, id)?;
-    put(out, b";")
 }
 
 /// The text of the enumerators of an enumeration, if it is short. Those that are never printed have none.
@@ -250,8 +229,8 @@ impl<'a> Model for Enumerators<'a> {
 }
 
 impl<'a> Enumerators<'a> {
-    /// Counts those of an enumeration that is written once: no text is kept.
-    pub fn count(source: &'a Source<'a>, id: EntryId) -> Enumerators<'a>
+    /// Reads those of an enumeration once.
+    pub fn read(source: &'a Source<'a>, id: EntryId) -> Enumerators<'a>
         requires { id < length (entries_in source.now.image.now) }
         ensures { result ≡ enumerators_in source.now.image.now id }
     {
@@ -263,23 +242,12 @@ impl<'a> Enumerators<'a> {
         }
     }
 
-    /// Reads those of an enumeration that may be written many times.
-    pub fn read(
-        alloc: Global,
-        source: &'a Source<'a>,
-        id: EntryId,
-    ) -> Result<Enumerators<'a>, AllocError>
-        requires { id < length (entries_in source.now.image.now) }
-        ensures { IfOk result (λ it. it ≡ enumerators_in source.now.image.now id) }
+    /// The same with their text, if it is short: they may be written many times.
+    pub fn kept(self, alloc: Global) -> Result<Enumerators<'a>, AllocError>
+        ensures { IfOk result (λ it. it ≡ self.entry) }
     {
-        let tally = tally_of(source, id);
-        let text = short_text(alloc, source, id, tally)?;
-        Ok(Enumerators {
-            source,
-            id,
-            tally,
-            text,
-        })
+        let text = short_text(alloc, self.source, self.id, self.tally)?;
+        Ok(Enumerators { text, ..self })
     }
 
     /// Whether one lacks an identifier.
@@ -301,14 +269,6 @@ impl<'a> Enumerators<'a> {
         ensures { result ≡ capped (enumerators_bytes self.now) }
     {
         self.tally.length as usize
-    }
-
-    /// Writes the enumeration that has this name and these enumerators.
-    pub fn declare(&self, out: &mut Vec<u8>, name: Name<'_>) -> Result<(), AllocError>
-        ensures { OnOk result ((s : Survey) (odd : Bool) → WritesDeclaration s
-            (enumeration_subject (view_name name.entry) odd self.now) out.old.items out.new.items) }
-    {
-        put_enumeration(out, self.source, self.id, name)
     }
 
     /// Writes them, in braces.

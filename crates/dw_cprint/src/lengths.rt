@@ -5,11 +5,12 @@ ghost use Rattle.std.specs.Prelude.{◌≡◌, false, map};
 ghost use Rattle.dw_cprint.specs.Lengths.{bytes_around, byte_count, capped, declared_bytes, has_gap, member_bytes};
 ghost use Rattle.dw_cprint.specs.Lengths.{members_bytes, named_bytes, parameter_bytes, parameters_bytes};
 ghost use Rattle.dw_cprint.specs.Lengths.{qualifier_bytes, shape_bytes, space, tag_bytes};
-ghost use Rattle.dw_cprint.specs.Shapes.{view_member, view_name, view_shape, view_subject};
+ghost use Rattle.dw_cprint.specs.Shapes.{body as body_shape, view_body, view_member, view_name, view_shape};
+ghost use Rattle.dw_cprint.specs.Shapes.{view_subject};
 ghost use Rattle.dw_cprint.specs.Summaries.{known_of};
 ghost use Rattle.dw_cprint.specs.Writing.{bits_tokens};
 
-use crate::shape::{Member, Parameter, Shape, Subject, TypeKind};
+use crate::shape::{Body, Member, Parameter, Shape, Subject, TypeKind};
 use crate::source::TypeAt;
 use crate::survey::{Summary, Survey};
 use crate::text::{LIMIT, digit_count, name_length, plus};
@@ -127,6 +128,20 @@ fn parameters_length(survey: &Survey<'_>, parameters: &[Parameter]) -> usize
     bytes
 }
 
+/// The bytes of a body after its keyword.
+#[inline(always)]
+fn body_length(survey: &Survey<'_>, body: &Body<'_>) -> usize
+    ensures { result ≡ capped (shape_bytes (known_of survey.now) (body_shape (view_body body.now))) }
+{
+    match body {
+        Body::Aggregate { word, members, .. } => {
+            let tag = tag_length(TagKeyword::OfAggregate(*word), None);
+            plus(tag, members_length(survey, members))
+        }
+        Body::Enumeration { enumerators, .. } => plus(5, enumerators.length()),
+    }
+}
+
 /// The bytes of the text of a shape without a declarator.
 pub fn length_of(survey: &Survey<'_>, shape: &Shape<'_>) -> usize
     ensures { result ≡ capped (shape_bytes (known_of survey.now) (view_shape shape.now)) }
@@ -155,38 +170,20 @@ pub fn length_of(survey: &Survey<'_>, shape: &Shape<'_>) -> usize
             )
         }
         Shape::Tagged(word, name) => tag_length(*word, Some(*name)),
-        Shape::Body { word, members, .. } => {
-            let tag = tag_length(TagKeyword::OfAggregate(*word), None);
-            plus(tag, members_length(survey, members))
-        }
-        Shape::Enumeration { enumerators, .. } => plus(5, enumerators.length()),
+        Shape::Body(body) => body_length(survey, body),
         _ => 0,
     }
 }
 
-/// The bytes of a declaration. Those of a typedef have `typedef ` before and `;` after them.
+/// The bytes of a declaration. Those of a typedef have `typedef ` before and `;` after them, those of a body ` ` and `;`.
 pub fn length_declared(survey: &Survey<'_>, subject: &Subject<'_>) -> usize
     ensures { result ≡ capped (declared_bytes (known_of survey.now) (view_subject subject.now)) }
 {
     match subject {
         Subject::Typedef(name, at) => plus(named_length(survey, *at, *name), 9),
         Subject::Variable(name, at) => plus(named_length(survey, *at, *name), 1),
-        Subject::Aggregate {
-            word,
-            name,
-            members,
-            ..
-        } => {
-            let tag = plus(tag_length(TagKeyword::OfAggregate(*word), *name), 2);
-            plus(tag, members_length(survey, members))
-        }
-        Subject::Enumeration {
-            name,
-            enumerators,
-            ..
-        } => {
-            let tag = plus(tag_length(TagKeyword::Enum, *name), 2);
-            plus(tag, enumerators.length())
+        Subject::Defined(name, body) => {
+            plus(plus(body_length(survey, body), name_length(*name)), 2)
         }
         Subject::Declared(word, name) => plus(tag_length(*word, *name), 1),
         Subject::Other => 0,

@@ -1,13 +1,13 @@
 //! The declaration of one entry, and the listing of all named types.
 
 ghost use Rattle.std.specs.Prelude.{◌≡◌, ◌≢◌, ◌<◌, ◌++◌, length, map, filter, slice_get, slice_index, flat_map};
-ghost use Rattle.std.specs.Prelude.{All, AllPairs, IfOk, OnOk, OnErr, Err};
+ghost use Rattle.std.specs.Prelude.{All, AllPairs, IfOk, OnOk, OnErr, Err, Some};
 ghost use Rattle.std.specs.List.{filter_map, range_with_len};
 ghost use Rattle.dw_image.specs.Images.{entries_in};
-ghost use Rattle.dw_cprint.specs.EntryShapes.{shape_in, subject_in};
+ghost use Rattle.dw_cprint.specs.EntryShapes.{body_in, shape_in, subject_in};
 ghost use Rattle.dw_cprint.specs.Judgements.{AreNames, AreRefusals, IsNameOf, IsPrintedNumber, is_printed};
 ghost use Rattle.dw_cprint.specs.Judgements.{refused_number};
-ghost use Rattle.dw_cprint.specs.Kept.{WritesDeclaration};
+ghost use Rattle.dw_cprint.specs.Kept.{WritesBody, WritesDeclaration};
 ghost use Rattle.dw_cprint.specs.Listings.{AreNamedTypes, IsListing, IsNamedType, declared_line, listing_text};
 ghost use Rattle.dw_cprint.specs.Listings.{named_steps, refused_line, refused_line_in};
 ghost use Rattle.dw_cprint.specs.Refusals.{AppendsDeclaration, HasOneReading, IsPrinted, Refuses};
@@ -17,17 +17,19 @@ ghost use Rattle.dw_cprint.specs.declared.fault.PrintFault.{PrintFault as PrintF
 ghost use Rattle.dw_cprint.specs.declared.fault.PrintFault.TheVariants.{Memory};
 
 use crate::digits::put_hex;
-use crate::enumerators::put_enumeration;
+use crate::enumerators;
 use crate::fault::PrintFault;
 use crate::levels::numbers_in_order;
 use crate::named::{Named, all_types, named_types};
 use crate::reaching::put_declared_types;
 use crate::shape::Subject;
-use crate::shape_reader::{defined_at, members_at, subject_of, tag_word};
+use crate::shape_reader::{body_at, members_at, subject_of, tag_word};
 use crate::source::{Source, tag_at, type_at};
 use crate::survey::Survey;
+use crate::text::{put, put_front};
 use crate::words::TagKeyword::OfAggregate;
 use crate::words::{TagKeyword, Text};
+use crate::writing::DEPTH;
 use dw_image::{EntryId, Image, NoMemory};
 use indexmap::IndexSet;
 use std::alloc::{AllocError, Global};
@@ -92,7 +94,7 @@ fn subject_at<'a>(
 {
     match tag_word(tag_at(source.image, id)) {
         None => Ok(Subject::Typedef(Some(name), type_at(source.image, id))),
-        Some(word) => defined_at(alloc, source, id, word, Some(name)),
+        Some(word) => Ok(Subject::Defined(Some(name), body_at(alloc, source, id, word)?)),
     }
 }
 
@@ -147,7 +149,33 @@ fn printed_of(
     Ok(printed)
 }
 
-/// Writes the declaration of a named type. Only what is written is read.
+/// Writes the body of a named type. Only what is written is read.
+fn put_body_at<'a>(
+    alloc: Global,
+    out: &mut Vec<u8>,
+    source: &'a Source<'a>,
+    survey: &Survey<'a>,
+    id: EntryId,
+    word: TagKeyword,
+    name: Text<'a>,
+) -> Result<(), AllocError>
+    requires { id < length (entries_in source.now.image.now) }
+    ensures { OnOk result (WritesBody survey.now 65 (Some name.entry.bytes.now) (body_in source.now.image.now id word)
+        out.old.items out.new.items) }
+{
+    match word {
+        OfAggregate(word) => {
+            let members = members_at(alloc, source, id)?;
+            survey.put_aggregate(alloc, out, word, Some(name), &members, DEPTH)
+        }
+        TagKeyword::Enum => {
+            put_front(out, TagKeyword::Enum, Some(name))?;
+            enumerators::put_all(out, source, id)
+        }
+    }
+}
+
+/// Writes the declaration of a named type.
 fn put_named_type<'a>(
     alloc: Global,
     out: &mut Vec<u8>,
@@ -166,11 +194,10 @@ fn put_named_type<'a>(
             let at = type_at(source.image, id);
             survey.put_declaration(alloc, out, &Subject::Typedef(Some(name), at))
         }
-        Some(OfAggregate(word)) => {
-            let members = members_at(alloc, source, id)?;
-            survey.put_aggregate(alloc, out, word, Some(name), &members)
+        Some(word) => {
+            put_body_at(alloc, out, source, survey, id, word, name)?;
+            put(out, b";")
         }
-        Some(TagKeyword::Enum) => put_enumeration(out, source, id, Some(name)),
     }
 }
 

@@ -7,7 +7,7 @@ ghost use Rattle.dw_cprint.specs.EntryShapes.{member_at, members_in, shape_in};
 ghost use Rattle.dw_cprint.specs.Shapes.{view_member, view_shape, view_subject};
 ghost use Rattle.dw_cprint.specs.Steps.{entries_among, member_types, parameter_types, types_declared, types_reached};
 
-use crate::shape::{Member, Parameter, Shape, Subject};
+use crate::shape::{Body, Member, Parameter, Shape, Subject};
 use crate::shape_reader::shape_of;
 use crate::source::{Source, TypeAt, flag_at, tag_at, type_at};
 use crate::survey::Survey;
@@ -141,7 +141,7 @@ pub fn put_reached_types(types: &mut Vec<TypeAt>, shape: &Shape<'_>) -> Result<(
             types.push(*at)?;
             put_parameter_types(types, parameters)?;
         }
-        Shape::Body { members, .. } => put_member_types(types, members)?,
+        Shape::Body(Body::Aggregate { members, .. }) => put_member_types(types, members)?,
         _ => {}
     }
     Ok(())
@@ -153,8 +153,8 @@ pub fn put_declared_types(types: &mut Vec<TypeAt>, subject: &Subject<'_>) -> Res
 {
     match subject {
         Subject::Typedef(_, at) | Subject::Variable(_, at) => types.push(*at)?,
-        Subject::Aggregate { members, .. } => put_member_types(types, members)?,
-        Subject::Enumeration { .. } | Subject::Declared(_, _) | Subject::Other => {}
+        Subject::Defined(_, Body::Aggregate { members, .. }) => put_member_types(types, members)?,
+        _ => {}
     }
     Ok(())
 }

@@ -1,14 +1,14 @@
 //! The second and the fourth refusal (P2 and P4): what is no name in C, and what C has no declaration for.
 
-ghost use Rattle.std.specs.Prelude.{◌≡◌, map};
+ghost use Rattle.std.specs.Prelude.{◌≡◌};
 ghost use Rattle.dw_cprint.specs.Declarations.{is_misplaced};
-ghost use Rattle.dw_cprint.specs.Shapes.{view_member, view_shape, view_name};
-ghost use Rattle.dw_cprint.specs.Steps.{member_types, types_reached};
-ghost use Rattle.dw_cprint.specs.Summaries.{are_unspeakable, has_void, is_unspeakable, kind_known};
-ghost use Rattle.dw_cprint.specs.Wrong.{has_bad_name, is_wrong_member, lack_names, lacks_member_name};
+ghost use Rattle.dw_cprint.specs.Shapes.{body as body_shape, view_body, view_member, view_shape, view_name};
+ghost use Rattle.dw_cprint.specs.Steps.{types_reached};
+ghost use Rattle.dw_cprint.specs.Summaries.{has_void, is_unspeakable, kind_known};
+ghost use Rattle.dw_cprint.specs.Wrong.{has_bad_name, is_wrong_member, lacks_member_name};
 
 use crate::names::{is_base_name, lacks_name};
-use crate::shape::{Member, Parameter, Shape, TypeKind};
+use crate::shape::{Body, Member, Parameter, Shape, TypeKind};
 use crate::source::TypeAt;
 use crate::survey::Survey;
 use crate::words::Qualifier;
@@ -27,13 +27,16 @@ fn lacks_member_name(survey: &Survey<'_>, member: &Member<'_>) -> bool
     }
 }
 
-/// Whether one of the members needs a name and has none, or has one that is no identifier.
-pub fn lack_names(survey: &Survey<'_>, members: &[Member<'_>]) -> bool
-    ensures { result ≡ lack_names (kind_known survey.now) (map view_member members.now) }
+/// Whether the second refusal holds for a body.
+pub fn lacks_names(survey: &Survey<'_>, body: &Body<'_>) -> bool
+    ensures { result ≡ has_bad_name (kind_known survey.now) (body_shape (view_body body.now)) }
 {
-    members
-        .iter()
-        .any(|member| lacks_member_name(survey, member))
+    match body {
+        Body::Aggregate { members, .. } => members
+            .iter()
+            .any(|member| lacks_member_name(survey, member)),
+        Body::Enumeration { enumerators, .. } => enumerators.lack_name(),
+    }
 }
 
 /// Whether the second refusal holds for an entry that is reached.
@@ -45,8 +48,7 @@ pub fn has_bad_name(survey: &Survey<'_>, shape: &Shape<'_>) -> bool
         Shape::Base(Some(name)) => !is_base_name(*name),
         Shape::Typedef(name) => lacks_name(*name),
         Shape::Tagged(_, name) => !name.is_name(),
-        Shape::Body { members, .. } => lack_names(survey, members),
-        Shape::Enumeration { enumerators, .. } => enumerators.lack_name(),
+        Shape::Body(body) => lacks_names(survey, body),
         _ => false,
     }
 }
@@ -72,12 +74,17 @@ fn is_wrong_member(survey: &Survey<'_>, member: &Member<'_>) -> bool
     }
 }
 
-/// Whether C has no such members: one is void, or wrong. `types` are theirs.
-pub fn are_unspeakable(survey: &Survey<'_>, members: &[Member<'_>], types: &[TypeAt]) -> bool
-    requires { types.now ≡ member_types (map view_member members.now) }
-    ensures { result ≡ are_unspeakable survey.now (map view_member members.now) }
+/// Whether the fourth refusal holds for a body. `types` are those that it names.
+pub fn is_unspeakable_body(survey: &Survey<'_>, body: &Body<'_>, types: &[TypeAt]) -> bool
+    requires { types.now ≡ types_reached (body_shape (view_body body.now)) }
+    ensures { result ≡ is_unspeakable survey.now (body_shape (view_body body.now)) }
 {
-    has_void(survey, types) || members.iter().any(|member| is_wrong_member(survey, member))
+    match body {
+        Body::Aggregate { members, .. } => {
+            has_void(survey, types) || members.iter().any(|member| is_wrong_member(survey, member))
+        }
+        Body::Enumeration { enumerators, .. } => enumerators.is_wrong(),
+    }
 }
 
 /// Whether unspecified parameters come before another parameter, or alone.
@@ -128,8 +135,7 @@ pub fn is_unspeakable(survey: &Survey<'_>, shape: &Shape<'_>, types: &[TypeAt]) 
                 || survey.known(*at).kind.is_bracketed()
                 || has_misplaced(parameters)
         }
-        Shape::Body { members, .. } => are_unspeakable(survey, members, types),
-        Shape::Enumeration { enumerators, .. } => enumerators.is_wrong(),
+        Shape::Body(body) => is_unspeakable_body(survey, body, types),
         _ => false,
     }
 }

@@ -4,19 +4,19 @@ ghost use Rattle.std.specs.Prelude.{◌≡◌, ◌<◌, ◌≤◌, ℕ, length, 
 ghost use Rattle.dw_image.specs.Images.{entries_in};
 ghost use Rattle.dw_cprint.specs.Children.{AreKept, TellsAny};
 ghost use Rattle.dw_types.specs.Sizes.{has_stride};
-ghost use Rattle.dw_cprint.specs.EntryShapes.{dimension_counts, defined_in, is_odd, is_strange, is_strange_child};
+ghost use Rattle.dw_cprint.specs.EntryShapes.{body_in, dimension_counts, is_odd, is_strange, is_strange_child};
 ghost use Rattle.dw_cprint.specs.EntryShapes.{member_at, members_in, parameter_at, parameters_in, shape_in, subject_in};
 ghost use Rattle.dw_cprint.specs.EntryShapes.{tag_in, tag_shape, tag_word};
 ghost use Rattle.dw_cprint.specs.LookUps.{children_at, entry_by, name_at, type_at};
-ghost use Rattle.dw_cprint.specs.Shapes.{array, function, view_member, view_name, view_shape, view_subject};
+ghost use Rattle.dw_cprint.specs.Shapes.{array, function, view_body, view_member, view_shape, view_subject};
 
 use crate::dimensions::Dimensions;
 use crate::enumerators::Enumerators;
-use crate::shape::{Member, Parameter, Shape, Subject};
+use crate::shape::{Body, Member, Parameter, Shape, Subject};
 use crate::source::{Source, bits_at, flag_at, tag_at, type_at};
 use crate::words::AggregateKeyword::{Struct, Union};
 use crate::words::TagKeyword::OfAggregate;
-use crate::words::{Name, Qualifier, TagKeyword};
+use crate::words::{Qualifier, TagKeyword};
 use dw_entries::Tag;
 use dw_entries::constants::*;
 use dw_image::{EntryId, Image};
@@ -184,6 +184,31 @@ fn is_odd(image: &Image<'_>, id: EntryId) -> bool
     })
 }
 
+/// The body of a structure, union or enumeration.
+#[inline(always)]
+pub fn body_at<'a>(
+    alloc: Global,
+    source: &'a Source<'a>,
+    id: EntryId,
+    word: TagKeyword,
+) -> Result<Body<'a>, AllocError>
+    requires { id < length (entries_in source.now.image.now) }
+    ensures { IfOk result (λ body. view_body body ≡ body_in source.now.image.now id word) }
+{
+    let odd = is_odd(source.image, id);
+    match word {
+        OfAggregate(word) => Ok(Body::Aggregate {
+            word,
+            odd,
+            members: members_at(alloc, source, id)?,
+        }),
+        TagKeyword::Enum => Ok(Body::Enumeration {
+            odd,
+            enumerators: Enumerators::read(source, id),
+        }),
+    }
+}
+
 /// A structure, union or enumeration by its name; without one as it is declared, or with its body.
 fn tag_shape<'a>(
     alloc: Global,
@@ -201,18 +226,8 @@ fn tag_shape<'a>(
     if flag_at(source.image, id, DW_AT_declaration) {
         return Ok(Shape::Nameless(word));
     }
-    let odd = is_odd(source.image, id);
-    match word {
-        OfAggregate(word) => Ok(Shape::Body {
-            word,
-            odd,
-            members: members_at(alloc, source, id)?,
-        }),
-        TagKeyword::Enum => Ok(Shape::Enumeration {
-            odd,
-            enumerators: Enumerators::read(alloc, source, id)?,
-        }),
-    }
+    let body = body_at(alloc, source, id, word)?;
+    Ok(Shape::Body(body.kept(alloc)?))
 }
 
 /// The shape of an entry that is reached.
@@ -248,34 +263,6 @@ pub fn shape_of<'a>(
     }
 }
 
-/// A structure, union or enumeration with its body, and this name.
-pub fn defined_at<'a>(
-    alloc: Global,
-    source: &'a Source<'a>,
-    id: EntryId,
-    word: TagKeyword,
-    name: Name<'a>,
-) -> Result<Subject<'a>, AllocError>
-    requires { id < length (entries_in source.now.image.now) }
-    ensures { IfOk result (λ subject. view_subject subject
-        ≡ defined_in source.now.image.now id word (view_name name.entry)) }
-{
-    let odd = is_odd(source.image, id);
-    match word {
-        OfAggregate(word) => Ok(Subject::Aggregate {
-            word,
-            name,
-            odd,
-            members: members_at(alloc, source, id)?,
-        }),
-        TagKeyword::Enum => Ok(Subject::Enumeration {
-            name,
-            odd,
-            enumerators: Enumerators::count(source, id),
-        }),
-    }
-}
-
 /// A structure, union or enumeration: only declared, or with its body.
 fn tag_subject<'a>(
     alloc: Global,
@@ -290,7 +277,7 @@ fn tag_subject<'a>(
     if flag_at(source.image, id, DW_AT_declaration) {
         return Ok(Subject::Declared(word, name));
     }
-    defined_at(alloc, source, id, word, name)
+    Ok(Subject::Defined(name, body_at(alloc, source, id, word)?))
 }
 
 /// The word of a structure, union or enumeration, by the tag.

@@ -15,7 +15,7 @@ ghost use Rattle.dw_cprint.specs.EntryShapes.{shape_in};
 use crate::lengths::length_of;
 use crate::names::lacks_name;
 use crate::reaching::{put_reached_types, reach};
-use crate::refusals::{are_unspeakable, has_bad_name, has_void, is_unspeakable, lack_names};
+use crate::refusals::{has_bad_name, has_void, is_unspeakable, is_unspeakable_body, lacks_names};
 use crate::shape::{Shape, Subject, TypeKind, kind_of};
 use crate::source::{Source, TypeAt};
 use crate::survey::{Findings, NOTHING, Summary, Survey};
@@ -33,7 +33,7 @@ fn wrong_in_shape(survey: &Survey<'_>, shape: &Shape<'_>, types: &[TypeAt]) -> F
         bad_name: has_bad_name(survey, shape),
         foreign: match shape {
             Shape::Foreign | Shape::Other => true,
-            Shape::Body { odd, .. } | Shape::Enumeration { odd, .. } => *odd,
+            Shape::Body(body) => body.is_odd(),
             _ => false,
         },
         unspeakable: is_unspeakable(survey, shape, types),
@@ -57,25 +57,10 @@ fn wrong_in_subject(survey: &Survey<'_>, subject: &Subject<'_>, types: &[TypeAt]
             unspeakable: has_void(survey, types),
             ..NOTHING
         },
-        Subject::Aggregate {
-            name,
-            odd,
-            members,
-            ..
-        } => Findings {
-            bad_name: lacks_name(*name) || lack_names(survey, members),
-            foreign: *odd,
-            unspeakable: are_unspeakable(survey, members, types),
-            depth: 0,
-        },
-        Subject::Enumeration {
-            name,
-            odd,
-            enumerators,
-        } => Findings {
-            bad_name: lacks_name(*name) || enumerators.lack_name(),
-            foreign: *odd,
-            unspeakable: enumerators.is_wrong(),
+        Subject::Defined(name, body) => Findings {
+            bad_name: lacks_name(*name) || lacks_names(survey, body),
+            foreign: body.is_odd(),
+            unspeakable: is_unspeakable_body(survey, body, types),
             depth: 0,
         },
         Subject::Declared(word, name) => Findings {

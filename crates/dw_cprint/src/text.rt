@@ -7,7 +7,7 @@ ghost use Rattle.dw_cprint.specs.Kept.{Writes};
 ghost use Rattle.dw_cprint.specs.Lengths.{capped, name_bytes, value_bytes};
 ghost use Rattle.dw_cprint.specs.Shapes.{view_name};
 ghost use Rattle.dw_cprint.specs.Tokens.{Blank, TagWord};
-ghost use Rattle.dw_cprint.specs.Writing.{qualifying, name_tokens, value_tokens, bits_tokens};
+ghost use Rattle.dw_cprint.specs.Writing.{front_tokens, qualifying, name_tokens, value_tokens, bits_tokens};
 
 use crate::digits::put_decimal;
 use crate::words::{Name, Qualifier, TagKeyword};
@@ -101,6 +101,15 @@ pub fn put_tag(out: &mut Vec<u8>, tag: TagKeyword, name: Name<'_>) -> Result<(),
     put(out, tag.text())?;
     put(out, b" ")?;
     put_name(out, name)
+}
+
+/// The word before a body, and a name, each with a space after it.
+pub fn put_front(out: &mut Vec<u8>, tag: TagKeyword, name: Name<'_>) -> Result<(), AllocError>
+    ensures { OnOk result (Writes (TagWord tag ∷ Blank ∷ front_tokens (view_name name.entry))
+        out.old.items out.new.items) }
+{
+    put_tag(out, tag, name)?;
+    put_gap(out, name.is_some())
 }
 
 /// The bits of a member, if it has a size in bits.

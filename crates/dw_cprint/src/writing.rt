@@ -1,22 +1,26 @@
 //! The text of a declaration, and of a type: what is before its declarator, and what is after it.
 
-ghost use Rattle.std.specs.Prelude.{◌≡◌, ◌<◌, Bool, Some, None, map, OnOk, IfSome, MatchOption};
+ghost use Rattle.std.specs.Prelude.{◌≡◌, ◌<◌, ℕ, Bool, [], Some, None, map, OnOk, IfSome, MatchOption};
+ghost use Rattle.dw_cprint.specs.Terms.{Term};
 ghost use Rattle.dw_cprint.specs.Declarations.{term_by};
-ghost use Rattle.dw_cprint.specs.Kept.{kept, kept_term, WritesBefore, WritesAfter, WritesOpened, WritesClosed};
-ghost use Rattle.dw_cprint.specs.Kept.{WritesNamed, WritesCore, WritesMember, WritesMembers, WritesParameter};
-ghost use Rattle.dw_cprint.specs.Kept.{WritesDeclaration, WritesParameters};
-ghost use Rattle.dw_cprint.specs.Shapes.{aggregate_subject, other, view_name, view_shape, view_subject, view_member};
+ghost use Rattle.dw_cprint.specs.Declarators.{after, before, closing, core, opening};
+ghost use Rattle.dw_cprint.specs.Kept.{kept, kept_term, WritesOf, WritesBody, WritesDeclaration, WritesMember};
+ghost use Rattle.dw_cprint.specs.Kept.{WritesParameter, WritesParameters};
+ghost use Rattle.dw_cprint.specs.Shapes.{aggregate, other, view_body, view_name, view_shape, view_subject, view_member};
+ghost use Rattle.dw_cprint.specs.Writing.{name_tokens, spell};
 ghost use Rattle.dw_cprint.specs.Wrong.{is_bracketed, kind_at};
 
-use crate::shape::{Member, Parameter, Shape, Subject, kind_of};
+use crate::shape::{Body, Member, Parameter, Shape, Subject, kind_of};
 use crate::source::TypeAt;
 use crate::survey::Survey;
-use crate::text::{put, put_bits, put_gap, put_joined, put_name, put_qualifiers, put_tag};
+use crate::text::{
+    put, put_bits, put_front, put_gap, put_joined, put_name, put_qualifiers, put_tag,
+};
 use crate::words::{AggregateKeyword, Name, Qualifier, TagKeyword};
 use std::alloc::{AllocError, Global};
 
 /// The most types on a path that is printed: 64 entries, and void after the last.
-const DEPTH: usize = 65;
+pub const DEPTH: usize = 65;
 
 impl<'a> Survey<'a> {
     /// The shape that is kept of an entry.
@@ -59,7 +63,7 @@ impl<'a> Survey<'a> {
 
     /// The parenthesis before the star of a pointer, if it needs one.
     fn put_opened(&self, out: &mut Vec<u8>, to: TypeAt) -> Result<(), AllocError>
-        ensures { OnOk result (WritesOpened self.now to out.old.items out.new.items) }
+        ensures { OnOk result ((k : ℕ) → WritesOf (kept_term self.now k to) opening out.old.items out.new.items) }
     {
         if self.is_bracketed(to) {
             put(out, b"(")?;
@@ -69,7 +73,7 @@ impl<'a> Survey<'a> {
 
     /// The parenthesis that closes it.
     fn put_closed(&self, out: &mut Vec<u8>, to: TypeAt) -> Result<(), AllocError>
-        ensures { OnOk result (WritesClosed self.now to out.old.items out.new.items) }
+        ensures { OnOk result ((k : ℕ) → WritesOf (kept_term self.now k to) closing out.old.items out.new.items) }
     {
         if self.is_bracketed(to) {
             put(out, b")")?;
@@ -87,7 +91,8 @@ impl<'a> Survey<'a> {
         name: Name<'_>,
         depth: usize,
     ) -> Result<(), AllocError>
-        ensures { OnOk result (WritesNamed self.now depth at (view_name name.entry) out.old.items out.new.items) }
+        ensures { OnOk result (WritesOf (kept_term self.now depth at)
+            (λ (t : Term). spell [] t (name_tokens (view_name name.entry))) out.old.items out.new.items) }
     {
         self.put_before(alloc, out, at, Vec::new(alloc), name.is_some(), depth)?;
         put_name(out, name)?;
@@ -110,23 +115,51 @@ impl<'a> Survey<'a> {
         put(out, b"; ")
     }
 
-    /// The members of a body, in braces.
+    /// The members of a structure or union in braces, after its keyword and a name, if there is one.
     #[cycle(writing)]
-    fn put_members(
+    pub fn put_aggregate(
         &self,
         alloc: Global,
         out: &mut Vec<u8>,
+        word: AggregateKeyword,
+        name: Name<'_>,
         members: &[Member<'a>],
         depth: usize,
     ) -> Result<(), AllocError>
-        ensures { OnOk result (WritesMembers self.now depth (map view_member members.now) out.old.items out.new.items) }
+        ensures { OnOk result ((odd : Bool) → WritesBody self.now depth (view_name name.entry)
+            (aggregate word odd (map view_member members.now)) out.old.items out.new.items) }
     {
+        put_front(out, TagKeyword::OfAggregate(word), name)?;
         put(out, b"{ ")?;
         for member in members {
             self.put_member(alloc, out, member, depth)?;
         }
         put(out, b"}")?;
         Ok(())
+    }
+
+    /// A body after its keyword and a name, if there is one.
+    #[cycle(writing)]
+    fn put_body(
+        &self,
+        alloc: Global,
+        out: &mut Vec<u8>,
+        name: Name<'_>,
+        body: &Body<'a>,
+        depth: usize,
+    ) -> Result<(), AllocError>
+        ensures { OnOk result (WritesBody self.now depth (view_name name.entry) (view_body body.now)
+            out.old.items out.new.items) }
+    {
+        match body {
+            Body::Aggregate { word, members, .. } => {
+                self.put_aggregate(alloc, out, *word, name, members, depth)
+            }
+            Body::Enumeration { enumerators, .. } => {
+                put_front(out, TagKeyword::Enum, name)?;
+                enumerators.write(out)
+            }
+        }
     }
 
     /// A parameter of a function, or that others follow.
@@ -177,21 +210,14 @@ impl<'a> Survey<'a> {
         shape: &Shape<'a>,
         depth: usize,
     ) -> Result<(), AllocError>
-        ensures { OnOk result (WritesCore self.now depth (view_shape shape.now) out.old.items out.new.items) }
+        ensures { OnOk result (WritesOf (term_by (kept_term self.now depth) (view_shape shape.now)) core
+            out.old.items out.new.items) }
     {
         match shape {
             Shape::Base(name) => put_name(out, *name),
             Shape::Typedef(name) => put_name(out, *name),
             Shape::Tagged(tag, name) => put_tag(out, *tag, Some(*name)),
-            Shape::Body { word, members, .. } => {
-                put(out, TagKeyword::OfAggregate(*word).text())?;
-                put(out, b" ")?;
-                self.put_members(alloc, out, members, depth)
-            }
-            Shape::Enumeration { enumerators, .. } => {
-                put(out, b"enum ")?;
-                enumerators.write(out)
-            }
+            Shape::Body(body) => self.put_body(alloc, out, None, body, depth),
             _ => Ok(()),
         }
     }
@@ -207,7 +233,8 @@ impl<'a> Survey<'a> {
         inside: bool,
         depth: usize,
     ) -> Result<(), AllocError>
-        ensures { OnOk result (WritesBefore self.now depth at qualifiers.items inside out.old.items out.new.items) }
+        ensures { OnOk result (WritesOf (kept_term self.now depth at)
+            (λ (t : Term). before qualifiers.items t inside) out.old.items out.new.items) }
     {
         let Some(entry) = at.get() else {
             put_qualifiers(out, &qualifiers)?;
@@ -251,7 +278,7 @@ impl<'a> Survey<'a> {
         at: TypeAt,
         depth: usize,
     ) -> Result<(), AllocError>
-        ensures { OnOk result (WritesAfter self.now depth at out.old.items out.new.items) }
+        ensures { OnOk result (WritesOf (kept_term self.now depth at) after out.old.items out.new.items) }
     {
         let Some(entry) = at.get() else {
             return Ok(());
@@ -287,25 +314,6 @@ impl<'a> Survey<'a> {
         }
     }
 
-    /// A structure or union with its body.
-    pub fn put_aggregate(
-        &self,
-        alloc: Global,
-        out: &mut Vec<u8>,
-        word: AggregateKeyword,
-        name: Name<'_>,
-        members: &[Member<'a>],
-    ) -> Result<(), AllocError>
-        ensures { OnOk result ((odd : Bool) → WritesDeclaration self.now
-            (aggregate_subject word (view_name name.entry) odd (map view_member members.now))
-            out.old.items out.new.items) }
-    {
-        put_tag(out, TagKeyword::OfAggregate(word), name)?;
-        put(out, b" ")?;
-        self.put_members(alloc, out, members, DEPTH)?;
-        put(out, b";")
-    }
-
     /// A declaration.
     #[tactic(auto, unfolding(crate::specs::Declarations::declaration_of))]
     pub fn put_declaration(
@@ -326,17 +334,10 @@ impl<'a> Survey<'a> {
                 self.put_named(alloc, out, *at, *name, DEPTH)?;
                 put(out, b";")
             }
-            Subject::Aggregate {
-                word,
-                name,
-                members,
-                ..
-            } => { self.put_aggregate(alloc, out, *word, *name, members) }
-            Subject::Enumeration {
-                name,
-                enumerators,
-                ..
-            } => enumerators.declare(out, *name),
+            Subject::Defined(name, body) => {
+                self.put_body(alloc, out, *name, body, DEPTH)?;
+                put(out, b";")
+            }
             Subject::Declared(word, name) => {
                 put_tag(out, *word, *name)?;
                 put(out, b";")

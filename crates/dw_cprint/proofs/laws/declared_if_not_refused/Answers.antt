@@ -8,7 +8,7 @@ use Rattle.dw_cprint.proofs.laws.declared_if_not_refused.Goals as goal
 pub returns-clause-there : goal.returns-clause-there
 unfolding declaration_of
 returns-clause-there c =
-    λ shapes subject none. subject_some 64 shapes subject (λ rule below holds. none rule (omega arith) holds)
+    λ shapes subject none. subject_some 65 shapes subject (λ rule below holds. none rule (omega arith) holds)
     (λ path. none TooDeep (omega arith) (deep path))
 
 pub returns-clause-legible : goal.returns-clause-legible

@@ -1,17 +1,17 @@
-use Rattle.std.proofs.lemmas.Grind.{common_steps}
-use Rattle.std.proofs.Common.{arith, ◌≡◌, ℕ, [], ◌∷◌, ◌++◌, Bool, List, Some, None, true, refl, ap, sym, ◌∙◌, subst, get_or, map, append-nil, rules}
+use Rattle.std.proofs.Common.{◌≡◌, [], ◌∷◌, Bool, List, Some, None, true, refl, ap, sym, ◌∙◌, subst, get_or, map, rules}
 use Rattle.std.proofs.lemmas.List.{drop_more, drop_all, get_or_read}
-use Rattle.dw_cprint.specs.Declarations.{term_at}
-use Rattle.dw_cprint.specs.Declarators.{before, gap, pointer_row}
-use Rattle.dw_cprint.specs.Kept.{kept, Writes, WritesBefore, WritesCore, WritesMembers, WritesParameters}
-use Rattle.dw_cprint.specs.Shapes.{OfAggregate, Qualifier, Parameter, Typed, MemberOf, ShapeOf, function, view_name, view_shape, view_member}
+use Rattle.dw_cprint.specs.Declarations.{term_at, term_by}
+use Rattle.dw_cprint.specs.Declarators.{before, core, gap, pointer_row}
+use Rattle.dw_cprint.specs.Kept.{kept, kept_term, Writes, WritesBody, WritesEnumerators, WritesOf, WritesParameters}
+use Rattle.dw_cprint.specs.Shapes.{Qualifier, Parameter, Typed, MemberOf, BodyOf, aggregate, ShapeOf, function, view_body, view_name, view_shape, view_member}
 use Rattle.dw_cprint.specs.Terms.{Term}
+use Rattle.dw_cprint.specs.declared.shape.Member.{Member}
 use Rattle.dw_cprint.specs.declared.words.Text.{Text}
-use Rattle.dw_cprint.specs.Tokens.{VoidWord, TagWord, spelling}
+use Rattle.dw_cprint.specs.Tokens.{VoidWord}
 use Rattle.dw_cprint.specs.Writing.{qualifying}
 use Rattle.dw_cprint.proofs.OptionLemmas.{ok_then}
-use Rattle.dw_cprint.proofs.WriterLemmas.{both, as_tokens, step-at, void-at, pointer_before, array_before, specifier_before, array_after, prototype_after, named_written, base_core, body_core, enumeration_core, pointer_after, specifier-shape, some-mapped}
-use Rattle.dw_cprint.proofs.ItemWriterLemmas.{IsLeft, next-of, members_left, members_next, parameters_left, parameters_next, parameters_done, members_done}
+use Rattle.dw_cprint.proofs.WriterLemmas.{both, as_tokens, step-at, void-at, pointer_before, array_before, specifier_before, array_after, prototype_after, named_written, base_core, body_core, pointer_after, specifier-shape, some-mapped}
+use Rattle.dw_cprint.proofs.ItemWriterLemmas.{IsLeft, next-of, members_left, members_next, parameters_left, parameters_next, parameters_done, members_done, enumeration_done}
 use Rattle.dw_cprint.proofs.survey.Survey.+writing.Goals as goal
 
 pub put_after-returns-in_ok-write-in-Array : goal.put_after-returns-in_ok-write-in-Array
@@ -66,8 +66,8 @@ put_before-returns-in_ok-put-in-Pointer t c =
     let seen = c.in-Some-shape_within in
     let is = sym c.get.ensures ∙ c.in-Some.is in
     let step = step-at _ _ _ _ _ _ _ is seen.ensures.found (ap view_shape c.in-Pointer.is) in
-    let P : List Qualifier → Type 0 = λ us. WritesBefore s seen.below c.in-Pointer.to us true c.args.out.now.items
-    c.put_before-in-Pointer.new.out.items in
+    let P : List Qualifier → Type 0 = λ us. WritesOf (kept_term s seen.below c.in-Pointer.to)
+    (λ (t : Term). before us t true) c.args.out.now.items c.put_before-in-Pointer.new.out.items in
     let R : List Qualifier → Type 0 = λ us. Writes (pointer_row us c.args.inside) c.put-in-Pointer.new.out.items
     c.put_joined.new.out.items in
     ok_then _ _ _
@@ -85,8 +85,8 @@ put_before-returns-in-Array t c =
     let is = sym c.get.ensures ∙ c.in-Some.is in
     let a = c.in-Array in
     let step = step-at _ _ _ _ _ _ _ is seen.ensures.found (ap view_shape a.is) in
-    let P : List Qualifier → Type 0 = λ us. WritesBefore s seen.below a.element us true c.args.out.now.items
-    c.put_before-in-Array.new.out.items in
+    let P : List Qualifier → Type 0 = λ us. WritesOf (kept_term s seen.below a.element)
+    (λ (t : Term). before us t true) c.args.out.now.items c.put_before-in-Array.new.out.items in
     ok_then _ _ _ (λ inner. array_before (term_at seen.below (kept s)) _ _ _ c.args.qualifiers.items c.args.inside
     a.dimensions a.strange a.element step (subst P c.new-in-Array.ensures.items inner))
     c.put_before-in-Array.ensures
@@ -107,46 +107,55 @@ put_before-returns-in_ok-put_core-in_default-shape t c =
 
 pub put_core-returns-in-Base : goal.put_core-returns-in-Base
 put_core-returns-in-Base t c =
-    let P : ShapeOf → Type 0 = λ shape. WritesCore c.args.self.now c.args.depth shape c.args.out.now.items
-    c.put_name.new.out.items
-    in
+    let P : ShapeOf → Type 0 = λ shape. WritesOf (term_by (kept_term c.args.self.now c.args.depth) shape) core
+    c.args.out.now.items c.put_name.new.out.items in
     ok_then _ _ _ (λ word. subst P (sym (ap view_shape c.in-Base.is))
     (base_core (term_at c.args.depth (kept c.args.self.now)) _ _ (view_name c.in-Base.name) word))
     c.put_name.ensures
 
-pub put_core-returns-in_ok-put-in-Body-2 : goal.put_core-returns-in_ok-put-in-Body-2
-put_core-returns-in_ok-put-in-Body-2 t c =
-    let s = c.args.self.now in
-    let b = c.in-Body in
-    let tag = c.in_ok-put-in-Body.ensures
-    ∙ ap (λ (u : List ℕ). c.args.out.now.items ++ u)
-    (c.text.ensures ∙ sym (append-nil (spelling (TagWord (OfAggregate b.word))))) in
-    let P : ShapeOf → Type 0 = λ shape. WritesCore s c.args.depth shape c.args.out.now.items c.put_members.new.out.items
-    in
-    let Q : List MemberOf → Type 0 = λ us. WritesMembers s c.args.depth us c.put-in-Body.new.out.items
-    c.put_members.new.out.items
-    in
-    ok_then _ _ _
-    (λ inner. subst P (sym (ap view_shape b.is))
-    (body_core (term_at c.args.depth (kept s)) _ _ _ _ b.word b.odd (map view_member b.members.items) tag
-    c.in_ok-put-in-Body-2.ensures (subst Q (ap (map view_member) c.deref.ensures.value) inner)))
-    c.put_members.ensures
+pub put_body-returns-in-Aggregate : goal.put_body-returns-in-Aggregate
+put_body-returns-in-Aggregate t c =
+    let b = c.in-Aggregate in
+    let P : BodyOf → Type 0 = λ x. WritesBody c.args.self.now c.args.depth (view_name c.args.name) x
+    c.args.out.now.items c.put_aggregate.new.out.items in
+    let done : ((odd : Bool) → P (aggregate b.word odd (map view_member c.deref.result.now)))
+    → P (view_body c.args.body.now) = λ written.
+    subst P (ap (λ (ms : List Member). aggregate b.word b.odd (map view_member ms)) c.deref.ensures.value
+    ∙ sym (ap view_body b.is)) (written b.odd) in
+    ok_then _ _ _ done c.put_aggregate.ensures
 
-pub put_core-returns-in_ok-put-in-Enumeration : goal.put_core-returns-in_ok-put-in-Enumeration
-put_core-returns-in_ok-put-in-Enumeration t c = grind (arith, common_steps, ok_then, enumeration_core)
+pub put_body-returns-in_ok-put_front-in-Enumeration : goal.put_body-returns-in_ok-put_front-in-Enumeration
+put_body-returns-in_ok-put_front-in-Enumeration t c =
+    let b = c.in-Enumeration in
+    let P : BodyOf → Type 0 = λ x. WritesBody c.args.self.now c.args.depth (view_name c.args.name) x
+    c.args.out.now.items c.write.new.out.items in
+    let done : WritesEnumerators b.enumerators c.put_front.new.out.items c.write.new.out.items
+    → P (view_body c.args.body.now) = λ inner.
+    subst P (sym (ap view_body b.is)) (enumeration_done (kept_term c.args.self.now c.args.depth)
+    (view_name c.args.name) b.odd b.enumerators _ _ _ c.in_ok-put_front-in-Enumeration.ensures inner) in
+    ok_then _ _ _ done c.write.ensures
+
+pub put_core-returns-in-Body : goal.put_core-returns-in-Body
+put_core-returns-in-Body t c =
+    let P : ShapeOf → Type 0 = λ shape. WritesOf (term_by (kept_term c.args.self.now c.args.depth) shape) core
+    c.args.out.now.items c.put_body.new.out.items in
+    ok_then _ _ _
+    (λ inner. subst P (sym (ap view_shape c.in-Body.is))
+    (body_core (term_at c.args.depth (kept c.args.self.now)) _ _ (view_body c.in-Body.body) inner))
+    c.put_body.ensures
 
 pub put_named-returns : goal.put_named-returns
 put_named-returns t c =
-    let P : List Qualifier → Bool → Type 0 = λ us b. WritesBefore c.args.self.now c.args.depth c.args.at us b
-    c.args.out.now.items c.put_before.new.out.items in
+    let P : List Qualifier → Bool → Type 0 = λ us b. WritesOf (kept_term c.args.self.now c.args.depth c.args.at)
+    (λ (t : Term). before us t b) c.args.out.now.items c.put_before.new.out.items in
     let some = c.is_some.ensures ∙ some-mapped (λ (text : Text). text.bytes.now) c.args.name in
     let front = subst (P []) some (subst (λ (us : List Qualifier). P us c.is_some.result) c.new.ensures.items
     c.in_ok-put_before.ensures) in
     ok_then _ _ _ (named_written (term_at c.args.depth (kept c.args.self.now)) c.args.at (view_name c.args.name) _ _ _ _
     front c.in_ok-put_name.ensures) c.put_after.ensures
 
-pub put_members-loop-member-preserved : goal.put_members-loop-member-preserved
-put_members-loop-member-preserved t c = search (rules, members_left, members_next, next-of)
+pub put_aggregate-loop-member-preserved : goal.put_aggregate-loop-member-preserved
+put_aggregate-loop-member-preserved t c = search (rules, members_left, members_next, next-of)
 
 pub put_parameters-loop-parameter-preserved : goal.put_parameters-loop-parameter-preserved
 put_parameters-loop-parameter-preserved t c =
@@ -172,10 +181,11 @@ put_parameters-returns t c =
     (parameters_done s c.args.depth c.in-Some.first.now others _ _ _ c.in_ok-put_parameter.ensures
     (subst P (drop_all c.loop-parameter.parameter-index others c.loop-parameter-test.false) c.loop-parameter.invariant))
 
-pub put_members-returns : goal.put_members-returns
-put_members-returns t c = λ us e.
+pub put_aggregate-returns : goal.put_aggregate-returns
+put_aggregate-returns t c = λ odd.
     let term = term_at c.args.depth (kept c.args.self.now) in
     let P : List MemberOf → Type 0 = λ left. IsLeft (members_left term) (map view_member c.args.members.now)
     c.put.new.out.items left c.loop-member.out.items in
     let none = ap (map view_member) (drop_all c.loop-member.member-index c.args.members.now c.loop-member-test.false) in
-    members_done term _ _ _ _ _ c.in_ok-put.ensures (subst P none c.loop-member.invariant) c.in_ok-put-2.ensures us e
+    members_done term c.args.word (view_name c.args.name) odd _ _ _ _ _ _ c.in_ok-put_front.ensures c.in_ok-put.ensures
+    (subst P none c.loop-member.invariant) c.in_ok-put-2.ensures
