@@ -2,6 +2,7 @@
 use Rattle.std.proofs.Common.{arith, ◌≡◌, ℕ, ◌+◌, Bool, true, false, List, [], ◌∷◌, Option, Some, None, refl, sym, ◌∙◌, ap}
 use Rattle.std.specs.Prelude.{◌&&◌, ◌||◌, is_none, if◌then◌else◌}
 use Rattle.std.specs.List.{cons_option, list_any}
+use Rattle.std.proofs.Math.Bool.{or_assoc, or-false}
 use Rattle.std.proofs.lemmas.List.Sums.{sum_by-cons}
 use Rattle.dw_cprint.specs.Counted.{AreEnumerators, is_wrong_with, bytes_with, EnumeratorsSoFar, AreDimensions, starts_open_with, is_miscounted_with, DimensionsSoFar}
 use Rattle.dw_cprint.specs.Lengths.{capped, count_bytes, enumerator_bytes}
@@ -9,14 +10,6 @@ use Rattle.dw_cprint.specs.Shapes.{EnumeratorOf}
 use Rattle.dw_cprint.specs.Wrong.{lacks_identifier, lacks_value, starts_open}
 use Rattle.dw_cprint.specs.declared.dimensions.DimensionTally.{DimensionTally}
 use Rattle.dw_cprint.specs.declared.enumerators.EnumeratorTally.{EnumeratorTally}
-
-or_later : (a b c : Bool) → (a || (b || c)) ≡ ((a || b) || c)
-or_later true b c = refl
-or_later false b c = refl
-
-or_none : (a : Bool) → (a || false) ≡ a
-or_none true = refl
-or_none false = refl
 
 -- ---- enumerators
 
@@ -35,7 +28,7 @@ pub enumerators_more : (all left : List EnumeratorOf) (e : EnumeratorOf) (found 
     → EnumeratorsSoFar all new left
 enumerators_more all left e found new so_far some nameless wrong long = record {
   nameless =
-      so_far.nameless ∙ or_later found.nameless (lacks_identifier e) (list_any lacks_identifier left)
+      so_far.nameless ∙ sym (or_assoc found.nameless (lacks_identifier e) (list_any lacks_identifier left))
       ∙ ap (λ (b : Bool). b || list_any lacks_identifier left) (sym nameless);
   wrong = so_far.wrong ∙ wrong_of left;
   long = so_far.long ∙ long_of left;
@@ -43,10 +36,10 @@ enumerators_more all left e found new so_far some nameless wrong long = record {
 }
   where
     wrong_of : (left : List EnumeratorOf) → is_wrong_with found (e ∷ left) ≡ is_wrong_with new left
-    wrong_of [] = ap (λ (b : Bool). (found.some && found.wrong) || b) (or_none (lacks_value e)) ∙ sym wrong
+    wrong_of [] = ap (λ (b : Bool). (found.some && found.wrong) || b) (or-false (lacks_value e)) ∙ sym wrong
     wrong_of (x ∷ left) =
         let same : (new.some && new.wrong) ≡ ((found.some && found.wrong) || lacks_value e) = rw some wrong in
-        or_later (found.some && found.wrong) (lacks_value e) (list_any lacks_value (x ∷ left))
+        sym (or_assoc (found.some && found.wrong) (lacks_value e) (list_any lacks_value (x ∷ left)))
         ∙ ap (λ (b : Bool). b || list_any lacks_value (x ∷ left)) (sym same)
 
     long_of : (left : List EnumeratorOf) → capped (bytes_with found (e ∷ left)) ≡ capped (bytes_with new left)
@@ -59,7 +52,7 @@ enumerators_more all left e found new so_far some nameless wrong long = record {
 pub enumerators_all : (all : List EnumeratorOf) (found : EnumeratorTally) → EnumeratorsSoFar all found []
     → AreEnumerators all found
 enumerators_all all found so_far = record {
-  nameless = sym (so_far.nameless ∙ or_none found.nameless);
+  nameless = sym (so_far.nameless ∙ or-false found.nameless);
   wrong = sym so_far.wrong;
   long = omega (arith, so_far.long, so_far.short);
 }
@@ -99,12 +92,12 @@ dimensions_more all left count found new so_far some first wrong long = record {
     open_of (x ∷ left) = rw some refl
 
     wrong_of : (left : List (Option ℕ)) → is_miscounted_with new left ≡ (new.wrong || list_any is_none left)
-    wrong_of [] = sym (or_none new.wrong)
+    wrong_of [] = sym (or-false new.wrong)
     wrong_of (x ∷ left) = rw some refl
 
     by_some : (some wrong unknown any : Bool)
         → (if some then wrong || (unknown || any) else any) ≡ ((some && (wrong || unknown)) || any)
-    by_some true wrong unknown any = or_later wrong unknown any
+    by_some true wrong unknown any = sym (or_assoc wrong unknown any)
     by_some false wrong unknown any = refl
 
 -- all are found

@@ -5,8 +5,8 @@ use Rattle.dw_cprint.specs.Terms.{Qualifier, TypeWord, Term, Basic, Qualified, P
 use Rattle.dw_cprint.specs.Tokens.{Token, Blank, Star, Open, Close, LeftBracket, RightBracket, Semicolon, Colon, Comma, Identifier, Number}
 use Rattle.dw_cprint.specs.Writing.{spaced, qualifying, qualified_declarator, basic, enclosed, count_tokens, name_tokens, signature_tokens}
 use Rattle.dw_cprint.specs.Legible.{IsIdentifier, IsName, IsQualifiable}
-use Rattle.dw_cprint.specs.Reading.{Shape, same, ReaderPlace, OfFirst, After, Grouped, Before, Inside, Behind, AtCount, End, AtClose, AtComma, AtSemicolon, AtColon, ended, finished, behind}
-use Rattle.dw_cprint.proofs.CheckedLemmas.{checked, checked-name, checked-number}
+use Rattle.dw_cprint.specs.Reading.{Shape, same, ReaderPlace, OfFirst, After, Grouped, Before, Inside, Behind, End, AtClose, AtComma, AtSemicolon, AtColon, ended, finished}
+use Rattle.dw_cprint.proofs.CheckedLemmas.{checked, checked-name}
 
 -- the tokens at which a declarator ends
 abbrev pub end_tokens : End → List Token
@@ -36,7 +36,7 @@ bracket false = Open
 abbrev pub GoesOn : List Token → Option (List ℕ) → Shape → Type 0
 GoesOn d name shape = (q p : Shape) (place : ReaderPlace) (square : Bool) (r : List Token)
     → checked false (Inside q p place) (d ++ bracket square ∷ r)
-    ≡ checked false (behind name (λ t. q (p t)) shape place (bracket square)) r
+    ≡ checked false (Behind name (λ t. q (p t)) shape place) (bracket square ∷ r)
 
 -- and wherever it stands.
 abbrev pub Closed : List Token → Option (List ℕ) → Shape → Type 0
@@ -52,10 +52,6 @@ closed_end touching name p s place _ r = refl
 ends_closed : (d : List Token) (name : Option (List ℕ)) (shape : Shape) → Closed d name shape → Ends d name shape
 ends_closed d name shape h q p place end r =
     h q p place (end_tokens end ++ r) ∙ closed_end false name (λ t. q (p t)) shape place end r
-
-goes_on_closed : (d : List Token) (name : Option (List ℕ)) (shape : Shape) → Closed d name shape → GoesOn d name shape
-goes_on_closed d name shape h q p place true r = h q p place (LeftBracket ∷ r)
-goes_on_closed d name shape h q p place false r = h q p place (Open ∷ r)
 
 ends_nothing : Ends [] None same
 ends_nothing q p place AtClose r = refl
@@ -82,8 +78,8 @@ Stands _ d name shape = Ends d name shape
 
 pub stands_closed : (t : Term) (d : List Token) (name : Option (List ℕ)) (shape : Shape) → Closed d name shape
     → Stands t d name shape
-stands_closed (Array n t) d name shape h = goes_on_closed d name shape h
-stands_closed (Function t signature) d name shape h = goes_on_closed d name shape h
+stands_closed (Array n t) d name shape h = λ q p place square r. h q p place (bracket square ∷ r)
+stands_closed (Function t signature) d name shape h = λ q p place square r. h q p place (bracket square ∷ r)
 stands_closed _ d name shape h = ends_closed d name shape h
 
 stands_both : (t : Term) (d : List Token) (name : Option (List ℕ)) (shape : Shape) → Ends d name shape
@@ -110,20 +106,15 @@ stands_qualifiable _ d name shape h e = e
 closed_group : (d : List Token) (name : Option (List ℕ)) (shape : Shape) → Ends (Star ∷ d) name shape
     → Closed (Open ∷ (Star ∷ d ++ Close ∷ [])) name shape
 closed_group d name shape h q p place r =
-    let inner : ReaderPlace = Grouped (λ t. q (p t)) place in
-    ap (λ (ts : List Token). checked false (Inside same (λ t. Pointer t) inner) ts) (append_assoc d (Close ∷ []) r)
-    ∙ h same same inner AtClose r
+    rw (append_assoc d (Close ∷ []) r) (h same same (Grouped (λ t. q (p t)) place) AtClose r)
 
 pub closed_count : (n : Option ℕ) (d : List Token) (name : Option (List ℕ)) (shape : Shape)
     → GoesOn d name shape
     → Closed (d ++ count_tokens n) name (λ t. shape (Array n t))
 closed_count None d name shape h q p place r =
-    ap (λ (ts : List Token). checked false (Inside q p place) ts) (append_assoc d (count_tokens None) r)
-    ∙ h q p place true (RightBracket ∷ r)
+    rw (append_assoc d (count_tokens None) r) (h q p place true (RightBracket ∷ r))
 closed_count (Some n) d name shape h q p place r =
-    ap (λ (ts : List Token). checked false (Inside q p place) ts) (append_assoc d (count_tokens (Some n)) r)
-    ∙ h q p place true (Number n ∷ RightBracket ∷ r)
-    ∙ checked-number n (AtCount name (λ t. q (p t)) shape place) (RightBracket ∷ r)
+    rw (append_assoc d (count_tokens (Some n)) r) (h q p place true (Number n ∷ RightBracket ∷ r))
 
 -- The signature's tokens read as the signature.
 abbrev pub ReadsSignature : Signature → Type 0
@@ -135,12 +126,9 @@ pub closed_signature : (signature : Signature) (d : List Token) (name : Option (
     → ReadsSignature signature → GoesOn d name shape
     → Closed (d ++ Open ∷ (signature_tokens signature ++ Close ∷ [])) name (λ t. shape (Function t signature))
 closed_signature signature d name shape reads h q p place r =
-    ap (λ (ts : List Token). checked false (Inside q p place) ts)
-    (append_assoc d (Open ∷ (signature_tokens signature ++ Close ∷ [])) r)
-    ∙ h q p place false ((signature_tokens signature ++ Close ∷ []) ++ r)
-    ∙ ap (λ (ts : List Token). checked false (Before same (OfFirst name (λ t. q (p t)) shape place)) ts)
-    (append_assoc (signature_tokens signature) (Close ∷ []) r)
-    ∙ reads name (λ t. q (p t)) shape place r
+    let tokens = signature_tokens signature in
+    rw (append_assoc d (Open ∷ (tokens ++ Close ∷ [])) r, append_assoc tokens (Close ∷ []) r)
+    (h q p place false (tokens ++ Close ∷ r) ∙ reads name (λ t. q (p t)) shape place r)
 
 -- SPACES AND QUALIFIERS
 
@@ -177,9 +165,9 @@ ends_pointer qs d name shape h q p place end r =
 pub stands_enclosed : (t : Term) (d : List Token) (name : Option (List ℕ)) (shape : Shape) → Ends (Star ∷ d) name shape
     → Stands t (enclosed t (Star ∷ d)) name shape
 stands_enclosed (Array n t) d name shape h =
-    goes_on_closed (Open ∷ (Star ∷ d ++ Close ∷ [])) name shape (closed_group d name shape h)
-stands_enclosed (Function t signature) d name shape h =
-    goes_on_closed (Open ∷ (Star ∷ d ++ Close ∷ [])) name shape (closed_group d name shape h)
+    stands_closed (Array n t) (enclosed (Array n t) (Star ∷ d)) name shape (closed_group d name shape h)
+stands_enclosed (Function t s) d name shape h =
+    stands_closed (Function t s) (enclosed (Function t s) (Star ∷ d)) name shape (closed_group d name shape h)
 stands_enclosed _ d name shape h = h
 
 qualifying_read : (qs : List Qualifier) (q : Shape) (place : ReaderPlace) (r : List Token)

@@ -1,5 +1,5 @@
 -- The members, enumerators and parameters that are left to be written, item by item.
-use Rattle.std.proofs.lemmas.Grind.{common_steps}
+use Rattle.std.proofs.lemmas.Grind.{common_steps, flat_map-append}
 use Rattle.std.proofs.Common.{arith, rules, ◌≡◌, ℕ, ℤ, ◌+◌, ◌<◌, false, List, [], ◌∷◌, ◌++◌, Option, Some, None, refl, sym, ◌∙◌, ap, append_assoc, append-nil, drop, length, get_or, map}
 use Rattle.std.specs.Prelude.{Bool, true, option_map, if◌then◌else◌}
 use Rattle.std.specs.List.{cons_option}
@@ -10,11 +10,11 @@ use Rattle.dw_cprint.specs.Declarators.{comma}
 use Rattle.dw_cprint.specs.Kept.{Writes, EnumeratorsLeft, constants_left, WritesEnumerator, WritesEnumerators, WritesParameter, WritesParameters, kept_term}
 use Rattle.dw_cprint.specs.Shapes.{AggregateKeyword, OfAggregate, Enum, Parameter, Typed, More, Name, TypeAt, MemberOf, EnumeratorOf, aggregate, enumeration}
 use Rattle.dw_cprint.specs.Terms.{Constant, Valued, Term, Body, Aggregate, Constants, Parameters, Parameter as ParameterTerm, Members, Member as MemberTerm}
-use Rattle.dw_cprint.specs.Tokens.{Token, Blank, LeftBrace, RightBrace, Semicolon, Comma, Dot, TagWord, text_of}
+use Rattle.dw_cprint.specs.Tokens.{Token, Blank, LeftBrace, RightBrace, Semicolon, Comma, Dot, TagWord, text_of, spelling}
 use Rattle.dw_cprint.specs.Writing.{body_tokens, front_tokens, spell, name_tokens, bits_tokens, ellipsis, constant_tokens, constants, more_constants, more_parameters, members_tokens, written}
 use Rattle.dw_cprint.specs.declared.survey.Survey.{Survey}
 use Rattle.dw_cprint.proofs.OptionLemmas.{both_hold, map_holds, map_inverted, then_inverted, unless_holds}
-use Rattle.dw_cprint.proofs.WriterLemmas.{both, text-append}
+use Rattle.dw_cprint.proofs.WriterLemmas.{both}
 
 -- what is left of a list, one item on
 pub next-of : {X Y : Type 0} (f : X → Y) (xs : List X) (i : ℕ) (one : X) → one ≡ get_or xs i one → i < length xs
@@ -25,7 +25,7 @@ next-of f xs i one is within = ap (map f) (drop_more xs i one within) ∙ ap (λ
 pub moved : (a rest whole : List Token) (old out out' : List ℕ) (all : List ℕ) → Writes a out out'
     → a ++ rest ≡ whole
     → out ++ text_of whole ≡ old ++ all → out' ++ text_of rest ≡ old ++ all
-moved a rest whole old out out' all h parts so_far = search (rules, append_assoc, text-append)
+moved a rest whole old out out' all h parts so_far = search (rules, append_assoc, (flat_map-append spelling))
 
 -- ---- items of any kind, by the tokens of some of them, if all of these have terms
 

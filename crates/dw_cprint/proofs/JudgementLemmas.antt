@@ -1,19 +1,19 @@
 -- The named types by their numbers: why each is refused, and the listing of those that are printed and of the others.
 use Rattle.std.proofs.Common.{◌≡◌, ◌≢◌, ℕ, zero, suc, ◌+◌, ◌<◌, Bool, true, false, List, [], ◌∷◌, ◌++◌, refl, sym, ◌∙◌, ap, subst, inl, inr, length, map, get_or, arith, append-nil, take, Option, Some, None, nat_eq, slice_get}
-use Rattle.std.specs.Prelude.{◌⊎◌, All, Contains, AllPairs, filter, flat_map, if◌then◌else◌}
+use Rattle.std.specs.Prelude.{◌⊎◌, All, Contains, AllPairs, filter, flat_map}
 use Rattle.std.specs.List.{range_with_len, filter_map, list_any}
-use Rattle.std.proofs.lemmas.Bool.{cases_lt, eqb-true}
+use Rattle.std.proofs.lemmas.Bool.{eqb-true, false_from_ne_true}
 use Rattle.std.proofs.lemmas.Map.Views.{Contains-from_any}
 use Rattle.indexmap.specs.IndexSet.{insert_key}
-use Rattle.std.proofs.lemmas.Option.{slice_get-get_or}
-use Rattle.std.proofs.lemmas.List.{get_or_append_left, get_or_default, get_or-map, get_or_push, get_or-take, length-map, length_push, length-take-le, take_more}
-use Rattle.std.proofs.lemmas.List.Elements.{All-contains, All-contains_itself, All-filter, Contains-append_left, Contains-append_right, All-rest, Contains-get_or, filter-append, filter_passes}
+use Rattle.std.proofs.lemmas.Option.{get_or_from_slice_get, slice_get-get_or, slice_get_within, some_pair_parts}
+use Rattle.std.proofs.lemmas.List.{get_or_default, get_or-map, get_or-take, length-map, length_push, length-take-le}
+use Rattle.std.proofs.lemmas.List.Elements.{All-contains, All-contains_itself, All-filter, Contains-append_left, Contains-append_right, All-rest, Contains-get_or, filter_more, filter_passes}
 use Rattle.std.proofs.lemmas.List.Kept.{AllPairs-filter}
 use Rattle.std.proofs.lemmas.List.Sorted.{Contains-permutation}
 use Rattle.dw_image.specs.declared.image.Image.{Image}
 use Rattle.dw_image.specs.Images.{entries_in}
 use Rattle.dw_cprint.specs.EntryShapes.{shape_in, subject_in}
-use Rattle.dw_cprint.specs.Judgements.{AreFirstRefusals, AreRefusals, IsPrintedNumber, IsRefusal, is_printed, refused_number, refused_pair}
+use Rattle.dw_cprint.specs.Judgements.{AreFirstRefusals, AreRefusals, IsPrintedNumber, IsRefusal, is_printed, is_there_none, refused_number, refused_pair}
 use Rattle.dw_cprint.specs.Listings.{IsNamedType, AreNamedTypes, AreRanked, StandsBefore, IsListing}
 use Rattle.dw_cprint.specs.Kept.{WritesDeclaration}
 use Rattle.dw_cprint.specs.Refusals.{PrintFault, AppendsDeclaration, Refuses, IsPrinted}
@@ -22,7 +22,7 @@ use Rattle.dw_cprint.specs.Steps.{entries_among, first_steps, types_declared}
 use Rattle.dw_cprint.specs.Summaries.{AreAmong, BySurvey, IsSurveyOf}
 use Rattle.dw_cprint.specs.declared.survey.Survey.{Survey}
 use Rattle.dw_cprint.proofs.RefusalLemmas.{one-rule, printed-or-refused, writes-printed}
-use Rattle.dw_cprint.proofs.NumberLemmas.{kept-there, picked-of, picked-pairs, picked-there, range-rising, range-there}
+use Rattle.dw_cprint.proofs.NumberLemmas.{each-more, kept-has, picked-of, picked-pairs, picked-there, range-rising, range-there}
 use Rattle.dw_cprint.proofs.ReachLemmas.{from-map, into-map}
 
 -- the steps of one entry are among those of all
@@ -55,58 +55,33 @@ pub refusals-more : (image : Image) (named : List ℕ) (k entry : ℕ) (refusals
     (r : Option PrintFault) → AreFirstRefusals image named k refusals → more ≡ refusals ++ r ∷ []
     → entry ≡ get_or named k 0 → IsRefusal (shape_in image) (subject_in image entry) r
     → AreFirstRefusals image named (k + 1) more
-refusals-more image named k entry refusals more r h is at one = rw is (record {
-  long = omega (arith, length_push refusals r, h.long);
-  each = λ j w. elim (cases_lt j k) [
-    | inl below ↦ rw (get_or_append_left refusals (r ∷ []) None j (omega (arith, h.long, below))) (h.each j below)
-    | inr above ↦
-        let same : k ≡ j = omega arith in
-        let R : ℕ → Type 0 = λ x. IsRefusal (shape_in image) (subject_in image x) r in
-        rw (get_or_push refusals r None j (h.long ∙ same)) (subst R (at ∙ ap (λ n. get_or named n 0) same) one)
-  ];
-})
+refusals-more image named k entry refusals more r h is at one =
+    let R : ℕ → Option PrintFault → Type 0 = λ j q. IsRefusal (shape_in image) (subject_in image (get_or named j 0)) q
+    in
+    rw is (record {
+      long = omega (arith, length_push refusals r, h.long);
+      each = λ j w. each-more R refusals r None (λ i v. h.each i (omega (arith, v, h.long)))
+          (rw (h.long, ← at) one) j
+          (omega (arith, w, h.long, length_push refusals r));
+    })
 
 -- ---- those that are printed
 
-printed-none : (refusals : List (Option PrintFault)) (k : ℕ) → is_printed refusals k ≡ true
-    → (k < length refusals) × (get_or refusals k None ≡ None)
-printed-none [] k is = absurd (cc)
-printed-none (None ∷ rs) zero is = (omega arith, refl)
-printed-none (Some rule ∷ rs) zero is = absurd (cc)
-printed-none (r ∷ rs) (suc k) is = (let (w, none) = printed-none rs k is in (omega arith, none))
-
-none-printed : (refusals : List (Option PrintFault)) (k : ℕ) → k < length refusals → get_or refusals k None ≡ None
-    → is_printed refusals k ≡ true
-none-printed [] k w none = absurd (omega arith)
-none-printed (None ∷ rs) zero w none = refl
-none-printed (Some rule ∷ rs) zero w none = absurd (cc)
-none-printed (r ∷ rs) (suc k) w none = none-printed rs k (omega arith) none
-
--- a number that is not there goes last
-insert-last : (printed : List ℕ) (number : ℕ) → (Contains printed number → ⊥)
-    → insert_key nat_eq printed number ≡ printed ++ number ∷ []
-insert-last printed number absent = by (list_any (nat_eq number) printed) refl
-  where
-    by : (b : Bool) → list_any (nat_eq number) printed ≡ b → insert_key nat_eq printed number ≡ printed ++ number ∷ []
-    by true t = absurd (absent (Contains-from_any {eq = nat_eq} (λ x y. eqb-true x y) number printed t))
-    by false t = ap (λ (b : Bool). if b then printed else printed ++ number ∷ []) t
+there-none : (o : Option (Option PrintFault)) → is_there_none o ≡ true → o ≡ Some None
+there-none (Some None) is = refl
+there-none (Some (Some rule)) is = absurd (cc)
+there-none None is = absurd (cc)
 
 module _ (p : ℕ → Bool) (numbers : List ℕ) (i : ℕ) (within : i < length numbers) where
   abbrev x : ℕ
   x = get_or numbers i 0
 
-  -- those of the first so many that pass a test, and one more
-  next-kept : filter p (take (i + 1) numbers) ≡ filter p (take i numbers) ++ filter p (x ∷ [])
-  next-kept =
-      ap (filter p) (take_more numbers i 0 within)
-      ∙ filter-append p (take i numbers) (x ∷ [])
-
   pub kept-out : (keys : List ℕ) → keys ≡ filter p (take i numbers) → p x ≡ false
       → keys ≡ filter p (take (i + 1) numbers)
   kept-out keys so_far fails =
-      let none : filter p (x ∷ []) ≡ [] = rw fails refl in
-      so_far ∙ sym (next-kept ∙ ap (λ (l : List ℕ). filter p (take i numbers) ++ l) none
-      ∙ append-nil (filter p (take i numbers)))
+      let none : filter p (take (i + 1) numbers) ≡ filter p (take i numbers) =
+      rw (filter_more p numbers i 0 within, fails) (append-nil (filter p (take i numbers))) in
+      so_far ∙ sym none
 
   absent : AllPairs (λ j k. j ≢ k) numbers → Contains (filter p (take i numbers)) x → ⊥
   absent apart has =
@@ -119,10 +94,12 @@ module _ (p : ℕ → Bool) (numbers : List ℕ) (i : ℕ) (within : i < length 
   pub kept-in : (keys keys' : List ℕ) → AllPairs (λ j k. j ≢ k) numbers → keys ≡ filter p (take i numbers) → p x ≡ true
       → keys' ≡ insert_key nat_eq keys x → keys' ≡ filter p (take (i + 1) numbers)
   kept-in keys keys' apart so_far passes added =
-      let one : filter p (x ∷ []) ≡ x ∷ [] = rw passes refl in
-      let new : Contains keys x → ⊥ = λ has. absent apart (subst (λ (l : List ℕ). Contains l x) so_far has) in
-      added ∙ insert-last keys x new ∙ ap (λ (l : List ℕ). l ++ x ∷ []) so_far
-      ∙ sym (next-kept ∙ ap (λ (l : List ℕ). filter p (take i numbers) ++ l) one)
+      let before = filter p (take i numbers) in
+      let new : list_any (nat_eq x) before ≡ false = false_from_ne_true (list_any (nat_eq x) before)
+      (λ t. absent apart (Contains-from_any {eq = nat_eq} (λ a b. eqb-true a b) x before t)) in
+      let one : filter p (take (i + 1) numbers)
+      ≡ before ++ x ∷ [] = rw (filter_more p numbers i 0 within, passes) refl in
+      added ∙ ap (λ (l : List ℕ). insert_key nat_eq l x) so_far ∙ rw new (sym one)
 
 -- ---- the listing
 
@@ -132,140 +109,134 @@ refused-parts None r entry rule is = absurd (cc)
 refused-parts (Some x) None entry rule is = absurd (cc)
 refused-parts (Some x) (Some None) entry rule is = absurd (cc)
 refused-parts (Some x) (Some (Some f)) entry rule is =
-    let pair : (x, f) ≡ (entry, rule) = cc in
-    (ap (λ (p : ℕ × PrintFault). Some p.0) pair, ap (λ (p : ℕ × PrintFault). Some (Some p.1)) pair)
+    let (same, alike) = some_pair_parts x entry f rule is in
+    (ap Some same, ap (λ (r : PrintFault). Some (Some r)) alike)
 
-get-at : {X : Type 0} (xs : List X) (k : ℕ) (x d : X) → slice_get xs k ≡ Some x → (k < length xs) × (get_or xs k d ≡ x)
-get-at [] k x d e = absurd (cc)
-get-at (y ∷ xs) zero x d e = (omega arith, cc)
-get-at (y ∷ xs) (suc k) x d e = (let (w, same) = get-at xs k x d e in (omega arith, same))
+-- the entry and the refusal with a number
+refused-at : (named : List ℕ) (refusals : List (Option PrintFault)) (k entry : ℕ) (rule : PrintFault)
+    → refused_number named refusals k ≡ Some (entry, rule)
+    → (k < length named) × (get_or named k 0 ≡ entry) × (get_or refusals k None ≡ Some rule)
+refused-at named refusals k entry rule is =
+    let (at, found) = refused-parts (slice_get named k) (slice_get refusals k) entry rule is in (
+      slice_get_within named k entry at,
+      get_or_from_slice_get named k entry 0 at,
+      get_or_from_slice_get refusals k (Some rule) None found,
+    )
 
-module _ (image : Image) (named : List ℕ) (refusals : List (Option PrintFault)) (h : AreRefusals image named refusals)
-  where
-    -- no type is printed that has a refusal
-    pub printed-numbers : (numbers : List ℕ)
-        → All (IsPrintedNumber image named) (filter (is_printed refusals) numbers)
-    printed-numbers numbers =
-        λ i d w. by (get_or (filter p numbers) i d) (filter_passes p numbers i d w)
+module _ {image : Image} {named : List ℕ} {refusals : List (Option PrintFault)}
+    (h : AreRefusals image named refusals) where
+  -- no type is printed that has a refusal
+  pub printed-numbers : (numbers : List ℕ)
+      → All (IsPrintedNumber image named) (filter (is_printed refusals) numbers)
+  printed-numbers numbers =
+      λ i d w. by (get_or (filter p numbers) i d) (filter_passes p numbers i d w)
+    where
+      p : ℕ → Bool
+      p = is_printed refusals
+
+      by : (k : ℕ) → p k ≡ true → IsPrintedNumber image named k
+      by k is =
+          let found = there-none (slice_get refusals k) is in
+          let inside : k < length named = omega (arith, slice_get_within refusals k None found, h.long) in
+          (inside, rw (get_or_from_slice_get refusals k None None found) at (h.each k inside))
+
+  module _ (numbers : List ℕ) (names : AreNamedTypes image named) (ranks : AreRanked image named numbers) where
+    abbrev keys : List ℕ
+    keys = filter (is_printed refusals) numbers
+
+    abbrev entry_at : ℕ → ℕ
+    entry_at k = get_or named k 0
+
+    abbrev order : List ℕ
+    order = map entry_at keys
+
+    abbrev rs : List (ℕ × PrintFault)
+    rs = filter_map (refused_number named refusals) (range_with_len 0 (length named))
+
+    is-named : (k : ℕ) → k < length named → IsNamedType image (entry_at k)
+    is-named k w = (names.all (entry_at k)).0 (Contains-get_or named k 0 w)
+
+    printed-there : (entry : ℕ) → Contains order entry
+        → IsNamedType image entry × IsPrinted (shape_in image) (subject_in image entry)
+    printed-there entry has =
+        let (i, w, e) = from-map named keys order entry refl has in
+        let (inside, printed) = printed-numbers numbers i 0 w in
+        rw (← e) (is-named (get_or keys i 0) inside, printed)
+
+    refused-there : (entry : ℕ) (rule : PrintFault) → Contains rs (entry, rule)
+        → IsNamedType image entry × Refuses (shape_in image) (subject_in image entry) rule
+    refused-there entry rule has =
+        let (k, there, is) = picked-of (refused_number named refusals) (range_with_len 0 (length named)) (entry, rule)
+        has in
+        let (inside, e, r) = refused-at named refusals k entry rule is in
+        rw (← e) (is-named k inside, rw r at (h.each k inside))
+
+    -- each that is refused is an entry
+    pub refused-within : All (λ (r : ℕ × PrintFault). r.0 < length (entries_in image)) rs
+    refused-within k d w = (let r = get_or rs k d in (refused-there r.0 r.1 (Contains-get_or rs k d w)).0.0)
+
+    each-named : (entry : ℕ) → IsNamedType image entry
+        → Contains order entry ⊎ ((rule : PrintFault) × Contains rs (entry, rule))
+    each-named entry is =
+        let (k, w, e) = (names.all entry).1 is in
+        by k w (get_or_default named k 0 entry w ∙ e) (get_or refusals k None) refl
       where
-        p : ℕ → Bool
-        p = is_printed refusals
+        by : (k : ℕ) → k < length named → entry_at k ≡ entry → (r : Option PrintFault) → get_or refusals k None ≡ r
+            → Contains order entry ⊎ ((rule : PrintFault) × Contains rs (entry, rule))
+        by k w e None none =
+            let has = Contains-permutation (range_with_len 0 (length named)) numbers k ranks.all
+            (range-there (length named) k w) in
+            let passes = ap is_there_none
+            (slice_get-get_or refusals k None (omega (arith, h.long, w)) ∙ ap Some none) in
+            let (j, u, at) = kept-has (is_printed refusals) numbers k has passes in
+            inl (subst (Contains order) (ap entry_at (get_or_default keys j 0 k u ∙ at) ∙ e)
+            (into-map named keys order j refl u))
+        by k w e (Some rule) some = inr (
+          rule,
+          picked-there (refused_number named refusals) (range_with_len 0 (length named)) k (entry, rule)
+              (range-there (length named) k w)
+              (rw (slice_get-get_or named k 0 w, slice_get-get_or refusals k None (omega (arith, h.long, w)), e, some)
+              refl),
+        )
 
-        by : (k : ℕ) → p k ≡ true → IsPrintedNumber image named k
-        by k is =
-            let (w, none) = printed-none refusals k is in
-            let inside : k < length named = omega (arith, w, h.long) in
-            let R : Option PrintFault → Type 0 = λ r. IsRefusal (shape_in image) (subject_in image (get_or named k 0)) r
-            in
-            (inside, subst R none (h.each k inside))
-
-    module _ (numbers : List ℕ) (names : AreNamedTypes image named) (ranks : AreRanked image named numbers) where
-      abbrev keys : List ℕ
-      keys = filter (is_printed refusals) numbers
-
-      abbrev entry_at : ℕ → ℕ
-      entry_at k = get_or named k 0
-
-      abbrev order : List ℕ
-      order = map entry_at keys
-
-      abbrev rs : List (ℕ × PrintFault)
-      rs = filter_map (refused_number named refusals) (range_with_len 0 (length named))
-
-      is-named : (k : ℕ) → k < length named → IsNamedType image (entry_at k)
-      is-named k w = (names.all (entry_at k)).0 (Contains-get_or named k 0 w)
-
-      printed-there : (entry : ℕ) → Contains order entry
-          → IsNamedType image entry × IsPrinted (shape_in image) (subject_in image entry)
-      printed-there entry has =
-          let (i, w, e) = from-map named keys order entry refl has in
-          let (inside, printed) = printed-numbers numbers i 0 w in
-          let P : ℕ → Type 0 = λ x. IsNamedType image x × IsPrinted (shape_in image) (subject_in image x) in
-          subst P e (is-named (get_or keys i 0) inside, printed)
-
-      refused-there : (entry : ℕ) (rule : PrintFault) → Contains rs (entry, rule)
-          → IsNamedType image entry × Refuses (shape_in image) (subject_in image entry) rule
-      refused-there entry rule has =
-          let (k, there, is) = picked-of (refused_number named refusals) (range_with_len 0 (length named)) (entry, rule)
-          has in
-          let (at, found) = refused-parts (slice_get named k) (slice_get refusals k) entry rule is in
-          let (inside, e) = get-at named k entry 0 at in
-          let (w, r) = get-at refusals k (Some rule) None found in
-          let R : Option PrintFault → Type 0 = λ r. IsRefusal (shape_in image) (subject_in image (entry_at k)) r in
-          let P : ℕ → Type 0 = λ x. IsNamedType image x × Refuses (shape_in image) (subject_in image x) rule in
-          subst P e (is-named k inside, subst R r (h.each k inside))
-
-      -- each that is refused is an entry
-      pub refused-within : All (λ (r : ℕ × PrintFault). r.0 < length (entries_in image)) rs
-      refused-within k d w = (let r = get_or rs k d in (refused-there r.0 r.1 (Contains-get_or rs k d w)).0.0)
-
-      each-named : (entry : ℕ) → IsNamedType image entry
-          → Contains order entry ⊎ ((rule : PrintFault) × Contains rs (entry, rule))
-      each-named entry is =
-          let (k, w, e) = (names.all entry).1 is in
-          by k w (get_or_default named k 0 entry w ∙ e) (get_or refusals k None) refl
-        where
-          by : (k : ℕ) → k < length named → entry_at k ≡ entry → (r : Option PrintFault) → get_or refusals k None ≡ r
-              → Contains order entry ⊎ ((rule : PrintFault) × Contains rs (entry, rule))
-          by k w e None none =
-              let (i, v, same) = Contains-permutation (range_with_len 0 (length named)) numbers k ranks.all
-              (range-there (length named) k w) in
-              let p : ℕ → Bool = is_printed refusals in
-              let passes : p (get_or numbers i k) ≡ true = ap p same
-              ∙ none-printed refusals k (omega (arith, h.long, w)) none in
-              let (j, u, at) = kept-there p numbers i k v passes in
-              let here : get_or keys j 0 ≡ k = get_or_default keys j 0 (get_or numbers i k) u ∙ at ∙ same in
-              inl (subst (Contains order) (ap entry_at here ∙ e) (into-map named keys order j refl u))
-          by k w e (Some rule) some = inr (
-            rule,
-            picked-there (refused_number named refusals) (range_with_len 0 (length named)) k (entry, rule)
-                (range-there (length named) k w)
-                (ap (λ (o : Option ℕ). refused_pair o (slice_get refusals k)) (slice_get-get_or named k 0 w ∙ ap Some e)
-                ∙ ap (refused_pair (Some entry))
-                (slice_get-get_or refusals k None (omega (arith, h.long, w)) ∙ ap Some some)),
-          )
-
-      pub listing-done : IsListing image order rs
-      listing-done = record {
-        level = ranks.level;
-        levels = ranks.levels;
-        printed = λ entry. (
-          printed-there entry,
-          λ (is, p). elim (each-named entry is) [
-            | inl has ↦ has
-            | inr (rule, has) ↦ absurd (printed-or-refused (shape_in image) (subject_in image entry) rule p
-                (refused-there entry rule has).1)
-          ],
-        );
-        by_level = λ i j d less w.
-            let v : j < length keys = omega (arith, length-map keys entry_at, w) in
-            let L : ℕ → ℕ → Type 0 = λ a b. StandsBefore ranks.level (entry_at a) (entry_at b) in
-            rw (get_or-map entry_at keys i 0 d (omega (arith, less, v)), get_or-map entry_at keys j 0 d v)
-            (AllPairs-filter L (is_printed refusals) numbers ranks.by_level i j 0 less v);
-        others = λ entry rule. (
-          refused-there entry rule,
-          λ (is, f). elim (each-named entry is) [
-            | inl has ↦ absurd (printed-or-refused (shape_in image) (subject_in image entry) rule
-                (printed-there entry has).1 f)
-            | inr (other, has) ↦
-                let C : PrintFault → Type 0 = λ r. Contains rs (entry, r) in
-                subst C (one-rule (shape_in image) (subject_in image entry) other rule (refused-there entry other has).1
-                f) has
-          ],
-        );
-        by_offset =
-            picked-pairs (λ (a b : ℕ). a < b) (λ (a b : ℕ × PrintFault). a.0 < b.0) (refused_number named refusals)
-            (range_with_len 0 (length named))
-            (λ j k a b less first second.
-            let (wj, aj) = get-at named j a.0 0
-            (refused-parts (slice_get named j) (slice_get refusals j) a.0 a.1 first).0 in
-            let (wk, ak) = get-at named k b.0 0
-            (refused-parts (slice_get named k) (slice_get refusals k) b.0 b.1 second).0 in
-            let step = names.rising j k 0 less wk in
-            omega (arith, aj, ak, step))
-            (range-rising (length named));
-        each = each-named;
-      }
+    pub listing-done : IsListing image order rs
+    listing-done = record {
+      level = ranks.level;
+      levels = ranks.levels;
+      printed = λ entry. (
+        printed-there entry,
+        λ (is, p). elim (each-named entry is) [
+          | inl has ↦ has
+          | inr (rule, has) ↦ absurd (printed-or-refused (shape_in image) (subject_in image entry) rule p
+              (refused-there entry rule has).1)
+        ],
+      );
+      by_level = λ i j d less w.
+          let v : j < length keys = omega (arith, length-map keys entry_at, w) in
+          let L : ℕ → ℕ → Type 0 = λ a b. StandsBefore ranks.level (entry_at a) (entry_at b) in
+          rw (get_or-map entry_at keys i 0 d (omega (arith, less, v)), get_or-map entry_at keys j 0 d v)
+          (AllPairs-filter L (is_printed refusals) numbers ranks.by_level i j 0 less v);
+      others = λ entry rule. (
+        refused-there entry rule,
+        λ (is, f). elim (each-named entry is) [
+          | inl has ↦ absurd (printed-or-refused (shape_in image) (subject_in image entry) rule
+              (printed-there entry has).1 f)
+          | inr (other, has) ↦
+              rw (one-rule (shape_in image) (subject_in image entry) other rule (refused-there entry other has).1 f)
+              at has
+        ],
+      );
+      by_offset =
+          picked-pairs (λ (a b : ℕ). a < b) (λ (a b : ℕ × PrintFault). a.0 < b.0) (refused_number named refusals)
+          (range_with_len 0 (length named))
+          (λ j k a b less first second.
+          let (wj, aj, rj) = refused-at named refusals j a.0 a.1 first in
+          let (wk, ak, rk) = refused-at named refusals k b.0 b.1 second in
+          let step = names.rising j k 0 less wk in
+          omega (arith, aj, ak, step))
+          (range-rising (length named));
+      each = each-named;
+    }
 
 -- ---- one entry
 
@@ -277,16 +248,14 @@ module _ (image : Image) (id : ℕ) (s : Survey) (subject : SubjectOf) (types : 
       → BySurvey s (first_steps subject) (λ shapes. IsRefusal shapes subject r)
       → IsRefusal (shape_in image) (subject_in image id) r
   judged-entry r known =
-      subst (λ (x : SubjectOf). IsRefusal (shape_in image) x r) is
-      (known (shape_in image) (entries_among types) survey (λ entry has. rw are has))
+      rw is at (known (shape_in image) (entries_among types) survey (λ entry has. rw are has))
 
   -- and the text of one that is printed
   pub written-entry : (old new : List ℕ) → IsPrinted (shape_in image) (subject_in image id)
       → WritesDeclaration s subject old new → AppendsDeclaration (shape_in image) (subject_in image id) old new
   written-entry old new printed writes =
-      subst (λ (x : SubjectOf). AppendsDeclaration (shape_in image) x old new) is
-      (writes-printed (shape_in image) subject (entries_among types) s old new survey (λ entry has. rw are has)
-      (subst (IsPrinted (shape_in image)) (sym is) printed) writes)
+      rw is at (writes-printed (shape_in image) subject (entries_among types) s old new survey (λ entry has. rw are has)
+      (rw is printed) writes)
 
 -- a text that is appended after it was written into a vector of its own
 pub appended : (shapes : ℕ → ShapeOf) (subject : SubjectOf) (old text read new : List ℕ)

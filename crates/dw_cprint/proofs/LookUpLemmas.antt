@@ -1,6 +1,6 @@
 -- What is read of an entry, and of its children from the first on.
-use Rattle.std.proofs.Common.{[], ◌∷◌, ◌≡◌, ℕ, ◌<◌, List, Option, Some, None, refl, ap, length, ◌++◌, sym, subst, append-nil, map}
-use Rattle.std.specs.List.{filter_map}
+use Rattle.std.proofs.Common.{[], ◌∷◌, ◌≡◌, ℕ, ◌<◌, List, Option, Some, None, refl, ap, length, ◌++◌, append-nil, map, ◌∙◌}
+use Rattle.std.specs.List.{cons_option, filter_map}
 use Rattle.std.specs.Prelude.{option_map, All}
 use Rattle.std.proofs.lemmas.List.Elements.{All-head, All-rest, All-tail}
 use Rattle.dw_entries.specs.Entries.{Entry}
@@ -16,7 +16,7 @@ children_within es id = λ k d below. (children-all es id k d below).0
 pub child_within : (es : List Entry) {left rest : List ℕ} {child : ℕ} → left ≡ child ∷ rest
     → All (λ child. child < length es) left → child < length es
 child_within es {rest = rest} {child = child} is all =
-    All-head (λ child. child < length es) child rest (subst (All (λ child. child < length es)) is all)
+    All-head (λ child. child < length es) child rest (rw is at all)
 
 pub children_rest : (es : List Entry) {left rest : List ℕ} {child : ℕ} → left ≡ child ∷ rest
     → All (λ child. child < length es) left → All (λ child. child < length es) rest
@@ -32,9 +32,13 @@ KeepsSoFar {T = T} read all left kept = (rest : List T) → AreKept read left re
 -- none is left
 pub kept-all : {T : Type 0} (read : ℕ → Option T → Type 0) (all left : List ℕ) (kept : List T)
     → KeepsSoFar read all left kept → left ≡ [] → AreKept read all kept
-kept-all {T = T} read all [] kept so_far is = subst (λ (ts : List T). AreKept read all ts) (append-nil kept)
-    (so_far [] refl)
+kept-all {T = T} read all [] kept so_far is = rw (append-nil kept) at (so_far [] refl)
 kept-all read all (x ∷ xs) kept so_far is = absurd cc
+
+mapped-option : {T V : Type 0} (view : T → V) (o : Option T) (rest : List T)
+    → map view (cons_option o rest) ≡ cons_option (option_map view o) (map view rest)
+mapped-option view None rest = refl
+mapped-option view (Some one) rest = refl
 
 -- what is kept of the children of an entry, if a function gives the value of what each call returns
 pub kept-are : {T V : Type 0} (view : T → V) (f : ℕ → Option V) (es : List Entry) (id : ℕ)
@@ -46,13 +50,9 @@ kept-are {T} view f es id read kept keeps says = go (children_of es id) kept kee
     go : (all : List ℕ) (kept : List T) → AreKept read all kept → All (λ child. child < length es) all
         → map view kept ≡ filter_map f all
     go [] kept keeps within = ap (map view) keeps
-    go (child ∷ all) kept (None, rest, is, same, keeps) within =
-        rw (same, sym (says child None (All-head (λ child. child < length es) child all within) is))
-        (go all rest keeps (All-tail (λ child. child < length es) child all within))
-    go (child ∷ all) kept (Some one, rest, is, same, keeps) within =
-        rw (
-          same,
-          sym (says child (Some one) (All-head (λ child. child < length es) child all within) is),
-          go all rest
-              keeps (All-tail (λ child. child < length es) child all within),
+    go (child ∷ all) kept (one, rest, is, same, keeps) within =
+        ap (map view) same ∙ mapped-option view one rest
+        ∙ rw (
+          says child one (All-head (λ child. child < length es) child all within) is,
+          go all rest keeps (All-tail (λ child. child < length es) child all within),
         ) refl

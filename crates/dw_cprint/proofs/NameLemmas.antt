@@ -1,6 +1,7 @@
 -- The words of a base type's name, and its text.
-use Rattle.std.proofs.Common.{rules, ◌≡◌, ℕ, zero, suc, ◌+◌, ◌*◌, ◌<◌, ◌≤◌, Bool, true, false, List, [], ◌∷◌, ◌++◌, Option, Some, None, refl, sym, ◌∙◌, ap, length, take, drop, append-nil, arith, ◌-◌}
-use Rattle.std.specs.Prelude.{◌==◌, ◌&&◌, ◌||◌, ◌-◌, count_by, position, bytes_eq, is_some, if◌then◌else◌, cond, filter}
+use Rattle.std.proofs.Common.{rules, ◌≡◌, ℕ, zero, suc, ◌+◌, ◌*◌, ◌<◌, ◌≤◌, Bool, true, false, List, [], ◌∷◌, ◌++◌, Option, Some, None, refl, ◌∙◌, ap, subst, length, take, drop, append-nil, arith, ◌-◌, inl, inr}
+use Rattle.std.specs.Prelude.{◌==◌, ◌&&◌, ◌-◌, count_by, position, bytes_eq, is_some, if◌then◌else◌, filter}
+use Rattle.std.proofs.lemmas.Bool.{cases_Bool, cond_both}
 use Rattle.std.specs.List.{find, list_any, slice_split, position_or_len, join_with_byte}
 use Rattle.std.proofs.lemmas.Bool.Decides.{nat_tests}
 use Rattle.std.proofs.lemmas.Option.{cond_some}
@@ -17,19 +18,18 @@ use Rattle.dw_cprint.proofs.OptionLemmas.{both_hold}
 pub by_length : (p : ℕ → Bool) (word : List ℕ) (ks : List (List ℕ)) → p (length word) ≡ true
     → list_any (bytes_eq word) ks ≡ list_any (bytes_eq word) (filter (λ k. p (length k)) ks)
 by_length p word [] is = refl
-by_length p word (k ∷ ks) is = by_tests (bytes_eq word k) (p (length k)) refl refl (by_length p word ks is)
-  where
-    by_tests : (same there : Bool) → bytes_eq word k ≡ same → p (length k) ≡ there
-        → list_any (bytes_eq word) ks ≡ list_any (bytes_eq word) (filter (λ k. p (length k)) ks)
-        → (same || list_any (bytes_eq word) ks)
-        ≡ list_any (bytes_eq word) (cond there (k ∷ filter (λ k. p (length k)) ks) (filter (λ k. p (length k)) ks))
-    by_tests true true e f rest = rw e refl
-    by_tests true false e f rest =
-        let same : word ≡ k = search (rules, bytes_eq-Decides) in
-        let no : true ≡ false = sym is ∙ ap (λ (w : List ℕ). p (length w)) same ∙ f in
-        absurd (cc)
-    by_tests false true e f rest = rw e rest
-    by_tests false false e f rest = rest
+by_length p word (k ∷ ks) is =
+    let rest = by_length p word ks is in
+    let kept = filter (λ w. p (length w)) ks in
+    elim (cases_Bool (bytes_eq word k)) [
+      | inl e ↦
+          let same : word ≡ k = search (rules, bytes_eq-Decides) in
+          let there : p (length k) ≡ true = rw same at is in
+          rw (there, e) refl
+      | inr e ↦ rw e (cond_both (p (length k)) (k ∷ kept) kept
+          (λ (ws : List (List ℕ)). list_any (bytes_eq word) ks ≡ list_any (bytes_eq word) ws) (λ t. rw e rest)
+          (λ f. rest))
+    ]
 
 module _ {X : Type 0} (p : X → Bool) where
   split-whole : (xs : List X) → length xs ≤ position_or_len p xs → slice_split p xs ≡ xs ∷ []
@@ -86,21 +86,7 @@ spelled part (x ∷ words) w e =
 -- one is found, if one passes the test
 pub some-found : {X : Type 0} (p : X → Bool) (xs : List X) → is_some (find p xs) ≡ list_any p xs
 some-found p [] = refl
-some-found p (x ∷ xs) = by_test (p x) (some-found p xs)
-  where
-    by_test : (passes : Bool) → is_some (find p xs) ≡ list_any p xs
-        → is_some (if passes then Some x else find p xs) ≡ (passes || list_any p xs)
-    by_test true same = refl
-    by_test false same = same
-
-pub words-length : (most : ℕ) (parts : List (List ℕ)) (ws : List TypeWord) → words_of most parts ≡ Some ws
-    → length ws ≡ length parts
-words-length most [] ws e = let same : [] ≡ ws = cc in ap length (sym same)
-words-length zero (part ∷ parts) ws e = absurd (cc)
-words-length (suc most) (part ∷ parts) ws e =
-    both_hold (λ (vs : List TypeWord). length vs ≡ suc (length parts)) (λ (w : TypeWord) (us : List TypeWord). w ∷ us)
-    (word_of part) (words_of most parts)
-    (λ w is us are. ap suc (words-length most parts us are)) ws e
+some-found p (x ∷ xs) = search (rules, (some-found p xs))
 
 -- one word before others, of which there are as many as parts
 word-before : (w : TypeWord) (us : List TypeWord) (part : List ℕ) (parts : List (List ℕ)) → type_word_spelling w ≡ part
@@ -113,19 +99,33 @@ word-before w (u ∷ us) part (another ∷ parts) is long h =
     ap (λ (t : List ℕ). type_word_spelling w ++ 32 ∷ t) h
     ∙ ap (λ (t : List ℕ). t ++ 32 ∷ join_with_byte 32 (another ∷ parts)) is
 
-words-joined : (most : ℕ) (parts : List (List ℕ)) (ws : List TypeWord) → words_of most parts ≡ Some ws
-    → text_of (basic ws) ≡ join_with_byte 32 parts
-words-joined most [] ws e = let same : [] ≡ ws = cc in ap (λ (us : List TypeWord). text_of (basic us)) (sym same)
-words-joined zero (part ∷ parts) ws e = absurd (cc)
-words-joined (suc most) (part ∷ parts) ws e =
-    both_hold (λ (vs : List TypeWord). text_of (basic vs) ≡ join_with_byte 32 (part ∷ parts))
-    (λ (w : TypeWord) (us : List TypeWord). w ∷ us) (word_of part) (words_of most parts)
-    (λ w is us are. word-before w us part parts (spelled part type_words w is) (words-length most parts us are)
-    (words-joined most parts us are)) ws e
+-- words are no more than there may be, and their text is that of the parts
+record AreWords (most : ℕ) (parts : List (List ℕ)) (ws : List TypeWord) : Type 0 where
+  few : length ws ≤ most
+  as_many : length ws ≡ length parts
+  text : text_of (basic ws) ≡ join_with_byte 32 parts
+
+are-words : (most : ℕ) (parts : List (List ℕ)) (ws : List TypeWord) → words_of most parts ≡ Some ws
+    → AreWords most parts ws
+are-words most [] ws e =
+    let same : [] ≡ ws = cc in subst (AreWords most []) same (record { few = omega arith; as_many = refl; text = refl })
+are-words zero (part ∷ parts) ws e = absurd (cc)
+are-words (suc most) (part ∷ parts) ws e =
+    both_hold (AreWords (suc most) (part ∷ parts)) (λ (w : TypeWord) (us : List TypeWord). w ∷ us) (word_of part)
+    (words_of most parts)
+    (λ w is us are. let h = are-words most parts us are in record {
+      few = omega (arith, h.few);
+      as_many = ap suc h.as_many;
+      text = word-before w us part parts (spelled part type_words w is) h.as_many h.text;
+    }) ws e
+
+pub words-length : (most : ℕ) (parts : List (List ℕ)) (ws : List TypeWord) → words_of most parts ≡ Some ws
+    → length ws ≡ length parts
+words-length most parts ws e = (are-words most parts ws e).as_many
 
 -- the text of a name of type words is the name
 pub words-text : (name : List ℕ) (ws : List TypeWord) → words_of 4 (parts_of name) ≡ Some ws → text_of (basic ws) ≡ name
-words-text name ws e = words-joined 4 (parts_of name) ws e ∙ join_with_byte-slice_split 32 name
+words-text name ws e = (are-words 4 (parts_of name) ws e).text ∙ join_with_byte-slice_split 32 name
 
 -- ---- how long type words are
 
@@ -145,14 +145,6 @@ words-bytes (w ∷ v ∷ ws) =
           (v ∷ ws),
     )
 
-words-few : (most : ℕ) (parts : List (List ℕ)) (ws : List TypeWord) → words_of most parts ≡ Some ws → length ws ≤ most
-words-few most [] ws e = let same : [] ≡ ws = cc in let none = ap length same in omega arith
-words-few zero (part ∷ parts) ws e = absurd (cc)
-words-few (suc most) (part ∷ parts) ws e =
-    both_hold (λ (vs : List TypeWord). length vs ≤ suc most) (λ (w : TypeWord) (us : List TypeWord). w ∷ us)
-    (word_of part) (words_of most parts)
-    (λ w is us are. omega (arith, words-few most parts us are)) ws e
-
 -- a name of more bytes is not type words
 pub no_words : (name : List ℕ) → 36 < length name → is_some (words_of 4 (parts_of name)) ≡ false
 no_words name long = by_words (words_of 4 (parts_of name)) refl
@@ -160,4 +152,9 @@ no_words name long = by_words (words_of 4 (parts_of name)) refl
     by_words : (found : Option (List TypeWord)) → words_of 4 (parts_of name) ≡ found → is_some found ≡ false
     by_words None is = refl
     by_words (Some ws) is =
-        absurd (omega (arith, ap length (words-text name ws is), words-bytes ws, words-few 4 (parts_of name) ws is))
+        absurd (omega (
+          arith,
+          ap length (words-text name ws is),
+          words-bytes ws,
+          (are-words 4 (parts_of name) ws is).few,
+        ))

@@ -1,8 +1,8 @@
 -- The named types of an image, one after another, and what is declared at each, by its tag.
-use Rattle.std.proofs.Common.{◌≡◌, ℕ, zero, suc, ◌+◌, ◌<◌, Bool, true, false, List, [], ◌∷◌, ◌++◌, Option, Some, None, refl, sym, ap, ◌∙◌, inl, inr, length, arith}
+use Rattle.std.proofs.Common.{◌≡◌, ℕ, zero, suc, ◌+◌, Bool, true, false, List, [], ◌∷◌, ◌++◌, Option, Some, None, refl, sym, ap, ◌∙◌, length, arith, get_or}
 use Rattle.std.specs.Prelude.{◌==◌, ◌&&◌, not, is_some, if◌then◌else◌}
 use Rattle.std.specs.List.{cons_option, filter_map, range_with_len}
-use Rattle.std.proofs.lemmas.Bool.{cases_lt, eqb-true}
+use Rattle.std.proofs.lemmas.Bool.{eqb-true}
 use Rattle.std.proofs.lemmas.List.{get_or_append_left, get_or_push, length-append}
 use Rattle.std.proofs.lemmas.List.Elements.{filter_map-append}
 use Rattle.dw_forms.specs.Codes.{DW_TAG_typedef, DW_TAG_variable}
@@ -17,6 +17,7 @@ use Rattle.dw_cprint.specs.Shapes.{AggregateKeyword, TagKeyword, OfAggregate, En
 use Rattle.dw_cprint.specs.Steps.{member_types, types_declared}
 use Rattle.dw_cprint.specs.declared.words.Text.{Text}
 use Rattle.dw_cprint.proofs.ListingLemmas.{named_done}
+use Rattle.dw_cprint.proofs.NumberLemmas.{each-more}
 
 -- neither a typedef nor a variable has a word
 typedef_word : (tag : ℕ) → (tag == DW_TAG_typedef) ≡ true → tag_word tag ≡ None
@@ -129,16 +130,9 @@ pub names_more : (image : Image) (ids ids' : List ℕ) (names names' : List Text
     → IsNameOf image id name → ids' ≡ ids ++ id ∷ [] → names' ≡ names ++ name ∷ [] → AreNames image ids' names'
 names_more image ids ids' names names' id name h is more more-names = rw (more, more-names) (record {
   long = omega (arith, h.long, length-append ids (id ∷ []), length-append names (name ∷ []));
-  each = λ k d w. elim (cases_lt k (length names)) [
-    | inl before ↦
-        let long = h.long in
-        rw (get_or_append_left names (name ∷ []) d k before, get_or_append_left ids (id ∷ []) 0 k (omega arith))
-        (h.each k d before)
-    | inr after ↦
-        let e : k ≡ length names = omega (arith, length-append names (name ∷ [])) in
-        let f : k ≡ length ids = omega (arith, h.long) in
-        rw (get_or_push names name d k (sym e), get_or_push ids id 0 k (sym f)) is
-  ];
+  each = λ k d w. each-more (λ j n. IsNameOf image (get_or (ids ++ id ∷ []) j 0) n) names name d
+      (λ j v. rw (get_or_append_left ids (id ∷ []) 0 j (omega (arith, h.long, v))) (h.each j d v))
+      (rw (get_or_push ids id 0 (length names) (sym h.long)) is) k w;
 })
 
 range-more : (a n j : ℕ) → a + n ≡ j → range_with_len a (suc n) ≡ range_with_len a n ++ j ∷ []

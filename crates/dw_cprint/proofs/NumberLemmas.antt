@@ -1,16 +1,16 @@
 -- The numbers of the named types, sorted by level: lists that are sorted, filtered and picked from.
-use Rattle.std.proofs.Common.{◌≡◌, ℕ, zero, suc, ◌+◌, ◌<◌, Bool, true, not, List, [], ◌∷◌, ◌++◌, refl, sym, ◌∙◌, ap, subst, inl, inr, length, get_or, arith, drop, take, Option, Some, None}
-use Rattle.std.specs.Prelude.{◌&&◌, Contains, AllPairs, IsPermutation, filter}
+use Rattle.std.proofs.Common.{◌≡◌, ℕ, zero, suc, ◌+◌, ◌<◌, Bool, true, false, not, List, [], ◌∷◌, ◌++◌, refl, sym, ◌∙◌, ap, inl, inr, length, get_or, arith, drop, take, Option, Some, None, set}
+use Rattle.std.specs.Prelude.{◌&&◌, ◌⊎◌, All, Contains, AllPairs, IsPermutation, cond, filter, ◌↔◌}
 use Rattle.std.specs.List.Sorted.{IsNonDecreasingBy, IsStableByKey, ties}
 use Rattle.std.specs.Ordering.{nat_cmp, is_lt}
 use Rattle.std.specs.List.{cons_option, range_with_len, filter_map}
 use Rattle.std.specs.Option.{option_map_or}
-use Rattle.std.proofs.lemmas.Bool.{cases_lt}
+use Rattle.std.proofs.lemmas.Bool.{cases_lt, cases_eq}
 use Rattle.std.proofs.lemmas.Bool.Decides.{nat_tests}
-use Rattle.std.proofs.lemmas.List.{get_or_append_left, get_or_default, get_or-take, drop_more, length-append, length-take-le, take-append-drop}
+use Rattle.std.proofs.lemmas.List.{get_or_append_left, get_or_default, get_or-take, drop_more, get_or_push, length-append, length-take-le, length_push, take-append-drop, get_or-set_same, get_or-set_other}
 use Rattle.std.proofs.lemmas.Option.{slice_get-get_or}
 use Rattle.std.proofs.Math.Seq.{get_or-append_seam}
-use Rattle.std.proofs.lemmas.List.Elements.{Contains-append_left, Contains-append_right, Contains-get_or, filter-append}
+use Rattle.std.proofs.lemmas.List.Elements.{Contains-append_right, Contains-get_or, filter-append, Contains-append_left, Contains-push, Contains-push_cases}
 use Rattle.std.proofs.lemmas.List.Kept.{AllPairs-cons, AllPairs-filter}
 use Rattle.std.proofs.lemmas.List.Sorted.{IsPermutation-sym, Contains-permutation}
 use Rattle.std.proofs.lemmas.List.FromFn.{get_or-range_with_len, length-range_with_len}
@@ -28,11 +28,14 @@ kept-split {X = X} p ys k d w is =
     ∙ ap (λ (zs : List X). filter p (take k ys) ++ zs) rest
 
 -- an element that passes a test is one of those that do
-pub kept-there : {X : Type 0} (p : X → Bool) (ys : List X) (k : ℕ) (d : X) → k < length ys → p (get_or ys k d) ≡ true
-    → Contains (filter p ys) (get_or ys k d)
-kept-there p ys k d w is =
-    rw (kept-split p ys k d w is) (Contains-append_right (filter p (take k ys))
-    (get_or ys k d ∷ filter p (drop (k + 1) ys)) (get_or ys k d) (0, omega arith, refl))
+pub kept-has : {X : Type 0} (p : X → Bool) (ys : List X) (x : X) → Contains ys x → p x ≡ true → Contains (filter p ys) x
+kept-has p [] x (k, w, e) is = absurd (omega arith)
+kept-has p (y ∷ ys) x (zero, w, e) is = rw (ap p e ∙ is) (0, omega arith, e)
+kept-has p (y ∷ ys) x (suc k, w, e) is = by (p y) (kept-has p ys x (k, omega arith, e) is)
+  where
+    by : (b : Bool) → Contains (filter p ys) x → Contains (cond b (y ∷ filter p ys) (filter p ys)) x
+    by true has = Contains-append_right (y ∷ []) (filter p ys) x has
+    by false has = has
 
 -- what holds of each two of those that pass a test
 pairs-kept : {X : Type 0} (R : X → X → Type 0) (p : X → Bool) (ys : List X) → AllPairs R (filter p ys)
@@ -41,13 +44,19 @@ pairs-kept : {X : Type 0} (R : X → X → Type 0) (p : X → Bool) (ys : List X
 pairs-kept {X = X} R p ys all i j d less w a b =
     let front = filter p (take j ys) in
     let rest = get_or ys j d ∷ filter p (drop (j + 1) ys) in
-    let same = get_or-take j ys i d less in
-    let (k, v, e) = kept-there p (take j ys) i d (omega (arith, length-take-le j ys (omega arith))) (ap p same ∙ a) in
-    let here = get_or_append_left front rest d k v ∙ get_or_default front k d (get_or (take j ys) i d) v ∙ e ∙ same in
-    let there = get_or-append_seam front (get_or ys j d) (filter p (drop (j + 1) ys)) d in
+    let x = get_or ys i d in
+    let there : Contains (take j ys) x = (
+      i,
+      omega (arith, length-take-le j ys (omega arith)),
+      get_or-take j ys i x less
+          ∙ get_or_default ys i x d (omega arith),
+    ) in
+    let (k, v, e) = kept-has p (take j ys) x there a in
+    let here = get_or_append_left front rest d k v ∙ get_or_default front k d x v ∙ e in
+    let last = get_or-append_seam front (get_or ys j d) (filter p (drop (j + 1) ys)) d in
     let whole : AllPairs R (front ++ rest) = rw (kept-split p ys j d w b) at all in
     let pair = whole k (length front) d v (omega (arith, length-append front rest)) in
-    rw (here, there) at pair
+    rw (here, last) at pair
 
 tie-same : (a b : ℕ) → a ≡ b → (not (is_lt (nat_cmp a b)) && not (is_lt (nat_cmp b a))) ≡ true
 tie-same a b same = grind (arith, nat_tests)
@@ -76,61 +85,75 @@ by-level level named sorted rising rises stable i j d less w =
 
 -- ---- lists
 
+-- what holds of each element and its place, if one is added
+pub each-more : {X : Type 0} (P : ℕ → X → Type 0) (xs : List X) (x d : X)
+    → ((k : ℕ) → k < length xs → P k (get_or xs k d)) → P (length xs) x → (k : ℕ) → k < length (xs ++ x ∷ [])
+    → P k (get_or (xs ++ x ∷ []) k d)
+each-more P xs x d all last k w = elim (cases_lt k (length xs)) [
+  | inl before ↦ rw (get_or_append_left xs (x ∷ []) d k before) (all k before)
+  | inr after ↦
+      let e : length xs ≡ k = omega (arith, length_push xs x) in
+      rw (get_or_push xs x d k e) (rw (← e) last)
+]
+
+-- exactly these places have a property, and one more after an element that has it is set there
+pub marked-more : {X : Type 0} (P : X → Type 0) (xs : List X) (y d : X) (marked : List ℕ) (new : ℕ) → P y
+    → new < length xs → ((k : ℕ) → Contains marked k ↔ P (get_or xs k d)) → (k : ℕ)
+    → Contains (marked ++ new ∷ []) k ↔ P (get_or (set xs new y) k d)
+marked-more P xs y d marked new has w are k = elim (cases_eq k new) [
+  | inl same ↦ rw (same, get_or-set_same xs new y d w) (λ there. has, λ p. Contains-push marked new)
+  | inr other ↦ rw (get_or-set_other xs new k y d other) (
+    λ there. (are k).0 (elim (Contains-push_cases marked new k there)
+        [ inl before ↦ before | inr last ↦ absurd (other (sym last)) ]),
+    λ p. Contains-append_left marked (new ∷ []) k ((are k).1 p),
+  )
+]
+
+-- an element that is put in front, or one of the others
+first-or : {Y : Type 0} (o : Option Y) (ys : List Y) (y : Y) → Contains (cons_option o ys) y
+    → (o ≡ Some y) ⊎ Contains ys y
+first-or None ys y has = inr has
+first-or (Some v) ys y (zero, w, e) = inl (ap Some e)
+first-or (Some v) ys y (suc k, w, e) = inr (k, omega arith, e)
+
 -- what is picked is picked of one
 pub picked-of : {X Y : Type 0} (f : X → Option Y) (xs : List X) (y : Y) → Contains (filter_map f xs) y
     → (x : X) × Contains xs x × (f x ≡ Some y)
 picked-of f [] y (k, w, e) = absurd (omega arith)
-picked-of {X = X} {Y = Y} f (x ∷ xs) y has = by (λ there. picked-of f xs y there) (f x) refl
-  where
-    by : (Contains (filter_map f xs) y → (x : X) × Contains xs x × (f x ≡ Some y)) → (o : Option Y) → f x ≡ o
-        → (z : X) × Contains (x ∷ xs) z × (f z ≡ Some y)
-    by deeper o e = at o e
-      where
-        later : Contains (filter_map f xs) y → (z : X) × Contains (x ∷ xs) z × (f z ≡ Some y)
-        later there = (let (z, c, e) = deeper there in (z, Contains-append_right (x ∷ []) xs z c, e))
+picked-of f (x ∷ xs) y has = elim (first-or (f x) (filter_map f xs) y has) [
+  | inl is ↦ (x, (0, omega arith, refl), is)
+  | inr later ↦ (let (z, c, e) = picked-of f xs y later in (z, Contains-append_right (x ∷ []) xs z c, e))
+]
 
-        first : (v : Y) → f x ≡ Some v → Contains (v ∷ filter_map f xs) y
-            → (z : X) × Contains (x ∷ xs) z × (f z ≡ Some y)
-        first v e (zero, w, same) = (x, Contains-append_left (x ∷ []) xs x (0, omega arith, refl), e ∙ ap Some same)
-        first v e (suc k, w, same) = later (k, omega arith, same)
-
-        at : (o : Option Y) → f x ≡ o → (z : X) × Contains (x ∷ xs) z × (f z ≡ Some y)
-        at None e = later (subst (λ (o : Option Y). Contains (cons_option o (filter_map f xs)) y) e has)
-        at (Some v) e = first v e (subst (λ (o : Option Y). Contains (cons_option o (filter_map f xs)) y) e has)
+behind : {Y : Type 0} (o : Option Y) (ys : List Y) (y : Y) → Contains ys y → Contains (cons_option o ys) y
+behind None ys y has = has
+behind (Some v) ys y has = Contains-append_right (v ∷ []) ys y has
 
 -- and each is picked
 pub picked-there : {X Y : Type 0} (f : X → Option Y) (xs : List X) (x : X) (y : Y) → Contains xs x → f x ≡ Some y
     → Contains (filter_map f xs) y
 picked-there f [] x y (k, w, e) is = absurd (omega arith)
-picked-there {X = X} {Y = Y} f (z ∷ xs) x y (zero, w, e) is =
-    subst (λ (o : Option Y). Contains (cons_option o (filter_map f xs)) y) (sym (ap f e ∙ is)) (0, omega arith, refl)
-picked-there {X = X} {Y = Y} f (z ∷ xs) x y (suc k, w, e) is = by (picked-there f xs x y (k, omega arith, e) is) (f z)
-    refl
-  where
-    by : Contains (filter_map f xs) y → (o : Option Y) → f z ≡ o → Contains (filter_map f (z ∷ xs)) y
-    by there None e = subst (λ (o : Option Y). Contains (cons_option o (filter_map f xs)) y) (sym e) there
-    by there (Some v) e =
-        subst (λ (o : Option Y). Contains (cons_option o (filter_map f xs)) y) (sym e)
-        (Contains-append_right (v ∷ []) (filter_map f xs) y there)
+picked-there f (z ∷ xs) x y (zero, w, e) is = rw (ap f e ∙ is) (0, omega arith, refl)
+picked-there f (z ∷ xs) x y (suc k, w, e) is =
+    behind (f z) (filter_map f xs) y (picked-there f xs x y (k, omega arith, e) is)
+
+pairs-more : {Y : Type 0} (S : Y → Y → Type 0) (o : Option Y) (ys : List Y) → ((v : Y) → o ≡ Some v → All (S v) ys)
+    → AllPairs S ys → AllPairs S (cons_option o ys)
+pairs-more S None ys first rest = rest
+pairs-more S (Some v) ys first rest = AllPairs-cons S v ys (first v refl) rest
 
 -- what holds of each two of some holds of each two that are picked
 pub picked-pairs : {X Y : Type 0} (R : X → X → Type 0) (S : Y → Y → Type 0) (f : X → Option Y) (xs : List X)
     → ((a b : X) (y z : Y) → R a b → f a ≡ Some y → f b ≡ Some z → S y z) → AllPairs R xs → AllPairs S (filter_map f xs)
 picked-pairs R S f [] says all = λ i j d less w. absurd (omega arith)
 picked-pairs {X = X} {Y = Y} R S f (x ∷ xs) says all =
-    by (picked-pairs R S f xs says (λ i j d less w. all (suc i) (suc j) d (omega arith) (omega arith))) (f x) refl
-  where
-    by : AllPairs S (filter_map f xs) → (o : Option Y) → f x ≡ o → AllPairs S (filter_map f (x ∷ xs))
-    by rest None e = subst (λ (o : Option Y). AllPairs S (cons_option o (filter_map f xs))) (sym e) rest
-    by rest (Some v) e = subst (λ (o : Option Y). AllPairs S (cons_option o (filter_map f xs))) (sym e)
-        (AllPairs-cons S v (filter_map f xs)
-        (λ k d w. after (get_or (filter_map f xs) k d) (Contains-get_or (filter_map f xs) k d w)) rest)
-      where
-        after : (y : Y) → Contains (filter_map f xs) y → S v y
-        after y has =
-            let (b, (k, w, same), is) = picked-of f xs y has in
-            let pair : R x (get_or xs k b) = all 0 (suc k) b (omega arith) (omega arith) in
-            says x b v y (subst (R x) same pair) e is
+    pairs-more S (f x) (filter_map f xs)
+    (λ v is k d w.
+    let y = get_or (filter_map f xs) k d in
+    let (b, (n, u, same), e) = picked-of f xs y (Contains-get_or (filter_map f xs) k d w) in
+    let pair : R x (get_or xs n b) = all 0 (suc n) b (omega arith) (omega arith) in
+    says x b v y (rw same at pair) is e)
+    (picked-pairs R S f xs says (λ i j d less w. all (suc i) (suc j) d (omega arith) (omega arith)))
 
 pub range-rising : (n : ℕ) → AllPairs (λ a b. a < b) (range_with_len 0 n)
 range-rising n i j d less w =

@@ -1,6 +1,7 @@
 -- Values that may be absent, and tests on them.
-use Rattle.std.proofs.Common.{◌≡◌, Bool, true, false, Option, Some, None, Result, Ok, Err, refl, subst}
+use Rattle.std.proofs.Common.{◌≡◌, Bool, true, false, Option, Some, None, Result, refl, subst}
 use Rattle.std.proofs.lemmas.Option.{same_Some}
+use Rattle.std.proofs.lemmas.Result.{on_ok_weaker}
 use Rattle.std.specs.Prelude.{IsSome, OnOk, option_map, option_and_then, not, if◌then◌else◌}
 pub use Rattle.std.proofs.lemmas.Bool.{or_left, or_right}
 
@@ -46,6 +47,5 @@ unless_inverted true o y h = absurd (cc)
 unless_inverted false o y h = (refl, h)
 
 -- what follows where a call succeeds
-pub ok_then : {A E : Type 0} (r : Result A E) (P Q : Type 0) → (P → Q) → OnOk r P → OnOk r Q
-ok_then (Ok x) P Q f h = f h
-ok_then (Err e) P Q f h = tt
+pub from_ok : {T E P Q : Type 0} (r : Result T E) → OnOk r P → (P → Q) → OnOk r Q
+from_ok r h f = on_ok_weaker r f h

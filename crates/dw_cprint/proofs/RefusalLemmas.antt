@@ -1,5 +1,5 @@
 -- The least refusal that holds, by the tests of each.
-use Rattle.std.proofs.Common.{rules, ◌≡◌, ℕ, suc, ◌<◌, ◌≤◌, List, [], ◌∷◌, ◌++◌, Option, Some, ◌∙◌, ap, sym, append_assoc, arith, refl}
+use Rattle.std.proofs.Common.{rules, ◌≡◌, ℕ, suc, ◌<◌, ◌≤◌, List, [], ◌∷◌, ◌++◌, Some, ◌∙◌, ap, append_assoc, arith, refl}
 use Rattle.std.specs.Prelude.{All, length}
 use Rattle.std.proofs.lemmas.Bool.{cases_lt}
 use Rattle.dw_cprint.specs.Declarations.{declaration_by, declaration_of, term_at}
@@ -124,5 +124,4 @@ module _ (shapes : ℕ → ShapeOf) (subject : SubjectOf) where
       → new ≡ mid ++ 10 ∷ [] → new ≡ old ++ (text_if (declaration_of shapes subject) ++ 10 ∷ [])
   writes-line roots s old mid new survey among printed writes ended =
       let (d, is, text) = writes-printed roots s old mid survey among printed writes in
-      ended ∙ ap (λ (u : List ℕ). u ++ 10 ∷ []) (text ∙ ap (λ (o : Option CDeclaration). old ++ text_if o) (sym is))
-      ∙ append_assoc old (text_if (declaration_of shapes subject)) (10 ∷ [])
+      rw (ended, text, is) (append_assoc old (written d) (10 ∷ []))

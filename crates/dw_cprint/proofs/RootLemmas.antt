@@ -1,9 +1,10 @@
 -- Finding the roots: the entries among types are marked, and those with marks are found in rising offset.
-use Rattle.std.proofs.Common.{◌≡◌, ℕ, zero, suc, ◌+◌, ◌<◌, Bool, true, false, List, [], ◌∷◌, ◌++◌, Option, Some, None, sym, ◌∙◌, ap, subst, inl, inr, length, get_or, set, arith, get_or-set_other, get_or-set_same}
+use Rattle.dw_cprint.proofs.NumberLemmas.{marked-more}
+use Rattle.std.proofs.Common.{◌≡◌, ℕ, zero, suc, ◌+◌, ◌<◌, Bool, true, false, List, [], ◌∷◌, ◌++◌, Option, Some, None, sym, ◌∙◌, ap, inl, inr, length, get_or, set, arith, refl}
 use Rattle.std.specs.Prelude.{All, Contains}
-use Rattle.std.proofs.lemmas.Bool.{cases_eq, cases_lt}
+use Rattle.std.proofs.lemmas.Bool.{cases_lt}
 use Rattle.std.proofs.lemmas.List.{get_or_default}
-use Rattle.std.proofs.lemmas.List.Elements.{All-contains, Contains-append_left, Contains-append_right, Contains-append_cases}
+use Rattle.std.proofs.lemmas.List.Elements.{All-contains, Contains-append_left, Contains-append_cases}
 use Rattle.dw_cprint.specs.Reach.{AreMarks, FindsAll, FindsMarked, FindsRoots, IsMarked}
 use Rattle.dw_cprint.specs.Steps.{entries_among}
 use Rattle.dw_cprint.proofs.ReachLemmas.{entry-among, found-in-row}
@@ -21,60 +22,51 @@ type-within n types i entry within w is =
 
 -- ---- marks
 
-pub marks-as : (entries entries' : List ℕ) (marks marks' : List Bool) → entries ≡ entries' → marks ≡ marks'
+pub marks-as : {entries entries' : List ℕ} {marks marks' : List Bool} → entries ≡ entries' → marks ≡ marks'
     → AreMarks entries marks → AreMarks entries' marks'
-marks-as entries entries' marks marks' same alike are = rw (← same, ← alike) are
+marks-as same alike are = rw (← same, ← alike) are
 
 -- one entry more
 pub marks-more : (entries : List ℕ) (marks : List Bool) (new : ℕ) → AreMarks entries marks → new < length marks
     → AreMarks (entries ++ new ∷ []) (set marks new true)
-marks-more entries marks new are w entry = elim (cases_eq entry new) [
-  | inl same ↦ (
-    λ marked. Contains-append_right entries (new ∷ []) entry (0, omega arith, sym same),
-    λ has. ap (λ (n : ℕ). get_or (set marks new true) n false) same ∙ get_or-set_same marks new true false w,
-  )
-  | inr other ↦
-      let kept = get_or-set_other marks new entry true false other in (
-        λ marked. Contains-append_left entries (new ∷ []) entry ((are entry).0 (sym kept ∙ marked)),
-        λ has. kept ∙ (are entry).1 (elim (Contains-append_cases entries (new ∷ []) entry has)
-            [ inl before ↦ before | inr last ↦ absurd (other (only-one new entry last)) ]),
-      )
-]
+marks-more entries marks new are w entry =
+    let (marked, back) = marked-more (λ (b : Bool). b ≡ true) marks true false entries new refl w
+    (λ k. ((are k).1, (are k).0)) entry in
+    (back, marked)
 
 -- ---- those with marks are found
 
-pub found-as : (marks : List Bool) (number : ℕ) (places places' found found' : List ℕ) → places ≡ places'
+pub found-as : {marks : List Bool} {number : ℕ} {places places' found found' : List ℕ} → places ≡ places'
     → found ≡ found' → FindsMarked marks number places found → FindsMarked marks number places' found'
-found-as marks number places places' found found' same alike are = rw (← same, ← alike) are
+found-as same alike are = rw (← same, ← alike) are
 
 -- one more has a mark
-pub found-more : (marks : List Bool) (number : ℕ) (places places' found found' row : List ℕ)
+pub found-more : {marks : List Bool} {number : ℕ} {places places' found found' row : List ℕ}
     → FindsMarked marks number places found → IsMarked marks number
     → FindsAll (number ∷ []) places places' found found' row → FindsMarked marks (number + 1) places' found'
-found-more marks number places places' found found' row are marked f =
+found-more {marks = marks} {number = number} {found = found} {found' = found'} are marked f =
     record { placed = f.placed; each = λ entry. (has-mark entry, is-found entry) }
   where
     has-mark : (entry : ℕ) → Contains found' entry → (entry < number + 1) × IsMarked marks entry
     has-mark entry has =
         elim (Contains-append_cases found f.grows.more entry
-        (subst (λ (xs : List ℕ). Contains xs entry) f.grows.is has)) [
+        (rw f.grows.is at has)) [
           | inl before ↦ (let (below, mark) = (are.each entry).0 before in (omega arith, mark))
           | inr new ↦ (let same = only-one number entry (f.grows.among entry new) in
-              (omega arith, subst (λ (n : ℕ). IsMarked marks n) (sym same) marked))
+              (omega arith, rw same marked))
         ]
 
     is-found : (entry : ℕ) → (entry < number + 1) × IsMarked marks entry → Contains found' entry
     is-found entry (below, mark) = elim (cases_lt entry number) [
       | inl before ↦
-          subst (λ (xs : List ℕ). Contains xs entry) (sym f.grows.is)
-          (Contains-append_left found f.grows.more entry ((are.each entry).1 (before, mark)))
-      | inr after ↦ found-in-row found' (number ∷ []) row f.is_row entry (0, omega arith, omega arith)
+          rw f.grows.is (Contains-append_left found f.grows.more entry ((are.each entry).1 (before, mark)))
+      | inr after ↦ found-in-row f.is_row entry (0, omega arith, omega arith)
     ]
 
 -- the next one has none
-pub found-same : (marks : List Bool) (number : ℕ) (places found : List ℕ) → FindsMarked marks number places found
+pub found-same : {marks : List Bool} {number : ℕ} {places found : List ℕ} → FindsMarked marks number places found
     → get_or marks number false ≡ false → FindsMarked marks (number + 1) places found
-found-same marks number places found are none =
+found-same {marks = marks} {number = number} {found = found} are none =
     record { placed = are.placed; each = λ entry. (has-mark entry, is-found entry) }
   where
     has-mark : (entry : ℕ) → Contains found entry → (entry < number + 1) × IsMarked marks entry

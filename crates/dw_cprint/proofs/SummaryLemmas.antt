@@ -1,10 +1,10 @@
 -- Summaries: of void, of one entry by those of the types that it names, and of all nodes in turn.
-use Rattle.std.proofs.Common.{◌≡◌, ℕ, zero, suc, ◌+◌, ◌<◌, false, List, [], ◌∷◌, ◌++◌, Option, Some, None, refl, sym, ap, subst, ◌∙◌, ◌⊎◌, inl, inr, length, length-set, get_or, set, take, arith}
-use Rattle.std.specs.Prelude.{All, Contains, ◌↔◌, slice_get, is_none, option_and_then, unwrap_or}
+use Rattle.dw_cprint.proofs.NumberLemmas.{marked-more}
+use Rattle.std.proofs.Common.{◌≡◌, ℕ, zero, suc, ◌+◌, ◌<◌, false, List, [], ◌∷◌, Option, Some, None, refl, sym, ap, subst, ◌∙◌, ◌⊎◌, inl, inr, length, get_or, set, take, arith}
+use Rattle.std.specs.Prelude.{All, slice_get, is_none, option_and_then, unwrap_or}
 use Rattle.std.proofs.lemmas.Bool.{cases_eq}
-use Rattle.std.proofs.lemmas.Option.{slice_get-get_or}
 use Rattle.std.proofs.lemmas.List.{take_more, get_or-set_same, get_or-set_other}
-use Rattle.std.proofs.lemmas.List.Elements.{Contains-push, Contains-append_left, Contains-push_cases, All-weaker}
+use Rattle.std.proofs.lemmas.List.Elements.{All-weaker}
 use Rattle.dw_cprint.specs.Declarations.{term_at, term_by}
 use Rattle.dw_cprint.specs.Shapes.{Qualifier, TypeAt, ShapeOf, qualified, view_shape}
 use Rattle.dw_cprint.specs.Steps.{types_reached}
@@ -43,8 +43,7 @@ void_summary shapes =
     of_term zero t e = absurd (cc)
     of_term (suc k) t e =
         let same : Void ≡ t = cc in
-        let P : Term → Type 0 = λ u. IsLength u VOID.kind VOID.base VOID.length in
-        subst P same void-length
+        rw (← same) void-length
 
 -- ---- what stands under a row
 
@@ -103,45 +102,12 @@ knows-lengths shapes s k types all =
 
 -- ---- all nodes
 
-get-set-same : {X : Type 0} (xs : List X) (i : ℕ) (x : X) → i < length xs → slice_get (set xs i x) i ≡ Some x
-get-set-same xs i x within =
-    slice_get-get_or (set xs i x) i x (omega (arith, length-set xs i x)) ∙ ap Some (get_or-set_same xs i x x within)
-
-get-set-other : {X : Type 0} (xs : List X) (i j : ℕ) (x : X) → (i ≡ j → ⊥) → slice_get (set xs i x) j ≡ slice_get xs j
-get-set-other [] zero j x apart = refl
-get-set-other [] (suc i) j x apart = refl
-get-set-other (y ∷ xs) zero zero x apart = absurd (apart refl)
-get-set-other (y ∷ xs) zero (suc j) x apart = refl
-get-set-other (y ∷ xs) (suc i) zero x apart = refl
-get-set-other (y ∷ xs) (suc i) (suc j) x apart = get-set-other xs i j x (λ e. apart (ap suc e))
-
-abbrev Has : List (Option Summary) → ℕ → Type 0
-Has nodes node = is_none (get_or nodes node None) ≡ false
-
 pub have_more : (clear : List ℕ) (nodes : List (Option Summary)) (i : ℕ) (s : Summary) → i < length clear
     → get_or clear i 0 < length nodes → HaveSummaries (take i clear) nodes
     → HaveSummaries (take (i + 1) clear) (set nodes (get_or clear i 0) (Some s))
-have_more clear nodes i s within there have node =
-    rw (take_more clear i 0 within) (by_node (cases_eq (get_or clear i 0) node))
-  where
-    by_node : ((get_or clear i 0 ≡ node) ⊎ (get_or clear i 0 ≡ node → ⊥))
-        → Contains (take i clear ++ get_or clear i 0 ∷ []) node ↔ Has (set nodes (get_or clear i 0) (Some s)) node
-    by_node (inl same) =
-        let Q : ℕ → Type 0 = λ n. Contains (take i clear ++ get_or clear i 0 ∷ []) n
-        ↔ Has (set nodes (get_or clear i 0) (Some s)) n in
-        let new = get_or-set_same nodes (get_or clear i 0) (Some s) None there in
-        subst Q same (
-          λ _. ap (λ (o : Option Summary). is_none o) new,
-          λ _. Contains-push (take i clear)
-              (get_or clear i 0),
-        )
-    by_node (inr apart) =
-        let kept = ap (λ (o : Option Summary). is_none o)
-        (get_or-set_other nodes (get_or clear i 0) node (Some s) None (λ e. apart (sym e))) in (
-          λ c. elim (Contains-push_cases (take i clear) (get_or clear i 0) node c)
-              [ inl old ↦ kept ∙ (have node).0 old | inr same ↦ absurd (apart same) ],
-          λ h. Contains-append_left (take i clear) (get_or clear i 0 ∷ []) node ((have node).1 (sym kept ∙ h)),
-        )
+have_more clear nodes i s within there have =
+    rw (take_more clear i 0 within) (marked-more (λ (o : Option Summary). is_none o ≡ false) nodes (Some s) None
+    (take i clear) (get_or clear i 0) refl there have)
 
 -- what is known by two lists
 abbrev pub known_by : List ℕ → List (Option Summary) → TypeAt → Summary
@@ -153,14 +119,20 @@ RightBefore all found clear places nodes i =
     (j : ℕ) → j < i → IsSummary all (Some (get_or found (get_or clear j 0) 0))
     (known_by places nodes (Some (get_or found (get_or clear j 0) 0)))
 
-summary-there : (places : List ℕ) (nodes : List (Option Summary)) (entry n : ℕ) (r : Option (Option Summary))
-    → slice_get places entry ≡ Some n → slice_get nodes n ≡ r
-    → summary_at VOID places nodes (Some entry) ≡ option_and_then (λ (s : Option Summary). s) r
-summary-there places nodes entry n r placed is =
-    ap (λ (o : Option ℕ). option_and_then (λ (s : Option Summary). s) (option_and_then (slice_get nodes) o)) placed
-    ∙ ap (λ (o : Option (Option Summary)). option_and_then (λ (s : Option Summary). s) o) is
+flattened : (nodes : List (Option Summary)) (n : ℕ)
+    → option_and_then (λ (s : Option Summary). s) (slice_get nodes n) ≡ get_or nodes n None
+flattened [] n = refl
+flattened (s ∷ nodes) zero = refl
+flattened (s ∷ nodes) (suc n) = flattened nodes n
 
-module _ (all : ℕ → ShapeOf) (places found : List ℕ) (kept : List Shape) (clear : List ℕ)
+-- the summary of an entry is that of its node
+pub summary-there : (places : List ℕ) (nodes : List (Option Summary)) (entry n : ℕ) → slice_get places entry ≡ Some n
+    → summary_at VOID places nodes (Some entry) ≡ get_or nodes n None
+summary-there places nodes entry n placed =
+    ap (λ (o : Option ℕ). option_and_then (λ (s : Option Summary). s) (option_and_then (slice_get nodes) o)) placed
+    ∙ flattened nodes n
+
+module _ {all : ℕ → ShapeOf} {places found : List ℕ} {kept : List Shape} {clear : List ℕ}
     (are : AreNodes all places found kept clear) where
   -- what the steps of a node lead to is known
   pub all_known : (nodes : List (Option Summary)) (i : ℕ) → i < length clear
@@ -170,9 +142,7 @@ module _ (all : ℕ → ShapeOf) (places found : List ℕ) (kept : List Shape) (
   all_known nodes i within right =
       all-types (λ at. IsSummary all at (known_by places nodes at)) (void_summary all)
       (types_reached (all (get_or found (get_or clear i 0) 0)))
-      (λ to c. let behind = are.behind i to within c in
-      let P : ℕ → Type 0 = λ e. IsSummary all (Some e) (known_by places nodes (Some e)) in
-      subst P behind.2 (right behind.0 behind.1))
+      (λ to c. (let behind = are.behind i to within c in rw (← behind.2) (right behind.0 behind.1)))
 
   pub right_more : (nodes : List (Option Summary)) (i : ℕ) (s : Summary) → i < length clear
       → get_or clear i 0 < length nodes → RightBefore all found clear places nodes i
@@ -185,22 +155,19 @@ module _ (all : ℕ → ShapeOf) (places found : List ℕ) (kept : List Shape) (
           (known_by places (set nodes (get_or clear i 0) (Some s)) (Some (get_or found (get_or clear j 0) 0)))
       by_node (inl same) =
           let n = get_or clear i 0 in
-          let at = summary-there places (set nodes n (Some s)) (get_or found n 0) n (Some (Some s))
-          (are.placed n (are.within i within)) (get-set-same nodes n (Some s) there) in
+          let at = summary-there places (set nodes n (Some s)) (get_or found n 0) n (are.placed n (are.within i within))
+          ∙ get_or-set_same nodes n (Some s) None there in
           let P : Option Summary → Type 0 = λ o. IsSummary all (Some (get_or found n 0)) (unwrap_or o UNKNOWN) in
-          let Q : ℕ → Type 0 = λ x. IsSummary all (Some (get_or found x 0))
-          (known_by places (set nodes n (Some s)) (Some (get_or found x 0))) in
-          subst Q same (subst P (sym at) new)
+          rw (← same) (subst P (sym at) new)
       by_node (inr apart) =
           let n = get_or clear i 0 in
           let m = get_or clear j 0 in
           let earlier : j < i = before (cases_eq i j) in
           let placed = are.placed m (are.within j (omega arith)) in
-          let new_at = summary-there places (set nodes n (Some s)) (get_or found m 0) m (slice_get nodes m) placed
-          (get-set-other nodes n m (Some s) apart) in
-          let old_at = summary-there places nodes (get_or found m 0) m (slice_get nodes m) placed refl in
           let P : Option Summary → Type 0 = λ o. IsSummary all (Some (get_or found m 0)) (unwrap_or o UNKNOWN) in
-          subst P (old_at ∙ sym new_at) (right j earlier)
+          subst P (summary-there places nodes (get_or found m 0) m placed
+          ∙ sym (get_or-set_other nodes n m (Some s) None (λ e. apart (sym e)))
+          ∙ sym (summary-there places (set nodes n (Some s)) (get_or found m 0) m placed)) (right j earlier)
         where
           before : (i ≡ j) ⊎ (i ≡ j → ⊥) → j < i
           before (inl e) = absurd (apart (ap (λ (k : ℕ). get_or clear k 0) e))

@@ -1,16 +1,15 @@
 -- What the graph of what is reached tells of the entries, and what a survey keeps of it.
-use Rattle.std.proofs.Common.{rules, ◌≡◌, ℕ, zero, suc, ◌<◌, Bool, true, false, List, [], ◌∷◌, Option, Some, None, refl, sym, ◌∙◌, ap, subst, length, get_or, arith, map}
+use Rattle.std.proofs.Common.{rules, ◌≡◌, ℕ, zero, suc, ◌<◌, true, false, List, Option, Some, None, refl, sym, ◌∙◌, ap, length, get_or, arith, map}
 use Rattle.std.specs.Prelude.{All, Contains, ◌↔◌, slice_get, option_and_then, option_map, is_none}
 use Rattle.std.specs.List.{list_any}
 use Rattle.std.specs.Option.{option_map_or}
 use Rattle.std.proofs.lemmas.Option.{slice_get-get_or, slice_get-map, slice_get_within, same_Some}
 use Rattle.std.proofs.lemmas.List.{get_or_default, length-map}
-use Rattle.std.proofs.lemmas.List.Elements.{Contains-append_right}
 use Rattle.std.proofs.lemmas.List.Folds.{Any-from_list_any, list_any-from_Any}
 use Rattle.dw_types.specs.Paths.{Leads, ReachesCycle}
 use Rattle.dw_types.specs.Graphs.{Graph, steps_of, step_at, IsStep}
 use Rattle.dw_types.specs.Cycles.{AreClear}
-use Rattle.dw_cprint.specs.Kept.{found_at, kept}
+use Rattle.dw_cprint.specs.Kept.{kept}
 use Rattle.dw_cprint.specs.Reach.{IsReachOf}
 use Rattle.dw_cprint.specs.Shapes.{ShapeOf, other, view_shape}
 use Rattle.dw_cprint.specs.Steps.{entries_among, steps_reached, IsReachedFrom, root, further, ReachACycle, StepsTo}
@@ -18,9 +17,10 @@ use Rattle.dw_cprint.specs.Summaries.{KnowsType, AreNodes, AreRight, AreAmong, H
 use Rattle.dw_cprint.specs.declared.shape.Shape.{Shape}
 use Rattle.dw_cprint.specs.declared.survey.Survey.{Survey}
 use Rattle.dw_cprint.specs.declared.survey.Summary.{Summary}
-use Rattle.dw_cprint.proofs.ReachLemmas.{entry-among, from-map, into-map}
+use Rattle.dw_cprint.proofs.NumberLemmas.{picked-of}
+use Rattle.dw_cprint.proofs.ReachLemmas.{entries-are, entry-among, from-map, into-map}
 use Rattle.dw_cprint.proofs.KindLemmas.{all-types}
-use Rattle.dw_cprint.proofs.SummaryLemmas.{void_summary}
+use Rattle.dw_cprint.proofs.SummaryLemmas.{summary-there, void_summary}
 use Rattle.dw_types.proofs.LongestLemmas.{clear-free}
 use Rattle.std.proofs.lemmas.Bool.{true_from_ne_false, false_from_ne_true}
 
@@ -28,13 +28,7 @@ mapped : {A B : Type 0} (f : A → B) (o : Option A) (y d : B) → option_map f 
 mapped f None y d e = absurd (cc)
 mapped f (Some x) y d e = same_Some (f x) y e
 
-flattened : (xs : List (Option Summary)) (n : ℕ)
-    → is_none (option_and_then (λ (x : Option Summary). x) (slice_get xs n)) ≡ is_none (get_or xs n None)
-flattened [] n = refl
-flattened (x ∷ xs) zero = refl
-flattened (x ∷ xs) (suc n) = flattened xs n
-
-module _ (shapes : ℕ → ShapeOf) (roots places found : List ℕ) (graph : Graph)
+module _ {shapes : ℕ → ShapeOf} {roots places found : List ℕ} {graph : Graph}
     (h : IsReachOf shapes roots places found graph) where
   -- an entry has one place
   pub one-place : (a b : ℕ) → a < length found → b < length found → get_or found a 0 ≡ get_or found b 0 → a ≡ b
@@ -72,7 +66,7 @@ module _ (shapes : ℕ → ShapeOf) (roots places found : List ℕ) (graph : Gra
   nodes-lead : (n node to : ℕ) → node < length found → Leads (IsStep graph) n node to
       → Leads (StepsTo shapes) n (get_or found node 0) (get_or found to 0) × (to < length found)
   nodes-lead zero node to w same =
-      (ap (λ k. get_or found k 0) same, (let P : ℕ → Type 0 = λ k. k < length found in subst P same w))
+      (ap (λ k. get_or found k 0) same, rw (← same) w)
   nodes-lead (suc n) node to w (next, step, led) =
       let (c, v) = node-step node next w step in
       let (l, u) = nodes-lead n next to v led in
@@ -108,6 +102,13 @@ module _ (shapes : ℕ → ShapeOf) (roots places found : List ℕ) (graph : Gra
   place-of : (node entry : ℕ) → node < length found → get_or found node 0 ≡ entry → slice_get places entry ≡ Some node
   place-of node entry w same = search (rules, slice_get-get_or)
 
+  -- the shape that is read of a node
+  read-at : (kept : List Shape) → map view_shape kept ≡ map shapes found → (node : ℕ) → node < length found
+      → option_map view_shape (slice_get kept node) ≡ Some (shapes (get_or found node 0))
+  read-at kept read node w =
+      sym (slice_get-map view_shape kept node) ∙ ap (λ (xs : List ShapeOf). slice_get xs node) read
+      ∙ slice_get-map shapes found node ∙ ap (option_map shapes) (slice_get-get_or found node 0 w)
+
   -- the clear nodes, for their summaries
   pub nodes-of : (kept : List Shape) (clear : List ℕ) → map view_shape kept ≡ map shapes found → AreClear graph clear
       → AreNodes shapes places found kept clear
@@ -128,9 +129,8 @@ module _ (shapes : ℕ → ShapeOf) (roots places found : List ℕ) (graph : Gra
           let long = ap (λ (xs : List ShapeOf). length xs) read in
           let inside : node < length found = omega
           (arith, slice_get_within kept node shape is, length-map kept view_shape, length-map found shapes) in
-          let seen = sym (slice_get-map view_shape kept node) ∙ ap (λ (xs : List ShapeOf). slice_get xs node) read
-          ∙ slice_get-map shapes found node ∙ ap (option_map shapes) (slice_get-get_or found node 0 inside) in
-          same_Some (view_shape shape) (shapes (get_or found node 0)) (sym (ap (option_map view_shape) is) ∙ seen)
+          same_Some (view_shape shape) (shapes (get_or found node 0))
+          (sym (ap (option_map view_shape) is) ∙ read-at kept read node inside)
 
       behind-of : (i to : ℕ) → i < length clear → Contains (steps_reached shapes (get_or found (get_or clear i 0) 0)) to
           → (j : ℕ) × (j < i) × (get_or found (get_or clear j 0) 0 ≡ to)
@@ -144,30 +144,23 @@ module _ (shapes : ℕ → ShapeOf) (roots places found : List ℕ) (graph : Gra
         → slice_get s.places.items entry ≡ Some node
     placed-at node entry w e = ap (λ (ps : List ℕ). slice_get ps entry) same ∙ place-of node entry w e
 
-    at-node : {X : Type 0} (xs : List X) (node entry : ℕ) → node < length found → get_or found node 0 ≡ entry
-        → found_at s.places.items xs entry ≡ slice_get xs node
-    at-node {X = X} xs node entry w e = ap (λ (o : Option ℕ). option_and_then (slice_get xs) o)
-        (placed-at node entry w e)
-
     -- the shape of each entry that is reached
     keeps-shapes : map view_shape s.shapes.items ≡ map shapes found → (entry : ℕ) → IsReachedFrom shapes roots entry
         → kept s entry ≡ shapes entry
     unfolding kept
     keeps-shapes read entry r =
         let (node, w, e) = found-all r in
-        let seen : option_map view_shape (slice_get s.shapes.items node) ≡ Some (shapes entry) =
-        sym (slice_get-map view_shape s.shapes.items node) ∙ ap (λ (xs : List ShapeOf). slice_get xs node) read
-        ∙ slice_get-map shapes found node
-        ∙ ap (option_map shapes) (slice_get-get_or found node 0 w) ∙ ap (λ (n : ℕ). Some (shapes n)) e in
-        ap (λ (o : Option Shape). option_map_or view_shape o other) (at-node s.shapes.items node entry w e)
+        let seen = read-at s.shapes.items read node w ∙ ap (λ (n : ℕ). Some (shapes n)) e in
+        ap (λ (o : Option Shape). option_map_or view_shape o other)
+        (ap (λ (o : Option ℕ). option_and_then (slice_get s.shapes.items) o) (placed-at node entry w e))
         ∙ mapped view_shape (slice_get s.shapes.items node) (shapes entry) other seen
 
     module _ (clear : List ℕ) (summarized : HaveSummaries clear s.summaries.items) where
       summary-same : (node entry : ℕ) → node < length found → get_or found node 0 ≡ entry
           → lacks_summary s (Some entry) ≡ is_none (get_or s.summaries.items node None)
       summary-same node entry w e =
-          ap (λ (o : Option (Option Summary)). is_none (option_and_then (λ (x : Option Summary). x) o))
-          (at-node s.summaries.items node entry w e) ∙ flattened s.summaries.items node
+          ap (λ (o : Option Summary). is_none o)
+          (summary-there s.places.items s.summaries.items entry node (placed-at node entry w e))
 
       -- what a survey tells of these entries
       pub survey-done : map view_shape s.shapes.items ≡ map shapes found → AreRight shapes found clear s
@@ -183,14 +176,13 @@ module _ (shapes : ℕ → ShapeOf) (roots places found : List ℕ) (graph : Gra
               → (lacks_summary s (Some entry) ≡ true) ↔ ReachesCycle (StepsTo shapes) entry
           clear-of entry r =
               let (node, w, e) = found-all r in
-              let C : ℕ → Type 0 = λ x. ReachesCycle (StepsTo shapes) x in
               let nodes = h.nodes in (
-                λ lacks. subst C e (node-cycle node w
+                λ lacks. rw (← e) (node-cycle node w
                     (sorted.others node (omega arith)
                     (λ has. (let there = summary-same node entry w e ∙ (summarized node).0 has in absurd (cc))))),
                 λ cycle. true_from_ne_false (lacks_summary s (Some entry))
                     (λ there. clear-free graph clear sorted node (clear-node node entry w e there)
-                    (entry-cycle node w (subst C (sym e) cycle))),
+                    (entry-cycle node w (rw (← e) at cycle))),
               )
 
           known-of : (entry : ℕ) → IsReachedFrom shapes roots entry → lacks_summary s (Some entry) ≡ false
@@ -206,14 +198,14 @@ module _ (shapes : ℕ → ShapeOf) (roots places found : List ℕ) (graph : Gra
 -- steps lead from what is reached to what is reached
 pub reached-on : (shapes : ℕ → ShapeOf) (roots : List ℕ) (k from to : ℕ) → IsReachedFrom shapes roots from
     → Leads (StepsTo shapes) k from to → IsReachedFrom shapes roots to
-reached-on shapes roots zero from to r same = let P : ℕ → Type 0 = λ x. IsReachedFrom shapes roots x in subst P same r
+reached-on shapes roots zero from to r same = rw (← same) r
 reached-on shapes roots (suc k) from to r (next, step, led) = reached-on shapes roots k next to (further r step) led
 
 lead-more : (shapes : ℕ → ShapeOf) (k from at to : ℕ) → Leads (StepsTo shapes) k from at
     → Contains (steps_reached shapes at) to
     → Leads (StepsTo shapes) (suc k) from to
 lead-more shapes zero from at to same step =
-    let P : ℕ → Type 0 = λ x. Contains (steps_reached shapes x) to in (to, subst P (sym same) step, refl)
+    (to, rw same step, refl)
 lead-more shapes (suc k) from at to (next, first, led) step = (next, first, lead-more shapes k next at to led step)
 
 -- what is reached is reached from one of the entries
@@ -228,13 +220,11 @@ reached-from-one {shapes = shapes} (further {from} {to} r step) =
 
 -- the type of an entry is one of the types
 type-among : (types : List (Option ℕ)) (entry : ℕ) → Contains (entries_among types) entry → Contains types (Some entry)
-type-among [] entry (k, w, e) = absurd (omega arith)
-type-among (None ∷ types) entry has = Contains-append_right (None ∷ []) types (Some entry) (type-among types entry has)
-type-among (Some x ∷ types) entry (zero, w, e) = (0, (omega arith), ap (λ (n : ℕ). Some n) e)
-type-among (Some x ∷ types) entry (suc k, w, e) =
-    Contains-append_right (Some x ∷ []) types (Some entry) (type-among types entry (k, (omega arith), e))
+type-among types entry has =
+    let (at, there, is) = picked-of (λ (at : Option ℕ). at) types entry (rw (entries-are types) at has) in
+    rw is at there
 
-module _ (shapes : ℕ → ShapeOf) (roots : List ℕ) (s : Survey) (survey : IsSurveyOf shapes roots s)
+module _ {shapes : ℕ → ShapeOf} {roots : List ℕ} {s : Survey} (survey : IsSurveyOf shapes roots s)
     (types : List (Option ℕ)) (among : AreAmong (entries_among types) roots) where
   cycle-from : (entry : ℕ) → Contains (entries_among types) entry → lacks_summary s (Some entry) ≡ true
       → ReachACycle shapes (entries_among types)

@@ -15,28 +15,19 @@ use Rattle.dw_cprint.specs.declared.shape.Shape.{Shape}
 use Rattle.dw_cprint.specs.declared.shape.Shape.TheVariants as shape
 use Rattle.dw_cprint.proofs.DeclaratorLemmas.{in_parts}
 use Rattle.dw_cprint.proofs.NameLemmas.{words-text}
-use Rattle.dw_cprint.proofs.OptionLemmas.{map_holds, map_inverted, then_inverted, unless_holds, unless_inverted}
+use Rattle.dw_cprint.proofs.OptionLemmas.{map_inverted, then_inverted, unless_inverted, map_holds, unless_holds}
 
 -- ---- texts
-
-pub text-append : (xs ys : List Token) → text_of (xs ++ ys) ≡ text_of xs ++ text_of ys
-text-append xs ys = flat_map-append spelling xs ys
 
 -- one text behind another
 pub both : (a b : List Token) (old mid new : List ℕ) → Writes a old mid → Writes b mid new
     → Writes (a ++ b) old new
 both a b old mid new first second =
-    second ∙ ap (λ (u : List ℕ). u ++ text_of b) first ∙ append_assoc old (text_of a) (text_of b)
-    ∙ ap (λ (u : List ℕ). old ++ u) (sym (text-append a b))
-
--- the same text in other tokens
-pub as_text : (a b : List Token) (old new : List ℕ) → text_of a ≡ text_of b → Writes a old new
-    → Writes b old new
-as_text a b old new e h = h ∙ ap (λ (u : List ℕ). old ++ u) e
+    rw (second, first, flat_map-append spelling a b) (append_assoc old (text_of a) (text_of b))
 
 -- the same tokens, written in another way
 pub as_tokens : (a b : List Token) (old new : List ℕ) → a ≡ b → Writes a old new → Writes b old new
-as_tokens a b old new e h = h ∙ ap (λ (u : List Token). old ++ text_of u) e
+as_tokens a b old new e h = rw (← e) h
 
 -- ---- what stands before a declarator
 
@@ -79,8 +70,7 @@ pub after-arrays : (counts : List (Option ℕ)) (u : Term)
     → flat_map count_tokens counts ++ after u ≡ after (nested_arrays counts u)
 after-arrays [] u = refl
 after-arrays (c ∷ cs) u =
-    append_assoc (count_tokens c) (flat_map count_tokens cs) (after u)
-    ∙ ap (λ (v : List Token). count_tokens c ++ v) (after-arrays cs u)
+    rw (append_assoc (count_tokens c) (flat_map count_tokens cs) (after u), after-arrays cs u) refl
 
 -- the parts of a function's term
 pub record IsFunction (term : TypeAt → Option Term) (at : TypeAt) (ps : List Parameter) (t : Term) : Type 0 where
@@ -96,11 +86,11 @@ pub function-parts : (term : TypeAt → Option Term) (at : TypeAt) (ps : List Pa
 function-parts term at ps t e = search (rules, unless_inverted, then_inverted, map_inverted)
 
 -- the step from a type to the shape of its entry
-pub step-at : (shapes : ℕ → ShapeOf) (k below : ℕ) (at : TypeAt) (n : ℕ) (seen s : ShapeOf) → at ≡ Some n
-    → term_at k shapes (Some n) ≡ term_by (term_at below shapes) seen → seen ≡ s
+pub step-at : (shapes : ℕ → ShapeOf) (k below : ℕ) {at got : TypeAt} {n : ℕ} {seen s : ShapeOf} → got ≡ at
+    → got ≡ Some n → term_at k shapes (Some n) ≡ term_by (term_at below shapes) seen → seen ≡ s
     → term_at k shapes at ≡ term_by (term_at below shapes) s
-step-at shapes k below at n seen s is found same =
-    ap (term_at k shapes) is ∙ found ∙ ap (term_by (term_at below shapes)) same
+step-at shapes k below got is found same =
+    ap (term_at k shapes) (sym got ∙ is) ∙ found ∙ ap (term_by (term_at below shapes)) same
 
 pub void-at : (shapes : ℕ → ShapeOf) (k : ℕ) (at : TypeAt) (t : Term) → at ≡ None → term_at k shapes at ≡ Some t
     → Void ≡ t
@@ -187,7 +177,7 @@ module _ (term : TypeAt → Option Term) (old new : List ℕ) where
   pub base_core : (name : Name) → Writes (name_tokens name) old new → (t : Term) → term_by term (base name) ≡ Some t
       → Writes (core t) old new
   base_core None h t e = absurd (cc)
-  base_core (Some name) h t e = as_text (Identifier name ∷ []) (core t) old new (base-core name t e) h
+  base_core (Some name) h t e = h ∙ ap (λ (u : List ℕ). old ++ u) (base-core name t e)
 
   pub body_core : (b : BodyOf) → ((u : Body) → body_by term b ≡ Some u → Writes (body_tokens None u) old new)
       → (t : Term) → term_by term (body b) ≡ Some t → Writes (core t) old new

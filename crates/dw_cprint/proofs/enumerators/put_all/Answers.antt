@@ -1,10 +1,8 @@
-use Rattle.std.proofs.Common.{rules, [], ◌∷◌}
+use Rattle.std.proofs.Common.{rules}
 use Rattle.dw_cprint.specs.EntryShapes.{enumerators_in}
-use Rattle.dw_cprint.specs.Kept.{Writes, WritesEnumerators}
-use Rattle.dw_cprint.specs.Tokens.{Blank, RightBrace}
 use Rattle.dw_cprint.proofs.LookUpLemmas.{child_within, children_rest, children_within}
 use Rattle.dw_cprint.proofs.ItemWriterLemmas.{enumerators_begin, enumerators_done}
-use Rattle.dw_cprint.proofs.OptionLemmas.{ok_then}
+use Rattle.dw_cprint.proofs.OptionLemmas.{from_ok}
 use Rattle.dw_cprint.proofs.enumerators.put_all.Goals as goal
 
 pub loop-child-init : goal.loop-child-init
@@ -24,12 +22,6 @@ loop-child-preserved c = record {
 }
 
 pub returns : goal.returns
-returns c =
-    let es = enumerators_in c.args.source.now.image.now c.args.id in
-    let out = c.loop-child.out.items in
-    let new = c.put-2.new.out.items in
-    ok_then c.put-2.result (Writes (Blank ∷ RightBrace ∷ []) out new) (WritesEnumerators es c.args.out.now.items new)
-    (λ closes. enumerators_done es c.args.out.now.items c.put.new.out.items out new c.loop-child.some
-    c.in_ok-put.ensures
-    (rw c.in-None.ensures.steps.0 at c.loop-child.invariant.so_far) closes)
-    c.put-2.ensures
+returns c = from_ok _ c.put-2.ensures
+    (enumerators_done (enumerators_in c.args.source.now.image.now c.args.id) _ _ _ _ c.loop-child.some
+    c.in_ok-put.ensures (rw c.in-None.ensures.steps.0 at c.loop-child.invariant.so_far))

@@ -1,6 +1,3 @@
-use Rattle.std.proofs.Common.{◌<◌, length, ap, ◌∙◌}
-use Rattle.std.proofs.lemmas.List.Elements.{All-same}
-use Rattle.dw_types.specs.ChildrenLeft.{children_left}
 use Rattle.dw_image.specs.Images.{entries_in}
 use Rattle.dw_cprint.proofs.LookUpLemmas.{child_within, children_rest, children_within}
 use Rattle.dw_cprint.proofs.CountLemmas.{enumerators_all}
@@ -8,12 +5,10 @@ use Rattle.dw_cprint.proofs.enumerators.tally_of.Goals as goal
 
 pub loop-child-init : goal.loop-child-init
 loop-child-init c =
-    let es = entries_in c.args.source.now.image.now in
-    let all = ap children_left c.into_iter-child-iterator.ensures.into_iter_gives ∙ c.children-child-items.ensures in
-    record {
-      within = All-same (λ child. child < length es) _ _ all (children_within es c.args.id);
-      so_far = rw all (c.new-tally.ensures _);
-    }
+    rw (c.into_iter-child-iterator.ensures.into_iter_gives, c.children-child-items.ensures) (record {
+      within = children_within (entries_in c.args.source.now.image.now) c.args.id;
+      so_far = c.new-tally.ensures _;
+    })
 
 pub enumerator_at-requires : goal.enumerator_at-requires
 enumerator_at-requires c =

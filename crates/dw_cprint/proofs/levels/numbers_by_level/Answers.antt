@@ -1,7 +1,4 @@
-use Rattle.std.proofs.Common.{ℕ, List, length, subst, rules}
-use Rattle.std.specs.Prelude.{IsPermutation}
-use Rattle.std.specs.List.Sorted.{IsStableByKey}
-use Rattle.std.specs.Ordering.{nat_cmp}
+use Rattle.std.proofs.Common.{ℕ, length, rules}
 use Rattle.std.proofs.lemmas.Fn.{always_returns_same}
 use Rattle.std.proofs.lemmas.List.Sorted.{IsNonDecreasingBy-from_sort_by_key}
 use Rattle.dw_cprint.specs.Judgements.{level_of}
@@ -10,13 +7,12 @@ use Rattle.dw_cprint.proofs.levels.numbers_by_level.Goals as goal
 
 pub returns-clause-all : goal.returns-clause-all
 returns-clause-all c =
-    subst (λ (ns : List ℕ). IsPermutation ns c.sort_by_cached_key.new.self.items) c.in_ok-numbers.ensures
-    c.in_ok-sort_by_cached_key.ensures.permutation
+    rw c.in_ok-numbers.ensures at c.in_ok-sort_by_cached_key.ensures.permutation
 
 pub returns-clause-sorted : goal.returns-clause-sorted
 returns-clause-sorted c =
     let level : ℕ → ℕ = level_of c.args.levels.now c.args.named.now in
     numbers-by-level level (length c.args.named.now) c.sort_by_cached_key.new.self.items
     (IsNonDecreasingBy-from_sort_by_key level _ c.in_ok-sort_by_cached_key.ensures.sorted (λ a r q k. search rules))
-    (subst (λ (ns : List ℕ). IsStableByKey level nat_cmp ns c.sort_by_cached_key.new.self.items) c.in_ok-numbers.ensures
+    (rw c.in_ok-numbers.ensures at
     (c.in_ok-sort_by_cached_key.ensures.stable level (always_returns_same _ _ _ (λ a r q k. search rules))))

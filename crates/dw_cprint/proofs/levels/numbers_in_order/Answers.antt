@@ -4,7 +4,7 @@ use Rattle.dw_cprint.proofs.NumberLemmas.{numbers-ranked}
 use Rattle.dw_cprint.proofs.levels.numbers_in_order.Goals as goal
 
 pub numbers_by_level-requires : goal.numbers_by_level-requires
-numbers_by_level-requires c = omega (arith, few-named c.args.image.now c.args.named.now c.requires)
+numbers_by_level-requires c = omega (arith, few-named c.requires)
 
 pub returns : goal.returns
 returns c =

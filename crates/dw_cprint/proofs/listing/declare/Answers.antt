@@ -1,7 +1,5 @@
-use Rattle.std.proofs.Common.{rules, ◌≡◌, ◌++◌, ℕ, List, [], Option, Some, subst, ap, ◌∙◌}
+use Rattle.std.proofs.Common.{rules, ◌≡◌, []}
 use Rattle.dw_cprint.specs.EntryShapes.{shape_in, subject_in}
-use Rattle.dw_cprint.specs.Judgements.{IsRefusal}
-use Rattle.dw_cprint.specs.Refusals.{PrintFault, Refuses}
 use Rattle.dw_cprint.specs.Shapes.{view_subject}
 use Rattle.dw_cprint.specs.Steps.{types_declared}
 use Rattle.dw_cprint.proofs.JudgementLemmas.{appended, judged-entry, written-entry}
@@ -20,11 +18,10 @@ returns-in-Some-clause-refused c = λ rule other same.
     let image = c.args.image.now in
     let is = rw c.in_ok-source.ensures at c.in_ok-subject.ensures in
     let surveyed = rw c.in_ok-source.ensures at c.in_ok-survey.ensures in
-    let R : Option PrintFault → Type 0 = λ r. IsRefusal (shape_in image) (subject_in image c.args.id) r in
     let known = judged-entry image c.args.id c.in_ok-survey.survey (view_subject c.in_ok-subject.subject)
     c.put_declared_types.new.types.items is (search rules) surveyed _ c.in_ok-fault.ensures in
     let fault : c.in-Some.fault ≡ rule = cc in
-    subst (Refuses (shape_in image) (subject_in image c.args.id)) fault (subst R c.in-Some.is known)
+    rw (c.in-Some.is, fault) at known
 
 pub returns : goal.returns
 returns c =
@@ -33,8 +30,7 @@ returns c =
     let types = c.put_declared_types.new.types.items in
     let is = rw c.in_ok-source.ensures at c.in_ok-subject.ensures in
     let surveyed = rw c.in_ok-source.ensures at c.in_ok-survey.ensures in
-    let R : Option PrintFault → Type 0 = λ r. IsRefusal (shape_in image) (subject_in image c.args.id) r in
-    let printed = subst R c.in_default.is (judged-entry image c.args.id c.in_ok-survey.survey x types is (search rules)
+    let printed = rw c.in_default.is at (judged-entry image c.args.id c.in_ok-survey.survey x types is (search rules)
     surveyed _ c.in_ok-fault.ensures) in
     let written = written-entry image c.args.id c.in_ok-survey.survey x types is (search rules) surveyed []
     c.put_declaration.new.out.items printed (rw c.new-text.ensures.items at c.in_ok-put_declaration.ensures) in

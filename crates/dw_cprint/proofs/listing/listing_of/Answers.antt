@@ -34,14 +34,13 @@ put_lines-requires-clause-survey c =
 pub put_lines-requires-clause-printed : goal.put_lines-requires-clause-printed
 put_lines-requires-clause-printed c =
     let keys = rw (c.deref-3.ensures.value, c.deref-4.ensures.value) at c.in_ok-printed.ensures in
-    rw keys (printed-numbers c.args.source.now.image.now c.in_ok-named.named.ids.items
-    c.in_ok-refusals.refusals.items c.in_ok-refusals.ensures c.in_ok-numbers.numbers.items)
+    rw keys (printed-numbers c.in_ok-refusals.ensures c.in_ok-numbers.numbers.items)
 
 pub put_all_refused-requires : goal.put_all_refused-requires
 put_all_refused-requires c =
     let refused = rw (c.deref-6.ensures.value, c.deref-7.ensures.value) at c.in_ok-refused.ensures in
-    rw (c.deref-8.ensures.value, refused) (refused-within c.args.source.now.image.now c.in_ok-named.named.ids.items
-    c.in_ok-refusals.refusals.items c.in_ok-refusals.ensures c.in_ok-numbers.numbers.items c.in_ok-named.ensures.named
+    rw (c.deref-8.ensures.value, refused)
+    (refused-within c.in_ok-refusals.ensures c.in_ok-numbers.numbers.items c.in_ok-named.ensures.named
     (rw c.deref.ensures.value at c.in_ok-numbers.ensures))
 
 pub returns-clause-listing : goal.returns-clause-listing
@@ -54,9 +53,9 @@ returns-clause-listing c =
     let keys = rw (c.deref-3.ensures.value, c.deref-4.ensures.value) at c.in_ok-printed.ensures in
     let order = (rw (c.deref-5.ensures.value, keys) at c.in_ok-order.ensures)
     ∙ all-there named (filter (is_printed refusals) numbers)
-    (λ i d w. (printed-numbers image named refusals known numbers i d w).0) in
+    (λ i d w. (printed-numbers known numbers i d w).0) in
     let refused = rw (c.deref-6.ensures.value, c.deref-7.ensures.value) at c.in_ok-refused.ensures in
-    rw (order, refused) (listing-done image named refusals known numbers c.in_ok-named.ensures.named
+    rw (order, refused) (listing-done known numbers c.in_ok-named.ensures.named
     (rw c.deref.ensures.value at c.in_ok-numbers.ensures))
 
 pub returns-clause-text : goal.returns-clause-text
@@ -66,7 +65,7 @@ returns-clause-text c =
     let printed = c.in_ok-printed.printed.keys in
     let keys = rw (c.deref-3.ensures.value, c.deref-4.ensures.value) at c.in_ok-printed.ensures in
     let all : All (IsPrintedNumber image named) printed = rw keys
-    (printed-numbers image named c.in_ok-refusals.refusals.items c.in_ok-refusals.ensures
+    (printed-numbers c.in_ok-refusals.ensures
     c.in_ok-numbers.numbers.items) in
     let order = (rw c.deref-5.ensures.value at c.in_ok-order.ensures)
     ∙ all-there named printed (λ i d w. (all i d w).0) in

@@ -4,7 +4,7 @@ use Rattle.dw_cprint.specs.Kept.{kept_term, WritesBody, WritesEnumerators}
 use Rattle.dw_cprint.specs.Shapes.{BodyOf, Enum, Name, aggregate, view_member}
 use Rattle.dw_cprint.specs.declared.shape.Member.{Member}
 use Rattle.dw_cprint.proofs.ItemWriterLemmas.{enumeration_done}
-use Rattle.dw_cprint.proofs.OptionLemmas.{ok_then}
+use Rattle.std.proofs.lemmas.Result.{on_ok_weaker}
 use Rattle.dw_cprint.proofs.listing.put_body_at.Goals as goal
 
 pub returns-in_ok-members-in-OfAggregate : goal.returns-in_ok-members-in-OfAggregate
@@ -19,7 +19,7 @@ returns-in_ok-members-in-OfAggregate c =
     subst P (ap (λ (ms : List Member). aggregate word odd (map view_member ms)) c.deref.ensures.value
     ∙ ap (aggregate word odd) c.in_ok-members-in-OfAggregate.ensures
     ∙ sym (ap (body_in image c.args.id) c.in-OfAggregate.is)) (written odd) in
-    ok_then _ _ _ done c.put_aggregate.ensures
+    on_ok_weaker _ done c.put_aggregate.ensures
 
 pub returns-in_ok-put_front-in-Enum : goal.returns-in_ok-put_front-in-Enum
 returns-in_ok-put_front-in-Enum c =
@@ -32,4 +32,4 @@ returns-in_ok-put_front-in-Enum c =
     → P (body_in image c.args.id c.args.word) = λ inner.
     subst P (sym (ap (body_in image c.args.id) word)) (enumeration_done (kept_term c.args.survey.now 65) name
     (is_odd image c.args.id) (enumerators_in image c.args.id) _ _ _ c.in_ok-put_front-in-Enum.ensures inner) in
-    ok_then _ _ _ done c.put_all.ensures
+    on_ok_weaker _ done c.put_all.ensures

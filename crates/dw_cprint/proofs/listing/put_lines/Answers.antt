@@ -1,7 +1,8 @@
-use Rattle.std.proofs.Common.{◌≡◌, ◌++◌, ℕ, List, map, get_or, arith, sym, ap, ◌∙◌, subst, append-nil, append_assoc}
-use Rattle.std.specs.Prelude.{flat_map}
+use Rattle.std.proofs.Common.{◌≡◌, ◌++◌, ◌∷◌, ℕ, List, map, get_or, arith, sym, ap, ◌∙◌, subst, append-nil, append_assoc}
+use Rattle.std.specs.Prelude.{All, flat_map}
 use Rattle.std.proofs.lemmas.List.{get_or_read}
 use Rattle.std.proofs.lemmas.List.Elements.{All-head, All-rest}
+use Rattle.dw_image.specs.declared.image.Image.{Image}
 use Rattle.dw_cprint.specs.EntryShapes.{shape_in, subject_in}
 use Rattle.dw_cprint.specs.Judgements.{IsPrintedNumber}
 use Rattle.dw_cprint.specs.Listings.{declared_line, named_steps}
@@ -13,31 +14,31 @@ use Rattle.dw_cprint.proofs.ListingLemmas.{entry-there, name-there}
 use Rattle.dw_cprint.proofs.RefusalLemmas.{writes-line}
 use Rattle.dw_cprint.proofs.listing.put_lines.Goals as goal
 
+-- the first of those that are left is printed
+printed-next : (image : Image) (named : List ℕ) {left rest : List ℕ} {number : ℕ} → left ≡ number ∷ rest
+    → All (IsPrintedNumber image named) left → IsPrintedNumber image named number
+printed-next image named is printed = All-head (IsPrintedNumber image named) _ _ (rw is at printed)
+
 pub index-id-requires : goal.index-id-requires
 index-id-requires c =
-    let known = All-head (IsPrintedNumber c.args.source.now.image.now c.args.named.now.ids.items) _ _
-    (rw c.in-Some.ensures.steps at c.loop-number.invariant.printed) in
+    let known = printed-next _ _ c.in-Some.ensures.steps c.loop-number.invariant.printed in
     omega (arith, known.0)
 
 pub index-name-requires : goal.index-name-requires
 index-name-requires c =
-    let known = All-head (IsPrintedNumber c.args.source.now.image.now c.args.named.now.ids.items) _ _
-    (rw c.in-Some.ensures.steps at c.loop-number.invariant.printed) in
+    let known = printed-next _ _ c.in-Some.ensures.steps c.loop-number.invariant.printed in
     omega (arith, known.0, c.requires.names.long)
 
 pub put_named_type-requires-clause-named : goal.put_named_type-requires-clause-named
 put_named_type-requires-clause-named c =
-    let known = All-head (IsPrintedNumber c.args.source.now.image.now c.args.named.now.ids.items) _ _
-    (rw c.in-Some.ensures.steps at c.loop-number.invariant.printed) in
-    entry-there c.args.source.now.image.now c.args.named.now.ids.items _ c.index-id.result.now c.requires.named known.0
+    let known = printed-next _ _ c.in-Some.ensures.steps c.loop-number.invariant.printed in
+    entry-there _ c.index-id.result.now c.requires.named known.0
     c.index-id.ensures
 
 pub put_named_type-requires-clause-name : goal.put_named_type-requires-clause-name
 put_named_type-requires-clause-name c =
-    let known = All-head (IsPrintedNumber c.args.source.now.image.now c.args.named.now.ids.items) _ _
-    (rw c.in-Some.ensures.steps at c.loop-number.invariant.printed) in
-    name-there c.args.source.now.image.now c.args.named.now.ids.items c.args.named.now.names.items _
-    c.index-id.result.now
+    let known = printed-next _ _ c.in-Some.ensures.steps c.loop-number.invariant.printed in
+    name-there _ c.index-id.result.now
     c.index-name.result.now c.requires.names known.0 c.index-id.ensures c.index-name.ensures
 
 pub loop-number-preserved : goal.loop-number-preserved
@@ -50,8 +51,7 @@ loop-number-preserved c =
     let left = c.next.new.self in
     let line : ℕ → List ℕ = declared_line image in
     let lines : List ℕ → List ℕ = λ numbers. flat_map line (map (λ k. get_or named k 0) numbers) in
-    let known = All-head (IsPrintedNumber image named) number left
-    (rw c.in-Some.ensures.steps at c.loop-number.invariant.printed) in
+    let known = printed-next _ _ c.in-Some.ensures.steps c.loop-number.invariant.printed in
     let at : entry ≡ get_or named number 0 = get_or_read named number entry known.0 c.index-id.ensures 0 in
     let P : ℕ → Type 0 = λ x. IsPrinted (shape_in image) (subject_in image x) in
     let among : AreAmong (first_steps (subject_in image entry)) (named_steps image named) =

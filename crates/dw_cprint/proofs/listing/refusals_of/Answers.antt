@@ -1,7 +1,7 @@
-use Rattle.std.proofs.Common.{◌≡◌, ℕ, ◌<◌, length, arith, subst}
+use Rattle.std.proofs.Common.{◌≡◌, ◌<◌, length, arith, subst}
 use Rattle.std.proofs.lemmas.List.{get_or_read}
 use Rattle.dw_cprint.specs.EntryShapes.{subject_in}
-use Rattle.dw_cprint.specs.Judgements.{AreFirstRefusals, IsRefusal}
+use Rattle.dw_cprint.specs.Judgements.{IsRefusal}
 use Rattle.dw_cprint.specs.Shapes.{SubjectOf}
 use Rattle.dw_cprint.specs.Steps.{first_steps}
 use Rattle.dw_cprint.specs.Summaries.{AreAmong, BySurvey}
@@ -17,12 +17,12 @@ index-name-requires c = omega (arith, c.requires.names.long, c.loop-k-test.true,
 
 pub subject_at-requires-clause-named : goal.subject_at-requires-clause-named
 subject_at-requires-clause-named c =
-    entry-there c.args.source.now.image.now c.args.named.now.ids.items c.loop-k.k c.index-id.result.now
+    entry-there c.loop-k.k c.index-id.result.now
     c.requires.named (omega (arith, c.loop-k-test.true, c.len-k-end.ensures)) c.index-id.ensures
 
 pub subject_at-requires-clause-name : goal.subject_at-requires-clause-name
 subject_at-requires-clause-name c =
-    name-there c.args.source.now.image.now c.args.named.now.ids.items c.args.named.now.names.items c.loop-k.k
+    name-there c.loop-k.k
     c.index-id.result.now c.index-name.result.now c.requires.names
     (omega (arith, c.loop-k-test.true, c.len-k-end.ensures)) c.index-id.ensures c.index-name.ensures
 
@@ -44,8 +44,6 @@ loop-k-preserved c =
 
 pub returns : goal.returns
 returns c =
-    let image = c.args.source.now.image.now in
-    let named = c.args.named.now.ids.items in
-    let done : c.loop-k.k ≡ length named = omega (arith, c.loop-k-test.false, c.loop-k.auto.k-end, c.len-k-end.ensures)
-    in
-    subst (λ (n : ℕ). AreFirstRefusals image named n c.loop-k.refusals.items) done c.loop-k.invariant
+    let done : c.loop-k.k ≡ length c.args.named.now.ids.items =
+    omega (arith, c.loop-k-test.false, c.loop-k.auto.k-end, c.len-k-end.ensures) in
+    rw done at c.loop-k.invariant

@@ -7,7 +7,7 @@ use Rattle.dw_cprint.proofs.named.all_types.Goals as goal
 
 pub put_types_of-requires : goal.put_types_of-requires
 put_types_of-requires c =
-    entry-there c.args.image.now c.args.named.now c.loop-id.id-index c.id-item.result c.requires c.loop-id-test.true
+    entry-there c.loop-id.id-index c.id-item.result c.requires c.loop-id-test.true
     c.id-item.is
 
 pub loop-id-preserved : goal.loop-id-preserved

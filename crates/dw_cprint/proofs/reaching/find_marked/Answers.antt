@@ -1,4 +1,4 @@
-use Rattle.std.proofs.Common.{rules, ◌≡◌, ℕ, ◌+◌, Vec, ap, false, get_or, length, sym, ◌∙◌}
+use Rattle.std.proofs.Common.{rules, ◌≡◌, ℕ, Vec, ap, false, get_or, length, sym, ◌∙◌}
 use Rattle.std.specs.Global.{Global}
 use Rattle.dw_cprint.specs.Reach.{IsMarked}
 use Rattle.dw_cprint.proofs.RootLemmas.{found-as, found-more, found-same}
@@ -14,18 +14,15 @@ loop-entry-preserved c =
       | then-marks-entry+in_ok-place_of w ↦
           let marked : IsMarked marks n = search rules in
           let places = ap items (sym w.places-is) in (
-            found-as marks (n + 1) w.place_of.new.places.items c.if-marks-entry.places.items w.place_of.new.found
-                c.if-marks-entry.found places (sym w.found-is)
-                (found-more marks n c.loop-entry.places.items w.place_of.new.places.items c.loop-entry.found
-                w.place_of.new.found _ c.loop-entry.invariant.0 marked w.in_ok-place_of.ensures.row),
+            found-as places (sym w.found-is)
+                (found-more c.loop-entry.invariant.0 marked w.in_ok-place_of.ensures.row),
             ap length (sym places) ∙ w.in_ok-place_of.ensures.places ∙ c.loop-entry.invariant.1,
           )
       | else-marks-entry w ↦
           let none : get_or marks n false ≡ false = search rules in
           let places = ap items (sym w.places-is) in (
-            found-as marks (n + 1) c.loop-entry.places.items c.if-marks-entry.places.items c.loop-entry.found
-                c.if-marks-entry.found places (sym w.found-is)
-                (found-same marks n c.loop-entry.places.items c.loop-entry.found c.loop-entry.invariant.0 none),
+            found-as places (sym w.found-is)
+                (found-same c.loop-entry.invariant.0 none),
             ap length (sym places) ∙ c.loop-entry.invariant.1,
           )
     ]

@@ -1,5 +1,4 @@
-use Rattle.std.proofs.Common.{rules, ◌≡◌, ◌<◌, ℕ, List, Bool, All, length, subst, sym}
-use Rattle.dw_cprint.specs.Reach.{AreMarks}
+use Rattle.std.proofs.Common.{rules, ◌≡◌, length}
 use Rattle.dw_cprint.specs.Steps.{entries_among}
 use Rattle.dw_cprint.proofs.RootLemmas.{found-roots}
 use Rattle.dw_cprint.proofs.reaching.find_roots.Goals as goal
@@ -8,8 +7,6 @@ pub returns-clause-found : goal.returns-clause-found
 returns-clause-found c =
     let roots = entries_among c.args.types.now in
     let long : length c.args.places.now.items ≡ length c.deref.result.now = search rules in
-    let P : List Bool → Type 0 = λ marks. AreMarks roots marks in
-    let Q : ℕ → Type 0 = λ n. All (λ to. to < n) roots in
     found-roots roots c.deref.result.now c.find_marked.new.places.items c.find_marked.new.found
-    (subst P (sym c.deref.ensures.value) c.in_ok-marks.ensures.marks) (subst Q long c.requires.within)
+    (rw c.deref.ensures.value c.in_ok-marks.ensures.marks) (rw long at c.requires.within)
     c.in_ok-find_marked.ensures.found

@@ -1,7 +1,6 @@
-use Rattle.std.proofs.Common.{◌≡◌, ℕ, ◌+◌, List, [], ◌∷◌, ◌++◌, Bool, true, Option, None, Vec, append-nil, ap, arith, length, length-set, set, subst, sym, take, ◌∙◌}
+use Rattle.std.proofs.Common.{◌≡◌, ℕ, [], ◌∷◌, ◌++◌, Bool, true, Option, None, Vec, append-nil, ap, arith, length, length-set, set, sym, take, ◌∙◌}
 use Rattle.std.specs.Global.{Global}
 use Rattle.std.proofs.lemmas.List.{get_or_read, take_all}
-use Rattle.dw_cprint.specs.Reach.{AreMarks}
 use Rattle.dw_cprint.specs.Steps.{entries_among}
 use Rattle.dw_cprint.proofs.ReachLemmas.{entries-take}
 use Rattle.dw_cprint.proofs.RootLemmas.{marks-as, marks-more, type-within}
@@ -22,7 +21,6 @@ loop-at-preserved c =
     let types = c.args.types.now in
     let i = c.loop-at.at-index in
     let before = entries_among (take i types) in
-    let after = entries_among (take (i + 1) types) in
     let marks = c.loop-at.marks.items in
     let items = λ (v : Vec Bool Global). v.items in
     let split = sym (entries-take types i c.loop-at-test.true) in
@@ -33,7 +31,7 @@ loop-at-preserved c =
           let below = type-within c.args.entries types i new c.requires c.loop-at-test.true (sym read ∙ w.in-Some.is) in
           let all = ap (λ (o : Option ℕ). before ++ entries_among (o ∷ [])) (sym w.in-Some.is ∙ read) ∙ split in
           let marked : set marks new true ≡ c.match-get.marks.items = ap items (sym w.marks-is) in (
-            marks-as (before ++ new ∷ []) after (set marks new true) c.match-get.marks.items all marked
+            marks-as all marked
                 (marks-more before marks new c.loop-at.invariant.0 (omega (arith, below, c.loop-at.invariant.1))),
             ap length (sym marked) ∙ length-set marks new true ∙ c.loop-at.invariant.1,
           )
@@ -41,12 +39,11 @@ loop-at-preserved c =
           let all = sym (append-nil before) ∙ ap (λ (o : Option ℕ). before ++ entries_among (o ∷ []))
           (sym w.in_default.is ∙ read) ∙ split in
           let same = ap items (sym w.marks-is) in (
-            marks-as before after marks c.match-get.marks.items all same c.loop-at.invariant.0,
+            marks-as all same c.loop-at.invariant.0,
             ap length (sym same) ∙ c.loop-at.invariant.1,
           )
     ]
 
 pub returns-clause-marks : goal.returns-clause-marks
 returns-clause-marks c =
-    let P : List (Option ℕ) → Type 0 = λ ts. AreMarks (entries_among ts) c.loop-at.marks.items in
-    subst P (take_all c.loop-at.at-index c.args.types.now c.loop-at-test.false) c.loop-at.invariant.0
+    rw (take_all c.loop-at.at-index c.args.types.now c.loop-at-test.false) at c.loop-at.invariant.0

@@ -1,4 +1,4 @@
-use Rattle.std.proofs.Common.{ℕ, ◌<◌, ◌+◌, [], ◌∷◌, ◌++◌, length, arith, List, Option, Some, None, refl, sym, ap, ◌∙◌, take, append-nil, append_assoc, Vec}
+use Rattle.std.proofs.Common.{ℕ, ◌<◌, [], ◌∷◌, ◌++◌, length, arith, List, Option, Some, None, sym, ap, ◌∙◌, take, append-nil, append_assoc, Vec}
 use Rattle.std.specs.Global.{Global}
 use Rattle.std.proofs.lemmas.List.{get_or_read}
 use Rattle.std.proofs.lemmas.List.Elements.{All-contains}
@@ -31,37 +31,29 @@ pub loop-at-preserved : goal.loop-at-preserved
 loop-at-preserved c =
     let types = c.args.types.now in
     let i = c.loop-at.at-index in
-    let p0 = c.args.places.now.items in
-    let f0 = c.args.found.now in
     let before = entries_among (take i types) in
-    let after = entries_among (take (i + 1) types) in
     let items = λ (v : Vec ℕ Global). v.items in
     let split = sym (entries-take types i c.loop-at-test.true) in
     let read = c.get.ensures ∙ get_or_read types i c.at-item.result c.loop-at-test.true c.at-item.is None in
     let (r, finds, all) = c.loop-at.invariant in
     elim c.match-get.branch [
       | in-Some+in_ok-place_of+in_ok-push w ↦
-          let place = w.in_ok-place_of.field-0 in
-          let p = w.place_of.new.places.items in
-          let r2 = r ++ place ∷ [] in (
-            r2,
-            finds-as (before ++ w.in-Some.entry ∷ []) after p0 p c.match-get.places.items f0 w.place_of.new.found
-                c.match-get.found r2 r2
+          let place = w.in_ok-place_of.field-0 in (
+            r ++ place ∷ [],
+            finds-as
                 (ap (λ (o : Option ℕ). before ++ entries_among (o ∷ [])) (sym w.in-Some.is ∙ read) ∙ split)
-                (ap items (sym w.places-is)) (sym w.found-is) refl
-                (finds-both before (w.in-Some.entry ∷ []) p0 c.loop-at.places.items p f0 c.loop-at.found
-                w.place_of.new.found r (place ∷ []) finds w.in_ok-place_of.ensures.row),
+                (ap items (sym w.places-is)) (sym w.found-is)
+                (finds-both finds w.in_ok-place_of.ensures.row),
             w.steps-is ∙ (w.in_ok-push.ensures
                 ∙ (ap (λ (xs : List ℕ). xs ++ place ∷ []) all ∙ append_assoc c.args.steps.now r (place ∷ []))),
           )
       | in_default w ↦ (
         r,
-        finds-as before after p0 c.loop-at.places.items c.match-get.places.items f0 c.loop-at.found
-            c.match-get.found r r
+        finds-as
             (sym (append-nil before) ∙ ap (λ (o : Option ℕ). before ++ entries_among (o ∷ []))
             (sym w.in_default.is ∙ read)
             ∙ split)
-            (ap items (sym w.places-is)) (sym w.found-is) refl finds,
+            (ap items (sym w.places-is)) (sym w.found-is) finds,
         w.steps-is ∙ all,
       )
     ]

@@ -29,8 +29,7 @@ loop-found-init c =
     let found = c.find_roots.new.found in
     let long : length c.in_ok-places.places.items ≡ c.entries.result = search rules in
     rw (c.in_ok-ends.ensures, c.in_ok-steps.ensures, c.new-shapes.ensures.items) (
-      so_far-start (shape_in c.args.source.now.image.now) (entries_among c.args.types.now)
-          c.find_roots.new.places.items found c.in_ok-find_roots.ensures.found,
+      so_far-start (shape_in c.args.source.now.image.now) c.in_ok-find_roots.ensures.found,
       packed-start found,
       c.in_ok-find_roots.ensures.places ∙ (long ∙ c.entries.ensures),
     )
@@ -67,11 +66,9 @@ loop-found-preserved c =
     let end : c.push-in-loop-found.new.self
     ≡ ends ++ length (steps ++ row) ∷ [] = c.in_ok-push-2.ensures
     ∙ ap (λ (n : ℕ). ends ++ n ∷ []) (c.len-in-loop-found-3.ensures ∙ ap length all) in
-    rw (end, all, seen, rows-more found steps ends row c.loop-found.invariant.1) (
-      so_far-more shapes (entries_among c.args.types.now) places p2 found f2 rows read row c.loop-found.invariant.0 more
-          placed,
-      packed-more (steps_reached shapes (get_or found (length rows) 0)) places p2 found f2 steps ends row
-          c.loop-found.invariant.1 placed,
+    rw (end, all, seen, rows-more row c.loop-found.invariant.1) (
+      so_far-more c.loop-found.invariant.0 more placed,
+      packed-more c.loop-found.invariant.1 placed,
       c.in_ok-push_row.ensures.places ∙ c.loop-found.invariant.2,
     )
 

@@ -1,18 +1,9 @@
-use Rattle.std.proofs.Common.{◌<◌, length, true, false, ap, refl, sym, ◌∙◌}
-use Rattle.std.proofs.lemmas.List.Elements.{All-same}
-use Rattle.dw_types.specs.ChildrenLeft.{children_left}
-use Rattle.dw_image.specs.Images.{entries_in}
+use Rattle.std.proofs.Common.{rules, true, false, refl, sym}
 use Rattle.dw_cprint.proofs.LookUpLemmas.{child_within, children_rest, children_within}
 use Rattle.dw_cprint.proofs.shape_reader.any_child.Goals as goal
 
 pub loop-child-init : goal.loop-child-init
-loop-child-init g c =
-    let es = entries_in c.args.image.now in
-    let all = ap children_left c.into_iter-child-iterator.ensures.into_iter_gives ∙ c.children-child-items.ensures in
-    record {
-      within = All-same (λ child. child < length es) _ _ all (children_within es c.args.id);
-      so_far = λ found has. rw (← all) has;
-    }
+loop-child-init g c = search (rules, children_within)
 
 pub test-requires : goal.test-requires
 test-requires g c =

@@ -1,9 +1,6 @@
-use Rattle.std.proofs.Common.{ap, subst, ◌∙◌, arith}
-use Rattle.std.specs.Prelude.{All}
+use Rattle.std.proofs.Common.{ap, ◌∙◌, arith}
 use Rattle.dw_cprint.specs.Shapes.{view_shape}
-use Rattle.dw_cprint.specs.Steps.{types_reached}
-use Rattle.dw_cprint.specs.Summaries.{KnowsType, Summary, known_of}
-use Rattle.dw_cprint.specs.declared.shape.Shape.{Shape}
+use Rattle.dw_cprint.specs.Summaries.{Summary, known_of}
 use Rattle.dw_cprint.proofs.SummaryLemmas.{base_qualified, base_itself, base_plain}
 use Rattle.dw_cprint.proofs.FoundLemmas.{same-summary}
 use Rattle.dw_cprint.proofs.summary.base_of.Goals as goal
@@ -12,8 +9,8 @@ pub returns-in-Qualified : goal.returns-in-Qualified
 returns-in-Qualified c = record {
   same = rw c.in-Qualified.is (ap (λ (known : Summary). known.base) c.known.ensures);
   under = λ shapes entry is known.
-      let P : Shape → Type 0 = λ s. All (KnowsType shapes c.args.survey.now) (types_reached (view_shape s)) in
-      let mine = same-summary c.known.ensures (subst P c.in-Qualified.is known 0 c.in-Qualified.at (omega arith)) in
+      let one = rw c.in-Qualified.is at known in
+      let mine = same-summary c.known.ensures (one 0 c.in-Qualified.at (omega arith)) in
       base_qualified shapes entry _ c.in-Qualified.at c.known.result.base (is ∙ ap view_shape c.in-Qualified.is)
       mine.is_base;
 }

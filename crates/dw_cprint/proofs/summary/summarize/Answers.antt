@@ -1,11 +1,8 @@
-use Rattle.std.proofs.Common.{rules, ◌≡◌, ℕ, ◌<◌, ◌≤◌, List, Some, refl, sym, subst, ◌∙◌, length, get_or, arith, length-set}
-use Rattle.std.specs.Prelude.{All, slice_get}
+use Rattle.std.proofs.Common.{rules, ◌≡◌, ◌<◌, ◌≤◌, Some, refl, sym, ◌∙◌, length, get_or, arith, length-set}
+use Rattle.std.specs.Prelude.{slice_get}
 use Rattle.std.proofs.lemmas.List.{take_all}
 use Rattle.std.proofs.lemmas.Option.{slice_get_read}
-use Rattle.dw_cprint.specs.Shapes.{ShapeOf}
-use Rattle.dw_cprint.specs.Steps.{types_reached}
-use Rattle.dw_cprint.specs.Summaries.{HaveSummaries, IsSummary, KnowsType}
-use Rattle.dw_cprint.proofs.SummaryLemmas.{known_by, have_more, all_known, right_more}
+use Rattle.dw_cprint.proofs.SummaryLemmas.{have_more, all_known, right_more}
 use Rattle.dw_cprint.proofs.summary.summarize.Goals as goal
 
 pub summary_of-summary-requires : goal.summary_of-summary-requires
@@ -36,13 +33,9 @@ loop-rank-preserved c =
           let entry = get_or found node 0 in
           let says = are.says node shape is in
           let right = c.loop-rank.invariant.right all found are in
-          let P : List ℕ → Type 0 = λ ps. All (λ at. IsSummary all at (known_by ps nodes at))
-          (types_reached (all entry)) in
-          let Q : ShapeOf → Type 0 = λ x. All (KnowsType all c.loop-rank.survey) (types_reached x) in
-          let known = subst Q (sym says)
-          (subst P (sym c.loop-rank.invariant.places)
-          (all_known all places found shapes clear are nodes i below right)) in
-          right_more all places found shapes clear are nodes i s below there right
+          let known = rw (← c.loop-rank.invariant.places, ← says) at
+          (all_known are nodes i below right) in
+          right_more are nodes i s below there right
           (c.summary_of-summary.ensures all entry (sym says) known);
     })
 
@@ -50,14 +43,10 @@ pub returns-clause-clear : goal.returns-clause-clear
 returns-clause-clear c =
     let over : length c.args.clear.now
     ≤ c.loop-rank.rank = rw (← c.len-rank-end.ensures) c.loop-rank-test.false in
-    subst (λ nodes. HaveSummaries nodes c.loop-rank.survey.summaries.items)
-    (take_all c.loop-rank.rank c.args.clear.now over) c.loop-rank.invariant.have
+    rw (take_all c.loop-rank.rank c.args.clear.now over) at c.loop-rank.invariant.have
 
 pub returns-clause-right : goal.returns-clause-right
 returns-clause-right c = λ all found are i lower.
-    let entry = get_or found (get_or c.args.clear.now i 0) 0 in
     let over : length c.args.clear.now
     ≤ c.loop-rank.rank = rw (← c.len-rank-end.ensures) c.loop-rank-test.false in
-    let P : List ℕ → Type 0 = λ ps. IsSummary all (Some entry)
-    (known_by ps c.loop-rank.survey.summaries.items (Some entry)) in
-    subst P (sym c.loop-rank.invariant.places) (c.loop-rank.invariant.right all found are i (omega arith))
+    rw c.loop-rank.invariant.places (c.loop-rank.invariant.right all found are i (omega arith))

@@ -1,9 +1,8 @@
-use Rattle.std.proofs.Common.{List, subst, arith}
-use Rattle.std.specs.Prelude.{All}
+use Rattle.std.proofs.Common.{arith}
 use Rattle.dw_cprint.specs.Declarations.{term_at}
-use Rattle.dw_cprint.specs.Shapes.{TypeAt, view_shape}
+use Rattle.dw_cprint.specs.Shapes.{view_shape}
 use Rattle.dw_cprint.specs.Steps.{types_reached}
-use Rattle.dw_cprint.specs.Summaries.{AreFindings, KnowsType, known_of}
+use Rattle.dw_cprint.specs.Summaries.{known_of}
 use Rattle.dw_cprint.proofs.FoundLemmas.{found-shape}
 use Rattle.dw_cprint.proofs.LengthLemmas.{shape-length, same-length}
 use Rattle.dw_cprint.proofs.SummaryLemmas.{entry_summary, knows-lengths}
@@ -13,9 +12,7 @@ pub returns : goal.returns
 returns c = λ shapes entry is known.
     let s = c.args.survey.now in
     let shape = view_shape c.args.shape.now in
-    let P : List TypeAt → Type 0 = λ ts. All (KnowsType shapes s) ts → AreFindings shapes ts c.findings_under.result in
-    let rest : AreFindings shapes (types_reached shape) c.findings_under.result = subst P c.requires
-    (c.findings_under.ensures shapes) known in
+    let rest = (rw c.requires at (c.findings_under.ensures shapes)) known in
     let both = c.with-all.ensures.either in
     entry_summary shapes entry shape _ is c.kind_of.ensures (c.base_of.ensures.under shapes entry is known)
     (found-shape shapes s entry c.wrong_in_shape.result c.findings_under.result _ (rw (← is) at known)

@@ -1,5 +1,6 @@
-use Rattle.std.proofs.Common.{◌≡◌, ℕ, Bool, true, sym, ◌∙◌, length, arith}
-use Rattle.std.specs.Prelude.{◌==◌, ◌&&◌, ◌||◌, nat_lt}
+use Rattle.std.proofs.Common.{◌≡◌, ℕ, Bool, true, List, sym, ◌∙◌, length, arith}
+use Rattle.std.specs.Prelude.{◌==◌, ◌&&◌, ◌||◌, bytes_eq, filter, nat_lt}
+use Rattle.std.specs.List.{list_any}
 use Rattle.std.proofs.lemmas.Bool.{eq-eqb}
 use Rattle.std.proofs.lemmas.Bool.Decides.{nat_tests}
 use Rattle.dw_cprint.specs.Legible.{is_keyword, keywords}
@@ -10,71 +11,44 @@ use Rattle.dw_cprint.proofs.words.is_keyword_text.Goals as goal
 abbrev is_other_length : ℕ → Bool
 is_other_length n = nat_lt n 2 || ((nat_lt 10 n && nat_lt n 13) || nat_lt 14 n)
 
-pub returns-in-2 : goal.returns-in-2
+-- a word of so many bytes is a keyword if it is one of those of so many
+by_size : (n : ℕ) (word : List ℕ) (found : Bool) → length word ≡ n
+    → found ≡ list_any (bytes_eq word) (filter (λ k. length k == n) keywords) → found ≡ is_keyword word
 unfolding is_keyword
-returns-in-2 c =
-    c.is_one_of.ensures ∙ sym (by_length (λ n. n == 2) c.args.word.now keywords
-    (eq-eqb (length c.args.word.now) 2 c.in-2.is))
+by_size n word found is seen = seen ∙ sym (by_length (λ m. m == n) word keywords (eq-eqb (length word) n is))
+
+pub returns-in-2 : goal.returns-in-2
+returns-in-2 c = by_size 2 _ _ c.in-2.is c.is_one_of.ensures
 
 pub returns-in-3 : goal.returns-in-3
-unfolding is_keyword
-returns-in-3 c =
-    c.is_one_of-in-3.ensures ∙ sym
-    (by_length (λ n. n == 3) c.args.word.now keywords (eq-eqb (length c.args.word.now) 3 c.in-3.is))
+returns-in-3 c = by_size 3 _ _ c.in-3.is c.is_one_of-in-3.ensures
 
 pub returns-in-4 : goal.returns-in-4
-unfolding is_keyword
-returns-in-4 c =
-    c.is_one_of-in-4.ensures ∙ sym
-    (by_length (λ n. n == 4) c.args.word.now keywords (eq-eqb (length c.args.word.now) 4 c.in-4.is))
+returns-in-4 c = by_size 4 _ _ c.in-4.is c.is_one_of-in-4.ensures
 
 pub returns-in-5 : goal.returns-in-5
-unfolding is_keyword
-returns-in-5 c =
-    c.is_one_of-in-5.ensures ∙ sym
-    (by_length (λ n. n == 5) c.args.word.now keywords (eq-eqb (length c.args.word.now) 5 c.in-5.is))
+returns-in-5 c = by_size 5 _ _ c.in-5.is c.is_one_of-in-5.ensures
 
 pub returns-in-6 : goal.returns-in-6
-unfolding is_keyword
-returns-in-6 c =
-    c.is_one_of-in-6.ensures ∙ sym
-    (by_length (λ n. n == 6) c.args.word.now keywords (eq-eqb (length c.args.word.now) 6 c.in-6.is))
+returns-in-6 c = by_size 6 _ _ c.in-6.is c.is_one_of-in-6.ensures
 
 pub returns-in-7 : goal.returns-in-7
-unfolding is_keyword
-returns-in-7 c =
-    c.is_one_of-in-7.ensures ∙ sym
-    (by_length (λ n. n == 7) c.args.word.now keywords (eq-eqb (length c.args.word.now) 7 c.in-7.is))
+returns-in-7 c = by_size 7 _ _ c.in-7.is c.is_one_of-in-7.ensures
 
 pub returns-in-8 : goal.returns-in-8
-unfolding is_keyword
-returns-in-8 c =
-    c.is_one_of-in-8.ensures ∙ sym
-    (by_length (λ n. n == 8) c.args.word.now keywords (eq-eqb (length c.args.word.now) 8 c.in-8.is))
+returns-in-8 c = by_size 8 _ _ c.in-8.is c.is_one_of-in-8.ensures
 
 pub returns-in-9 : goal.returns-in-9
-unfolding is_keyword
-returns-in-9 c =
-    c.is_one_of-in-9.ensures ∙ sym
-    (by_length (λ n. n == 9) c.args.word.now keywords (eq-eqb (length c.args.word.now) 9 c.in-9.is))
+returns-in-9 c = by_size 9 _ _ c.in-9.is c.is_one_of-in-9.ensures
 
 pub returns-in-10 : goal.returns-in-10
-unfolding is_keyword
-returns-in-10 c =
-    c.is_one_of-in-10.ensures ∙ sym
-    (by_length (λ n. n == 10) c.args.word.now keywords (eq-eqb (length c.args.word.now) 10 c.in-10.is))
+returns-in-10 c = by_size 10 _ _ c.in-10.is c.is_one_of-in-10.ensures
 
 pub returns-in-13 : goal.returns-in-13
-unfolding is_keyword
-returns-in-13 c =
-    c.is_one_of-in-13.ensures ∙ sym
-    (by_length (λ n. n == 13) c.args.word.now keywords (eq-eqb (length c.args.word.now) 13 c.in-13.is))
+returns-in-13 c = by_size 13 _ _ c.in-13.is c.is_one_of-in-13.ensures
 
 pub returns-in-14 : goal.returns-in-14
-unfolding is_keyword
-returns-in-14 c =
-    c.is_one_of-in-14.ensures ∙ sym
-    (by_length (λ n. n == 14) c.args.word.now keywords (eq-eqb (length c.args.word.now) 14 c.in-14.is))
+returns-in-14 c = by_size 14 _ _ c.in-14.is c.is_one_of-in-14.ensures
 
 pub returns-in_default : goal.returns-in_default
 unfolding is_keyword

@@ -9,17 +9,16 @@ use Rattle.dw_cprint.specs.declared.shape.Member.{Member}
 use Rattle.dw_cprint.specs.declared.words.Text.{Text}
 use Rattle.dw_cprint.specs.Tokens.{VoidWord}
 use Rattle.dw_cprint.specs.Writing.{qualifying}
-use Rattle.dw_cprint.proofs.OptionLemmas.{ok_then}
 use Rattle.dw_cprint.proofs.WriterLemmas.{both, as_tokens, step-at, void-at, pointer_before, array_before, specifier_before, array_after, prototype_after, named_written, base_core, body_core, pointer_after, specifier-shape, some-mapped}
 use Rattle.dw_cprint.proofs.ItemWriterLemmas.{IsLeft, next-of, members_left, members_next, parameters_left, parameters_next, parameters_done, members_done, enumeration_done}
+use Rattle.std.proofs.lemmas.Result.{on_ok_weaker}
 use Rattle.dw_cprint.proofs.survey.Survey.+writing.Goals as goal
 
 pub put_after-returns-in_ok-write-in-Array : goal.put_after-returns-in_ok-write-in-Array
 put_after-returns-in_ok-write-in-Array t c =
     let seen = c.in-Some-shape_within in
-    let is = sym c.get.ensures ∙ c.in-Some.is in
-    let step = step-at _ _ _ _ _ _ _ is seen.ensures.found (ap view_shape c.in-Array.is) in
-    ok_then _ _ _
+    let step = step-at _ _ _ c.get.ensures c.in-Some.is seen.ensures.found (ap view_shape c.in-Array.is) in
+    on_ok_weaker _
     (array_after (term_at seen.below (kept c.args.self.now)) _ _ _ _ _ c.in-Array.strange c.in-Array.element step
     c.in_ok-write-in-Array.ensures)
     c.put_after-in-Array.ensures
@@ -27,15 +26,14 @@ put_after-returns-in_ok-write-in-Array t c =
 pub put_after-returns-in_ok-put-in-Function-default-Some-2 : goal.put_after-returns-in_ok-put-in-Function-default-Some-2
 put_after-returns-in_ok-put-in-Function-default-Some-2 t c =
     let seen = c.in-Some-shape_within in
-    let is = sym c.get.ensures ∙ c.in-Some.is in
     let f = c.in-Function-default-Some in
     let shape : view_shape seen.shape.now ≡ function f.returned (Some f.parameters.items) = search rules in
     let same : c.deref.result.now ≡ f.parameters.items = search rules in
     let P : List Parameter → Type 0 = λ us. WritesParameters c.args.self.now seen.below us
     c.put-in-Function-default-Some.new.out.items c.put_parameters.new.out.items in
-    ok_then _ _ _
+    on_ok_weaker _
     (prototype_after (term_at seen.below (kept c.args.self.now)) _ _ _ _ _ _ f.returned f.parameters.items
-    (step-at _ _ _ _ _ _ _ is seen.ensures.found shape) c.in_ok-put-in-Function-default-Some.ensures
+    (step-at _ _ _ c.get.ensures c.in-Some.is seen.ensures.found shape) c.in_ok-put-in-Function-default-Some.ensures
     (subst P same c.in_ok-put_parameters-in-Function-default-Some.ensures)
     c.in_ok-put-in-Function-default-Some-2.ensures)
     c.put_after-in-Function-default-Some.ensures
@@ -43,9 +41,8 @@ put_after-returns-in_ok-put-in-Function-default-Some-2 t c =
 pub put_after-returns-in_ok-put_closed-in-Pointer : goal.put_after-returns-in_ok-put_closed-in-Pointer
 put_after-returns-in_ok-put_closed-in-Pointer t c =
     let seen = c.in-Some-shape_within in
-    let is = sym c.get.ensures ∙ c.in-Some.is in
-    let step = step-at _ _ _ _ _ _ _ is seen.ensures.found (ap view_shape c.in-Pointer.is) in
-    ok_then _ _ _ (pointer_after (term_at seen.below (kept c.args.self.now)) _ _ _ _ c.in-Pointer.to step
+    let step = step-at _ _ _ c.get.ensures c.in-Some.is seen.ensures.found (ap view_shape c.in-Pointer.is) in
+    on_ok_weaker _ (pointer_after (term_at seen.below (kept c.args.self.now)) _ _ _ _ c.in-Pointer.to step
     (c.in_ok-put_closed-in-Pointer.ensures seen.below)) c.put_after-in-Pointer.ensures
 
 pub put_before-returns-in_default : goal.put_before-returns-in_default
@@ -53,53 +50,49 @@ put_before-returns-in_default t c =
     let row = as_tokens _ _ _ _ (ap qualifying c.deref.ensures.value) c.in_ok-put_qualifiers.ensures in
     let P : Term → Type 0 = λ u. Writes (before c.args.qualifiers.items u c.args.inside) c.args.out.now.items
     c.put_gap.new.out.items in
-    ok_then _ (Writes (gap c.args.inside) c.put.new.out.items c.put_gap.new.out.items) _
-    (λ end u e. subst P (void-at (kept c.args.self.now) c.args.depth c.args.at u (sym c.get.ensures ∙ c.in_default.is)
-    e)
+    let done : Writes (gap c.args.inside) c.put.new.out.items c.put_gap.new.out.items
+    → WritesOf (kept_term c.args.self.now c.args.depth c.args.at)
+    (λ (u : Term). before c.args.qualifiers.items u c.args.inside) c.args.out.now.items c.put_gap.new.out.items
+    = λ end u e.
+    subst P (void-at (kept c.args.self.now) c.args.depth c.args.at u (sym c.get.ensures ∙ c.in_default.is) e)
     (both (qualifying c.args.qualifiers.items) (VoidWord ∷ gap c.args.inside) _ _ _ row
-    (both (VoidWord ∷ []) (gap c.args.inside) _ _ _ c.in_ok-put.ensures end)))
-    c.put_gap.ensures
+    (both (VoidWord ∷ []) (gap c.args.inside) _ _ _ c.in_ok-put.ensures end)) in
+    on_ok_weaker _ done c.put_gap.ensures
 
 pub put_before-returns-in_ok-put-in-Pointer : goal.put_before-returns-in_ok-put-in-Pointer
 put_before-returns-in_ok-put-in-Pointer t c =
     let s = c.args.self.now in
     let seen = c.in-Some-shape_within in
-    let is = sym c.get.ensures ∙ c.in-Some.is in
-    let step = step-at _ _ _ _ _ _ _ is seen.ensures.found (ap view_shape c.in-Pointer.is) in
-    let P : List Qualifier → Type 0 = λ us. WritesOf (kept_term s seen.below c.in-Pointer.to)
-    (λ (t : Term). before us t true) c.args.out.now.items c.put_before-in-Pointer.new.out.items in
+    let step = step-at _ _ _ c.get.ensures c.in-Some.is seen.ensures.found (ap view_shape c.in-Pointer.is) in
     let R : List Qualifier → Type 0 = λ us. Writes (pointer_row us c.args.inside) c.put-in-Pointer.new.out.items
     c.put_joined.new.out.items in
-    ok_then _ _ _
+    on_ok_weaker _
     (λ row. pointer_before (term_at seen.below (kept s)) _ _ _ _ _ _ c.args.qualifiers.items c.args.inside
     c.in-Pointer.to step
-    (subst P c.new.ensures.items c.in_ok-put_before-in-Pointer.ensures)
+    (rw c.new.ensures.items at c.in_ok-put_before-in-Pointer.ensures)
     (c.in_ok-put_opened-in-Pointer.ensures seen.below) c.in_ok-put-in-Pointer.ensures
     (subst R c.deref-in-Pointer.ensures.value row))
     c.put_joined.ensures
 
 pub put_before-returns-in-Array : goal.put_before-returns-in-Array
 put_before-returns-in-Array t c =
-    let s = c.args.self.now in
     let seen = c.in-Some-shape_within in
-    let is = sym c.get.ensures ∙ c.in-Some.is in
     let a = c.in-Array in
-    let step = step-at _ _ _ _ _ _ _ is seen.ensures.found (ap view_shape a.is) in
-    let P : List Qualifier → Type 0 = λ us. WritesOf (kept_term s seen.below a.element)
-    (λ (t : Term). before us t true) c.args.out.now.items c.put_before-in-Array.new.out.items in
-    ok_then _ _ _ (λ inner. array_before (term_at seen.below (kept s)) _ _ _ c.args.qualifiers.items c.args.inside
-    a.dimensions a.strange a.element step (subst P c.new-in-Array.ensures.items inner))
-    c.put_before-in-Array.ensures
+    let step = step-at _ _ _ c.get.ensures c.in-Some.is seen.ensures.found (ap view_shape a.is) in
+    on_ok_weaker _
+    (array_before (term_at seen.below (kept c.args.self.now)) _ _ _ c.args.qualifiers.items c.args.inside a.dimensions
+    a.strange a.element step)
+    (rw c.new-in-Array.ensures.items at c.put_before-in-Array.ensures)
 
 pub put_before-returns-in_ok-put_core-in_default-shape : goal.put_before-returns-in_ok-put_core-in_default-shape
 put_before-returns-in_ok-put_core-in_default-shape t c =
     let seen = c.in-Some-shape_within in
-    let is = sym c.get.ensures ∙ c.in-Some.is in
     let d = c.in_default-shape in
-    let step = step-at _ _ seen.below _ _ _ (view_shape seen.shape.now) is seen.ensures.found refl in
+    let same : view_shape seen.shape.now ≡ view_shape seen.shape.now = refl in
+    let step = step-at _ _ seen.below c.get.ensures c.in-Some.is seen.ensures.found same in
     let row = as_tokens _ _ _ _ (ap qualifying c.deref-in_default-shape.ensures.value)
     c.in_ok-put_qualifiers-in_default-shape.ensures in
-    ok_then _ _ _
+    on_ok_weaker _
     (specifier_before (term_at seen.below (kept c.args.self.now)) _ _ _ _ _ c.args.qualifiers.items c.args.inside
     (view_shape seen.shape.now) (specifier-shape seen.shape.now d.not-Qualified d.not-Pointer d.not-Array
     d.not-Function) step row c.in_ok-put_core-in_default-shape.ensures)
@@ -109,7 +102,7 @@ pub put_core-returns-in-Base : goal.put_core-returns-in-Base
 put_core-returns-in-Base t c =
     let P : ShapeOf → Type 0 = λ shape. WritesOf (term_by (kept_term c.args.self.now c.args.depth) shape) core
     c.args.out.now.items c.put_name.new.out.items in
-    ok_then _ _ _ (λ word. subst P (sym (ap view_shape c.in-Base.is))
+    on_ok_weaker _ (λ word. subst P (sym (ap view_shape c.in-Base.is))
     (base_core (term_at c.args.depth (kept c.args.self.now)) _ _ (view_name c.in-Base.name) word))
     c.put_name.ensures
 
@@ -122,7 +115,7 @@ put_body-returns-in-Aggregate t c =
     → P (view_body c.args.body.now) = λ written.
     subst P (ap (λ (ms : List Member). aggregate b.word b.odd (map view_member ms)) c.deref.ensures.value
     ∙ sym (ap view_body b.is)) (written b.odd) in
-    ok_then _ _ _ done c.put_aggregate.ensures
+    on_ok_weaker _ done c.put_aggregate.ensures
 
 pub put_body-returns-in_ok-put_front-in-Enumeration : goal.put_body-returns-in_ok-put_front-in-Enumeration
 put_body-returns-in_ok-put_front-in-Enumeration t c =
@@ -133,13 +126,13 @@ put_body-returns-in_ok-put_front-in-Enumeration t c =
     → P (view_body c.args.body.now) = λ inner.
     subst P (sym (ap view_body b.is)) (enumeration_done (kept_term c.args.self.now c.args.depth)
     (view_name c.args.name) b.odd b.enumerators _ _ _ c.in_ok-put_front-in-Enumeration.ensures inner) in
-    ok_then _ _ _ done c.write.ensures
+    on_ok_weaker _ done c.write.ensures
 
 pub put_core-returns-in-Body : goal.put_core-returns-in-Body
 put_core-returns-in-Body t c =
     let P : ShapeOf → Type 0 = λ shape. WritesOf (term_by (kept_term c.args.self.now c.args.depth) shape) core
     c.args.out.now.items c.put_body.new.out.items in
-    ok_then _ _ _
+    on_ok_weaker _
     (λ inner. subst P (sym (ap view_shape c.in-Body.is))
     (body_core (term_at c.args.depth (kept c.args.self.now)) _ _ (view_body c.in-Body.body) inner))
     c.put_body.ensures
@@ -151,7 +144,8 @@ put_named-returns t c =
     let some = c.is_some.ensures ∙ some-mapped (λ (text : Text). text.bytes.now) c.args.name in
     let front = subst (P []) some (subst (λ (us : List Qualifier). P us c.is_some.result) c.new.ensures.items
     c.in_ok-put_before.ensures) in
-    ok_then _ _ _ (named_written (term_at c.args.depth (kept c.args.self.now)) c.args.at (view_name c.args.name) _ _ _ _
+    on_ok_weaker _ (named_written (term_at c.args.depth (kept c.args.self.now)) c.args.at (view_name c.args.name) _ _ _
+    _
     front c.in_ok-put_name.ensures) c.put_after.ensures
 
 pub put_aggregate-loop-member-preserved : goal.put_aggregate-loop-member-preserved

@@ -1,8 +1,7 @@
-use Rattle.std.proofs.Common.{ℕ, List, length, map, ap, subst, ◌∙◌, arith}
+use Rattle.std.proofs.Common.{length, map, ap, ◌∙◌, arith}
 use Rattle.std.proofs.lemmas.List.{get_or_default, length-map}
 use Rattle.dw_types.specs.Packing.{cut}
 use Rattle.dw_cprint.specs.EntryShapes.{shape_in}
-use Rattle.dw_cprint.specs.Reach.{HasReached}
 use Rattle.dw_cprint.specs.Shapes.{view_shape}
 use Rattle.dw_cprint.specs.Steps.{entries_among}
 use Rattle.dw_cprint.proofs.SurveyLemmas.{survey-done, nodes-of}
@@ -31,10 +30,9 @@ returns c =
     let graph = cut c.in_ok-survey.graph.steps 0 c.in_ok-survey.graph.ends in
     let sorted = c.in_ok-clear.ensures in
     let done = c.in_ok-survey-2.ensures in
-    let R : List ℕ → Type 0 = λ xs. HasReached shapes xs c.in_ok-survey.survey graph in
-    let r = subst R (ap entries_among c.deref.ensures.value) c.in_ok-survey.ensures in
-    survey-done shapes roots c.in_ok-survey.survey.places.items r.found graph r.reach c.in_ok-survey-2.survey
+    let r = rw c.deref.ensures.value at c.in_ok-survey.ensures in
+    survey-done r.reach c.in_ok-survey-2.survey
     done.places c.in_ok-clear.clear done.clear
     (ap (map view_shape) done.shapes ∙ r.are_shapes)
-    (done.right shapes r.found (nodes-of shapes roots c.in_ok-survey.survey.places.items r.found graph r.reach
-    c.in_ok-survey.survey.shapes.items c.in_ok-clear.clear r.are_shapes sorted)) sorted
+    (done.right shapes r.found (nodes-of r.reach c.in_ok-survey.survey.shapes.items c.in_ok-clear.clear r.are_shapes
+    sorted)) sorted

@@ -2,8 +2,8 @@ use Rattle.std.proofs.Common.{ap, sym, subst}
 use Rattle.dw_cprint.specs.Declarations.{declaration_of, term_at}
 use Rattle.dw_cprint.specs.Kept.{kept, WritesDeclaration}
 use Rattle.dw_cprint.specs.Shapes.{SubjectOf, view_body, view_name, view_subject}
-use Rattle.dw_cprint.proofs.OptionLemmas.{ok_then}
 use Rattle.dw_cprint.proofs.WriterLemmas.{typedef_done, variable_done, defined_done}
+use Rattle.std.proofs.lemmas.Result.{on_ok_weaker}
 use Rattle.dw_cprint.proofs.survey.Survey.put_declaration.Goals as goal
 
 pub returns-in_ok-put_named-in-Typedef : goal.returns-in_ok-put_named-in-Typedef
@@ -11,7 +11,7 @@ unfolding declaration_of
 returns-in_ok-put_named-in-Typedef c =
     let P : SubjectOf → Type 0 = λ subject. WritesDeclaration c.args.self.now subject c.args.out.now.items
     c.put-in-Typedef.new.out.items in
-    ok_then _ _ _
+    on_ok_weaker _
     (λ last. subst P (sym (ap view_subject c.in-Typedef.is))
     (typedef_done (term_at 65 (kept c.args.self.now)) _ _ _ _ (view_name c.in-Typedef.name) c.in-Typedef.at
     c.in_ok-put-in-Typedef.ensures c.in_ok-put_named-in-Typedef.ensures last))
@@ -22,7 +22,7 @@ unfolding declaration_of
 returns-in_ok-put_named-in-Variable c =
     let P : SubjectOf → Type 0 = λ subject. WritesDeclaration c.args.self.now subject c.args.out.now.items
     c.put-in-Variable.new.out.items in
-    ok_then _ _ _
+    on_ok_weaker _
     (λ last. subst P (sym (ap view_subject c.in-Variable.is))
     (variable_done (term_at 65 (kept c.args.self.now)) _ _ c.put_named-in-Variable.new.out.items _
     (view_name c.in-Variable.name) c.in-Variable.at c.in_ok-put_named-in-Variable.ensures last))
@@ -33,7 +33,7 @@ unfolding declaration_of
 returns-in_ok-put_body-in-Defined c =
     let P : SubjectOf → Type 0 = λ subject. WritesDeclaration c.args.self.now subject c.args.out.now.items
     c.put-in-Defined.new.out.items in
-    ok_then _ _ _
+    on_ok_weaker _
     (λ last. subst P (sym (ap view_subject c.in-Defined.is))
     (defined_done (term_at 65 (kept c.args.self.now)) _ _ c.put_body.new.out.items _
     (view_name c.in-Defined.name) (view_body c.in-Defined.body) c.in_ok-put_body-in-Defined.ensures last))

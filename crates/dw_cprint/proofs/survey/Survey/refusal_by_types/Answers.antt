@@ -20,7 +20,7 @@ returns-in-Other c = λ shapes roots survey among.
 
 pub returns-then-reaches_cycle : goal.returns-then-reaches_cycle
 returns-then-reaches_cycle c = λ shapes roots survey among.
-    let told = cycle-told shapes roots c.args.self.now survey (types_declared (view_subject c.args.subject.now)) among
+    let told = cycle-told survey (types_declared (view_subject c.args.subject.now)) among
     in
     let (entry, r, round) = told.0 (sym (rw c.requires at c.reaches_cycle.ensures) ∙ c.if-reaches_cycle.true) in
     record { holds = cycle entry r round; least = none-first shapes (view_subject c.args.subject.now) }
@@ -32,8 +32,8 @@ returns c = λ shapes roots survey among.
     let none = ap (list_any (lacks_summary s)) (sym c.requires) ∙ sym c.reaches_cycle.ensures
     ∙ c.if-reaches_cycle.false in
     let clear : ReachACycle shapes (first_steps x)
-    → ⊥ = λ r. apart ((cycle-told shapes roots s survey (types_declared x) among).1 r) none in
+    → ⊥ = λ r. apart ((cycle-told survey (types_declared x) among).1 r) none in
     c.first.ensures shapes x (printable shapes x
     (λ e. c.in_default.not-Other (is-other c.args.subject.now e)) clear)
     ((rw c.requires at c.findings_of.ensures) shapes
-    (types-known shapes roots s survey (types_declared x) among clear))
+    (types-known survey (types_declared x) among clear))
