@@ -1,5 +1,5 @@
 -- The rows of frames, one after another, and what is returned and written of them.
-use Rattle.std.proofs.Common.{◌≡◌, ℕ, ◌+◌, ◌-◌, ◌<◌, ◌≤◌, List, [], ◌∷◌, ◌++◌, length, drop, map, take, get_or, Option, Some, None, refl, sym, ap, ◌∙◌, subst, append_assoc, arith}
+use Rattle.std.proofs.Common.{◌≡◌, ℕ, ◌+◌, ◌-◌, ◌<◌, ◌≤◌, List, [], ◌∷◌, ◌++◌, length, drop, map, take, get_or, refl, sym, ap, ◌∙◌, subst, append_assoc, arith}
 use Rattle.std.proofs.lemmas.List.{append-nil, length-append, map-append, take_more}
 use Rattle.std.proofs.lemmas.List.Concat.{flat_map-append}
 use Rattle.dw_forms.specs.Stops.{IfFault}
@@ -12,7 +12,7 @@ use Rattle.dw_lookup.specs.Files.{FileFails, IsSound}
 use Rattle.dw_lookup.specs.declared.first_fault.FirstFault.{FirstFault}
 use Rattle.dw_lookup.specs.declared.known.Known.{Known}
 use Rattle.dw_report.specs.Reports.{file_limit}
-use Rattle.dwv_c.specs.Frames.{AreAt, AreAtAll, FillsFrames, FrameArrays, LocatedFrame, PutsFrames, arrays_of}
+use Rattle.dwv_c.specs.Frames.{AreAt, AreAtAll, FillsFrames, FrameArrays, LocatedFrame, PutsFrames}
 use Rattle.dwv_c.specs.Frames.{fault, frame_arrays, frame_counts, frame_row, frame_rows, frame_text, joined, located_rows}
 use Rattle.dwv_c.specs.Frames.{HasRoomFor, memory, of_unit, over, sound, texts_of, whole, within_limit}
 use Rattle.dwv_c.specs.FrameState.{HasMore, IsAllOf, stop_status, stop_verdict}

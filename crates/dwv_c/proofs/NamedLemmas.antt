@@ -1,24 +1,28 @@
--- The name of an entry, by the rows of its values.
-use Rattle.std.proofs.Common.{rules, ◌≡◌, ℕ, Bool, true, false, List, [], ◌∷◌, ◌++◌, Option, Some, None, refl, sym, ap, subst, ◌∙◌}
+-- The name of an entry, by what its values mean.
+use Rattle.std.proofs.Common.{rules, ◌≡◌, ℕ, Bool, true, false, List, [], ◌∷◌, ◌++◌, Option, Some, None, refl, sym, ap, subst}
 use Rattle.std.specs.Prelude.{◌==◌, option_map, slice_get, unwrap_or}
 use Rattle.std.specs.Option.{option_and_then, option_flatten}
-use Rattle.dw_forms.specs.Codes.{DW_AT_name, DW_AT_str_offsets_base}
-use Rattle.dw_forms.specs.Value.{Datum, address, block, unsigned, signed, wide, text, flag, str, line_str, str_index, ref_info, ref_unit, ref_sig, sec_offset, expr, addr_index, loc_index, rng_index}
+use Rattle.std.proofs.lemmas.Option.{option_and_then_some}
+use Rattle.dw_forms.specs.Codes.{DW_AT_addr_base, DW_AT_name, DW_AT_str_offsets_base}
+use Rattle.dw_forms.specs.Value.{Datum, address, ref_info, ref_unit, ref_sig, addr_index}
 use Rattle.dw_entries.specs.Entries.{Entry, PlacedUnit, placed}
+use Rattle.dw_entries.specs.declared.header.UnitHeader.{UnitHeader}
 use Rattle.dw_entries.specs.Lookups.{value_at_entry}
 use Rattle.dw_entries.specs.ValuePlaces.{PlacedValue, placed_value_at, placed_value_in, placed_values}
 use Rattle.dw_entries.proofs.ValuePlaceLaws.{value_placed}
 use Rattle.dw_links.specs.AttributeTexts.{text_at, text_place_at}
 use Rattle.dw_links.specs.Bases.{base_in}
-use Rattle.dw_links.specs.ValueTexts.{text_of_value, text_place_of}
+use Rattle.dw_links.specs.ValueTexts.{address_of, text_of_value, text_place_of}
 use Rattle.dw_links.specs.declared.texts.TextPlace.{TextPlace}
 use Rattle.dw_image.specs.declared.image.Image.{Image}
 use Rattle.dw_image.specs.Images.{entries_in, name_in, name_place_in, sections_in, units_in}
-use Rattle.dwv_c.specs.declared.meaning.ValueRow.{ValueRow}
+use Rattle.dwv_c.specs.declared.meaning.Meaning.{Meaning}
+use Rattle.dwv_c.specs.declared.meaning.Meaning.TheVariants.{Address, Block, Expression, Reference, Text, Wide}
 use Rattle.dwv_c.specs.declared.places.Span.{Span}
 use Rattle.dwv_c.specs.Meanings.{named_after, text_span}
-use Rattle.dwv_c.specs.ValueRows.{ADDRESS, BLOCK, EXPRESSION, FLAG, LOCATION_LIST, RANGE_LIST, REFERENCE, SECTION_OFFSET, SIGNED, TEXT, UNSIGNED, WIDE, Says, SaysText, value_place, value_text}
-use Rattle.dwv_c.specs.SectionPlaces.{Holders, IsNameSpan, nowhere}
+use Rattle.dwv_c.specs.ValueRows.{IsMeaning, target_in, value_place, value_text}
+use Rattle.dwv_c.specs.declared.places.Holders.{Holders}
+use Rattle.dwv_c.specs.SectionPlaces.{IsNameSpan, nowhere}
 
 -- what is known of a name: no value so far is under its attribute, or the value is the text that is there, or no text
 abbrev pub IsNamed : (h : Holders) → Image → Entry → Option PlacedValue → Option (Option Span) → Type 0
@@ -39,44 +43,49 @@ back_value : (xs ys : List PlacedValue) (attribute : ℕ) → placed_value_in xs
 back_value [] ys attribute is = refl
 back_value (x ∷ xs) ys attribute is = search (rules, (back_value xs ys attribute))
 
--- ---- the text of a value, by its row
+-- ---- the text of a value, by what it means
 
 module _ (h : Holders) (i : Image) (e : Entry) where
-  no_text : (v : Datum) (r : ValueRow) (kind : ℕ) → r.kind ≡ kind → (kind == TEXT) ≡ false
-      → ((base : Option ℕ) → text_of_value (sections_in i) base v ≡ None)
-      → (end : ℕ) → IsNameSpan h (value_text i e v) (value_place i e end v) (unwrap_or (text_span r) nowhere)
-  no_text v r kind is other none end =
-      let test : (r.kind == TEXT) ≡ false = ap (λ (k : ℕ). k == TEXT) is ∙ other in
-      subst (λ (t : Option (List ℕ)). IsNameSpan h t (value_place i e end v) (unwrap_or (text_span r) nowhere))
-      (sym (go (slice_get (placed (units_in i)) e.unit)))
-      (rw test refl)
+  no_text : (end : ℕ) (v : Datum) → ((base : Option ℕ) → text_of_value (sections_in i) base v ≡ None)
+      → IsNameSpan h (value_text i e v) (value_place i e end v) nowhere
+  no_text end v none =
+      subst (λ (t : Option (List ℕ)). IsNameSpan h t (value_place i e end v) nowhere)
+      (sym (go (slice_get (placed (units_in i)) e.unit))) refl
     where
       go : (o : Option PlacedUnit) → option_and_then (λ (p : PlacedUnit).
           text_of_value (sections_in i) (base_in (entries_in i) p DW_AT_str_offsets_base) v) o ≡ None
       go None = refl
       go (Some p) = none (base_in (entries_in i) p DW_AT_str_offsets_base)
 
-  some_text : (v : Datum) (r : ValueRow) (end : ℕ) → SaysText h i e end v r
-      → IsNameSpan h (value_text i e v) (value_place i e end v) (unwrap_or (text_span r) nowhere)
-  some_text v r end (t, p, is, at, has) =
-      let test : (r.kind == TEXT) ≡ true = ap (λ (k : ℕ). k == TEXT) has.kind_is in
-      subst (λ (o : Option (List ℕ)). IsNameSpan h o (value_place i e end v) (unwrap_or (text_span r) nowhere)) (sym is)
-      (subst (λ (o : Option TextPlace). IsNameSpan h (Some t) o (unwrap_or (text_span r) nowhere)) (sym at)
-      (rw test has.there))
+  no_address : (v : Datum) (header : UnitHeader) (b base : Option ℕ) (n : ℕ)
+      → address_of (sections_in i) header b v ≡ Some n → text_of_value (sections_in i) base v ≡ None
+  no_address (address m) header b base n is = refl
+  no_address (addr_index k) header b base n is = refl
+  no_address _ header b base n is = absurd cc
 
-  told_text : (end : ℕ) (v : Datum) (r : ValueRow) → Says h i e end v r
-      → IsNameSpan h (value_text i e v) (value_place i e end v) (unwrap_or (text_span r) nowhere)
-  told_text end (text t) r says = some_text (text t) r end says
-  told_text end (str offset) r says = some_text (str offset) r end says
-  told_text end (line_str offset) r says = some_text (line_str offset) r end says
-  told_text end (str_index k) r says = some_text (str_index k) r end says
-  told_text end (address n) r says = no_text (address n) r ADDRESS says.2.kind_is refl (λ base. refl) end
-  told_text end (addr_index k) r says = no_text (addr_index k) r ADDRESS says.2.kind_is refl (λ base. refl) end
-  told_text end (ref_info offset) r says = no_text (ref_info offset) r REFERENCE says.2.kind_is refl (λ base. refl) end
-  told_text end (ref_unit offset) r says = no_text (ref_unit offset) r REFERENCE says.2.kind_is refl (λ base. refl) end
-  told_text end (ref_sig signature) r says =
-      no_text (ref_sig signature) r REFERENCE says.2.kind_is refl (λ base. refl) end
-  told_text end v r says = no_text v r _ says.kind_is refl (λ base. refl) end
+  no_target : (v : Datum) (base : Option ℕ) (id : ℕ) → target_in i e v ≡ Some id
+      → text_of_value (sections_in i) base v ≡ None
+  no_target (ref_info offset) base id is = refl
+  no_target (ref_unit offset) base id is = refl
+  no_target (ref_sig signature) base id is = refl
+  no_target _ base id is = absurd cc
+
+  told_text : (end : ℕ) (v : Datum) (m : Meaning) → IsMeaning h i e end v m
+      → IsNameSpan h (value_text i e v) (value_place i e end v) (unwrap_or (text_span m) nowhere)
+  told_text end v (Text s) (t, p, is, at, there) =
+      subst (λ (o : Option (List ℕ)). IsNameSpan h o (value_place i e end v) s) (sym is)
+      (subst (λ (o : Option TextPlace). IsNameSpan h (Some t) o s) (sym at) there)
+  told_text end v (Address n) is =
+      let base_of = λ (p : PlacedUnit). base_in (entries_in i) p DW_AT_addr_base in
+      no_text end v (λ base.
+      option_and_then_some (λ (p : PlacedUnit). address_of (sections_in i) p.unit.header (base_of p) v)
+      (slice_get (placed (units_in i)) e.unit) n is
+      (λ p there told. no_address v p.unit.header (base_of p) base n told))
+  told_text end v (Reference id) is = no_text end v (λ base. no_target v base id is)
+  told_text end v (Block s) is = no_text end v (λ base. ap (text_of_value (sections_in i) base) is.0)
+  told_text end v (Expression s) is = no_text end v (λ base. ap (text_of_value (sections_in i) base) is.0)
+  told_text end v (Wide s) is = no_text end v (λ base. ap (text_of_value (sections_in i) base) is.0)
+  told_text end v _ is = no_text end v (λ base. ap (text_of_value (sections_in i) base) is)
 
   -- ---- the name
 
@@ -85,24 +94,20 @@ module _ (h : Holders) (i : Image) (e : Entry) where
   name_among values = placed_value_in values DW_AT_name
 
   -- after one value more
-  pub named_more : (done : List PlacedValue) (item : PlacedValue) (named : Option (Option Span)) (r : ValueRow)
-      → IsNamed h i e (name_among done) named → r.attribute ≡ item.attribute → Says h i e item.end item.value r
-      → IsNamed h i e (name_among (done ++ item ∷ [])) (named_after named r)
-  named_more done item named r so_far attribute says = go (placed_value_in done DW_AT_name) refl named so_far
+  pub named_more : (done : List PlacedValue) (item : PlacedValue) (named : Option (Option Span)) (m : Meaning)
+      → IsNamed h i e (name_among done) named → IsMeaning h i e item.end item.value m
+      → IsNamed h i e (name_among (done ++ item ∷ [])) (named_after named item.attribute m)
+  named_more done item named m so_far means = go (placed_value_in done DW_AT_name) refl named so_far
     where
       by_code : (b : Bool) → (item.attribute == DW_AT_name) ≡ b
-          → IsNamed h i e (name_among (item ∷ [])) (named_after None r)
-      by_code true q =
-          let test : (r.attribute == DW_AT_name) ≡ true = ap (λ (k : ℕ). k == DW_AT_name) attribute ∙ q in
-          rw (q, test) (told_text item.end item.value r says)
-      by_code false q =
-          let test : (r.attribute == DW_AT_name) ≡ false = ap (λ (k : ℕ). k == DW_AT_name) attribute ∙ q in
-          rw (q, test) tt
+          → IsNamed h i e (name_among (item ∷ [])) (named_after None item.attribute m)
+      by_code true q = rw q (told_text item.end item.value m means)
+      by_code false q = rw q tt
 
       go : (o : Option PlacedValue) → placed_value_in done DW_AT_name ≡ o → (n : Option (Option Span))
-          → IsNamed h i e o n → IsNamed h i e (name_among (done ++ item ∷ [])) (named_after n r)
+          → IsNamed h i e o n → IsNamed h i e (name_among (done ++ item ∷ [])) (named_after n item.attribute m)
       go None is None so_far =
-          subst (λ (o : Option PlacedValue). IsNamed h i e o (named_after None r))
+          subst (λ (o : Option PlacedValue). IsNamed h i e o (named_after None item.attribute m))
           (sym (back_value done (item ∷ []) DW_AT_name is)) (by_code (item.attribute == DW_AT_name) refl)
       go None is (Some s) so_far = absurd so_far
       go (Some p) is None so_far = absurd so_far

@@ -1,5 +1,5 @@
 -- Rows that are written one after another, and the values of entries in their order.
-use Rattle.std.proofs.Common.{◌≡◌, ℕ, zero, suc, ◌+◌, ◌-◌, ◌<◌, ◌≤◌, ◌⊎◌, inl, inr, List, [], ◌∷◌, ◌++◌, length, take, drop, map, Option, Some, None, refl, sym, ap, subst, ◌∙◌, append_assoc, append-nil, length-append, drop-drop, drop_at, arith}
+use Rattle.std.proofs.Common.{◌≡◌, ℕ, zero, suc, ◌+◌, ◌-◌, ◌<◌, ◌≤◌, inl, inr, List, [], ◌∷◌, ◌++◌, length, take, drop, map, Option, Some, None, refl, sym, ap, subst, ◌∙◌, append_assoc, append-nil, length-append, drop-drop, drop_at, arith}
 use Rattle.std.proofs.lemmas.List.{drop-set-lt, length-map}
 use Rattle.std.proofs.lemmas.Bool.{cases_lt}
 use Rattle.std.proofs.lemmas.Option.{same_Some, slice_get_within, slice_get-get_or, slice_get-map}
@@ -18,10 +18,11 @@ use Rattle.dwv_c.specs.declared.meaning.ValueRow.{ValueRow}
 use Rattle.dwv_c.specs.declared.meaning.Meaning.{Meaning}
 use Rattle.dw_image.specs.declared.unit_at_hand.UnitAtHand.{UnitAtHand}
 use Rattle.dwv_c.specs.declared.places.Span.{Span}
-use Rattle.dwv_c.specs.Meanings.{HasMeaning, Means, named_after}
+use Rattle.dwv_c.specs.Meanings.{named_after}
 use Rattle.dw_image.specs.UnitsAtHand.{HasValue}
-use Rattle.dwv_c.specs.SectionPlaces.{Holders, IsNameSpan, nowhere}
-use Rattle.dwv_c.specs.ValueRows.{IsValueRow, Told, told, values_from, values_in}
+use Rattle.dwv_c.specs.declared.places.Holders.{Holders}
+use Rattle.dwv_c.specs.SectionPlaces.{IsNameSpan, nowhere}
+use Rattle.dwv_c.specs.ValueRows.{HasMeaning, IsMeaning, IsValueRow, Told, told, values_from, values_in}
 use Rattle.dwv_c.specs.Tables.{HaveValues, value_count, values_before}
 use Rattle.dw_links.proofs.ListLookups.{there}
 use Rattle.dwv_c.proofs.NamedLemmas.{IsNamed, name_among, named_all, named_more}
@@ -193,17 +194,16 @@ module _ (h : Holders) (i : Image) (id at : ℕ) (item : PlacedValue) (left : Li
       ∙ slice_get-map pair (placed_values e) (length w.done)
       ∙ ap (option_map pair) (middle (placed_values e) w.done left item w.parts)
 
-  pub at_next : (m : Meaning) (row : ValueRow) → row.attribute ≡ item.attribute → HasMeaning m row
-      → Means h i (entry_of (entries_in i) id) item.end item.value m
-      → IsAtValue h i id (at + 1) left (named_after named row)
-  at_next m row attribute has means = record {
+  pub at_next : (m : Meaning) → IsMeaning h i (entry_of (entries_in i) id) item.end item.value m
+      → IsAtValue h i id (at + 1) left (named_after named item.attribute m)
+  at_next m means = record {
     within = w.within;
     done = w.done ++ (item ∷ []);
     parts = w.parts ∙ sym (append_assoc w.done (item ∷ []) left);
     tail = w.tail;
     all = ap (λ (n : ℕ). drop n (values_in i)) (let e : at + 1 ≡ suc at = omega arith in e) ∙ here.1;
     next = omega (arith, w.next);
-    name = named_more h i (entry_of (entries_in i) id) w.done item named row w.name attribute (means row has);
+    name = named_more h i (entry_of (entries_in i) id) w.done item named m w.name means;
   }
 
   -- the value at hand is one of the entry
@@ -220,12 +220,20 @@ module _ (h : Holders) (i : Image) (id at : ℕ) (item : PlacedValue) (left : Li
   -- the rows of the values up to it and with it, by the row of its meaning
   pub values_more : (rows : List ValueRow) (row : ValueRow) (m : Meaning) → value_count i ≤ length rows
       → HaveValues h i at rows → row.entry ≡ id → row.attribute ≡ item.attribute → HasMeaning m row → row.zero ≡ 0
-      → Means h i (entry_of (entries_in i) id) item.end item.value m → HaveValues h i (at + 1) (slice_set rows at row)
+      → IsMeaning h i (entry_of (entries_in i) id) item.end item.value m
+      → HaveValues h i (at + 1) (slice_set rows at row)
   values_more rows row m room so_far entry attribute has is_zero means =
       have_more (λ k t r. IsValueRow h i t r) (values_in i) at rows row
       (let below = at_within in omega (arith, below, room)) so_far
       (λ t is. subst (λ (x : Told). IsValueRow h i x row) (same_Some _ t (sym value_here ∙ is))
-      (record { entry = entry; attribute_is = attribute; says = means row has; zero_is = is_zero }))
+      (record {
+        entry = entry;
+        attribute_is = attribute;
+        meaning = m;
+        means = means;
+        says = has;
+        zero_is = is_zero;
+      }))
 
 pub at_last : (h : Holders) (i : Image) (id at : ℕ) (left : List PlacedValue) (named : Option (Option Span)) → left ≡ []
     → IsAtValue h i id at left named → at ≡ values_before i (id + 1)

@@ -1,5 +1,5 @@
 -- Chapter: the frames at addresses as rows in arrays of the caller, and their texts.
-use Rattle.std.specs.Prelude.{◌≡◌, ℕ, ◌+◌, ◌<◌, ◌≤◌, ◌⊎◌, List, [], ◌∷◌, ◌++◌, length, drop, map, min}
+use Rattle.std.specs.Prelude.{◌≡◌, ℕ, ◌+◌, ◌<◌, ◌≤◌, List, [], ◌∷◌, ◌++◌, length, drop, map, min}
 use Rattle.std.specs.Prelude.{Option, Some, None, option_and_then}
 use Rattle.std.specs.List.{AllZip, flat_map}
 use Rattle.std.specs.Option.{unwrap_or}
@@ -121,11 +121,6 @@ pub record HasRoomFor (it old : FrameArrays) : Type 0 where
   pub frames : length it.frames ≤ length old.frames
   pub text : length it.text ≤ length old.text
 
--- one of the arrays is too short
-abbrev pub LacksRoomFor : (it old : FrameArrays) → Type 0
-LacksRoomFor it old = (length old.located < length it.located) ⊎ (length old.frames < length it.frames)
-    ⊎ (length old.text < length it.text)
-
 -- items over the first ones of an array: the rest is as it was
 abbrev pub over : {X : Type 0} → List X → List X → List X
 over items old = items ++ drop (length items) old
@@ -138,7 +133,7 @@ written_over it old =
 -- what is returned for a sound file, and the arrays then
 pub data FillsFrames (it old : FrameArrays) : ℕ → FrameArrays → Type 0 where
   whole : HasRoomFor it old → FillsFrames it old SOUND (written_over it old)
-  short : LacksRoomFor it old → FillsFrames it old TOO_SHORT old
+  short : ¬ HasRoomFor it old → FillsFrames it old TOO_SHORT old
 
 -- the first rule that a file violates. A file past the limit is too large, whatever else it violates
 pub data Violates (bytes : List ℕ) : FirstFault → Type 0 where

@@ -1,19 +1,16 @@
--- State: what is known of an entry before its row in a table is written, and of the arrays before a call returns.
+-- State: what is known of an entry before its row in a table is written.
 use Rattle.std.specs.Prelude.{◌≡◌, ℕ, suc, ◌<◌, List, length, min, slice_get, Option, None, Some, option_map}
 use Rattle.dw_entries.specs.declared.cursor.Cursor.{Cursor}
 use Rattle.dw_entries.specs.ByNumber.{entry_of}
 use Rattle.dw_image.specs.declared.image.Image.{Image}
 use Rattle.dw_image.specs.Images.{entries_in}
+use Rattle.dwv_c.specs.declared.places.Holders.{Holders}
 use Rattle.dwv_c.specs.declared.table_rows.Links.{Links}
-use Rattle.dwv_c.specs.declared.table_rows.TableCounts.{TableCounts}
 use Rattle.dwv_c.specs.declared.table_rows.EntryRow.{EntryRow}
-use Rattle.dwv_c.specs.declared.verdict.Verdict.{Verdict}
 use Rattle.dwv_c.specs.declared.meaning.ValueRow.{ValueRow}
 use Rattle.dw_image.specs.declared.unit_at_hand.UnitAtHand.{UnitAtHand}
 use Rattle.dw_image.specs.UnitsAtHand.{IsAtHand}
-use Rattle.dwv_c.specs.Tables.{Arrays, FillsTable, HaveEntries, HaveValues, counts_of, greatest, row_of}
-use Rattle.dwv_c.specs.SectionPlaces.{Holders}
-use Rattle.dwv_c.specs.Verdicts.{NO_MEMORY, of_image}
+use Rattle.dwv_c.specs.Tables.{HaveEntries, HaveValues, greatest, row_of}
 
 -- one more than the depth in a parent's row, or 0 if there is no parent
 abbrev pub depth_by : List EntryRow → Option ℕ → Option ℕ
@@ -44,10 +41,3 @@ pub record AreBefore (h : Holders) (i : Image) (number count : ℕ) (es : List E
     : Type 0 where
   pub entries : HaveEntries h i number es
   pub values : HaveValues h i count vs
-
--- what is returned for an image, and the arrays, the counts and the verdict then
-pub data Puts (AreHeld : Holders → Type 0) (i : Image) (old : Arrays) (counts : TableCounts) (v : Verdict)
-    : ℕ → Arrays → TableCounts → Verdict → Type 0 where
-  filled : (status : ℕ) (new : Arrays) → FillsTable AreHeld i old status new
-      → Puts AreHeld i old counts v status new (counts_of i) (of_image i)
-  memory : Puts AreHeld i old counts v NO_MEMORY old counts v

@@ -1,5 +1,5 @@
 -- Chapter: the units, the entries and the values of a sound file as rows in three arrays of the caller.
-use Rattle.std.specs.Prelude.{◌≡◌, ℕ, ◌+◌, ◌<◌, ◌≤◌, ◌⊎◌, List, [], ◌∷◌, ◌++◌, length, take, drop, min, slice_get}
+use Rattle.std.specs.Prelude.{◌≡◌, ℕ, ◌<◌, ◌≤◌, List, length, take, drop, min, slice_get}
 use Rattle.std.specs.Prelude.{Option, Some, None, unwrap_or}
 use Rattle.std.specs.Option.{IsSomeAnd}
 use Rattle.dw_forms.specs.Codes.{DW_AT_language}
@@ -20,7 +20,8 @@ use Rattle.dwv_c.specs.declared.table_rows.TableCounts.{TableCounts}
 use Rattle.dwv_c.specs.declared.table_rows.EntryRow.{EntryRow}
 use Rattle.dwv_c.specs.declared.table_rows.UnitRow.{UnitRow}
 use Rattle.dwv_c.specs.declared.verdict.Verdict.{Verdict}
-use Rattle.dwv_c.specs.SectionPlaces.{AreInFile, AreInImage, Holders, IsNameSpan}
+use Rattle.dwv_c.specs.declared.places.Holders.{Holders}
+use Rattle.dwv_c.specs.SectionPlaces.{AreInFile, AreInImage, IsNameSpan}
 use Rattle.dwv_c.specs.ValueRows.{IsValueRow, Told, values_from, values_in}
 use Rattle.dwv_c.specs.Verdicts.{Given, of_file, of_six, SOUND, FAULT, NO_MEMORY, TOO_SHORT, IsFaultOfGiven}
 use Rattle.dwv_c.specs.Verdicts.{IsSound, of_image}
@@ -116,11 +117,6 @@ pub record HasRoom (i : Image) (a : Arrays) : Type 0 where
   pub entries : entry_count i ≤ length a.entries
   pub values : value_count i ≤ length a.values
 
--- one of the arrays is too short
-abbrev pub LacksRoom : Image → Arrays → Type 0
-LacksRoom i a = (length a.units < unit_count i) ⊎ (length a.entries < entry_count i)
-    ⊎ (length a.values < value_count i)
-
 -- the arrays have a row for each unit, entry and value, and the rest is as it was
 pub record AreTable (h : Holders) (i : Image) (old new : Arrays) : Type 0 where
   pub units : HaveUnits i (unit_count i) new.units
@@ -134,7 +130,7 @@ pub record AreTable (h : Holders) (i : Image) (old new : Arrays) : Type 0 where
 pub data FillsTable (AreHeld : Holders → Type 0) (i : Image) (old : Arrays) : ℕ → Arrays → Type 0 where
   whole : (h : Holders) (new : Arrays) → AreHeld h → HasRoom i old → AreTable h i old new
       → FillsTable AreHeld i old SOUND new
-  short : LacksRoom i old → FillsTable AreHeld i old TOO_SHORT old
+  short : ¬ HasRoom i old → FillsTable AreHeld i old TOO_SHORT old
 
 -- how many rows an image has
 abbrev pub counts_of : Image → TableCounts

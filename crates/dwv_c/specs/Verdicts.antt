@@ -129,14 +129,10 @@ pub record AreCountsOf (g : Given) (c : Counts) : Type 0 where
   pub given : AreGiven g sections
   pub counts : AreCounts sections c
 
--- the verdict is of the first fault of the sections
-abbrev pub IsFaultOfSections : Sections → Verdict → Type 0
-IsFaultOfSections s v = (f : FirstFault) × IsFaultOf s f × (v ≡ of_fault f)
-
 -- the fault of what is given: no sections are given, or it is the first fault of its sections
 pub data IsFaultOfGiven (g : Given) : Verdict → Type 0 where
   refused : (v : Verdict) → IsRefusal g v → IsFaultOfGiven g v
-  violates : (s : Sections) (v : Verdict) → AreGiven g s → IsFaultOfSections s v → IsFaultOfGiven g v
+  violates : (s : Sections) (f : FirstFault) → AreGiven g s → IsFaultOf s f → IsFaultOfGiven g (of_fault f)
 
 -- what a check returns, and the caller's struct then: the counts, the fault, or the struct as it was if an allocation
 -- failed

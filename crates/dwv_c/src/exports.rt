@@ -1,21 +1,19 @@
 //! The calls from C, and what they check.
 
-ghost use Rattle.std.specs.Prelude.{◌≡◌, ◌≤◌, ℕ, List, MatchResult, length};
+ghost use Rattle.std.specs.Prelude.{◌≡◌, ◌≤◌, ℕ, List, length};
 ghost use Rattle.dw_ranges.specs.Files.{IsIndex};
 ghost use Rattle.dw_lookup.specs.Files.{IsSound as IsSoundFile};
 ghost use Rattle.dw_report.specs.Reports.{file_limit, status_code};
-ghost use Rattle.dwv_c.specs.Verdicts.{Given, of_file, of_six, AreCountsOf, Checks, IsFaultOfSections, IsSound};
+ghost use Rattle.dwv_c.specs.Verdicts.{Given, of_file, of_six, AreCountsOf, Checks, IsSound};
 ghost use Rattle.dwv_c.specs.Frames.{PutsFrames, frame_arrays};
 ghost use Rattle.dwv_c.specs.Tables.{PutsTable, arrays};
 ghost use Rattle.dwv_c.specs.Texts.{PutsReport, request_of};
-ghost use Rattle.dwv_c.specs.Checked.{AreFound, IsErrorOf, IsFound, status_of, verdict_after};
-ghost use Rattle.dw_image.specs.Headline.{IsImageOf};
-ghost use Rattle.dw_units.specs.Counts.{AreCounts};
+ghost use Rattle.dwv_c.specs.Checked.{AreFound, IsFound, status_of, verdict_after};
 
 use crate::frame_rows::{FrameCounts, FrameRow, Located};
 use crate::frames::{gather, put_frame_counts, put_gathered};
 use crate::meaning::ValueRow;
-use crate::places::Ground;
+use crate::places::{held_alone, held_in_file};
 use crate::table::put_table;
 use crate::table_rows::{EntryRow, TableCounts, UnitRow};
 use crate::verdict::{
@@ -60,28 +58,6 @@ fn sections_of_six<'a>(
     }
 }
 
-/// The image of sound sections.
-fn verify_sections<'a>(alloc: Global, sections: Sections<'a>) -> Result<Image<'a>, Stop<Verdict>>
-    ensures { MatchResult result (IsImageOf sections.entry) (IsErrorOf (IsFaultOfSections sections.entry)) }
-{
-    match verify(alloc, sections) {
-        Ok(Verified::Sound(image)) => Ok(image),
-        Ok(Verified::Fault(fault)) => Err(Stop::Fault(verdict_of_fault(&fault))),
-        Err(NoMemory) => Err(Stop::Memory),
-    }
-}
-
-/// The counts of sound sections.
-fn count_sections(alloc: Global, sections: Sections<'_>) -> Result<Counts, Stop<Verdict>>
-    ensures { MatchResult result (AreCounts sections.entry) (IsErrorOf (IsFaultOfSections sections.entry)) }
-{
-    match check(alloc, sections) {
-        Ok(Found::Sound(counts)) => Ok(counts),
-        Ok(Found::Fault(fault)) => Err(Stop::Fault(verdict_of_fault(&fault))),
-        Err(NoMemory) => Err(Stop::Memory),
-    }
-}
-
 /// The image of the sections that are given, if there are some and they are sound.
 fn verify_found<'a>(
     alloc: Global,
@@ -90,7 +66,11 @@ fn verify_found<'a>(
     ensures { (g : Given) → AreFound g found.entry → IsFound g (IsSound g) result }
 {
     let sections = found?;
-    verify_sections(alloc, sections)
+    match verify(alloc, sections) {
+        Ok(Verified::Sound(image)) => Ok(image),
+        Ok(Verified::Fault(fault)) => Err(Stop::Fault(verdict_of_fault(&fault))),
+        Err(NoMemory) => Err(Stop::Memory),
+    }
 }
 
 /// Their counts.
@@ -101,7 +81,11 @@ fn count_found(
     ensures { (g : Given) → AreFound g found.entry → IsFound g (AreCountsOf g) result }
 {
     let sections = found?;
-    count_sections(alloc, sections)
+    match check(alloc, sections) {
+        Ok(Found::Sound(counts)) => Ok(counts),
+        Ok(Found::Fault(fault)) => Err(Stop::Fault(verdict_of_fault(&fault))),
+        Err(NoMemory) => Err(Stop::Memory),
+    }
 }
 
 /// Writes the counts or the fault into the struct of the caller.
@@ -217,9 +201,9 @@ pub extern "C" fn dwv_table(
 {
     match verify_found(alloc, sections_of_file(file)) {
         Ok(image) => {
-            let ground = Ground::File(file);
+            let holders = held_in_file(file);
             put_table(
-                alloc, ground, &image, units, entries, values, counts, verdict,
+                alloc, holders, &image, units, entries, values, counts, verdict,
             )
         }
         Err(error) => put_verdict(Err(error), verdict),
@@ -249,9 +233,9 @@ pub extern "C" fn dwv_table_sections(
     let found = sections_of_six(info, abbrev, str, line_str, str_offsets, addr);
     match verify_found(alloc, found) {
         Ok(image) => {
-            let ground = Ground::Sections;
+            let holders = held_alone(&image);
             put_table(
-                alloc, ground, &image, units, entries, values, counts, verdict,
+                alloc, holders, &image, units, entries, values, counts, verdict,
             )
         }
         Err(error) => put_verdict(Err(error), verdict),

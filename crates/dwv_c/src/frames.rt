@@ -4,7 +4,7 @@ ghost use Rattle.std.specs.Prelude.{◌≡◌, ◌++◌, [], ◌∷◌, ℕ, IfO
 ghost use Rattle.std.specs.Bool.{OnFalse, OnTrue};
 ghost use Rattle.dw_ranges.specs.Files.{IsIndex, IsIndexOf};
 ghost use Rattle.dw_ranges.specs.Functions.{Known as KnownUnit};
-ghost use Rattle.dwv_c.specs.Frames.{AreAt, FillsFrames, HasRoomFor, LacksRoomFor, LocatedFrame, frame_arrays};
+ghost use Rattle.dwv_c.specs.Frames.{AreAt, FillsFrames, HasRoomFor, LocatedFrame, frame_arrays};
 ghost use Rattle.dwv_c.specs.Frames.{frame_counts, frame_rows, of_unit, texts_of, with_unit};
 ghost use Rattle.dwv_c.specs.FrameState.{HasMore, IsAllOf, gathered_arrays};
 ghost use Rattle.dwv_c.specs.Verdicts.{of_image};
@@ -129,7 +129,7 @@ fn is_room(gathered: &Gathered, located: &[Located], frames: &[FrameRow], text: 
     ensures room { OnTrue result
         (HasRoomFor (gathered_arrays gathered.now) (frame_arrays located.now frames.now text.now)) }
     ensures none { OnFalse result
-        (LacksRoomFor (gathered_arrays gathered.now) (frame_arrays located.now frames.now text.now)) }
+        (¬ HasRoomFor (gathered_arrays gathered.now) (frame_arrays located.now frames.now text.now)) }
 {
     gathered.located.len() <= located.len()
         && gathered.frames.len() <= frames.len()

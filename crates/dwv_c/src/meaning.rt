@@ -1,16 +1,12 @@
 //! What a value means, and its row.
 
-ghost use Rattle.std.specs.Prelude.{◌≡◌, ℕ, true};
-ghost use Rattle.dw_entries.specs.Entries.{Entry};
-ghost use Rattle.dw_forms.specs.Value.{view};
-ghost use Rattle.dw_image.specs.declared.image.Image.{Image as ImageData};
-ghost use Rattle.dwv_c.specs.Meanings.{HasMeaning, HasSpan, Means, has_own_meaning, named_after, text_span};
-ghost use Rattle.dwv_c.specs.SectionPlaces.{Holders};
-ghost use Rattle.dwv_c.specs.ValueRows.{HasNumber};
+ghost use Rattle.std.specs.Prelude.{◌≡◌};
+ghost use Rattle.dwv_c.specs.Meanings.{named_after, text_span};
+ghost use Rattle.dwv_c.specs.ValueRows.{HasMeaning, fields_of, of_number};
 
 use crate::places::Span;
+use dw_forms::Attribute;
 use dw_forms::constants::DW_AT_name;
-use dw_forms::{Attribute, Value};
 
 /// What a value means: no form, no index and no offset is left in it, but those that no rule is on.
 #[derive(Clone, Copy, Debug)]
@@ -60,39 +56,34 @@ pub struct ValueRow {
     pub zero: u32,
 }
 
-/// The row of a number that has no bytes.
-fn number_row(entry: u32, attribute: u16, kind: u32, number: u64) -> ValueRow
-    ensures entry { result.entry ≡ entry }
-    ensures attribute { result.attribute ≡ attribute }
-    ensures number { HasNumber kind number result }
-    ensures zero { result.zero ≡ 0 }
+/// The bytes of a row that has a number and no bytes.
+fn of_number(number: u64) -> Span
+    ensures { result ≡ of_number number }
 {
-    ValueRow {
-        number,
-        length: 0,
+    Span {
         section: 0,
-        entry,
-        attribute: u32::from(attribute),
-        kind,
-        zero: 0,
+        start: number,
+        length: 0,
     }
 }
 
-/// The row of bytes.
-fn span_row(entry: u32, attribute: u16, kind: u32, span: Span) -> ValueRow
-    ensures entry { result.entry ≡ entry }
-    ensures attribute { result.attribute ≡ attribute }
-    ensures span { HasSpan kind span result }
-    ensures zero { result.zero ≡ 0 }
+/// The kind of a row that has this meaning, and its bytes or its number.
+fn fields_of(meaning: Meaning) -> (u32, Span)
+    ensures { result ≡ fields_of meaning }
 {
-    ValueRow {
-        number: span.start,
-        length: span.length,
-        section: span.section,
-        entry,
-        attribute: u32::from(attribute),
-        kind,
-        zero: 0,
+    match meaning {
+        Meaning::Unsigned(number) => (1, of_number(number)),
+        Meaning::Signed(number) => (2, of_number(number.cast_unsigned())),
+        Meaning::Flag(flag) => (3, of_number(u64::from(flag))),
+        Meaning::Address(address) => (4, of_number(address)),
+        Meaning::Text(span) => (5, span),
+        Meaning::Block(span) => (6, span),
+        Meaning::Expression(span) => (7, span),
+        Meaning::Wide(span) => (8, span),
+        Meaning::Reference(row) => (9, of_number(u64::from(row))),
+        Meaning::SectionOffset(offset) => (10, of_number(u64::from(offset))),
+        Meaning::LocationList(index) => (11, of_number(index)),
+        Meaning::RangeList(index) => (12, of_number(index)),
     }
 }
 
@@ -103,61 +94,40 @@ pub fn value_row(entry: u32, attribute: Attribute, meaning: Meaning) -> ValueRow
     ensures meaning { HasMeaning meaning result }
     ensures zero { result.zero ≡ 0 }
 {
-    let attribute = attribute.0;
+    let (kind, span) = fields_of(meaning);
+    ValueRow {
+        number: span.start,
+        length: span.length,
+        section: span.section,
+        entry,
+        attribute: u32::from(attribute.0),
+        kind,
+        zero: 0,
+    }
+}
+
+/// The bytes of a meaning that is a text.
+fn text_span(meaning: Meaning) -> Option<Span>
+    ensures { result ≡ text_span meaning }
+{
     match meaning {
-        Meaning::Unsigned(number) => number_row(entry, attribute, 1, number),
-        Meaning::Signed(number) => number_row(entry, attribute, 2, number.cast_unsigned()),
-        Meaning::Flag(flag) => number_row(entry, attribute, 3, u64::from(flag)),
-        Meaning::Address(address) => number_row(entry, attribute, 4, address),
-        Meaning::Text(span) => span_row(entry, attribute, 5, span),
-        Meaning::Block(span) => span_row(entry, attribute, 6, span),
-        Meaning::Expression(span) => span_row(entry, attribute, 7, span),
-        Meaning::Wide(span) => span_row(entry, attribute, 8, span),
-        Meaning::Reference(row) => number_row(entry, attribute, 9, u64::from(row)),
-        Meaning::SectionOffset(offset) => number_row(entry, attribute, 10, u64::from(offset)),
-        Meaning::LocationList(index) => number_row(entry, attribute, 11, index),
-        Meaning::RangeList(index) => number_row(entry, attribute, 12, index),
+        Meaning::Text(span) => Some(span),
+        _ => None,
     }
 }
 
-/// Where the text of a value is, if it has one.
-fn text_span(row: &ValueRow) -> Option<Span>
-    ensures { result ≡ text_span row.now }
+/// What is known of an entry's name after one more of its attributes, with what it means: where the name is, or that it
+/// is no text.
+pub fn named_after(
+    named: Option<Option<Span>>,
+    attribute: Attribute,
+    meaning: Meaning,
+) -> Option<Option<Span>>
+    ensures { result ≡ named_after named attribute meaning }
 {
-    if row.kind == 5 {
-        Some(Span {
-            section: row.section,
-            start: row.number,
-            length: row.length,
-        })
-    } else {
-        None
-    }
-}
-
-/// What is known of an entry's name after one more of its values: where it is, or that it is no text.
-pub fn named_after(named: Option<Option<Span>>, row: &ValueRow) -> Option<Option<Span>>
-    ensures { result ≡ named_after named row.now }
-{
-    if named.is_none() && row.attribute == u32::from(DW_AT_name.0) {
-        Some(text_span(row))
+    if named.is_none() && attribute.0 == DW_AT_name.0 {
+        Some(text_span(meaning))
     } else {
         named
-    }
-}
-
-/// What a number, a flag, or an offset or an index that no rule is on means.
-pub fn plain_meaning(value: &Value<'_>) -> Meaning
-    requires { has_own_meaning (view value.now) ≡ true }
-    ensures { (h : Holders) (i : ImageData) (e : Entry) (end : ℕ) → Means h i e end (view value.now) result }
-{
-    match *value {
-        Value::Unsigned(number) => Meaning::Unsigned(number),
-        Value::Signed(number) => Meaning::Signed(number),
-        Value::Flag(flag) => Meaning::Flag(flag),
-        Value::SecOffset(offset) => Meaning::SectionOffset(offset),
-        Value::LocIndex(index) => Meaning::LocationList(index),
-        Value::RngIndex(index) => Meaning::RangeList(index),
-        _ => unreachable!(),
     }
 }

@@ -6,15 +6,15 @@ ghost use Rattle.dw_entries.specs.EntryRules.{values_of};
 ghost use Rattle.dw_entries.specs.ByNumber.{entry_of};
 ghost use Rattle.dw_image.specs.Images.{entries_in, entry_count, name_in, name_place_in};
 ghost use Rattle.dw_image.specs.Images.{unit_count};
-ghost use Rattle.dwv_c.specs.Meanings.{AreOnGround, IsGround, holders_of};
-ghost use Rattle.dwv_c.specs.Tables.{AreTable, HasRoom, HaveEntries, HaveUnits, HaveValues, IsEntryRow, LacksRoom};
-ghost use Rattle.dwv_c.specs.SectionPlaces.{Holders, IsNameSpan, nowhere};
-ghost use Rattle.dwv_c.specs.Tables.{arrays, counts_of, value_count, values_before};
-ghost use Rattle.dwv_c.specs.TableState.{AreBefore, AreOf, IsUnitOf, Puts};
-ghost use Rattle.dwv_c.specs.Verdicts.{of_image};
+ghost use Rattle.dwv_c.specs.Meanings.{AreThere};
+ghost use Rattle.dwv_c.specs.SectionPlaces.{IsNameSpan, nowhere};
+ghost use Rattle.dwv_c.specs.Tables.{AreHolders, AreTable, HasRoom, HaveEntries, HaveUnits, HaveValues, IsEntryRow};
+ghost use Rattle.dwv_c.specs.Tables.{PutsTable, arrays, counts_of, value_count, values_before};
+ghost use Rattle.dwv_c.specs.TableState.{AreBefore, AreOf, IsUnitOf};
+ghost use Rattle.dwv_c.specs.Verdicts.{Given, IsSound, of_image};
 
 use crate::meaning::{ValueRow, named_after, value_row};
-use crate::places::{Ground, Places, Span};
+use crate::places::{Holders, Span};
 use crate::table_rows::{EntryRow, Links, TableCounts, UnitRow, depth_by_rows, row_with, unit_row};
 use crate::values::Resolver;
 use crate::verdict::{NO_MEMORY, SOUND, TOO_SHORT, Verdict, verdict_of_counts};
@@ -24,7 +24,7 @@ use dw_report::size_of_entry;
 use dw_units::Counts;
 use std::alloc::Global;
 
-impl<'p, 'i, 'a> Resolver<'p, 'i, 'a> {
+impl<'i, 'a> Resolver<'i, 'a> {
     /// Writes the rows of an entry's values from a row on. Returns which row follows them, and where the entry's name
     /// is.
     #[tactic(auto, unfolding(dw_image::specs::Images::units_in, dw_image::specs::Images::sections_in))]
@@ -38,14 +38,14 @@ impl<'p, 'i, 'a> Resolver<'p, 'i, 'a> {
         requires unit { IsUnitOf self.now.image.now unit.now id }
         requires room { value_count self.now.image.now ≤ length values.old }
         requires from { from ≡ values_before self.now.image.now id }
-        requires before { HaveValues (holders_of self.now.places.now) self.now.image.now from values.old }
+        requires before { HaveValues self.now.holders self.now.image.now from values.old }
         ensures next { result.0 ≡ values_before self.now.image.now (id + 1) }
         ensures count { result.0 ≡ from + length (values_of (entry_of (entries_in self.now.image.now) id).head) }
-        ensures name { IsNameSpan (holders_of self.now.places.now)
+        ensures name { IsNameSpan self.now.holders
             (name_in self.now.image.now (entry_of (entries_in self.now.image.now) id))
             (name_place_in self.now.image.now (entry_of (entries_in self.now.image.now) id))
             (unwrap_or result.1 nowhere) }
-        ensures rows { HaveValues (holders_of self.now.places.now) self.now.image.now result.0 values.new }
+        ensures rows { HaveValues self.now.holders self.now.image.now result.0 values.new }
         ensures rest { drop result.0 values.new ≡ drop result.0 values.old }
     {
         let mut left = self.image.scanned().placed(id, unit.number);
@@ -53,9 +53,8 @@ impl<'p, 'i, 'a> Resolver<'p, 'i, 'a> {
         let mut named = None;
         'items: while let Some((attribute, value, end)) = left.next_placed() {
             let meaning = self.meaning(unit, &value, end);
-            let row = value_row(id.number() as u32, attribute, meaning);
-            values[at] = row;
-            named = named_after(named, &row);
+            values[at] = value_row(id.number() as u32, attribute, meaning);
+            named = named_after(named, attribute, meaning);
             at += 1;
         }
         (at, named.flatten())
@@ -74,13 +73,13 @@ impl<'p, 'i, 'a> Resolver<'p, 'i, 'a> {
     ) -> EntryRow
         requires unit { IsUnitOf self.now.image.now unit.now id }
         requires room { id ≤ length entries.now }
-        requires before { HaveEntries (holders_of self.now.places.now) self.now.image.now id entries.now }
+        requires before { HaveEntries self.now.holders self.now.image.now id entries.now }
         requires from { from ≡ values_before self.now.image.now id }
         requires next { next ≡ from + length (values_of (entry_of (entries_in self.now.image.now) id).head) }
-        requires name { IsNameSpan (holders_of self.now.places.now)
+        requires name { IsNameSpan self.now.holders
             (name_in self.now.image.now (entry_of (entries_in self.now.image.now) id))
             (name_place_in self.now.image.now (entry_of (entries_in self.now.image.now) id)) (unwrap_or name nowhere) }
-        ensures { IsEntryRow (holders_of self.now.places.now) self.now.image.now id
+        ensures { IsEntryRow self.now.holders self.now.image.now id
             (entry_of (entries_in self.now.image.now) id) result }
     {
         let image = self.image;
@@ -112,11 +111,11 @@ impl<'p, 'i, 'a> Resolver<'p, 'i, 'a> {
         requires room { number < length entries.old }
         requires value_room { value_count self.now.image.now ≤ length values.old }
         requires from { from ≡ values_before self.now.image.now number }
-        requires before { AreBefore (holders_of self.now.places.now) self.now.image.now number from entries.old
+        requires before { AreBefore self.now.holders self.now.image.now number from entries.old
             values.old }
         ensures at { AreOf self.now.image.now cursor.new unit.new }
         ensures next { result ≡ values_before self.now.image.now (number + 1) }
-        ensures rows { AreBefore (holders_of self.now.places.now) self.now.image.now (number + 1) result entries.new
+        ensures rows { AreBefore self.now.holders self.now.image.now (number + 1) result entries.new
             values.new }
         ensures rest { (drop (number + 1) entries.new ≡ drop (number + 1) entries.old)
             × (drop result values.new ≡ drop result values.old) }
@@ -134,7 +133,7 @@ impl<'p, 'i, 'a> Resolver<'p, 'i, 'a> {
     fn put_entries(&self, entries: &mut [EntryRow], values: &mut [ValueRow])
         requires room { entry_count self.now.image.now ≤ length entries.old }
         requires value_room { value_count self.now.image.now ≤ length values.old }
-        ensures rows { AreBefore (holders_of self.now.places.now) self.now.image.now
+        ensures rows { AreBefore self.now.holders self.now.image.now
             (entry_count self.now.image.now) (value_count self.now.image.now) entries.new values.new }
         ensures rest { (drop (entry_count self.now.image.now) entries.new
             ≡ drop (entry_count self.now.image.now) entries.old)
@@ -210,32 +209,28 @@ fn is_room(
 ) -> bool
     requires { count ≡ value_count image.now }
     ensures room { OnTrue result (HasRoom image.now (arrays units.now entries.now values.now)) }
-    ensures none { OnFalse result (LacksRoom image.now (arrays units.now entries.now values.now)) }
+    ensures none { OnFalse result (¬ HasRoom image.now (arrays units.now entries.now values.now)) }
 {
     image.units() <= units.len() && image.entries() <= entries.len() && count <= values.len()
 }
 
 /// Writes all rows, for which there is room. False if an allocation failed: then nothing is written.
-fn put_rows(
+fn put_rows<'a>(
     alloc: Global,
-    ground: Ground<'_>,
-    image: &Image<'_>,
+    holders: Holders<'a>,
+    image: &Image<'a>,
     units: &mut [UnitRow],
     entries: &mut [EntryRow],
     values: &mut [ValueRow],
 ) -> bool
-    requires ground { IsGround ground image.now }
+    requires there { AreThere image.now holders }
     requires room { HasRoom image.now (arrays units.old entries.old values.old) }
-    ensures whole { OnTrue result ((h : Holders) × AreOnGround ground.entry image.now h × AreTable h image.now
-        (arrays units.old entries.old values.old) (arrays units.new entries.new values.new)) }
+    ensures whole { OnTrue result (AreTable holders.entry image.now (arrays units.old entries.old values.old)
+        (arrays units.new entries.new values.new)) }
     ensures none { OnFalse result ((units.new ≡ units.old) × (entries.new ≡ entries.old) × (values.new ≡ values.old)) }
 {
-    let Ok(places) = Places::read(alloc, ground, image) else {
+    let Ok(resolver) = Resolver::read(alloc, holders, image) else {
         return false;
-    };
-    let resolver = Resolver {
-        places: &places,
-        image,
     };
     put_units(image, units);
     resolver.put_entries(entries, values);
@@ -243,26 +238,27 @@ fn put_rows(
 }
 
 /// Writes all rows if there is room for them, how many there are, and the verdict.
-pub fn put_table(
+pub fn put_table<'a>(
     alloc: Global,
-    ground: Ground<'_>,
-    image: &Image<'_>,
+    holders: Holders<'a>,
+    image: &Image<'a>,
     units: &mut [UnitRow],
     entries: &mut [EntryRow],
     values: &mut [ValueRow],
     counts: &mut TableCounts,
     verdict: &mut Verdict,
 ) -> u32
-    requires ground { IsGround ground image.now }
-    ensures { Puts (AreOnGround ground.entry image.now) image.now (arrays units.old entries.old values.old) counts.old
-        verdict.old result (arrays units.new entries.new values.new) counts.new verdict.new }
+    requires { AreThere image.now holders }
+    ensures { (g : Given) → IsSound g image.now → AreHolders g image.now holders.entry
+        → PutsTable g (arrays units.old entries.old values.old) counts.old verdict.old
+        result (arrays units.new entries.new values.new) counts.new verdict.new }
 {
     let count = count_values(image);
     if !is_room(image, count, units, entries, values) {
         put_counts(image, count, counts, verdict);
         return TOO_SHORT;
     }
-    if !put_rows(alloc, ground, image, units, entries, values) {
+    if !put_rows(alloc, holders, image, units, entries, values) {
         return NO_MEMORY;
     }
     put_counts(image, count, counts, verdict);

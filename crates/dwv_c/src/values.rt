@@ -1,34 +1,108 @@
 //! What the values of entries mean, each resolved as far as the rules go.
 
-ghost use Rattle.std.specs.Prelude.{◌≡◌, ℕ, ◌++◌, ◌∷◌, [], true};
-ghost use Rattle.dw_entries.specs.Entries.{Entry};
+ghost use Rattle.std.specs.Prelude.{◌≡◌, ◌++◌, ◌∷◌, ℕ, [], IfOk, true};
 ghost use Rattle.dw_entries.specs.OwnBytes.{EndsAt};
 ghost use Rattle.dw_forms.specs.Value.{text, view};
 ghost use Rattle.dw_image.specs.Images.{sections_in};
-ghost use Rattle.dw_links.specs.References.{is_reference_value};
-ghost use Rattle.dwv_c.specs.Meanings.{Means, MeansIn, holders_of, is_bytes};
+ghost use Rattle.dw_image.specs.Slots.{BeginsString};
 ghost use Rattle.dw_image.specs.UnitsAtHand.{HasValue, IsAtHand, is_address, is_string};
+ghost use Rattle.dw_image.specs.ValueTexts.{text_there};
+ghost use Rattle.dw_links.specs.References.{is_reference_value};
+ghost use Rattle.dw_links.specs.declared.texts.TextPlace.TheVariants.{Info};
+ghost use Rattle.dwv_c.specs.Meanings.{AreThere, IsPartOfSection, MeansIn};
+ghost use Rattle.dwv_c.specs.SectionPlaces.{IsSpan, IsTextSpan};
 
-use crate::meaning::{Meaning, plain_meaning};
-use crate::places::Places;
+use crate::meaning::Meaning;
+use crate::places::{Holders, INFO, LINE_STR, STR, Span};
 use dw_forms::Value;
-use dw_image::{Image, UnitAtHand};
+use dw_image::{Image, Strings, TextPlace, UnitAtHand};
+use std::alloc::{AllocError, Global};
 
 /// What the values of an image are resolved by.
 #[derive(Drop)]
-pub struct Resolver<'p, 'i, 'a> {
-    pub places: &'p Places<'i, 'a>,
+pub struct Resolver<'i, 'a> {
     pub image: &'i Image<'a>,
-    ghost same: { places.now.strings.image.now ≡ image.now },
+    pub holders: Holders<'a>,
+    strings: Strings<'i, 'a>,
+    ghost same: { strings.image ≡ image },
+    ghost there: { AreThere image.now holders },
 }
 
-impl<'p, 'i, 'a> Resolver<'p, 'i, 'a> {
+impl<'i, 'a> Resolver<'i, 'a> {
+    /// What the values of an image are resolved by, with places that are counted from these.
+    pub fn read(
+        alloc: Global,
+        holders: Holders<'a>,
+        image: &'i Image<'a>,
+    ) -> Result<Resolver<'i, 'a>, AllocError>
+        requires { AreThere image.now holders }
+        ensures image { IfOk result (λ it. it.image ≡ image.entry) }
+        ensures holders { IfOk result (λ it. it.holders ≡ holders.entry) }
+    {
+        let strings = Strings::read(alloc, image)?;
+        Ok(Resolver {
+            image,
+            holders,
+            strings,
+        })
+    }
+
+    /// Bytes at an offset of .debug_info.
+    fn span(&self, offset: usize, bytes: &[u8]) -> Span
+        requires { IsPartOfSection (sections_in self.now.image.now).info.now offset bytes.now }
+        ensures { IsSpan self.now.holders (Info offset) bytes.now result }
+    {
+        let _longest = self.holders.info.bytes.len();
+        Span {
+            section: INFO,
+            start: (self.holders.info.start + offset) as u64,
+            length: bytes.len() as u32,
+        }
+    }
+
+    /// The text at an offset of .debug_info.
+    fn text_in_info(&self, offset: usize, text: &[u8]) -> Span
+        requires { IsPartOfSection (sections_in self.now.image.now).info.now offset (text.now ++ 0 ∷ []) }
+        ensures { IsTextSpan self.now.holders text.now (Info offset) result }
+    {
+        let _longest = self.holders.info.bytes.len();
+        Span {
+            section: INFO,
+            start: (self.holders.info.start + offset) as u64,
+            length: text.len() as u32,
+        }
+    }
+
+    /// The text at a place.
+    fn text_at(&self, place: TextPlace) -> Span
+        requires { BeginsString (sections_in self.now.image.now) place }
+        ensures { IsTextSpan self.now.holders
+            (text_there (sections_in self.now.image.now) place) place result }
+    {
+        let _longest = (
+            self.holders.info.bytes.len(),
+            self.holders.str.bytes.len(),
+            self.holders.line_str.bytes.len(),
+        );
+        let length = self.strings.span(place).len as u32;
+        let (section, start) = match place {
+            TextPlace::Info(offset) => (INFO, self.holders.info.start + offset),
+            TextPlace::Str(offset) => (STR, self.holders.str.start + offset),
+            TextPlace::LineStr(offset) => (LINE_STR, self.holders.line_str.start + offset),
+        };
+        Span {
+            section,
+            start: start as u64,
+            length,
+        }
+    }
+
     /// What a reference means.
     fn reference(&self, unit: &UnitAtHand, value: &Value<'a>) -> Meaning
         requires unit { IsAtHand self.now.image.now unit.now }
         requires value { HasValue self.now.image.now unit.now (view value.now) }
         requires reference { is_reference_value (view value.now) ≡ true }
-        ensures { (end : ℕ) → MeansIn (holders_of self.now.places.now) self.now.image.now unit.now end
+        ensures { (end : ℕ) → MeansIn self.now.holders self.now.image.now unit.now end
             (view value.now) result }
     {
         match unit.target(self.image, value) {
@@ -42,7 +116,7 @@ impl<'p, 'i, 'a> Resolver<'p, 'i, 'a> {
         requires unit { IsAtHand self.now.image.now unit.now }
         requires value { HasValue self.now.image.now unit.now (view value.now) }
         requires address { is_address (view value.now) ≡ true }
-        ensures { (end : ℕ) → MeansIn (holders_of self.now.places.now) self.now.image.now unit.now end
+        ensures { (end : ℕ) → MeansIn self.now.holders self.now.image.now unit.now end
             (view value.now) result }
     {
         match unit.address(self.image, value) {
@@ -56,11 +130,11 @@ impl<'p, 'i, 'a> Resolver<'p, 'i, 'a> {
         requires unit { IsAtHand self.now.image.now unit.now }
         requires value { HasValue self.now.image.now unit.now (view value.now) }
         requires string { is_string (view value.now) ≡ true }
-        ensures { (end : ℕ) → MeansIn (holders_of self.now.places.now) self.now.image.now unit.now end
+        ensures { (end : ℕ) → MeansIn self.now.holders self.now.image.now unit.now end
             (view value.now) result }
     {
         match unit.string_place(self.image, value) {
-            Some(place) => Meaning::Text(self.places.text_at(place)),
+            Some(place) => Meaning::Text(self.text_at(place)),
             None => unreachable!(),
         }
     }
@@ -69,26 +143,10 @@ impl<'p, 'i, 'a> Resolver<'p, 'i, 'a> {
     fn text(&self, unit: &UnitAtHand, bytes: &[u8], end: usize) -> Meaning
         requires unit { IsAtHand self.now.image.now unit.now }
         requires place { EndsAt (sections_in self.now.image.now).info.now (text bytes.now) end }
-        ensures { MeansIn (holders_of self.now.places.now) self.now.image.now unit.now end (text bytes.now) result }
+        ensures { MeansIn self.now.holders self.now.image.now unit.now end (text bytes.now) result }
     {
         let offset = end - (bytes.len() + 1);
-        Meaning::Text(self.places.text_in_info(offset, bytes))
-    }
-
-    /// What bytes mean, which end at this offset of .debug_info.
-    #[tactic(auto, using(crate::proofs::MeaningLemmas::span_row))]
-    fn bytes(&self, value: &Value<'a>, end: usize) -> Meaning
-        requires bytes { is_bytes (view value.now) ≡ true }
-        requires place { EndsAt (sections_in self.now.image.now).info.now (view value.now) end }
-        ensures { (e : Entry)
-            → Means (holders_of self.now.places.now) self.now.image.now e end (view value.now) result }
-    {
-        match *value {
-            Value::Block(bytes) => Meaning::Block(self.places.span(end - bytes.len(), bytes)),
-            Value::Expr(bytes) => Meaning::Expression(self.places.span(end - bytes.len(), bytes)),
-            Value::Wide(bytes) => Meaning::Wide(self.places.span(end - bytes.len(), bytes)),
-            _ => unreachable!(),
-        }
+        Meaning::Text(self.text_in_info(offset, bytes))
     }
 
     /// What a value means. Its bytes, if it has some itself, end at this offset of .debug_info.
@@ -96,15 +154,22 @@ impl<'p, 'i, 'a> Resolver<'p, 'i, 'a> {
         requires unit { IsAtHand self.now.image.now unit.now }
         requires value { HasValue self.now.image.now unit.now (view value.now) }
         requires place { EndsAt (sections_in self.now.image.now).info.now (view value.now) end }
-        ensures { MeansIn (holders_of self.now.places.now) self.now.image.now unit.now end (view value.now) result }
+        ensures { MeansIn self.now.holders self.now.image.now unit.now end (view value.now) result }
     {
         match *value {
             Value::Text(bytes) => self.text(unit, bytes, end),
             Value::Str(_) | Value::LineStr(_) | Value::StrIndex(_) => self.string(unit, value),
-            Value::Block(_) | Value::Expr(_) | Value::Wide(_) => self.bytes(value, end),
+            Value::Block(bytes) => Meaning::Block(self.span(end - bytes.len(), bytes)),
+            Value::Expr(bytes) => Meaning::Expression(self.span(end - bytes.len(), bytes)),
+            Value::Wide(bytes) => Meaning::Wide(self.span(end - bytes.len(), bytes)),
             Value::Addr(_) | Value::AddrIndex(_) => self.address(unit, value),
             Value::RefInfo(_) | Value::RefUnit(_) | Value::RefSig(_) => self.reference(unit, value),
-            _ => plain_meaning(value),
+            Value::Unsigned(number) => Meaning::Unsigned(number),
+            Value::Signed(number) => Meaning::Signed(number),
+            Value::Flag(flag) => Meaning::Flag(flag),
+            Value::SecOffset(offset) => Meaning::SectionOffset(offset),
+            Value::LocIndex(index) => Meaning::LocationList(index),
+            Value::RngIndex(index) => Meaning::RangeList(index),
         }
     }
 }

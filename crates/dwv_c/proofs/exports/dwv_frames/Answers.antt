@@ -1,6 +1,6 @@
 use Rattle.std.proofs.Common.{◌<◌, ◌≤◌, length, sym, subst}
 use Rattle.dw_lookup.specs.declared.first_fault.FirstFault.TheVariants.{File}
-use Rattle.dw_report.specs.Reports.{file_limit, too_large}
+use Rattle.dw_report.specs.Reports.{too_large}
 use Rattle.dwv_c.specs.Frames.{PutsFrames, fault, frame_arrays, past_limit}
 use Rattle.dwv_c.specs.Verdicts.{FAULT}
 use Rattle.dwv_c.proofs.FrameLemmas.{puts_stop}

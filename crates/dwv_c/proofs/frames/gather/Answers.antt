@@ -1,4 +1,4 @@
-use Rattle.std.proofs.Common.{[], ◌∙◌, refl, sym, subst, take, get_or, length, ◌<◌, arith}
+use Rattle.std.proofs.Common.{sym, subst, take, get_or, arith}
 use Rattle.std.proofs.Math.Seq.{take_all}
 use Rattle.std.proofs.lemmas.List.{take_more}
 use Rattle.dwv_c.specs.FrameState.{IsAllOf, gathered_arrays}

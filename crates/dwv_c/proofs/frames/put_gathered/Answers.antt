@@ -1,4 +1,3 @@
-use Rattle.std.proofs.Common.{rules}
 use Rattle.dwv_c.specs.Frames.{short}
 use Rattle.dwv_c.specs.FrameState.{gathered_arrays}
 use Rattle.dwv_c.proofs.FrameLemmas.{fills_whole}

@@ -1,10 +1,9 @@
-use Rattle.std.proofs.Common.{Some, sym, ◌∙◌}
+use Rattle.std.proofs.Common.{sym, ◌∙◌}
 use Rattle.dw_forms.specs.Value.{view}
-use Rattle.dwv_c.specs.Meanings.{holders_of}
 use Rattle.dwv_c.proofs.MeaningLemmas.{address_means}
 use Rattle.dwv_c.proofs.values.Resolver.address.Goals as goal
 
 pub returns : goal.returns
 returns c end =
-    address_means (holders_of c.args.self.now.places.now) c.args.self.now.image.now c.args.unit.now c.requires.unit end
+    address_means c.args.self.now.holders c.args.self.now.image.now c.args.unit.now c.requires.unit end
     (view c.args.value.now) _ (sym c.address.ensures.exact ∙ c.in-Some.is)

@@ -1,10 +1,11 @@
-use Rattle.std.proofs.Common.{◌-◌, length, arith}
+use Rattle.std.proofs.Common.{ℕ, length, min, sym, ap, ◌∙◌, arith}
 use Rattle.std.proofs.lemmas.Option.{slice_get-get_or}
 use Rattle.dw_entries.specs.ByNumber.{no_entry, entry_of}
 use Rattle.dw_image.specs.Images.{entries_in, units_in}
-use Rattle.dwv_c.specs.Meanings.{holders_of}
+use Rattle.dwv_c.specs.Tables.{greatest, row_of}
+use Rattle.dwv_c.specs.TableState.{depth_by}
 use Rattle.dwv_c.proofs.MeaningLemmas.{unit_fits}
-use Rattle.dwv_c.proofs.TableRowLemmas.{entry_told, parent_before}
+use Rattle.dwv_c.proofs.TableRowLemmas.{depth_told, parent_before}
 use Rattle.dwv_c.proofs.values.Resolver.entry_row.Goals as goal
 
 pub depth_by_rows-depth-requires : goal.depth_by_rows-depth-requires
@@ -23,19 +24,20 @@ pub returns : goal.returns
 unfolding units_in
 returns c =
     let i = c.args.self.now.image.now in
-    entry_told (holders_of c.args.self.now.places.now) i c.args.id c.args.entries.now
-    (entry_of (entries_in i) c.args.id) c.offset.result c.tag.result c.parent.result c.depth_by_rows-depth.result
-    c.size_of_entry-size.result c.args.name (record {
-      first_value = c.args.from;
-      values = c.args.next - c.args.from;
-      unit = c.args.unit.now.number;
-      parent = c.parent-2.result;
-      next_sibling = c.next_sibling.result;
-    }) c.row_with.result (slice_get-get_or (entries_in i) c.args.id no_entry c.requires.unit.within) c.requires.before
-    c.offset.ensures c.tag.ensures c.parent.ensures
-    c.depth_by_rows-depth.ensures c.size_of_entry-size.ensures c.requires.name
-    c.requires.from
-    (omega (arith, c.requires.next)) c.requires.unit.in_unit
-    c.parent-2.ensures (rw c.scanned.ensures at c.next_sibling.ensures)
-    c.row_with.ensures.offset c.row_with.ensures.depth c.row_with.ensures.tag c.row_with.ensures.size
-    c.row_with.ensures.name c.row_with.ensures.links
+    let row = c.row_with.ensures in
+    let e = entry_of (entries_in i) c.args.id in
+    let deep = ap (depth_by c.args.entries.now) (sym c.parent.ensures) ∙ c.depth_by_rows-depth.ensures in
+    record {
+      offset = row.offset ∙ c.offset.ensures;
+      depth =
+          row.depth ∙ depth_told c.args.self.now.holders i c.args.id e c.args.entries.now _
+          (slice_get-get_or (entries_in i) c.args.id no_entry c.requires.unit.within) c.requires.before deep;
+      tag = row.tag ∙ c.tag.ensures;
+      size = rw c.size_of_entry-size.ensures at row.size;
+      name = rw row.name c.requires.name;
+      first_value = row.links.first_value ∙ c.requires.from;
+      values = row.links.values ∙ ap (λ (n : ℕ). min n greatest) (omega (arith, c.requires.next));
+      unit = row.links.unit ∙ c.requires.unit.in_unit;
+      parent = row.links.parent ∙ ap row_of c.parent-2.ensures;
+      next_sibling = row.links.next_sibling ∙ ap row_of (rw c.scanned.ensures at c.next_sibling.ensures);
+    }

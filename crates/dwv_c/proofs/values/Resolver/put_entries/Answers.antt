@@ -1,6 +1,5 @@
 use Rattle.std.proofs.Common.{rules, ◌≡◌, ℕ, ◌+◌, ◌<◌, ◌≤◌, drop, ap, subst, ◌∙◌, arith}
 use Rattle.dw_image.specs.Images.{entry_count}
-use Rattle.dwv_c.specs.Meanings.{holders_of}
 use Rattle.dwv_c.specs.Tables.{HaveEntries, HaveValues, value_count, values_before}
 use Rattle.dwv_c.proofs.TableLemmas.{all_before, rest_on, values_rise}
 use Rattle.dwv_c.proofs.values.Resolver.put_entries.Goals as goal
@@ -33,10 +32,10 @@ returns-clause-rows c =
     let all : c.loop-number.at ≡ value_count i = c.loop-number.invariant.at ∙ ap (values_before i) end ∙ all_before i in
     record {
       entries =
-          subst (λ (n : ℕ). HaveEntries (holders_of c.args.self.now.places.now) i n c.loop-number.entries) end
+          subst (λ (n : ℕ). HaveEntries c.args.self.now.holders i n c.loop-number.entries) end
           c.loop-number.invariant.rows.entries;
       values =
-          subst (λ (n : ℕ). HaveValues (holders_of c.args.self.now.places.now) i n c.loop-number.values) all
+          subst (λ (n : ℕ). HaveValues c.args.self.now.holders i n c.loop-number.values) all
           c.loop-number.invariant.rows.values;
     }
 

@@ -1,5 +1,3 @@
-use Rattle.std.proofs.Common.{refl}
-use Rattle.dwv_c.specs.Meanings.{holders_of}
 use Rattle.dwv_c.proofs.MeaningLemmas.{unit_looked_up}
 use Rattle.dwv_c.proofs.TableRowLemmas.{entries_more}
 use Rattle.dwv_c.proofs.values.Resolver.put_entry.Goals as goal
@@ -12,7 +10,7 @@ keep-requires-clause-number c =
 pub returns-clause-rows : goal.returns-clause-rows
 returns-clause-rows c = record {
   entries =
-      entries_more (holders_of c.args.self.now.places.now) c.args.self.now.image.now c.args.number c.args.entries.now
+      entries_more c.args.self.now.holders c.args.self.now.image.now c.args.number c.args.entries.now
       c.entry_row.result c.requires.room c.requires.before.entries (rw c.id-id.ensures at c.entry_row.ensures);
   values = c.put_values-next.ensures.rows;
 }

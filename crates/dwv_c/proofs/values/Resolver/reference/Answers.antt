@@ -1,10 +1,13 @@
-use Rattle.std.proofs.Common.{Some, sym, ◌∙◌}
+use Rattle.std.proofs.Common.{ℕ, sym, ap, ◌∙◌}
 use Rattle.dw_forms.specs.Value.{view}
-use Rattle.dwv_c.specs.Meanings.{holders_of}
-use Rattle.dwv_c.proofs.MeaningLemmas.{target_means}
+use Rattle.dw_entries.specs.Entries.{placed}
+use Rattle.dw_image.specs.Images.{entries_in, units_in}
+use Rattle.dw_links.specs.Targets.{reach_of}
 use Rattle.dwv_c.proofs.values.Resolver.reference.Goals as goal
 
 pub returns : goal.returns
-returns c end =
-    rw c.number.ensures (target_means (holders_of c.args.self.now.places.now) c.args.self.now.image.now c.args.unit.now
-    c.requires.unit end (view c.args.value.now) _ (sym c.target.ensures.exact ∙ c.in-Some.is))
+returns c end e in_unit =
+    let i = c.args.self.now.image.now in
+    rw c.number.ensures
+    (ap (λ (unit : ℕ). reach_of (entries_in i) (placed (units_in i)) unit (view c.args.value.now)) in_unit
+    ∙ sym c.target.ensures.exact ∙ c.in-Some.is)
