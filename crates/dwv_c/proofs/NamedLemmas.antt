@@ -1,7 +1,8 @@
 -- The name of an entry, by what its values mean.
-use Rattle.std.proofs.Common.{rules, ◌≡◌, ℕ, Bool, true, false, List, [], ◌∷◌, ◌++◌, Option, Some, None, refl, sym, ap, subst}
+use Rattle.std.proofs.Common.{◌≡◌, ℕ, Bool, true, false, List, [], ◌∷◌, ◌++◌, Option, Some, None, refl, sym, ap, subst}
 use Rattle.std.specs.Prelude.{◌==◌, option_map, slice_get, unwrap_or}
-use Rattle.std.specs.Option.{option_and_then, option_flatten}
+use Rattle.std.specs.Option.{option_and_then, option_flatten, option_or}
+use Rattle.std.proofs.lemmas.List.Folds.{find-append}
 use Rattle.std.proofs.lemmas.Option.{option_and_then_some}
 use Rattle.dw_forms.specs.Codes.{DW_AT_addr_base, DW_AT_name, DW_AT_str_offsets_base}
 use Rattle.dw_forms.specs.Value.{Datum, address, ref_info, ref_unit, ref_sig, addr_index}
@@ -30,18 +31,6 @@ IsNamed h i e None None = Unit {0}
 IsNamed h i e (Some p) (Some s) =
     IsNameSpan h (value_text i e p.value) (value_place i e p.end p.value) (unwrap_or s nowhere)
 IsNamed h i e _ _ = ⊥
-
--- ---- the value of an attribute, among more
-
-front_value : (xs ys : List PlacedValue) (attribute : ℕ) (p : PlacedValue) → placed_value_in xs attribute ≡ Some p
-    → placed_value_in (xs ++ ys) attribute ≡ Some p
-front_value [] ys attribute p is = absurd cc
-front_value (x ∷ xs) ys attribute p is = search (rules, (front_value xs ys attribute p))
-
-back_value : (xs ys : List PlacedValue) (attribute : ℕ) → placed_value_in xs attribute ≡ None
-    → placed_value_in (xs ++ ys) attribute ≡ placed_value_in ys attribute
-back_value [] ys attribute is = refl
-back_value (x ∷ xs) ys attribute is = search (rules, (back_value xs ys attribute))
 
 -- ---- the text of a value, by what it means
 
@@ -97,23 +86,22 @@ module _ (h : Holders) (i : Image) (e : Entry) where
   pub named_more : (done : List PlacedValue) (item : PlacedValue) (named : Option (Option Span)) (m : Meaning)
       → IsNamed h i e (name_among done) named → IsMeaning h i e item.end item.value m
       → IsNamed h i e (name_among (done ++ item ∷ [])) (named_after named item.attribute m)
-  named_more done item named m so_far means = go (placed_value_in done DW_AT_name) refl named so_far
+  named_more done item named m so_far means =
+      subst (λ (o : Option PlacedValue). IsNamed h i e o (named_after named item.attribute m))
+      (sym (find-append (λ (p : PlacedValue). p.attribute == DW_AT_name) done (item ∷ [])))
+      (go (name_among done) named so_far)
     where
       by_code : (b : Bool) → (item.attribute == DW_AT_name) ≡ b
           → IsNamed h i e (name_among (item ∷ [])) (named_after None item.attribute m)
       by_code true q = rw q (told_text item.end item.value m means)
       by_code false q = rw q tt
 
-      go : (o : Option PlacedValue) → placed_value_in done DW_AT_name ≡ o → (n : Option (Option Span))
-          → IsNamed h i e o n → IsNamed h i e (name_among (done ++ item ∷ [])) (named_after n item.attribute m)
-      go None is None so_far =
-          subst (λ (o : Option PlacedValue). IsNamed h i e o (named_after None item.attribute m))
-          (sym (back_value done (item ∷ []) DW_AT_name is)) (by_code (item.attribute == DW_AT_name) refl)
-      go None is (Some s) so_far = absurd so_far
-      go (Some p) is None so_far = absurd so_far
-      go (Some p) is (Some s) so_far =
-          subst (λ (o : Option PlacedValue). IsNamed h i e o (Some s))
-          (sym (front_value done (item ∷ []) DW_AT_name p is)) so_far
+      go : (o : Option PlacedValue) (n : Option (Option Span)) → IsNamed h i e o n
+          → IsNamed h i e (option_or o (name_among (item ∷ []))) (named_after n item.attribute m)
+      go None None so_far = by_code (item.attribute == DW_AT_name) refl
+      go None (Some s) so_far = absurd so_far
+      go (Some p) None so_far = absurd so_far
+      go (Some p) (Some s) so_far = so_far
 
   swapped : {A B C : Type 0} (f : A → B → Option C) (o : Option A) (w : Option B)
       → option_and_then (λ (a : A). option_and_then (f a) w) o

@@ -249,12 +249,3 @@ name_at_last h i id at left named none w =
     let all : w.done ≡ placed_values e =
     sym (append-nil w.done) ∙ ap (λ (l : List PlacedValue). w.done ++ l) (sym none) ∙ sym w.parts in
     named_all h i e named (subst (λ (l : List PlacedValue). IsNamed h i e (name_among h i e l) named) all w.name)
-
--- after the last value of an entry
-pub counted_to : (h : Holders) (i : Image) (id at from : ℕ) (left : List PlacedValue) (named : Option (Option Span))
-    → left ≡ [] → from ≡ values_before i id → IsAtValue h i id at left named
-    → at ≡ from + length (values_of (entry_of (entries_in i) id).head)
-counted_to h i id at from left named none from_is w =
-    let last = at_last h i id at left named none w in
-    let counted = counted_at i id _ (slice_get-get_or (entries_in i) id no_entry w.within) in
-    omega (arith, last, counted, from_is)

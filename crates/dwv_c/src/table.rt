@@ -40,7 +40,6 @@ impl<'i, 'a> Resolver<'i, 'a> {
         requires from { from ≡ values_before self.now.image.now id }
         requires before { HaveValues self.now.holders self.now.image.now from values.old }
         ensures next { result.0 ≡ values_before self.now.image.now (id + 1) }
-        ensures count { result.0 ≡ from + length (values_of (entry_of (entries_in self.now.image.now) id).head) }
         ensures name { IsNameSpan self.now.holders
             (name_in self.now.image.now (entry_of (entries_in self.now.image.now) id))
             (name_place_in self.now.image.now (entry_of (entries_in self.now.image.now) id))
@@ -75,7 +74,7 @@ impl<'i, 'a> Resolver<'i, 'a> {
         requires room { id ≤ length entries.now }
         requires before { HaveEntries self.now.holders self.now.image.now id entries.now }
         requires from { from ≡ values_before self.now.image.now id }
-        requires next { next ≡ from + length (values_of (entry_of (entries_in self.now.image.now) id).head) }
+        requires next { next ≡ values_before self.now.image.now (id + 1) }
         requires name { IsNameSpan self.now.holders
             (name_in self.now.image.now (entry_of (entries_in self.now.image.now) id))
             (name_place_in self.now.image.now (entry_of (entries_in self.now.image.now) id)) (unwrap_or name nowhere) }

@@ -13,7 +13,7 @@ use Rattle.dwv_c.specs.declared.places.Holders.{Holders}
 use Rattle.dwv_c.specs.ValueRows.{IsMeaning}
 use Rattle.dw_forms.specs.declared.value.Value.{Value}
 use Rattle.dwv_c.specs.Tables.{value_count}
-use Rattle.dwv_c.proofs.TableLemmas.{IsAtValue, at_entry, at_last, at_next, counted_to, name_at_last, rest_more, value_of_entry, values_more}
+use Rattle.dwv_c.proofs.TableLemmas.{IsAtValue, at_entry, at_last, at_next, name_at_last, rest_more, value_of_entry, values_more}
 use Rattle.dwv_c.proofs.values.Resolver.put_values.Goals as goal
 
 pub items-init : goal.items-init
@@ -96,11 +96,6 @@ pub returns-clause-next : goal.returns-clause-next
 returns-clause-next c =
     at_last c.args.self.now.holders c.args.self.now.image.now c.args.id c.items.at
     (placed_left c.items.left) c.items.named c.in_default.ensures.steps.0 c.items.invariant.here
-
-pub returns-clause-count : goal.returns-clause-count
-returns-clause-count c =
-    counted_to c.args.self.now.holders c.args.self.now.image.now c.args.id c.items.at c.args.from
-    (placed_left c.items.left) c.items.named c.in_default.ensures.steps.0 c.requires.from c.items.invariant.here
 
 pub returns-clause-name : goal.returns-clause-name
 returns-clause-name c =
