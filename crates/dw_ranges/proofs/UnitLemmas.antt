@@ -82,5 +82,8 @@ module _ (entries : Entries) (number : ℕ) (below : number < length (units_of e
 
   pub entries_within : end_in (all_units entries) number ≤ length (all_entries entries)
   entries_within =
-      omega (arith, ends_from 0 0 (start_of (units_of entries)) (units_of entries) number
-      (placed_of (all_units entries) number) unit_there)
+      omega (
+        arith,
+        ends_from 0 0 (start_of (units_of entries)) (units_of entries) number
+            (placed_of (all_units entries) number) unit_there,
+      )

@@ -18,7 +18,8 @@ depth_by_rows-depth-requires c =
 pub overflow_sub-links : goal.overflow_sub-links
 overflow_sub-links c =
     let i = c.args.self.now.image.now in
-    let counted = counted_at i c.args.id _ (slice_get-get_or (entries_in i) c.args.id no_entry c.requires.unit.within) in
+    let counted = counted_at i c.args.id _
+    (slice_get-get_or (entries_in i) c.args.id no_entry c.requires.unit.within) in
     omega (arith, c.requires.from, c.requires.next, counted)
 
 pub row_with-requires : goal.row_with-requires
@@ -36,7 +37,8 @@ returns c =
     record {
       offset = row.offset ∙ c.offset.ensures;
       depth =
-          row.depth ∙ depth_told c.args.self.now.holders i c.args.id e c.args.entries.now _ there c.requires.before deep;
+          row.depth
+          ∙ depth_told c.args.self.now.holders i c.args.id e c.args.entries.now _ there c.requires.before deep;
       tag = row.tag ∙ c.tag.ensures;
       size = rw c.size_of_entry-size.ensures at row.size;
       name = rw row.name c.requires.name;
