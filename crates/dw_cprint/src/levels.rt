@@ -1,20 +1,13 @@
 //! The levels of the named types, by which their lines are in order.
 
-ghost use Rattle.std.specs.Prelude.{◌≡◌, ◌<◌, ◌^◌, length, slice_index, AllPairs, IsPermutation, IfOk};
+ghost use Rattle.std.specs.Prelude.{◌≡◌, ◌<◌, ◌^◌, length, AllPairs, IsPermutation, IfOk};
 ghost use Rattle.std.specs.List.{range_with_len};
 ghost use Rattle.dw_cprint.specs.Judgements.{level_of};
-ghost use Rattle.dw_cprint.specs.Listings.{AreLevels, AreNamedTypes, AreRanked, StandsBefore};
+ghost use Rattle.dw_cprint.specs.Listings.{AreNamedTypes, AreRanked, StandsBefore};
 
 use dw_image::{EntryId, Image};
 use dw_types::{Numbers, longest_at, longest_rows};
 use std::alloc::{AllocError, Global};
-
-/// The level of each entry: how many steps by value the longest path from it has.
-fn levels_of(alloc: Global, image: &Image<'_>) -> Result<Numbers, AllocError>
-    ensures { IfOk result (λ levels. AreLevels image.now (slice_index levels)) }
-{
-    longest_rows(alloc, image.by_value(), image.by_rank())
-}
 
 /// The level of the named type with a number; 0 where there is none.
 #[inline]
@@ -51,7 +44,8 @@ fn numbers_by_level(
     Ok(numbers)
 }
 
-/// The numbers of the named types, by rising level, then by rising offset.
+/// The numbers of the named types, by rising level, then by rising offset. The level of an entry: how many steps by
+/// value the longest path from it has.
 pub fn numbers_in_order(
     alloc: Global,
     image: &Image<'_>,
@@ -60,7 +54,7 @@ pub fn numbers_in_order(
     requires { AreNamedTypes image.now named.now }
     ensures { IfOk result (λ numbers. AreRanked image.now named.now numbers.items) }
 {
-    let levels = levels_of(alloc, image)?;
+    let levels = longest_rows(alloc, image.by_value(), image.by_rank())?;
     let numbers = numbers_by_level(alloc, named, &levels)?;
     Ok(numbers)
 }

@@ -243,13 +243,10 @@ fn order_of(
 ) -> Result<Vec<EntryId>, AllocError>
     ensures { IfOk result (λ order. order.items ≡ filter_map (slice_get named.now) printed.now.keys) }
 {
-    let mut order = Vec::new(alloc);
-    for number in printed {
-        if let Some(id) = named_at(named, *number) {
-            order.push(id)?;
-        }
-    }
-    Ok(order)
+    printed
+        .iter()
+        .filter_map(|number| named_at(named, *number))
+        .collect(alloc)
 }
 
 /// The named type with a number and why it is refused, if it is.

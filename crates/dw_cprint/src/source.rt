@@ -86,24 +86,14 @@ pub fn tag_at(image: &Image<'_>, id: EntryId) -> Tag
     image.tag(id)
 }
 
-/// The number of the type that an entry has, if it has one.
-#[tactic(auto, unfolding(crate::specs::LookUps::type_at, dw_image::specs::Images::type_in))]
-fn type_number(image: &Image<'_>, id: EntryId) -> Option<u32>
-    requires { id < length (entries_in image.now) }
-    ensures number { result ≡ type_at image.now id }
-    ensures within { IfSome result (λ to. to < length (entries_in image.now)) }
-{
-    let to = image.type_of(id)?;
-    Some(to.entry().number() as u32)
-}
-
 /// The type of an entry.
+#[tactic(auto, unfolding(crate::specs::LookUps::type_at, dw_image::specs::Images::type_in))]
 pub fn type_at(image: &Image<'_>, id: EntryId) -> TypeAt
     requires { id < length (entries_in image.now) }
     ensures { result ≡ type_at image.now id }
 {
-    match type_number(image, id) {
-        Some(to) => TypeAt::some(to),
+    match image.type_of(id) {
+        Some(to) => TypeAt::some(to.entry().number() as u32),
         None => TypeAt::none(),
     }
 }
