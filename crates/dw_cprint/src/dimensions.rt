@@ -2,7 +2,7 @@
 //! entries that it is made from. Otherwise their counts are read from the image each time that they are written.
 
 ghost use Rattle.std.specs.Prelude.{◌≡◌, ◌<◌, ◌&&◌, ◌||◌, List, [], Option, ℕ, length, flat_map, sum_by, OnOk};
-ghost use Rattle.std.specs.Prelude.{if◌then◌else◌, IfOk, IfSome, nat_lt, is_none, is_some, not};
+ghost use Rattle.std.specs.Prelude.{IfOk, IfSome, nat_lt, is_none, is_some, not};
 ghost use Rattle.std.specs.List.{cons_option};
 ghost use Rattle.dw_image.specs.Images.{entries_in};
 ghost use Rattle.dw_cprint.specs.Counted.{AreDimensions, DimensionsSoFar};
@@ -92,24 +92,6 @@ impl DimensionTally {
         }
     }
 
-    /// Whether the first count is unknown, with this one.
-    fn first_with(self, count: Option<u128>) -> bool
-        ensures { result ≡ (if self.some then self.first_unknown else is_none count) }
-    {
-        if self.some {
-            self.first_unknown
-        } else {
-            count.is_none()
-        }
-    }
-
-    /// Whether a count after the first is unknown, with this one.
-    fn wrong_with(self, count: Option<u128>) -> bool
-        ensures { result ≡ (self.some && (self.wrong || is_none count)) }
-    {
-        self.some && (self.wrong || count.is_none())
-    }
-
     /// What is found with the next dimension, if a child is one.
     #[tactic(auto, using(crate::proofs::CountLemmas::dimensions_more))]
     fn with(self, next: Option<Option<u128>>) -> DimensionTally
@@ -121,8 +103,12 @@ impl DimensionTally {
         };
         DimensionTally {
             some: true,
-            first_unknown: self.first_with(count),
-            wrong: self.wrong_with(count),
+            first_unknown: if self.some {
+                self.first_unknown
+            } else {
+                count.is_none()
+            },
+            wrong: self.some && (self.wrong || count.is_none()),
             length: plus(self.length as usize, count_length(count)) as u32,
         }
     }

@@ -1,8 +1,8 @@
 //! The enumerators of an enumeration. What one pass over them finds is kept, and their text if it is short compared
 //! with the entries that it is made from. Otherwise they are read from the image each time that they are written.
 
-ghost use Rattle.std.specs.Prelude.{◌≡◌, ◌<◌, ◌+◌, ◌&&◌, ◌||◌, List, [], ℕ, length, IfOk, OnOk};
-ghost use Rattle.std.specs.Prelude.{if◌then◌else◌, IfSome, nat_lt, option_map, is_some, not};
+ghost use Rattle.std.specs.Prelude.{◌≡◌, ◌<◌, ◌&&◌, ◌||◌, List, [], ℕ, length, IfOk, OnOk};
+ghost use Rattle.std.specs.Prelude.{IfSome, nat_lt, option_map, is_some, not};
 ghost use Rattle.std.specs.List.{cons_option, list_any};
 ghost use Rattle.dw_image.specs.Images.{entries_in};
 ghost use Rattle.dw_cprint.specs.Counted.{AreEnumerators, EnumeratorsSoFar};
@@ -11,7 +11,7 @@ ghost use Rattle.dw_cprint.specs.Kept.{EnumeratorsLeft, WritesEnumerator, Writes
 ghost use Rattle.dw_cprint.specs.Lengths.{capped, enumerator_bytes, enumerators_bytes};
 ghost use Rattle.dw_cprint.specs.LookUps.{is_short};
 ghost use Rattle.dw_cprint.specs.Shapes.{EnumeratorOf, view_enumerator};
-ghost use Rattle.dw_cprint.specs.Wrong.{is_wrong_enumeration, lacks_identifier, lacks_value};
+ghost use Rattle.dw_cprint.specs.Wrong.{is_wrong_enumeration, lacks_identifier};
 
 use crate::names::lacks_name;
 use crate::source::{Source, integer_at, is_short, tag_at};
@@ -110,29 +110,6 @@ impl EnumeratorTally {
         }
     }
 
-    /// Whether one lacks an identifier, with this one.
-    fn nameless_with(self, enumerator: &Enumerator<'_>) -> bool
-        ensures { result ≡ (self.nameless || lacks_identifier (view_enumerator enumerator.now)) }
-    {
-        self.nameless || lacks_name(enumerator.name)
-    }
-
-    /// Whether one has no value, with this one.
-    fn wrong_with(self, enumerator: &Enumerator<'_>) -> bool
-        ensures { result ≡ ((self.some && self.wrong) || lacks_value (view_enumerator enumerator.now)) }
-    {
-        self.some && self.wrong || enumerator.value.is_none()
-    }
-
-    /// The bytes of their text, with this one.
-    fn length_with(self, enumerator: &Enumerator<'_>) -> usize
-        ensures { result ≡ capped ((if self.some then self.length else 2)
-            + enumerator_bytes (view_enumerator enumerator.now)) }
-    {
-        let before = if self.some { self.length } else { 2 };
-        plus(before as usize, enumerator_length(enumerator))
-    }
-
     /// What is found with the next enumerator, if a child is one.
     #[tactic(auto, using(crate::proofs::CountLemmas::enumerators_more))]
     fn with(self, next: Option<Enumerator<'_>>) -> EnumeratorTally
@@ -143,11 +120,12 @@ impl EnumeratorTally {
         let Some(enumerator) = next else {
             return self;
         };
+        let before = if self.some { self.length } else { 2 };
         EnumeratorTally {
             some: true,
-            nameless: self.nameless_with(&enumerator),
-            wrong: self.wrong_with(&enumerator),
-            length: self.length_with(&enumerator) as u32,
+            nameless: self.nameless || lacks_name(enumerator.name),
+            wrong: self.some && self.wrong || enumerator.value.is_none(),
+            length: plus(before as usize, enumerator_length(&enumerator)) as u32,
         }
     }
 }
