@@ -1,5 +1,5 @@
 -- What the values of entries of an image mean.
-use Rattle.std.proofs.Common.{◌≡◌, ℕ, ◌<◌, List, length, Option, Some, ap, subst, ◌∙◌, arith}
+use Rattle.std.proofs.Common.{◌≡◌, ℕ, ◌<◌, List, length, length-drop, Option, Some, ap, subst, ◌∙◌, arith}
 use Rattle.std.specs.Prelude.{slice_get}
 use Rattle.dw_forms.specs.Value.{Datum}
 use Rattle.dw_entries.specs.declared.entries.Entries.{Entries}
@@ -59,6 +59,7 @@ unit_fits i u hand =
       hand.within,
       few_units _ (units_in i) i.entries.scanned.1.spells.are,
       ap length i.entries.scanned.1.spells.parts,
+      length-drop i.entries.sections.base i.entries.sections.info.now,
       i.entries.sections.info_fits,
     )
 
