@@ -6,7 +6,7 @@ use Rattle.dw_cprint.specs.Tokens.{Token, Blank, Star, Open, Close, LeftBracket,
 use Rattle.dw_cprint.specs.Writing.{spaced, qualifying, qualified_declarator, basic, enclosed, count_tokens, name_tokens, signature_tokens}
 use Rattle.dw_cprint.specs.Legible.{IsIdentifier, IsName, IsQualifiable}
 use Rattle.dw_cprint.specs.Reading.{Shape, same, ReaderPlace, OfFirst, After, Grouped, Before, Inside, Behind, End, AtClose, AtComma, AtSemicolon, AtColon, ended, finished}
-use Rattle.dw_cprint.proofs.CheckedLemmas.{checked, checked-name}
+use Rattle.dw_cprint.proofs.LexingLemmas.{checked, checked-name}
 
 -- the tokens at which a declarator ends
 abbrev pub end_tokens : End → List Token

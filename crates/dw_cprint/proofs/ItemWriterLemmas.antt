@@ -8,10 +8,10 @@ use Rattle.std.proofs.lemmas.List.{drop_more}
 use Rattle.dw_cprint.specs.Declarations.{is_cut_short, has_more, constants_of, parameters_by, members_by, body_by}
 use Rattle.dw_cprint.specs.Declarators.{comma}
 use Rattle.dw_cprint.specs.Kept.{Writes, EnumeratorsLeft, constants_left, WritesEnumerator, WritesEnumerators, WritesParameter, WritesParameters, kept_term}
-use Rattle.dw_cprint.specs.Shapes.{AggregateKeyword, OfAggregate, Enum, Parameter, Typed, More, Name, TypeAt, MemberOf, EnumeratorOf, aggregate, enumeration}
+use Rattle.dw_cprint.specs.Shapes.{AggregateKeyword, OfAggregate, Enum, Parameter, Typed, More, Name, TypeAt, MemberOf, details_of, EnumeratorOf, aggregate, enumeration}
 use Rattle.dw_cprint.specs.Terms.{Constant, Valued, Term, Body, Aggregate, Constants, Parameters, Parameter as ParameterTerm, Members, Member as MemberTerm}
-use Rattle.dw_cprint.specs.Tokens.{Token, Blank, LeftBrace, RightBrace, Semicolon, Comma, Dot, TagWord, text_of, spelling}
-use Rattle.dw_cprint.specs.Writing.{body_tokens, front_tokens, spell, name_tokens, bits_tokens, ellipsis, constant_tokens, constants, more_constants, more_parameters, members_tokens, written}
+use Rattle.dw_cprint.specs.Tokens.{Token, Blank, LeftBrace, RightBrace, Comma, Dot, TagWord, text_of, spelling}
+use Rattle.dw_cprint.specs.Writing.{body_tokens, front_tokens, spell, name_tokens, ellipsis, constant_tokens, constants, more_constants, more_parameters, member_tokens, members_tokens, written}
 use Rattle.dw_cprint.specs.declared.survey.Survey.{Survey}
 use Rattle.dw_cprint.proofs.OptionLemmas.{both_hold, map_holds, map_inverted, then_inverted, unless_holds}
 use Rattle.dw_cprint.proofs.WriterLemmas.{both}
@@ -57,26 +57,21 @@ module _ {X : Type 0} (tokens : List X → Option (List Token)) (all : List X) (
 abbrev pub members_left : (TypeAt → Option Term) → List MemberOf → Option (List Token)
 members_left term ms = option_map members_tokens (members_by term ms)
 
-member-tokens : (name : Name) (t : Term) (bits : Option ℕ) (us : Members)
-    → (spell [] t (name_tokens name) ++ (bits_tokens bits ++ Semicolon ∷ Blank ∷ [])) ++ members_tokens us
-    ≡ members_tokens (MemberTerm name t bits us)
-member-tokens name t bits us = search (rules, append_assoc)
-
 pub members_next : (term : TypeAt → Option Term) (all : List MemberOf) (m : MemberOf) (left : List MemberOf)
     (old out out' : List ℕ) → IsLeft (members_left term) all old (m ∷ left) out
     → ((t : Term) → term m.type_at ≡ Some t
-    → Writes (spell [] t (name_tokens m.name) ++ (bits_tokens m.bits ++ Semicolon ∷ Blank ∷ [])) out out')
+    → Writes (member_tokens (details_of m) (spell [] t (name_tokens m.name))) out out')
     → IsLeft (members_left term) all old left out'
 members_next term all m left old out out' so_far written = left-next (members_left term) all old m left out out' so_far
     (map_holds (λ (us : List Token). IsSplit (members_left term) left us out out') members_tokens
     (members_by term (m ∷ left))
     (both_hold (λ (ms : Members). IsSplit (members_left term) left (members_tokens ms) out out')
-    (λ (t : Term). MemberTerm m.name t m.bits) (term m.type_at) (members_by term left)
+    (λ (t : Term). MemberTerm (details_of m) t) (term m.type_at) (members_by term left)
     (λ t is us are. (
       _,
       members_tokens us,
       ap (option_map members_tokens) are,
-      member-tokens m.name t m.bits us,
+      refl,
       written
           t is,
     ))))

@@ -6,7 +6,7 @@ use Rattle.std.proofs.lemmas.List.Splits.{length-slice_split}
 use Rattle.std.proofs.lemmas.Option.{same_Some}
 use Rattle.dw_cprint.specs.Declarations.{words_of, parts_of, is_miscounted, is_misplaced, nested_arrays, constants_of, has_more, parameters_by, members_by, body_by, term_by, term_at, declaration_by}
 use Rattle.dw_cprint.specs.Legible.{is_identifier, IsIdentifier, IsName, AreConstants, IsQualifiable, IsPresent, IsLegible, IsLegibleBody, IsSignature, AreParameters, AreMembers, IsLegibleDeclaration}
-use Rattle.dw_cprint.specs.Shapes.{AggregateKeyword, Parameter, Typed, More, Name, TypeAt, MemberOf, EnumeratorOf, BodyOf, aggregate, enumeration, ShapeOf, base, typedef, Qualifier, Restrict, qualified, pointer, array, function, tagged, body, foreign, other, SubjectOf, typedef_subject, variable_subject, defined_subject, declared_subject, other_subject}
+use Rattle.dw_cprint.specs.Shapes.{AggregateKeyword, Parameter, Typed, More, Name, TypeAt, MemberOf, details_of, EnumeratorOf, BodyOf, aggregate, enumeration, ShapeOf, base, typedef, Qualifier, Restrict, qualified, pointer, array, function, tagged, body, foreign, other, SubjectOf, typedef_subject, variable_subject, defined_subject, declared_subject, other_subject}
 use Rattle.dw_cprint.specs.Steps.{parameter_types, member_types, types_declared, types_reached, entries_among, steps_reached, root, further, IsReached, HasPath, HasPathFrom}
 use Rattle.dw_cprint.specs.Terms.{TypeWord, Constant, Valued, Term, Named, Basic, Tagged, Unnamed, Aggregate, Constants, Qualified, Pointer, Function, Unprototyped, Prototyped, Parameters, Parameter as ParameterTerm, Member as MemberTerm, CDeclaration, Typedef, Variable, Defined}
 use Rattle.dw_cprint.specs.Wrong.{TypeKind, shape_of, StandsUnder, nothing, itself, IsVoidLike, is_bracketed, is_wrong_row, kind_at, kind_in, lacks_identifier, lacks_member_name, lacks_value, lacks_name, lacks_base_name, HasBadName, is_foreign, is_wrong, is_wrong_enumeration, IsUnspeakable, wrong, row, void_object, has_bad_name, has_own_bad_name, unspeakable}
@@ -142,7 +142,7 @@ module _ (shapes : ℕ → ShapeOf) (term : TypeAt → Option Term) (D : Type 0)
       → Reads AreMembers D (members_by term ms)
   members_read odd word [] named h = tt
   members_read odd word (m ∷ ms) named h =
-      reads_both D _ AreMembers AreMembers (λ (t : Term). MemberTerm m.name t m.bits) (term m.type_at)
+      reads_both D _ AreMembers AreMembers (λ (t : Term). MemberTerm (details_of m) t) (term m.type_at)
       (members_by term ms) (first-of Good m.type_at (member_types ms) h)
       (members_read odd word ms (λ w. named (or_right _ _ w)) (others-of Good m.type_at (member_types ms) h))
       (λ t us g are. (

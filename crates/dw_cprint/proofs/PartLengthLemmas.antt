@@ -7,12 +7,12 @@ use Rattle.std.proofs.lemmas.List.Sums.{sum_by-cons}
 use Rattle.dw_cprint.specs.Declarations.{body_by, constants_of, has_more, is_misplaced, is_cut_short, members_by, parameters_by}
 use Rattle.dw_cprint.specs.Declarators.{before, after}
 use Rattle.dw_cprint.specs.Lengths.{byte_count, capped, type_bytes, space, has_gap, IsLength, name_bytes, value_bytes, enumerator_bytes, enumerators_bytes, named_bytes, member_bytes, parameter_bytes, parameters_bytes, shape_bytes, tag_bytes}
-use Rattle.dw_cprint.specs.Shapes.{Parameter, Typed, More, Name, TagKeyword, OfAggregate, Enum, TypeAt, MemberOf, EnumeratorOf, BodyOf, aggregate, enumeration, body}
+use Rattle.dw_cprint.specs.Shapes.{Parameter, Typed, More, Name, TagKeyword, OfAggregate, Enum, TypeAt, MemberOf, details_of, EnumeratorOf, BodyOf, aggregate, enumeration, body}
 use Rattle.dw_cprint.specs.Steps.{member_types, parameter_types, types_reached}
 use Rattle.dw_cprint.specs.Summaries.{Summary}
-use Rattle.dw_cprint.specs.Terms.{Constant, Valued, Term, Body, Aggregate, Constants, Prototyped, Parameters, NoParameter, Parameter as ParameterTerm, Members, NoMember, Member as MemberTerm}
+use Rattle.dw_cprint.specs.Terms.{Constant, Valued, Details, Term, Body, Aggregate, Constants, Prototyped, Parameters, NoParameter, Parameter as ParameterTerm, Members, NoMember, Member as MemberTerm}
 use Rattle.dw_cprint.specs.Tokens.{Token, Blank, LeftBrace, RightBrace, Semicolon, Comma, Equals, TagWord, Identifier, spelling, text_of}
-use Rattle.dw_cprint.specs.Writing.{body_tokens, front_tokens, spell, bits_tokens, constant_tokens, constants, ellipsis, members_tokens, more_constants, more_parameters, name_tokens, signature_tokens, value_tokens}
+use Rattle.dw_cprint.specs.Writing.{body_tokens, front_tokens, spell, bits_tokens, constant_tokens, constants, ellipsis, member_tokens, members_tokens, more_constants, more_parameters, name_tokens, signature_tokens, value_tokens}
 use Rattle.dw_cprint.specs.Wrong.{TypeKind}
 use Rattle.dw_cprint.proofs.DeclaratorLemmas.{in_parts}
 use Rattle.dw_cprint.proofs.ItemWriterLemmas.{more-constants}
@@ -48,6 +48,15 @@ bare-known t k b n is = is.bare ∙ ap (λ (m : ℕ). capped m) (bare-bytes t)
 pub around-length : (t : Term) (k b : TypeKind) (n : ℕ) → IsLength t k b n
     → capped (n + space (has_gap k b)) ≡ capped (type_bytes t true)
 around-length t k b n is = omega (arith, bare-known t k b n is, is.around)
+
+-- a member by its type and name and what is around them
+around-member : (d : Details) (typed : List Token)
+    → byte_count (member_tokens d typed) ≡ byte_count typed + byte_count (member_tokens d [])
+around-member d typed = count-append typed (bits_tokens d.bits ++ Semicolon ∷ Blank ∷ [])
+
+-- what is around them
+pub details_counted : (d : Details) → byte_count (member_tokens d []) ≡ byte_count (bits_tokens d.bits) + 2
+details_counted d = count-append (bits_tokens d.bits) (Semicolon ∷ Blank ∷ [])
 
 -- a parameter with the comma and the space before it, and those after it
 more-bytes : (t : Term) (ps : Parameters) (variadic : Bool)
@@ -88,19 +97,17 @@ module _ (term : TypeAt → Option Term) (known : TypeAt → Summary) where
   members-length (m ∷ ms) us all e =
       both_hold (λ (us : Members). capped (sum_by (member_bytes known) (m ∷ ms))
       ≡ capped (byte_count (members_tokens us)))
-      (λ (t : Term). MemberTerm m.name t m.bits) (term m.type_at) (members_by term ms) (λ t is vs are.
+      (λ (t : Term). MemberTerm (details_of m) t) (term m.type_at) (members_by term ms) (λ t is vs are.
       let inner = members-length ms vs (others-of (Tells term known) m.type_at (member_types ms) all) are in
       let here = named-length t m.type_at m.name (first-of (Tells term known) m.type_at (member_types ms) all t is) in
-      let end = Semicolon ∷ Blank ∷ members_tokens vs in
-      let text = count-append (spell [] t (name_tokens m.name)) (bits_tokens m.bits ++ end) in
+      let typed = spell [] t (name_tokens m.name) in
       omega (
         arith,
         here,
         inner,
         sum_by-cons (member_bytes known) m ms,
-        text,
-        count-append (bits_tokens m.bits) end,
-        count-append (Semicolon ∷ Blank ∷ []) (members_tokens vs),
+        count-append (member_tokens (details_of m) typed) (members_tokens vs),
+        around-member (details_of m) typed,
       )) us e
 
   -- those after the first, and the dots

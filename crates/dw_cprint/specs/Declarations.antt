@@ -8,9 +8,9 @@ use Rattle.dw_cprint.specs.Terms.{Aggregate, Constants, Qualified, Pointer, Arra
 use Rattle.dw_cprint.specs.Terms.{Prototyped, Parameters, NoParameter, Parameter as ParameterTerm, Members, NoMember}
 use Rattle.dw_cprint.specs.Terms.{Member as MemberTerm, CDeclaration, Typedef, Variable, Defined, Declared}
 use Rattle.dw_cprint.specs.Tokens.{type_word_spelling, type_words}
-use Rattle.dw_cprint.specs.Shapes.{Parameter, Typed, More, TypeAt, MemberOf, EnumeratorOf, BodyOf, aggregate}
-use Rattle.dw_cprint.specs.Shapes.{enumeration, ShapeOf, base, typedef, qualified, pointer, array, function, tagged}
-use Rattle.dw_cprint.specs.Shapes.{body, SubjectOf, typedef_subject, variable_subject, defined_subject}
+use Rattle.dw_cprint.specs.Shapes.{Parameter, Typed, More, TypeAt, MemberOf, details_of, EnumeratorOf, BodyOf}
+use Rattle.dw_cprint.specs.Shapes.{aggregate, enumeration, ShapeOf, base, typedef, qualified, pointer, array, function}
+use Rattle.dw_cprint.specs.Shapes.{tagged, body, SubjectOf, typedef_subject, variable_subject, defined_subject}
 use Rattle.dw_cprint.specs.Shapes.{declared_subject}
 
 -- ---- names of base types
@@ -88,7 +88,7 @@ module _ (term : TypeAt → Option Term) where
   abbrev pub members_by : List MemberOf → Option Members
   members_by [] = Some NoMember
   members_by (m ∷ ms) =
-      option_and_then (λ (t : Term). option_map (MemberTerm m.name t m.bits) (members_by ms)) (term m.type_at)
+      option_and_then (λ (t : Term). option_map (MemberTerm (details_of m) t) (members_by ms)) (term m.type_at)
 
   -- a body
   abbrev pub body_by : BodyOf → Option Body

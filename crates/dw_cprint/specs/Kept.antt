@@ -4,11 +4,11 @@ use Rattle.std.specs.Prelude.{option_and_then}
 use Rattle.std.specs.Option.{option_map_or}
 use Rattle.dw_cprint.specs.Declarations.{term_at, body_by, parameters_by, has_more, is_misplaced, constants_of}
 use Rattle.dw_cprint.specs.Declarations.{declaration_of}
-use Rattle.dw_cprint.specs.Shapes.{Parameter, Typed, More, Name, TypeAt, MemberOf, EnumeratorOf, BodyOf, ShapeOf}
-use Rattle.dw_cprint.specs.Shapes.{other, SubjectOf, view_shape}
+use Rattle.dw_cprint.specs.Shapes.{Parameter, Typed, More, Name, TypeAt, MemberOf, details_of, EnumeratorOf, BodyOf}
+use Rattle.dw_cprint.specs.Shapes.{ShapeOf, other, SubjectOf, view_shape}
 use Rattle.dw_cprint.specs.Terms.{Term, Parameters, Prototyped, Constant, Valued}
-use Rattle.dw_cprint.specs.Tokens.{Token, LeftBrace, RightBrace, Semicolon, Blank, Dot, text_of}
-use Rattle.dw_cprint.specs.Writing.{body_tokens, spell, name_tokens, bits_tokens, constant_tokens, constants}
+use Rattle.dw_cprint.specs.Tokens.{Token, LeftBrace, RightBrace, Blank, Dot, text_of}
+use Rattle.dw_cprint.specs.Writing.{body_tokens, spell, name_tokens, member_tokens, constant_tokens, constants}
 use Rattle.dw_cprint.specs.Writing.{more_constants, signature_tokens, declaration_tokens}
 use Rattle.dw_cprint.specs.declared.survey.Survey.{Survey}
 
@@ -35,8 +35,7 @@ WritesOf {X = X} o tokens old new = (x : X) → o ≡ Some x → Writes (tokens 
 -- a member of a body was written
 abbrev pub WritesMember : Survey → ℕ → MemberOf → List ℕ → List ℕ → Type 0
 WritesMember s k m =
-    WritesOf (kept_term s k m.type_at)
-    (λ (t : Term). spell [] t (name_tokens m.name) ++ (bits_tokens m.bits ++ Semicolon ∷ Blank ∷ []))
+    WritesOf (kept_term s k m.type_at) (λ (t : Term). member_tokens (details_of m) (spell [] t (name_tokens m.name)))
 
 -- an enumerator was written
 abbrev pub WritesEnumerator : EnumeratorOf → List ℕ → List ℕ → Type 0

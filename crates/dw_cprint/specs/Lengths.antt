@@ -5,12 +5,12 @@ use Rattle.std.specs.Prelude.{length, sum_by, if◌then◌else◌}
 use Rattle.dw_types.specs.Sizes.{has_elements}
 use Rattle.dw_cprint.specs.Declarators.{before, after, opening, closing}
 use Rattle.dw_cprint.specs.Shapes.{Qualifier, TagKeyword, OfAggregate, Enum, Name, Parameter, Typed, More, TypeAt}
-use Rattle.dw_cprint.specs.Shapes.{MemberOf, EnumeratorOf, aggregate, enumeration, ShapeOf, base, typedef, qualified}
-use Rattle.dw_cprint.specs.Shapes.{pointer, array, function, tagged, body, SubjectOf, typedef_subject}
+use Rattle.dw_cprint.specs.Shapes.{MemberOf, details_of, EnumeratorOf, aggregate, enumeration, ShapeOf, base, typedef}
+use Rattle.dw_cprint.specs.Shapes.{qualified, pointer, array, function, tagged, body, SubjectOf, typedef_subject}
 use Rattle.dw_cprint.specs.Shapes.{variable_subject, defined_subject, declared_subject, other_subject}
 use Rattle.dw_cprint.specs.Terms.{Term}
 use Rattle.dw_cprint.specs.Tokens.{Token, text_of, qualifier_spelling, tag_spelling}
-use Rattle.dw_cprint.specs.Writing.{spell, bits_tokens, count_tokens, value_tokens}
+use Rattle.dw_cprint.specs.Writing.{spell, count_tokens, member_tokens, value_tokens}
 use Rattle.dw_cprint.specs.Wrong.{TypeKind, is_bracketed, is_pointer, kind_in}
 use Rattle.dw_cprint.specs.declared.survey.Summary.{Summary}
 
@@ -86,9 +86,9 @@ module _ (known : TypeAt → Summary) where
   named_bytes at None = (known at).length
   named_bytes at (Some name) = bytes_around at + length name
 
-  -- the bytes of a member: its type and name, its size in bits, and `; `
+  -- the bytes of a member: its type and name, and what is around them
   abbrev pub member_bytes : MemberOf → ℕ
-  member_bytes m = named_bytes m.type_at m.name + byte_count (bits_tokens m.bits) + 2
+  member_bytes m = named_bytes m.type_at m.name + byte_count (member_tokens (details_of m) [])
 
   -- the bytes of members, in braces
   abbrev pub members_bytes : List MemberOf → ℕ

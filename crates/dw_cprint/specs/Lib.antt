@@ -1,10 +1,10 @@
 -- Chapters, in reading order.
+pub mod Terms
 pub mod LookUps
 pub mod Enumerators
 pub mod Shapes
 pub mod EntryShapes
 pub mod Steps
-pub mod Terms
 pub mod Legible
 pub mod Digits
 pub mod Tokens

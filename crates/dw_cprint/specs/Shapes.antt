@@ -11,6 +11,7 @@ pub use Rattle.dw_cprint.specs.declared.words.TagKeyword.{TagKeyword}
 pub use Rattle.dw_cprint.specs.declared.words.TagKeyword.TheVariants.{OfAggregate, Enum}
 pub use Rattle.dw_cprint.specs.declared.shape.Parameter.{Parameter}
 pub use Rattle.dw_cprint.specs.declared.shape.Parameter.TheVariants.{Typed, More}
+use Rattle.dw_cprint.specs.Terms.{Details}
 use Rattle.dw_cprint.specs.declared.words.Text.{Text}
 use Rattle.dw_cprint.specs.declared.shape.Member.{Member}
 use Rattle.dw_cprint.specs.declared.enumerators.Enumerator.{Enumerator}
@@ -30,6 +31,10 @@ pub record MemberOf : Type 0 where
   pub name : Name
   pub type_at : TypeAt
   pub bits : Option ℕ
+
+-- what its declaration has beside its type
+abbrev pub details_of : MemberOf → Details
+details_of m = record { name = m.name; bits = m.bits }
 
 -- a body: the members of a structure or union, or the enumerators of an enumeration; odd: a child is an inheritance or
 -- a variant part

@@ -86,6 +86,7 @@ fn bits_length(bits: Option<u64>) -> usize
 
 /// The bytes of a member: its type and name, its size in bits, and `; `.
 #[inline]
+#[tactic(auto, using(crate::proofs::PartLengthLemmas::details_counted))]
 fn member_length(survey: &Survey<'_>, member: &Member<'_>) -> usize
     ensures { result ≡ capped (member_bytes (known_of survey.now) (view_member member.now)) }
 {

@@ -1,4 +1,4 @@
-use Rattle.std.proofs.Common.{◌≡◌, [], ◌∷◌, Bool, List, Some, None, true, refl, ap, sym, ◌∙◌, subst, get_or, map, rules}
+use Rattle.std.proofs.Common.{◌≡◌, [], ◌∷◌, Bool, List, Some, None, refl, ap, sym, ◌∙◌, subst, get_or, map, rules}
 use Rattle.std.proofs.lemmas.List.{drop_more, drop_all, get_or_read}
 use Rattle.dw_cprint.specs.Declarations.{term_at, term_by}
 use Rattle.dw_cprint.specs.Declarators.{before, core, gap, pointer_row}
