@@ -936,7 +936,7 @@ def leveled():
 
 # Entries of the types below, and the bytes of memory that `types` may have for each byte of them, besides its own.
 SMALL_TYPES = 4_000_000
-NODE_MEMORY = 54
+NODE_MEMORY = 56
 
 
 def nodes():
