@@ -176,7 +176,8 @@ pub fn length_of(survey: &Survey<'_>, shape: &Shape<'_>) -> usize
     }
 }
 
-/// The bytes of a declaration. Those of a typedef have `typedef ` before and `;` after them, those of a body ` ` and `;`.
+/// The bytes of a declaration. Those of a typedef have `typedef ` before and `;` after them, those of a body ` `
+/// and `;`.
 pub fn length_declared(survey: &Survey<'_>, subject: &Subject<'_>) -> usize
     ensures { result ≡ capped (declared_bytes (known_of survey.now) (view_subject subject.now)) }
 {

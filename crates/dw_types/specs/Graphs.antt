@@ -1,5 +1,6 @@
 -- Chapter: graphs of steps, lists of nodes along steps, and cycles.
-use Rattle.std.specs.Prelude.{◌≡◌, ◌≢◌, ℕ, suc, ◌+◌, ◌-◌, ◌<◌, ◌≤◌, List, [], length, slice_index, slice_index_or, sum_by}
+use Rattle.std.specs.Prelude.{◌≡◌, ◌≢◌, ℕ, suc, ◌+◌, ◌-◌, ◌<◌, ◌≤◌, List, [], length}
+use Rattle.std.specs.Prelude.{slice_index, slice_index_or, sum_by}
 
 -- the steps of each node, in order: the node k has the k-th list, and a step is the node that it goes to
 abbrev pub Graph : Type 0
