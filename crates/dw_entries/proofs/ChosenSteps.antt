@@ -41,9 +41,7 @@ module _ (test : AttributeSpec → Bool) (x : Context) where
   pub before_passed : (all found : Attributes) (is : IsFrom test all found) (bs : List Attribute)
       → AreAttributes x (specs_in all) bs
       → ArePassed Fails (take (length (follow test all found is).before) (map value_of bs))
-  before_passed all found is bs are =
-      let f = follow test all found is in
-      search (rules, specs_ends, length-map, front_passed)
+  before_passed all found is bs are = search (rules, follow, specs_ends, length-map, front_passed)
 
 -- the next one that is given is after those that are passed
 pub next_found : (Passes : AttributeSpec → Type 0) (items left behind : List (ℕ × Datum)) (k : ℕ) (found : ℕ × Datum)
@@ -51,7 +49,7 @@ pub next_found : (Passes : AttributeSpec → Type 0) (items left behind : List (
     → IsNextOf Passes items found behind
 next_found Passes items left behind k found steps rest are = record {
   passed = take k items;
-  parts = sym (take-append-drop k items) ∙ ap (λ (xs : List (ℕ × Datum)). take k items ++ xs) (sym rest ∙ steps);
+  parts = search (rules, take-append-drop);
   are_passed = are;
 }
 
@@ -69,14 +67,11 @@ pub stop_taken : (test : AttributeSpec → Bool) (all from mid after : Attribute
     → TakesFirst test (specs_in all) (specs_in after)
 stop_taken test all from mid after is same first =
     let f = follow test all from is in
-    let ends : Ends from after (record { number = from.first; item = first.0 } ∷ []) =
-    subst (λ (m : Attributes). Ends m after (record { number = m.first; item = first.0 } ∷ [])) same first.1 in
+    let ends : Ends from after (record { number = from.first; item = first.0 } ∷ []) = search rules in
     record {
       passed = items_of f.before;
       spec = first.0;
-      parts =
-          specs_ends all from f.before f.ends
-          ∙ ap (λ (specs : List AttributeSpec). items_of f.before ++ specs) (first_specs from after first.0 ends);
+      parts = search (rules, specs_ends, first_specs);
       none_passed = f.none;
       taken = f.passes first.0 after ends;
     }

@@ -1,5 +1,5 @@
 -- How deep an entry is: one deeper than its parent, which is an earlier entry.
-use Rattle.std.proofs.Common.{rules, ◌≡◌, ℕ, zero, suc, ◌+◌, ◌-◌, ◌<◌, ◌≤◌, List, [], ◌∷◌, ◌++◌, length, get_or, Option, Some, None, refl, sym, ap, subst, ◌∙◌, inl, inr, arith}
+use Rattle.std.proofs.Common.{rules, ◌≡◌, ℕ, zero, suc, ◌+◌, ◌-◌, ◌<◌, ◌≤◌, List, [], ◌∷◌, ◌++◌, length, get_or, Option, Some, None, refl, sym, ap, ◌∙◌, inl, inr, arith, subst}
 use Rattle.std.specs.Prelude.{◌⊎◌, slice_get}
 use Rattle.std.proofs.lemmas.Bool.{cases_lt}
 use Rattle.std.proofs.lemmas.Option.{slice_get_within, slice_get-get_or}
@@ -10,7 +10,7 @@ use Rattle.dw_entries.specs.Grammar.{head_bytes}
 use Rattle.dw_entries.specs.Header.{unit_header_size}
 use Rattle.dw_entries.specs.Tree.{Node, Nodes, leaf, parent, none, ◌then◌, node_bytes}
 use Rattle.dw_entries.specs.Units.{DebugUnit, unit_bytes}
-use Rattle.dw_entries.specs.Entries.{Entry, node_count, first_id, node_entries, nodes_entries, entries_from, start_of, entries_of}
+use Rattle.dw_entries.specs.Entries.{Entry, node_count, first_id, node_entries, nodes_entries, entries_from, entries_of, start_of}
 use Rattle.dw_entries.specs.ByNumber.{entry_of}
 use Rattle.dw_entries.specs.Scanned.{found_units, Scanned}
 use Rattle.dw_entries.proofs.EntryFacts.{length-node_entries, kept_get}
@@ -50,8 +50,8 @@ in_back es fs id first above depth k e starts le (inr h) =
       place = length es + h.place;
       above = h.above;
       before = omega (arith, before, le);
-      is_above = get_behind es fs (length es + h.place) (omega arith) ∙ ap (slice_get fs) place ∙ h.is_above;
-      parent = h.parent ∙ ap (λ (n : ℕ). Some n) number;
+      is_above = search (rules, get_behind);
+      parent = search rules;
       depth = h.depth;
     })
 
@@ -91,7 +91,7 @@ mutual
             above = own;
             before = omega arith;
             is_above = refl;
-            parent = outer.0 ∙ ap (λ (n : ℕ). Some n) (let number : id ≡ id + 0 = omega arith in number);
+            parent = search rules;
             depth = outer.1;
           })
       go (inr h) =
@@ -101,9 +101,7 @@ mutual
             above = h.above;
             before = omega (arith, before);
             is_above = h.is_above;
-            parent =
-                h.parent ∙ ap (λ (n : ℕ). Some n)
-                (let number : suc id + h.place ≡ id + suc h.place = omega arith in number);
+            parent = search rules;
             depth = h.depth;
           })
 
@@ -189,7 +187,7 @@ abbrev pub height : Option ℕ → ℕ
 height None = 0
 height (Some p) = suc p
 
-module _ {base : ℕ} (a info : List ℕ) (tables : Tables) (rs : List UnitRecord) (records : List Record)
+module _ {base : ℕ} {a info : List ℕ} {tables : Tables} {rs : List UnitRecord} {records : List Record}
     (s : Scanned base a info tables rs records) where
   -- the record of an entry has its parent
   parent_kept : (id : ℕ) (r : Record) (e : Entry) → slice_get records id ≡ Some r
@@ -199,12 +197,12 @@ module _ {base : ℕ} (a info : List ℕ) (tables : Tables) (rs : List UnitRecor
   pub starts : (id : ℕ) (r : Record) → id < length (entries_of (found_units s)) → slice_get records id ≡ Some r
       → Climbs (entries_of (found_units s)) id 0 r.parent
   starts id r within read =
-      let k = kept_entry a info tables rs records s id within in
+      let k = kept_entry s id within in
       record {
         place = id;
         here = found_entry s id;
         is_here = k.is_entry;
-        parent = sym (parent_kept id r (found_entry s id) read k.is_entry);
+        parent = search (rules, parent_kept);
         sum = omega arith;
         fewer = omega arith;
       }
@@ -221,14 +219,11 @@ module _ {base : ℕ} (a info : List ℕ) (tables : Tables) (rs : List UnitRecor
         )
 
     pub depth_less : depth < id
-    depth_less =
-        let (above, is, deeper, less) = one_deeper (found_units s) c.place p c.here c.is_here c.parent in
-        let fewer = c.fewer in
-        omega (arith, less, fewer)
+    depth_less = search (rules, one_deeper)
 
     module _ (r : Record) (read : r ≡ get_or records p r) where
       stands : slice_get records p ≡ Some r
-      stands = slice_get-get_or records p r above_within ∙ ap (λ (x : Record). Some x) (sym read)
+      stands = search (rules, slice_get-get_or, above_within)
 
       pub climbs : Climbs (entries_of (found_units s)) id (depth + 1) r.parent
       climbs =

@@ -18,24 +18,20 @@ use Rattle.dw_entries.proofs.OrderLaws.{Rises, units_rise}
 rises_low : (low high : ℕ) (rs : List Record) (j : ℕ) (r : Record) → Rises low high rs → slice_get rs j ≡ Some r
     → low ≤ r.at
 rises_low low high [] j r p is = absurd cc
-rises_low low high (q ∷ rs) zero r p is =
-    let e : Some q ≡ Some r = is in let same : q ≡ r = cc in subst (λ (x : Record). low ≤ x.at) same p.0
-rises_low low high (q ∷ rs) (suc j) r p is =
-    let more = rises_low (suc q.at) high rs j r p.1 is in omega (arith, more, p.0)
+rises_low low high (q ∷ rs) zero r p is = search (rules)
+rises_low low high (q ∷ rs) (suc j) r p is = search (rules, (rises_low (suc q.at) high rs j r p.1 is))
 
 rises_get : (low high : ℕ) (rs : List Record) (i j : ℕ) (a b : Record) → Rises low high rs → i < j
     → slice_get rs i ≡ Some a → slice_get rs j ≡ Some b → a.at < b.at
 rises_get low high [] i j a b p lt is_a is_b = absurd cc
 rises_get low high (r ∷ rs) i zero a b p lt is_a is_b = absurd (omega arith)
-rises_get low high (r ∷ rs) zero (suc j) a b p lt is_a is_b =
-    let e : Some r ≡ Some a = is_a in let same : r ≡ a = cc in
-    subst (λ (x : Record). x.at < b.at) same (rises_low (suc r.at) high rs j b p.1 is_b)
+rises_get low high (r ∷ rs) zero (suc j) a b p lt is_a is_b = search (rules, rises_low)
 rises_get low high (r ∷ rs) (suc i) (suc j) a b p lt is_a is_b =
     rises_get (suc r.at) high rs i j a b p.1 (omega arith) is_a is_b
 
 pub kept_get : (numbers : ℕ → ℕ → ℕ) (us : List DebugUnit) (i : ℕ) (e : Entry) → slice_get (entries_of us) i ≡ Some e
     → slice_get (records_of numbers us) i ≡ Some (record_of numbers e)
-kept_get numbers us i e is = slice_get-map (record_of numbers) (entries_of us) i ∙ rw is refl
+kept_get numbers us i e is = search (rules, slice_get-map)
 
 pub entries_rise : (a : List ℕ) (us : List DebugUnit) → AreUnits a us → OffsetsRise (entries_of us)
 entries_rise a us are i j d e lt is_d is_e =
@@ -67,12 +63,11 @@ mutual
       → length (nodes_entries unit above depth id at ns) ≡ nodes_count ns
   length-nodes_entries unit above depth id at none = refl
   length-nodes_entries unit above depth id at (n then ns) =
-      omega (
-        arith,
-        length-append (node_entries unit (Some above) depth (first_id ns (id + node_count n)) id at n)
-            (nodes_entries unit above depth (id + node_count n) (at + length (node_bytes n)) ns),
-        length-node_entries unit (Some above) depth (first_id ns (id + node_count n)) id at n,
-        length-nodes_entries unit above depth (id + node_count n) (at + length (node_bytes n)) ns,
+      search (
+        rules,
+        length-append,
+        (length-node_entries unit (Some above) depth (first_id ns (id + node_count n)) id at n),
+        (length-nodes_entries unit above depth (id + node_count n) (at + length (node_bytes n)) ns),
       )
 
 -- ---- the units, each at its offset
@@ -102,7 +97,7 @@ placed_low : (at first : ℕ) (us : List DebugUnit) (k : ℕ) (p : PlacedUnit)
 placed_low at first [] k p is = absurd cc
 placed_low at first (u ∷ us) zero p is = search (rules)
 placed_low at first (u ∷ us) (suc k) p is =
-    let more = placed_low (at + length (unit_bytes u)) (first + node_count u.root) us k p is in omega (arith, more)
+    search (rules, (placed_low (at + length (unit_bytes u)) (first + node_count u.root) us k p is))
 
 -- no unit is before the first one
 pub placed_past : (us : List DebugUnit) (k : ℕ) (p : PlacedUnit) → slice_get (placed us) k ≡ Some p
@@ -124,10 +119,8 @@ pub record HasFirst (entries : List Entry) (id number : ℕ) (p : PlacedUnit) : 
   pub is_first : IsFirstEntry number p entry
 
 behind_first : (es fs : List Entry) (k : ℕ) → slice_get (es ++ fs) (length es + k) ≡ slice_get fs k
-behind_first [] fs k = ap (slice_get fs) (let e : 0 + k ≡ k = omega arith in e)
-behind_first (x ∷ es) fs k =
-    ap (slice_get (x ∷ es ++ fs)) (let e : suc (length es) + k ≡ suc (length es + k) = omega arith in e)
-    ∙ behind_first es fs k
+behind_first [] fs k = search (rules)
+behind_first (x ∷ es) fs k = search (rules, (behind_first es fs k))
 
 first_here : (unit id at : ℕ) (u : DebugUnit) (more : List Entry)
     → HasFirst (node_entries unit None 0 None id (at + unit_header_size u.header.kind) u.root ++ more) 0 unit

@@ -1,26 +1,78 @@
 -- One list of units at most, one fault at most, and never both.
-use Rattle.std.proofs.Common.{rules, ◌≡◌, ℕ, zero, suc, ◌+◌, true, map, List, [], ◌∷◌, ◌++◌, length, Option, Some, inl, inr, refl, sym, ap, ◌∙◌, append_assoc, append-nil, arith, length-append}
-use Rattle.std.specs.List.{AllByRecursion}
+use Rattle.std.proofs.Common.{rules, ◌≡◌, ℕ, zero, suc, ◌+◌, true, map, List, [], ◌∷◌, ◌++◌, length, Option, Some, inl, inr, refl, sym, ap, ◌∙◌, append_assoc, append-nil, arith, length-append, ◌⊎◌, Ok}
+use Rattle.std.specs.List.{AllByRecursion, flat_map}
 use Rattle.dw_entries.specs.declared.fault.Failing.{Failing}
 use Rattle.dw_entries.specs.declared.fault.PlainFault.{PlainFault}
 use Rattle.dw_entries.specs.declared.header.HeaderKind.{HeaderKind}
-use Rattle.dw_entries.specs.Grammar.{Context}
-use Rattle.dw_entries.specs.Header.{fits_tag}
+use Rattle.dw_entries.specs.Grammar.{Context, Head, head_bytes, IsHead, attribute_bytes}
+use Rattle.dw_entries.specs.Header.{fits_tag, header_at}
 use Rattle.dw_entries.specs.Tree.{Node, IsNode, node_bytes}
 use Rattle.dw_entries.specs.Items.{Item, entry, null, item_bytes, IsItem, AreItems, items_bytes, node_items, tree_depth}
 use Rattle.dw_forms.specs.Formats.{one_fault as one_fault_of}
-use Rattle.dw_entries.specs.ItemFormats.{next_item}
+use Rattle.dw_entries.specs.ItemFormats.{next_item, first_head, fitting_head, code}
 use Rattle.dw_forms.specs.WithBytes.{value_or_fault}
-use Rattle.dw_entries.specs.Units.{DebugUnit, head_of, nulls_bytes, AreNulls, unit_bytes, IsUnit, units_bytes, Spells}
+use Rattle.dw_entries.specs.Units.{DebugUnit, head_of, nulls_bytes, AreNulls, unit_bytes, IsUnit, units_bytes, Spells, AreUnits, body_bytes}
 use Rattle.dw_entries.specs.Faults.{FitsUnit, Stops, BodyFails, FailsHere, Fails}
-use Rattle.dw_entries.specs.Joined.{begins, append-is-nil}
-use Rattle.dw_entries.specs.ItemLaws.{item_some, item_to, item_unique, first_to}
-use Rattle.dw_entries.specs.UnitLaws.{IsBare, bare, bytes_bare, unit_header, units_begin}
+use Rattle.dw_entries.specs.Joined.{IsUnique}
+use Rattle.dw_entries.specs.ItemLaws.{item_some, item_to, item_unique, head_to}
+use Rattle.dw_entries.specs.UnitLaws.{IsBare, bare, bytes_bare, are_bare, unit_unique}
 use Rattle.dw_entries.proofs.HeadLaws.{all-append}
 use Rattle.dw_entries.proofs.NullLaws.{fits_node}
 use Rattle.dw_entries.proofs.ItemLaws.{items_bytes-append, node_spelled, node_are_items, nulls_are_items, nulls_spelled, whole_depth, nothing_after}
+use Rattle.dw_entries.proofs.UnitSteps.{header_again}
+
+-- ---- two fronts of the same bytes
+
+module _ {A : Type 0} (bytes : A → List ℕ) (Is : A → Type 0) where
+  -- the second list goes on where the first ends
+  record GoesOn (is js : List A) (x y : List ℕ) : Type 0 where
+    more : List A
+    are : AllByRecursion Is more
+    items : js ≡ is ++ more
+    rest : x ≡ flat_map bytes more ++ y
+
+  -- of two lists that spell beginnings of the same bytes one goes on where the other ends
+  begins : IsUnique bytes Is → (is js : List A) (x y : List ℕ) → AllByRecursion Is is → AllByRecursion Is js
+      → flat_map bytes is ++ x ≡ flat_map bytes js ++ y → GoesOn is js x y ⊎ GoesOn js is y x
+  begins unique [] js x y p q e = search (rules)
+  begins unique (i ∷ is) [] x y p q e = search (rules)
+  begins unique (i ∷ is) (j ∷ js) x y p q e =
+      let u = unique i j (flat_map bytes is ++ x) (flat_map bytes js ++ y) p.0 q.0
+      (sym (append_assoc (bytes i) (flat_map bytes is) x) ∙ e ∙ append_assoc (bytes j) (flat_map bytes js) y) in
+      let same : i ≡ j = u.0 in
+      elim (begins unique is js x y p.1 q.1 u.1) [
+        | inl g ↦ let g_items : js ≡ is ++ g.more = g.items in
+            inl (record { more = g.more; are = g.are; items = cc; rest = g.rest })
+        | inr g ↦ let g_items : is ≡ js ++ g.more = g.items in
+            inr (record { more = g.more; are = g.are; items = cc; rest = g.rest })
+      ]
+
+-- of two lists of units that spell beginnings of the same bytes one goes on where the other ends, but for their places
+units_begin : (a : List ℕ) (us vs : List DebugUnit) (x y : List ℕ) → AreUnits a us → AreUnits a vs
+    → units_bytes us ++ x ≡ units_bytes vs ++ y
+    → GoesOn unit_bytes (IsBare a) (map bare us) (map bare vs) x y
+    ⊎ GoesOn unit_bytes (IsBare a) (map bare vs) (map bare us) y x
+units_begin a us vs x y p q e = search (rules, begins, unit_unique, are_bare, bytes_bare)
+
+-- a joining of no bytes ends in no bytes
+append-is-nil : (a b : List ℕ) → a ++ b ≡ [] → b ≡ []
+append-is-nil [] b e = e
+append-is-nil (x ∷ a) b e = absurd cc
 
 -- ---- the row of items in a body
+
+-- a first entry that is spelled and fits is read, whatever follows
+first_to : (x : Context) (kind : HeaderKind) (h : Head) → IsHead x h → fits_tag kind h.decl.tag ≡ true
+    → (first_head x kind).Spells (head_bytes h) h
+unfolding first_head fitting_head code
+first_to x kind h p fit = record {
+  value = (h.decl.code, h.code);
+  first = h.code;
+  second = flat_map attribute_bytes h.attributes;
+  parts = refl;
+  is_first = (p.code, refl);
+  is_second = search (rules, head_to);
+}
 
 -- the first of these items is the unit's first entry, or comes after others
 next_to : (t : Context) (kind : HeaderKind) (is : List Item) (i : Item) (js : List Item) → IsItem t i
@@ -90,6 +142,11 @@ node_or_fault t kind header n zs f p nulls tag b =
         are.0 (rw items at fits) (ap tree_depth (sym items) ∙ whole_depth t n zs p)
         (rest ∙ append_assoc (item_bytes i) (items_bytes more) [])
 
+-- the header of a unit is read, and the bytes after it
+unit_header : (a : List ℕ) (u : DebugUnit) (x : List ℕ) → IsUnit a u
+    → header_at (length a) (unit_bytes u ++ x) ≡ Ok (u.header, body_bytes u)
+unit_header a u x p = search (rules, header_again)
+
 -- where a unit fails there is no unit
 pub unit_or_fault : (a : List ℕ) (header : ℕ) (rest : List ℕ) (f : PlainFault) (u : DebugUnit) (x : List ℕ)
     → FailsHere a header rest f → IsUnit a u → rest ≡ unit_bytes u ++ x → ⊥
@@ -100,7 +157,7 @@ pub no_list : (a : List ℕ) (at : ℕ) (bytes : List ℕ) (us : List DebugUnit)
     → Fails a at bytes f → ⊥
 no_list a at bytes us f p b =
     let e : units_bytes b.units ++ b.rest
-    ≡ units_bytes us ++ [] = sym b.parts ∙ p.parts ∙ sym (append-nil (units_bytes us)) in
+    ≡ units_bytes us ++ [] = search (rules, append-nil) in
     elim (units_begin a b.units us b.rest [] b.are p.are e) [
       | inl g ↦ inside g.more g.are g.rest
       | inr g ↦ b.more (append-is-nil (units_bytes g.more) b.rest (sym g.rest))
@@ -120,7 +177,7 @@ some_is a b e = cc
 stops_same : (t : Context) (kind : HeaderKind) (is : List Item) (rest : List ℕ) (d : ℕ) (f g : Failing)
     → Stops t kind is rest d f → Stops t kind is rest d g → f ≡ g
 stops_same t kind is rest zero f g p q = p.2 ∙ sym q.2
-stops_same t kind is rest (suc d) f g p q = one_fault_of (next_item t kind is) rest f g p q
+stops_same t kind is rest (suc d) f g p q = search (rules, one_fault_of)
 
 -- a front that stops is the longest one
 longest : (t : Context) (kind : HeaderKind) (header : ℕ) (body : List ℕ) (f g : PlainFault)
@@ -148,10 +205,7 @@ one_here a header rest f g p q = search (rules, one_in_body)
 last_units : (a : List ℕ) (at : ℕ) (bytes : List ℕ) (f g : PlainFault) (b : Fails a at bytes f) (c : Fails a at bytes g)
     (more : List DebugUnit) → AllByRecursion (IsBare a) more
     → map bare c.units ≡ map bare b.units ++ more → b.rest ≡ units_bytes more ++ c.rest → f ≡ g
-last_units a at bytes f g b c [] are units rest =
-    let same : units_bytes c.units ≡ units_bytes b.units = sym (bytes_bare c.units)
-    ∙ ap units_bytes (units ∙ append-nil (map bare b.units)) ∙ bytes_bare b.units in
-    one_here a (at + length (units_bytes b.units)) b.rest f g b.fails (rw (← same, rest) c.fails)
+last_units a at bytes f g b c [] are units rest = search (rules, bytes_bare, append-nil, one_here)
 last_units a at bytes f g b c (u ∷ more) are units rest = search (rules, unit_or_fault, append_assoc)
 
 -- there is one fault at most

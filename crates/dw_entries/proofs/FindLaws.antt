@@ -1,5 +1,5 @@
 -- The entries and their records, by their offsets.
-use Rattle.std.proofs.Common.{◌≡◌, ℕ, ◌+◌, ◌<◌, ◌≤◌, ◌^◌, List, [], ◌∷◌, length, Option, Some, None, refl, sym, ap, ◌∙◌, arith}
+use Rattle.std.proofs.Common.{rules, ◌≡◌, ℕ, ◌+◌, ◌<◌, ◌≤◌, ◌^◌, List, [], ◌∷◌, length, Option, Some, None, refl, ap, ◌∙◌, arith, sym}
 use Rattle.std.specs.Prelude.{IfSome, option_map, slice_get}
 use Rattle.std.proofs.lemmas.Option.{slice_get_within}
 use Rattle.std.proofs.lemmas.List.{length-map}
@@ -22,15 +22,16 @@ starts_at : (base number : ℕ) (us : List DebugUnit) → AreFrom base us → nu
 starts_at base number [] from within = absurd (omega (arith, within))
 starts_at base number (u ∷ us) from within = from.0
 
-module _ {base : ℕ} (a info : List ℕ) (tables : Tables) (rs : List UnitRecord) (records : List Record)
-    (s : Scanned base a info tables rs records) where
-  pub entries_counted : length records ≡ length (entries_of (found_units s))
-  entries_counted = ap length s.1.entries ∙ length-map (entries_of (found_units s)) (record_of (numbers_of tables rs))
+pub entries_counted : {base : ℕ} (a info : List ℕ) (tables : Tables) (rs : List UnitRecord) (records : List Record)
+    (s : Scanned base a info tables rs records) → length records ≡ length (entries_of (found_units s))
+entries_counted a info tables rs records s = search (rules, length-map)
 
+module _ {base : ℕ} {a info : List ℕ} {tables : Tables} {rs : List UnitRecord} {records : List Record}
+    (s : Scanned base a info tables rs records) where
   -- the record of an entry
   stands_at : (id : ℕ) {offset : ℕ} (found : IsEntryAt (entries_of (found_units s)) offset id)
       → slice_get records id ≡ Some (record_of (numbers_of tables rs) (found_entry s id))
-  stands_at id found = (kept_entry a info tables rs records s id found.within).is_record
+  stands_at id found = (kept_entry s id found.within).is_record
 
   -- where the record of an entry is, the entry begins
   pub entry_at : (offset id : ℕ) → IsRecordAt records offset id → IsEntryAt (entries_of (found_units s)) offset id
@@ -41,12 +42,11 @@ module _ {base : ℕ} (a info : List ℕ) (tables : Tables) (rs : List UnitRecor
       go None is same = absurd cc
       go (Some r) is same =
           let within : id < length (entries_of (found_units s)) =
-          omega (arith, slice_get_within records id r is, entries_counted) in
+          omega (arith, slice_get_within records id r is, entries_counted a info tables rs records s) in
           let offset_is : r.at ≡ offset = cc in
           record {
             within = within;
-            begins =
-                sym (ap (λ (q : Record). q.at) (record_is (kept_entry a info tables rs records s id within) r is))
+            begins = sym (ap (λ (q : Record). q.at) (record_is (kept_entry s id within) r is))
                 ∙ offset_is;
           }
 
@@ -58,7 +58,7 @@ module _ {base : ℕ} (a info : List ℕ) (tables : Tables) (rs : List UnitRecor
   -- no entry is before the base
   pub past_base : (id offset : ℕ) → IsEntryAt (entries_of (found_units s)) offset id → base ≤ offset
   past_base id offset found =
-      let k = kept_entry a info tables rs records s id found.within in
+      let k = kept_entry s id found.within in
       let start = starts_at base (found_entry s id).unit (found_units s) s.1.are_from k.stands.within in
       let begins = found.begins in
       let past = entry_past a (found_units s) s.1.spells.are id (found_entry s id) k.is_entry in
@@ -67,7 +67,7 @@ module _ {base : ℕ} (a info : List ℕ) (tables : Tables) (rs : List UnitRecor
   -- no unit is either
   pub unit_past : (number : ℕ) → number < length (found_units s) → base ≤ (found_place s number).at
   unit_past number within =
-      let k = kept_unit a info tables rs records s number within in
+      let k = kept_unit s number within in
       let start = starts_at base number (found_units s) s.1.are_from within in
       let past = placed_past (found_units s) number (found_place s number) k.is_place in
       omega (arith, start, past)
@@ -85,8 +85,8 @@ module _ {base : ℕ} (a info : List ℕ) (tables : Tables) (rs : List UnitRecor
           let low = entry_at offset i at_i in
           let high = entry_at after j at_j in
           let up = entries_rise a (found_units s) s.1.spells.are i j (found_entry s i) (found_entry s j) less
-          (kept_entry a info tables rs records s i low.within).is_entry
-          (kept_entry a info tables rs records s j high.within).is_entry in
+          (kept_entry s i low.within).is_entry
+          (kept_entry s j high.within).is_entry in
           let begins_low = low.begins in
           let begins_high = high.begins in
           omega (arith, up, begins_low, begins_high)
@@ -96,7 +96,7 @@ module _ {base : ℕ} (a info : List ℕ) (tables : Tables) (rs : List UnitRecor
           let here = entry_at offset number at in
           let begins = here.begins in
           let w = stands_within (found_units s) info (found_entry s number)
-          (kept_entry a info tables rs records s number here.within).stands in
+          (kept_entry s number here.within).stands in
           omega (arith, begins, w)
 
   -- what the blocks say of an offset is so
@@ -117,4 +117,4 @@ module _ {base : ℕ} (a info : List ℕ) (tables : Tables) (rs : List UnitRecor
         go (Some id) is =
             let within = (found_from id is).within in
             let few = scanned_few a info tables rs records s in
-            omega (arith, within, few, entries_counted, fits)
+            omega (arith, within, few, entries_counted a info tables rs records s, fits)

@@ -1,5 +1,5 @@
 -- The first failure at one place, and of groups that are asked at headers and at entries.
-use Rattle.std.proofs.Common.{rules, ◌≡◌, ℕ, ◌≤◌, ◌⊎◌, Some, None, arith, inl, inr}
+use Rattle.std.proofs.Common.{rules, ◌≡◌, ℕ, ◌≤◌, ◌⊎◌, Some, None, arith}
 use Rattle.dw_forms.specs.declared.rule.Rule.{Rule}
 use Rattle.dw_entries.specs.declared.fault.PlainFault.{PlainFault}
 use Rattle.dw_entries.specs.Places.{Place, at_header, at_entry, at_attribute, IsBefore}
@@ -10,7 +10,7 @@ use Rattle.dw_entries.specs.EntryRules.{AtPlace}
 pub not_before_itself : (p : Place) → IsBefore p p → ⊥
 not_before_itself (at_header o) before = omega arith
 not_before_itself (at_entry o) before = omega arith
-not_before_itself (at_attribute o k) before = elim before [ inl less ↦ omega arith | inr same ↦ omega (arith, same.1) ]
+not_before_itself (at_attribute o k) before = search (rules)
 
 -- at one place the rule with the least number is named
 pub first_at_place : (place : Place) (Fails : Rule → Type 0) (rule : Rule) (broken : PlainFault)
@@ -31,4 +31,4 @@ pub first_by_right : (P Q : Failure → Type 0) (broken : PlainFault) → HasNon
 first_by_right P Q broken none first = search (rules)
 
 pub none_by_both : (P Q : Failure → Type 0) → HasNone P → HasNone Q → HasNone (λ f. P f ⊎ Q f)
-none_by_both P Q p q f fails = elim fails [ inl x ↦ p f x | inr y ↦ q f y ]
+none_by_both P Q p q f fails = search (rules)

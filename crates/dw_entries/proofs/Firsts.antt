@@ -1,5 +1,5 @@
 -- The first failure of rules that are asked of entries one by one.
-use Rattle.std.proofs.Common.{rules, ◌≡◌, ℕ, ◌+◌, ◌<◌, ◌≤◌, List, length, Option, Some, refl, sym, ap, ◌∙◌, arith, subst, eq-or-lt_of_le, inl, inr, ◌⊎◌}
+use Rattle.std.proofs.Common.{rules, ◌≡◌, ℕ, ◌+◌, ◌<◌, ◌≤◌, List, length, Option, Some, arith, eq-or-lt_of_le, inl, inr, ◌⊎◌}
 use Rattle.std.specs.Prelude.{slice_get}
 use Rattle.std.proofs.lemmas.Option.{slice_get_within}
 use Rattle.dw_forms.specs.Value.{Datum}
@@ -33,7 +33,7 @@ at_offset a (at_entry p) at = at
 at_offset a (at_attribute p k) at = at
 
 same_place : (a b : ℕ) (p q : Place) → IsAt a p → IsAt b q → p ≡ q → a ≤ b
-same_place a b p q at_p at_q same = omega (arith, sym (at_offset a p at_p) ∙ ap offset_of same ∙ at_offset b q at_q)
+same_place a b p q at_p at_q same = search (rules, at_offset)
 
 precedes_le : (a b : ℕ) (f g : Failure) → IsAt a f.place → IsAt b g.place → Precedes f g → a ≤ b
 precedes_le a b f g at_f at_g precedes = search (rules, before_le, same_place)
@@ -99,7 +99,7 @@ abbrev pub Among : ℕ → ℕ → Failure → Failure → Type 0
 Among j k f g = (j < k) ⊎ ((j ≡ k) × (number_of f.rule < number_of g.rule))
 
 before_in : (o j k : ℕ) → IsBefore (at_attribute o j) (at_attribute o k) → j < k
-before_in o j k before = elim before [ inl less ↦ absurd (omega arith) | inr same ↦ same.1 ]
+before_in o j k before = search (rules)
 
 precedes_in : (o j k : ℕ) (f g : Failure) → f.place ≡ at_attribute o j → g.place ≡ at_attribute o k → Precedes f g
     → Among j k f g
@@ -124,4 +124,4 @@ none_of_attributes Fails entry passed f fails = search (rules, slice_get_within)
 
 pub attributes_stand : (Fails : Entry → ℕ → Datum → Rule → Type 0) (e : Entry) (f : Failure) → AtAttributes Fails e f
     → IsAt e.at f.place
-attributes_stand Fails e f fails = let P : Place → Type 0 = λ p. IsAt e.at p in subst P (sym fails.place) refl
+attributes_stand Fails e f fails = search (rules)

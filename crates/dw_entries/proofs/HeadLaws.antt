@@ -1,19 +1,19 @@
 -- At each entry's offset is its head, in the context of its unit.
-use Rattle.std.proofs.Common.{◌≡◌, ℕ, zero, suc, ◌+◌, ◌<◌, List, [], ◌∷◌, ◌++◌, length, drop, Option, Some, None, Ok, refl, sym, ap, ◌∙◌, arith, length-append, length-drop, subst, append_assoc, append-nil, drop_at, drop-drop, replicate}
+use Rattle.std.proofs.Common.{rules, ◌≡◌, ℕ, zero, suc, ◌+◌, ◌<◌, List, [], ◌∷◌, ◌++◌, length, drop, Option, Some, None, Ok, refl, sym, ap, ◌∙◌, arith, length-append, length-drop, subst, append_assoc, append-nil, drop_at, drop-drop, replicate}
 use Rattle.std.specs.Prelude.{slice_get}
 use Rattle.std.specs.List.{flat_map, AllByRecursion}
 use Rattle.std.proofs.lemmas.List.{length-replicate}
 use Rattle.std.proofs.lemmas.Option.{slice_get_within, get_or_from_slice_get}
 use Rattle.dw_entries.specs.Grammar.{Context, head_bytes, attribute_bytes, IsHead}
 use Rattle.dw_entries.specs.Header.{unit_header_size}
-use Rattle.dw_entries.specs.UnitLaws.{header_long}
+use Rattle.dw_entries.specs.UnitLaws.{unit_sized}
 use Rattle.dw_entries.specs.Items.{entry}
 use Rattle.dw_entries.specs.ItemFormats.{code}
 use Rattle.dw_entries.specs.ItemLaws.{item_some}
 use Rattle.dw_entries.specs.Tree.{Node, Nodes, leaf, parent, none, ◌then◌, IsNode, AreNodes, node_bytes, nodes_bytes}
 use Rattle.dw_entries.specs.Units.{DebugUnit, context_of, body_bytes, nulls_bytes, unit_bytes, IsUnit, AreUnits, units_bytes, Spells, AreFrom}
 use Rattle.dw_entries.specs.Entries.{Entry, node_count, first_id, node_entries, nodes_entries, entries_from, start_of, entries_of}
-use Rattle.dw_entries.specs.ByNumber.{no_unit, unit_of}
+use Rattle.dw_entries.specs.ByNumber.{unit_of}
 
 -- the head of this entry is at its offset, and the entry is of this unit, whose context is x
 pub record StandsIn (x : Context) (unit : ℕ) (info : List ℕ) (e : Entry) : Type 0 where
@@ -42,7 +42,7 @@ all_map P Q (x ∷ xs) f p = (f x p.0, all_map P Q xs f p.1)
 pub all_get : {A : Type 0} (P : A → Type 0) (xs : List A) (k : ℕ) (x : A) → AllByRecursion P xs
     → slice_get xs k ≡ Some x → P x
 all_get P [] k x p is = absurd cc
-all_get P (y ∷ ys) zero x p is = let e : Some y ≡ Some x = is in let same : y ≡ x = cc in subst P same p.0
+all_get P (y ∷ ys) zero x p is = search (rules)
 all_get P (y ∷ ys) (suc k) x p is = all_get P ys k x p.1 is
 
 -- what comes after it
@@ -53,12 +53,9 @@ mutual
   node_stands : (x : Context) (info : List ℕ) (unit : ℕ) (above : Option ℕ) (depth : ℕ) (next : Option ℕ) (id at : ℕ)
       (n : Node) (after : List ℕ) → IsNode x n → drop at info ≡ node_bytes n ++ after
       → AllByRecursion (StandsIn x unit info) (node_entries unit above depth next id at n)
-  node_stands x info unit above depth next id at (leaf h) after p e =
-      (record { is = p.0; in_unit = refl; after = after; parts = e }, tt)
+  node_stands x info unit above depth next id at (leaf h) after p e = search (rules)
   node_stands x info unit above depth next id at (parent h ns z) after p e =
-      let parts : drop at info ≡ head_bytes h ++ (nodes_bytes ns ++ (z ++ after)) = e
-      ∙ append_assoc (head_bytes h) (nodes_bytes ns ++ z) after
-      ∙ ap (λ (b : List ℕ). head_bytes h ++ b) (append_assoc (nodes_bytes ns) z after) in (
+      let parts : drop at info ≡ head_bytes h ++ (nodes_bytes ns ++ (z ++ after)) = search (rules, append_assoc) in (
         record { is = p.0; in_unit = refl; after = nodes_bytes ns ++ (z ++ after); parts = parts },
         nodes_stand x info unit id (suc depth) (suc id) (at + length (head_bytes h)) ns (z ++ after) p.2
             (behind info (head_bytes h) (nodes_bytes ns ++ (z ++ after)) at parts),
@@ -69,8 +66,7 @@ mutual
       → AllByRecursion (StandsIn x unit info) (nodes_entries unit above depth id at ns)
   nodes_stand x info unit above depth id at none after p e = tt
   nodes_stand x info unit above depth id at (n then ns) after p e =
-      let parts : drop at info ≡ node_bytes n ++ (nodes_bytes ns ++ after) = e
-      ∙ append_assoc (node_bytes n) (nodes_bytes ns) after in
+      let parts : drop at info ≡ node_bytes n ++ (nodes_bytes ns ++ after) = search (rules, append_assoc) in
       all-append (StandsIn x unit info) (node_entries unit (Some above) depth (first_id ns (id + node_count n)) id at n)
       (nodes_entries unit above depth (id + node_count n) (at + length (node_bytes n)) ns)
       (node_stands x info unit (Some above) depth (first_id ns (id + node_count n)) id at n (nodes_bytes ns ++ after)
@@ -93,35 +89,25 @@ from_here all unit u us f = ap (slice_get all) (let e : unit ≡ unit + 0 = omeg
 
 stands_among : (all : List DebugUnit) (info : List ℕ) (unit : ℕ) (u : DebugUnit) → slice_get all unit ≡ Some u
     → (e : Entry) → StandsIn (context_of u) unit info e → Stands all info e
-stands_among all info unit u is e s =
-    let at : slice_get all e.unit ≡ Some u = ap (slice_get all) s.in_unit ∙ is in
-    let same : unit_of all e.unit ≡ u = get_or_from_slice_get all e.unit u no_unit at in
-    let P : DebugUnit → Type 0 = λ v. IsHead (context_of v) e.head in
-    record {
-      within = slice_get_within all e.unit u at;
-      is = subst P (sym same) s.is;
-      after = s.after;
-      parts = s.parts;
-    }
+stands_among all info unit u is e s = search (rules, get_or_from_slice_get, slice_get_within)
+
+header_long : (a : List ℕ) (u : DebugUnit) → IsUnit a u → length u.header_bytes ≡ unit_header_size u.header.kind
+header_long a u p = search (rules, unit_sized, length-append)
 
 -- the bytes of a unit after its header
 pub behind_header : (a info : List ℕ) (at : ℕ) (u : DebugUnit) (after : List ℕ) → IsUnit a u
     → drop at info ≡ unit_bytes u ++ after → drop (at + unit_header_size u.header.kind) info ≡ body_bytes u ++ after
-behind_header a info at u after p e =
-    ap (λ (n : ℕ). drop (at + n) info) (sym (header_long a u p))
-    ∙ behind info u.header_bytes (body_bytes u ++ after) at (e ∙ append_assoc u.header_bytes (body_bytes u) after)
+behind_header a info at u after p e = search (rules, header_long, behind, append_assoc)
 
 units_stand : (all : List DebugUnit) (a info : List ℕ) (unit id at : ℕ) (us : List DebugUnit) (after : List ℕ)
     → AreUnits a us → From all unit us → drop at info ≡ units_bytes us ++ after
     → AllByRecursion (Stands all info) (entries_from unit id at us)
 units_stand all a info unit id at [] after p f e = tt
 units_stand all a info unit id at (u ∷ us) after p f e =
-    let parts : drop at info ≡ unit_bytes u ++ (units_bytes us ++ after) = e
-    ∙ append_assoc (unit_bytes u) (units_bytes us) after in
+    let parts : drop at info ≡ unit_bytes u ++ (units_bytes us ++ after) = search (rules, append_assoc) in
     let root : drop (at + unit_header_size u.header.kind) info
     ≡ node_bytes u.root ++ (nulls_bytes u.nulls ++ (units_bytes us ++ after)) =
-    behind_header a info at u (units_bytes us ++ after) p.0 parts
-    ∙ append_assoc (node_bytes u.root) (nulls_bytes u.nulls) (units_bytes us ++ after) in
+    search (rules, behind_header, append_assoc) in
     all-append (Stands all info) (node_entries unit None 0 None id (at + unit_header_size u.header.kind) u.root)
     (entries_from (suc unit) (id + node_count u.root) (at + length (unit_bytes u)) us)
     (all_map (StandsIn (context_of u) unit info) (Stands all info)

@@ -1,5 +1,5 @@
 -- What is kept of an entry and of its unit, and what is in .debug_info where they point.
-use Rattle.std.proofs.Common.{rules, ◌≡◌, ℕ, zero, suc, ◌-◌, ◌<◌, ◌≤◌, List, [], ◌∷◌, ◌++◌, length, take, drop, get_or, Option, Some, None, Ok, Err, refl, sym, ap, subst, ◌∙◌, arith}
+use Rattle.std.proofs.Common.{rules, ◌≡◌, ℕ, zero, suc, ◌-◌, ◌<◌, ◌≤◌, List, [], ◌∷◌, ◌++◌, length, take, drop, get_or, Option, Some, None, Ok, Err, refl, ap, subst, ◌∙◌, arith}
 use Rattle.std.specs.Prelude.{slice_get, IsSomeAnd}
 use Rattle.std.specs.List.{AllZip, flat_map}
 use Rattle.std.proofs.lemmas.List.{length-map}
@@ -10,7 +10,7 @@ use Rattle.dw_forms.specs.declared.attribute_lists.Node.{Node}
 use Rattle.dw_forms.specs.declared.decl.KeptDecl.{KeptDecl}
 use Rattle.dw_forms.specs.Abbrev.{Declaration}
 use Rattle.dw_forms.specs.Chains.{chain_in, items_of}
-use Rattle.dw_forms.specs.KeptDecls.{Tables, kept_view, decls_of, decl_of}
+use Rattle.dw_forms.specs.KeptDecls.{Tables, decl_of}
 use Rattle.dw_forms.proofs.ChainLaws.{item_some, item_within}
 use Rattle.dw_forms.proofs.KeptLaws.{own_numbers, numbers_find}
 use Rattle.dw_forms.proofs.SpecLaws.{decl_specs}
@@ -20,13 +20,13 @@ use Rattle.dw_entries.specs.declared.header.UnitType.{UnitType}
 use Rattle.dw_entries.specs.declared.units.UnitHead.{UnitHead}
 use Rattle.dw_entries.specs.declared.records.Record.{Record}
 use Rattle.dw_entries.specs.declared.records.UnitRecord.{UnitRecord}
-use Rattle.dw_entries.specs.Grammar.{declared_in, attribute_bytes, Head}
+use Rattle.dw_entries.specs.Grammar.{declared_in, attribute_bytes}
 use Rattle.dw_entries.specs.Header.{type_of}
 use Rattle.dw_entries.specs.ItemFormats.{code}
 use Rattle.dw_forms.specs.WithBytes.{ok_pair}
 use Rattle.dw_entries.specs.Units.{DebugUnit, head_of}
 use Rattle.dw_entries.specs.Entries.{Entry, entries_of, PlacedUnit, placed}
-use Rattle.dw_entries.specs.ByNumber.{no_entry, no_placed, no_unit, entry_of, placed_of, unit_of}
+use Rattle.dw_entries.specs.ByNumber.{no_entry, no_unit, entry_of, placed_of, unit_of}
 use Rattle.dw_entries.specs.Scanned.{found_units, tables_among, table_of, numbers_of, record_of, IsRecordOfUnit, Scanned}
 use Rattle.dw_entries.specs.Lookups.{IsKeptIn, HasSpecsIn, unit_head}
 use Rattle.dw_entries.proofs.ScanLaws.{rest_of}
@@ -44,8 +44,7 @@ some_and None P p = absurd p
 table_is : (rs : List UnitRecord) (number : ℕ) (r : UnitRecord) → slice_get rs number ≡ Some r
     → table_of rs number ≡ r.table
 table_is [] number r is = absurd cc
-table_is (q ∷ rs) zero r is =
-    let e : Some q ≡ Some r = is in let same : q ≡ r = cc in ap (λ (x : UnitRecord). x.table) same
+table_is (q ∷ rs) zero r is = search (rules)
 table_is (q ∷ rs) (suc n) r is = table_is rs n r is
 
 -- the record of the unit at this place
@@ -68,7 +67,7 @@ abbrev pub found_unit : {base : ℕ} {a info : List ℕ} {tables : Tables} {rs :
 found_unit s id = unit_of (found_units s) (found_entry s id).unit
 
 -- what is kept of the entry of this number and of its unit
-pub record KeptEntry {base : ℕ} (a info : List ℕ) (tables : Tables) (rs : List UnitRecord) (records : List Record)
+pub record KeptEntry {base : ℕ} {a info : List ℕ} {tables : Tables} {rs : List UnitRecord} {records : List Record}
     (s : Scanned base a info tables rs records) (id : ℕ) : Type 0 where
   pub is_entry : slice_get (entries_of (found_units s)) id ≡ Some (found_entry s id)
   pub is_record : slice_get records id ≡ Some (record_of (numbers_of tables rs) (found_entry s id))
@@ -78,27 +77,24 @@ pub record KeptEntry {base : ℕ} (a info : List ℕ) (tables : Tables) (rs : Li
   pub header : unit_record.header ≡ (found_unit s id).header
   pub table : items_of (chain_in tables unit_record.table) ≡ (found_unit s id).table
 
-pub kept_entry : {base : ℕ} (a info : List ℕ) (tables : Tables) (rs : List UnitRecord) (records : List Record)
+pub kept_entry : {base : ℕ} {a info : List ℕ} {tables : Tables} {rs : List UnitRecord} {records : List Record}
     (s : Scanned base a info tables rs records) (id : ℕ)
-    → id < length (entries_of (found_units s)) → KeptEntry a info tables rs records s id
-kept_entry {base} a info tables rs records s id within =
+    → id < length (entries_of (found_units s)) → KeptEntry s id
+kept_entry {base} {a} {info} {tables} {rs} s id within =
     let e : Entry = found_entry s id in
-    let is : slice_get (entries_of (found_units s)) id ≡ Some e =
-    slice_get-get_or (entries_of (found_units s)) id no_entry within in
+    let is : slice_get (entries_of (found_units s)) id ≡ Some e = search (rules, slice_get-get_or) in
     let stands = head_stands base a info (found_units s) id e s.1.spells s.1.are_from is in
     let (p, is_p, same) = unit_placed (found_units s) e.unit (unit_of (found_units s) e.unit)
     (slice_get-get_or (found_units s) e.unit no_unit stands.within) in
     let (r, is_r, kept) = unit_kept tables rs (placed (found_units s)) s.1.kept e.unit p is_p in
     record {
       is_entry = is;
-      is_record =
-          ap (λ (xs : List Record). slice_get xs id) s.1.entries
-          ∙ kept_get (numbers_of tables rs) (found_units s) id e is;
+      is_record = search (rules, kept_get);
       stands = stands;
       unit_record = r;
       is_unit_record = is_r;
-      header = kept.header ∙ ap (λ (u : DebugUnit). u.header) same;
-      table = kept.table ∙ ap (λ (u : DebugUnit). u.table) same;
+      header = search rules;
+      table = search rules;
     }
 
 -- an element that was read is the one that is there
@@ -106,7 +102,7 @@ pub read_is : {A : Type 0} (xs : List A) (k : ℕ) (x y : A) → slice_get xs k 
 read_is xs k x y is read = read ∙ get_or_from_slice_get xs k x y is
 
 module _ {base : ℕ} {a info : List ℕ} {tables : Tables} {rs : List UnitRecord} {records : List Record}
-    {s : Scanned base a info tables rs records} {id : ℕ} (k : KeptEntry a info tables rs records s id) where
+    {s : Scanned base a info tables rs records} {id : ℕ} (k : KeptEntry s id) where
   module _ (r : Record) (read : slice_get records id ≡ Some r) where
     pub record_is : r ≡ record_of (numbers_of tables rs) (found_entry s id)
     record_is = one_some (slice_get records id) r (record_of (numbers_of tables rs) (found_entry s id)) read k.is_record
@@ -137,9 +133,7 @@ module _ {base : ℕ} {a info : List ℕ} {tables : Tables} {rs : List UnitRecor
     pub values_are : (n : ℕ) (rest : List ℕ)
         → code.read (take (length info - r.at) (drop r.at info)) ≡ Ok (n, rest)
         → rest ≡ flat_map attribute_bytes (found_entry s id).head.attributes ++ k.stands.after
-    values_are n rest got =
-        (ok_pair {E = Failing} n (found_entry s id).head.decl.code rest
-        (flat_map attribute_bytes (found_entry s id).head.attributes ++ k.stands.after) (sym got ∙ code_read)).1
+    values_are n rest got = search (rules, ok_pair, code_read)
 
   -- the header of a unit that has the number of the entry's
   pub header_is : (number : ℕ) (u : UnitRecord) → number ≡ (found_entry s id).unit → u ≡ get_or rs number u
@@ -149,7 +143,7 @@ module _ {base : ℕ} {a info : List ℕ} {tables : Tables} {rs : List UnitRecor
 -- the declaration of an entry is the one of its number
 module _ (decls : Decls) {base : ℕ} {a info : List ℕ} {rs : List UnitRecord} {records : List Record}
     {s : Scanned base a info (tables_among decls) rs records} {id : ℕ}
-    (k : KeptEntry a info (tables_among decls) rs records s id) where
+    (k : KeptEntry s id) where
   abbrev nodes : List Node
   nodes = decls.lists.nodes.items
 
@@ -164,38 +158,31 @@ module _ (decls : Decls) {base : ℕ} {a info : List ℕ} {rs : List UnitRecord}
 
   module _ (r : Record) (read : slice_get records id ≡ Some r) where
     decl_stands : decl_of nodes kept r.decl ≡ Some (found_entry s id).head.decl
-    decl_stands = ap (λ (q : Record). decl_of nodes kept q.decl) (record_is k r read) ∙ entry_decl
+    decl_stands = search (rules, entry_decl)
 
     pub decl_numbered : 0 < r.decl
-    decl_numbered = item_some (decls_of nodes kept) r.decl (found_entry s id).head.decl decl_stands
+    decl_numbered = search (rules, item_some, decl_stands)
 
     pub decl_kept : r.decl ≤ length kept
-    decl_kept =
-        let within = item_within (decls_of nodes kept) r.decl (found_entry s id).head.decl decl_stands in
-        omega (arith, within, length-map {B = Declaration × ℕ} kept (λ (x : KeptDecl). (kept_view nodes x, x.rest)))
+    decl_kept = search (rules, item_within, decl_stands, length-map)
 
     pub decl_is : (d : Declaration) → decl_of nodes kept r.decl ≡ Some d
         → d ≡ (found_entry s id).head.decl
-    decl_is d found = one_some (decl_of nodes kept r.decl) d (found_entry s id).head.decl found decl_stands
+    decl_is d found = search (rules, one_some, decl_stands)
 
--- an entry's declaration is one of those that are kept
-pub declared_among : {base : ℕ} (a info : List ℕ) (decls : Decls) (rs : List UnitRecord) (records : List Record)
+module _ (decls : Decls) {base : ℕ} {a info : List ℕ} {rs : List UnitRecord} {records : List Record}
     (s : Scanned base a info (tables_among decls) rs records) (id : ℕ) (e : Entry)
-    → slice_get (entries_of (found_units s)) id ≡ Some e → IsKeptIn decls e.head.decl
-declared_among a info decls rs records s id e is =
-    let k = kept_entry a info (tables_among decls) rs records s id
-    (slice_get_within (entries_of (found_units s)) id e is) in
-    let same : found_entry s id ≡ e = get_or_from_slice_get (entries_of (found_units s)) id e no_entry is in
-    let P : Entry → Type 0 = λ x. IsKeptIn decls x.head.decl in
-    subst P same (_, entry_decl decls k)
+    (is : slice_get (entries_of (found_units s)) id ≡ Some e) where
+  -- an entry's declaration is one of those that are kept
+  pub declared_among : IsKeptIn decls e.head.decl
+  declared_among =
+      let k = kept_entry s id (slice_get_within (entries_of (found_units s)) id e is) in
+      subst (λ (x : Entry). IsKeptIn decls x.head.decl)
+      (get_or_from_slice_get (entries_of (found_units s)) id e no_entry is) (_, entry_decl decls k)
 
--- and each of its attributes is one of those that are kept
-pub specs_among : {base : ℕ} (a info : List ℕ) (decls : Decls) (rs : List UnitRecord) (records : List Record)
-    (s : Scanned base a info (tables_among decls) rs records) (id : ℕ) (e : Entry)
-    → slice_get (entries_of (found_units s)) id ≡ Some e → HasSpecsIn decls e.head.decl
-specs_among a info decls rs records s id e is =
-    let (number, found) = declared_among a info decls rs records s id e is in
-    decl_specs decls.lists.nodes.items decls.kept.items number e.head.decl found
+  -- and each of its attributes is one of those that are kept
+  pub specs_among : HasSpecsIn decls e.head.decl
+  specs_among = decl_specs decls.lists.nodes.items decls.kept.items declared_among.0 e.head.decl declared_among.1
 
 -- ---- a unit
 
@@ -204,7 +191,7 @@ abbrev pub found_place : {base : ℕ} {a info : List ℕ} {tables : Tables} {rs 
     → Scanned base a info tables rs records → ℕ → PlacedUnit
 found_place s number = placed_of (placed (found_units s)) number
 
-pub record KeptUnit {base : ℕ} (a info : List ℕ) (tables : Tables) (rs : List UnitRecord) (records : List Record)
+pub record KeptUnit {base : ℕ} {a info : List ℕ} {tables : Tables} {rs : List UnitRecord} {records : List Record}
     (s : Scanned base a info tables rs records) (number : ℕ) : Type 0 where
   pub is_place : slice_get (placed (found_units s)) number ≡ Some (found_place s number)
   pub unit_record : UnitRecord
@@ -212,54 +199,45 @@ pub record KeptUnit {base : ℕ} (a info : List ℕ) (tables : Tables) (rs : Lis
   pub kept : IsRecordOfUnit tables unit_record (found_place s number)
   pub first : HasFirst (entries_of (found_units s)) (found_place s number).first number (found_place s number)
 
-pub kept_unit : {base : ℕ} (a info : List ℕ) (tables : Tables) (rs : List UnitRecord) (records : List Record)
+pub kept_unit : {base : ℕ} {a info : List ℕ} {tables : Tables} {rs : List UnitRecord} {records : List Record}
     (s : Scanned base a info tables rs records) (number : ℕ) → number < length (found_units s)
-    → KeptUnit a info tables rs records s number
-kept_unit a info tables rs records s number within =
+    → KeptUnit s number
+kept_unit s number within =
     let is : slice_get (placed (found_units s)) number ≡ Some (found_place s number) =
-    slice_get-get_or (placed (found_units s)) number no_placed
-    (omega (arith, within, length-placed (found_units s))) in
+    search (rules, slice_get-get_or, length-placed) in
     search (rules, unit_kept, first_entry)
 
 abbrev told : ℕ → UnitHeader → UnitType → ℕ → UnitHead
 told offset header unit_type first = record { offset = offset; header = header; unit_type = unit_type; first = first }
 
 module _ {base : ℕ} {a info : List ℕ} {tables : Tables} {rs : List UnitRecord} {records : List Record}
-    {s : Scanned base a info tables rs records} {number : ℕ} (k : KeptUnit a info tables rs records s number) where
+    {s : Scanned base a info tables rs records} {number : ℕ} (k : KeptUnit s number) where
   pub number_within : number < length rs
-  number_within = slice_get_within rs number k.unit_record k.is_unit_record
+  number_within = search (rules, slice_get_within)
 
   module _ (u : UnitRecord) (read : u ≡ get_or rs number u) where
     pub kept_is : IsRecordOfUnit tables u (found_place s number)
-    kept_is =
-        let P : UnitRecord → Type 0 = λ q. IsRecordOfUnit tables q (found_place s number) in
-        subst P (sym (read_is rs number k.unit_record u k.is_unit_record read)) k.kept
+    kept_is = search (rules, read_is)
 
     first_is : slice_get (entries_of (found_units s)) u.first ≡ Some k.first.entry
-    first_is = ap (slice_get (entries_of (found_units s))) kept_is.first ∙ k.first.is_entry
+    first_is = search (rules, kept_is)
 
     pub first_within : u.first < length (entries_of (found_units s))
-    first_within = slice_get_within (entries_of (found_units s)) u.first k.first.entry first_is
+    first_within = search (rules, slice_get_within, first_is)
 
     pub unit_told : (first : ℕ) (d : Declaration) (t : UnitType) → first ≡ u.first
         → d ≡ (found_entry s first).head.decl → t ≡ type_of u.header.kind d.tag
         → told u.at u.header t first ≡ unit_head (found_place s number)
     unit_told first d t same declared typed =
-        let is : found_entry s first ≡ k.first.entry = get_or_from_slice_get (entries_of (found_units s)) first
-        k.first.entry no_entry (ap (slice_get (entries_of (found_units s))) same ∙ first_is) in
-        let of_first : d ≡ k.first.entry.head.decl = declared ∙ ap (λ (e : Entry). e.head.decl) is in
-        let tag : d.tag ≡ (head_of (found_place s number).unit.root).decl.tag = ap (λ (c : Declaration). c.tag) of_first
-        ∙ ap (λ (h : Head). h.decl.tag) k.first.is_first.head in
+        let is : found_entry s first ≡ k.first.entry = search (rules, get_or_from_slice_get, first_is) in
+        let of_first : d ≡ k.first.entry.head.decl = search rules in
+        let tag : d.tag ≡ (head_of (found_place s number).unit.root).decl.tag = search rules in
         let type_is : t ≡ type_of (found_place s number).unit.header.kind
-        (head_of (found_place s number).unit.root).decl.tag =
-        typed ∙ ap (λ (h : UnitHeader). type_of h.kind d.tag) kept_is.header
-        ∙ ap (type_of (found_place s number).unit.header.kind) tag in
+        (head_of (found_place s number).unit.root).decl.tag = search (rules, kept_is) in
         let number_is : first ≡ (found_place s number).first = same ∙ kept_is.first in
         λ i. told (kept_is.at i) (kept_is.header i) (type_is i) (number_is i)
 
 -- as many records as units
-pub units_counted : {base : ℕ} (a info : List ℕ) (tables : Tables) (rs : List UnitRecord) (records : List Record)
+pub units_counted : {base : ℕ} {a info : List ℕ} {tables : Tables} {rs : List UnitRecord} {records : List Record}
     (s : Scanned base a info tables rs records) → length rs ≡ length (found_units s)
-units_counted a info tables rs records s =
-    sym (AllZip-long (IsRecordOfUnit tables) rs (placed (found_units s)) s.1.kept)
-    ∙ length-placed (found_units s)
+units_counted {tables = tables} {rs = rs} s = search (rules, AllZip-long, length-placed)

@@ -1,5 +1,5 @@
 -- The values that leads lead to: their forms, and what is read of their bytes.
-use Rattle.std.proofs.Common.{◌≡◌, ℕ, Bool, true, false, List, length, Some, Result, Ok, Err, refl, sym, ap, subst, ◌∙◌}
+use Rattle.std.proofs.Common.{rules, ◌≡◌, ℕ, Bool, true, false, List, length, Some, Ok, Err, refl, subst, ◌∙◌, Result, sym}
 use Rattle.std.specs.Prelude.{⊤, nat_lt}
 use Rattle.std.specs.Bool.{OnTrue}
 use Rattle.dw_forms.specs.declared.leading_steps.Lead.{Lead}
@@ -7,21 +7,21 @@ use Rattle.dw_forms.specs.declared.leading_steps.Lead.TheVariants as lead
 use Rattle.dw_forms.specs.declared.abbrev.AttributeSpec.{AttributeSpec}
 use Rattle.dw_forms.specs.declared.form.Form.{Form}
 use Rattle.dw_forms.specs.declared.form.Form.TheVariants.{Ref4, Strp, Strx1, Strx2, Addrx}
-use Rattle.dw_forms.specs.declared.value.ValueFault.{ValueFault}
 use Rattle.dw_forms.specs.declared.value.ValueFault.TheVariants.{Cut}
 use Rattle.dw_forms.specs.declared.value.Value.{Value}
 use Rattle.dw_forms.specs.declared.value.Value.TheVariants as value
-use Rattle.dw_forms.specs.Steps.{◌>>=◌}
 use Rattle.dw_forms.specs.BaseFormats.{taken_at}
-use Rattle.dw_forms.specs.Value.{Datum, view, str, str_index, ref_unit, addr_index, fixed, leb}
+use Rattle.dw_forms.specs.Value.{Datum, view, str_index, addr_index, fixed, leb}
 use Rattle.dw_forms.specs.ValueFormats.{laid_out}
-use Rattle.dw_forms.specs.ValueReading.{layout_at, fixed_at, uleb_then}
+use Rattle.dw_forms.specs.ValueReading.{layout_at, uleb_then}
 use Rattle.dw_forms.specs.LeadingWalks.{lead_of}
 use Rattle.dw_forms.proofs.LeadLaws.{lead_says}
 use Rattle.dw_entries.specs.Led.{IsMade, IsRead, is_index_lead, is_offset_lead, leads_on}
 use Rattle.dw_entries.specs.Leading.{form_of_lead}
 use Rattle.dw_forms.specs.WithBytes.{ok_pair}
 use Rattle.dw_entries.specs.Values.{IsCutValue}
+use Rattle.dw_forms.specs.declared.value.ValueFault.{ValueFault}
+use Rattle.dw_forms.specs.Steps.{◌>>=◌}
 
 form_is : {f g : Form} → Some f ≡ Some g → f ≡ g
 form_is e = cc
@@ -35,22 +35,17 @@ unfolding laid_out taken_at
 fixed_cut n of bytes short = rw short refl
 
 pub text_cut : (bytes : List ℕ) (b : Bool) → b ≡ nat_lt (length bytes) 4 → OnTrue b (IsCutValue Strp bytes)
-text_cut bytes true short = λ version size. fixed_cut 4 str bytes (sym short)
+text_cut bytes true short = search (rules, fixed_cut)
 text_cut bytes false short = tt
 
 pub reference_cut : (bytes : List ℕ) (b : Bool) → b ≡ nat_lt (length bytes) 4 → OnTrue b (IsCutValue Ref4 bytes)
-reference_cut bytes true short = λ version size. fixed_cut 4 ref_unit bytes (sym short)
+reference_cut bytes true short = search (rules, fixed_cut)
 reference_cut bytes false short = tt
 
 fixed_made : (n : ℕ) (of : ℕ → Datum) (bytes behind : List ℕ) (d : Datum)
     → layout_at (fixed n of) bytes ≡ Ok (d, behind) → (m : ℕ) × (d ≡ of m)
 unfolding laid_out
-fixed_made n of bytes behind d e = by_read (fixed_at n bytes) e
-  where
-    by_read : (r : Result (ℕ × List ℕ) ValueFault)
-        → (r >>= λ x. let y : Datum × List ℕ = (of x.0, x.1) in Ok y) ≡ Ok (d, behind) → (m : ℕ) × (d ≡ of m)
-    by_read (Ok x) e = (x.0, (ok_pair {E = ValueFault} d (of x.0) behind x.1 (sym e)).0)
-    by_read (Err f) e = absurd cc
+fixed_made n of bytes behind d e = search (rules, ok_pair)
 
 leb_made : (of : ℕ → Datum) (bytes behind : List ℕ) (d : Datum) → layout_at (leb of) bytes ≡ Ok (d, behind)
     → (m : ℕ) × (d ≡ of m)
@@ -63,20 +58,20 @@ leb_made of bytes behind d e = by_read (uleb_then bytes) e
     by_read (Err f) e = absurd cc
 
 index1_made : (d : Datum) → IsMade Strx1 d → (m : ℕ) × (d ≡ str_index m)
-index1_made d made = fixed_made 1 str_index made.bytes made.behind d made.reads
+index1_made d made = search (rules, fixed_made)
 
 index2_made : (d : Datum) → IsMade Strx2 d → (m : ℕ) × (d ≡ str_index m)
-index2_made d made = fixed_made 2 str_index made.bytes made.behind d made.reads
+index2_made d made = search (rules, fixed_made)
 
 address_made : (d : Datum) → IsMade Addrx d → (m : ℕ) × (d ≡ addr_index m)
-address_made d made = leb_made addr_index made.bytes made.behind d made.reads
+address_made d made = search (rules, leb_made)
 
 index_value : (v : Value) (m : ℕ) → view v ≡ str_index m → v ≡ value.StrIndex m
-index_value (value.StrIndex x) m e = let same : x ≡ m = cc in ap (λ (n : ℕ). value.StrIndex n) same
+index_value (value.StrIndex x) m e = search (rules)
 index_value _ m e = absurd cc
 
 address_value : (v : Value) (m : ℕ) → view v ≡ addr_index m → v ≡ value.AddrIndex m
-address_value (value.AddrIndex x) m e = let same : x ≡ m = cc in ap (λ (n : ℕ). value.AddrIndex n) same
+address_value (value.AddrIndex x) m e = search (rules)
 address_value _ m e = absurd cc
 
 -- ---- the value, by the lead
@@ -91,14 +86,14 @@ HoldsBy _ v = ⊤
 -- the form of an attribute that has this lead
 pub lead_form : (l : Lead) (f : Form) (spec : AttributeSpec) → form_of_lead l ≡ Some f → lead_of spec ≡ l
     → spec.form ≡ f
-lead_form lead.TypeEntry f spec e is = (lead_says spec lead.TypeEntry is).0 ∙ form_is e
-lead_form lead.Sibling f spec e is = (lead_says spec lead.Sibling is).0 ∙ form_is e
-lead_form lead.Specification f spec e is = (lead_says spec lead.Specification is).0 ∙ form_is e
+lead_form lead.TypeEntry f spec e is = search (rules, lead_says, form_is)
+lead_form lead.Sibling f spec e is = search (rules, lead_says, form_is)
+lead_form lead.Specification f spec e is = search (rules, lead_says, form_is)
 lead_form lead.Entry f spec e is = (lead_says spec lead.Entry is).0 ∙ form_is e
 lead_form lead.Text f spec e is = (lead_says spec lead.Text is).0 ∙ form_is e
 lead_form lead.Index1 f spec e is = (lead_says spec lead.Index1 is).0 ∙ form_is e
 lead_form lead.Index2 f spec e is = (lead_says spec lead.Index2 is).0 ∙ form_is e
-lead_form lead.Address f spec e is = (lead_says spec lead.Address is).0 ∙ form_is e
+lead_form lead.Address f spec e is = search (rules, lead_says, form_is)
 lead_form _ f spec e is = absurd cc
 
 pub holds_by : (l : Lead) (spec : AttributeSpec) (item : ℕ × Datum) → lead_of spec ≡ l → IsRead spec item

@@ -1,16 +1,14 @@
 -- One step of a walk over the values that may lead elsewhere.
-use Rattle.std.proofs.Common.{rules, ◌≡◌, ℕ, ◌-◌, ◌≤◌, List, [], ◌∷◌, ◌++◌, length, take, drop, map, Ok, sym, ap, subst, ◌∙◌}
+use Rattle.std.proofs.Common.{rules, ◌≡◌, ℕ, ◌-◌, ◌≤◌, List, [], ◌∷◌, ◌++◌, length, take, drop, map, Ok, ap, subst}
 use Rattle.std.proofs.lemmas.Bool.{ltb-false}
 use Rattle.std.proofs.lemmas.List.{take-append-drop}
 use Rattle.dw_forms.specs.declared.attributes.Attributes.{Attributes}
 use Rattle.dw_forms.specs.declared.abbrev.AttributeSpec.{AttributeSpec}
 use Rattle.dw_forms.specs.declared.leading_steps.Lead.TheVariants as lead
 use Rattle.dw_forms.specs.declared.leading_steps.Step.{Step}
-use Rattle.dw_forms.specs.AttributeLists.{specs_of, numbered_in}
 use Rattle.dw_forms.specs.Chains.{Numbered, items_of}
 use Rattle.dw_forms.specs.KnownValues.{known_sum, rest_beyond}
 use Rattle.dw_forms.specs.Suffixes.{nodes_of, numbered, specs_in}
-use Rattle.dw_forms.specs.Value.{Datum}
 use Rattle.dw_forms.specs.LeadingWalks.{does_lead, skip_in, IsFirstStep}
 use Rattle.dw_forms.proofs.ChainLaws.{chain_none}
 use Rattle.dw_forms.proofs.PassSteps.{run, items_append}
@@ -49,7 +47,7 @@ module _ (v : Values) (step : Step) (skip : ℕ) (is : IsFirstStep (numbered v.a
       record {
         spec = h.spec;
         others = items_of h.list;
-        begins = (λ i. items_of (numbered_in (nodes_are i) (first_is i))) ∙ ap items_of h.begins;
+        begins = search rules;
         has_lead = h.leads;
       }
 
@@ -57,29 +55,23 @@ module _ (v : Values) (step : Step) (skip : ℕ) (is : IsFirstStep (numbered v.a
   goes = goes_to (nodes_of all) all.lists.now.known all.first all.within step is (λ none.
       let h = step_lead (nodes_of all) all.lists.now.known all.first all.within step is some in
       let empty : ◌≡◌ {A = List (Numbered AttributeSpec)} (record { number = step.to; item = h.spec } ∷ h.list) [] =
-      sym h.begins ∙ ap (numbered_in (nodes_of all)) none ∙ chain_none (specs_of (nodes_of all)) in
+      search (rules, begins, chain_none) in
       cc)
 
   abbrev front : List AttributeSpec
   front = items_of goes.before
 
   parts : specs_in all ≡ front ++ specs_in there
-  parts =
-      ap items_of goes.goes ∙ items_append goes.before (numbered_in (nodes_of all) step.to)
-      ∙ ap (λ (specs : List AttributeSpec). items_of goes.before ++ specs)
-      (λ i. items_of (numbered_in (sym nodes_are i) (sym first_is i)))
+  parts = search (rules, goes, items_append)
 
   here : Passed x front (specs_in there) v.left.0.0 v.left.0.1 v.bytes.now
-  here = those x (specs_in all) front (specs_in there) parts v.bytes.now v.left
+  here = search (rules, those, parts)
 
   skips : skip ≡ known_sum v.address_size front
-  skips = skipped ∙ goes.skips v.address_size
+  skips = search (rules, goes)
 
   cut : (skip ≤ length v.bytes.now) × (here.behind ≡ drop skip v.bytes.now)
-  cut =
-      cut_is skip v.bytes.now here.behind
-      (ap (λ (n : ℕ). rest_beyond n v.bytes.now) skips
-      ∙ sym (run v.version v.address_size goes.before v.bytes.now goes.none_varies) ∙ here.ends)
+  cut = search (rules, cut_is, here, skips, run, goes)
 
   pub skip_within : skip ≤ length v.bytes.now
   skip_within = cut.0
@@ -92,7 +84,7 @@ module _ (v : Values) (step : Step) (skip : ℕ) (is : IsFirstStep (numbered v.a
     (here.others, v.left.0.1),
     record {
       are = here.are;
-      spelled = rest_of skip v.bytes.now cut.0 ∙ sym cut.1 ∙ here.spelled;
+      spelled = search (rules, rest_of, cut, here);
     },
   )
 
@@ -106,9 +98,7 @@ module _ (v : Values) (step : Step) (skip : ℕ) (is : IsFirstStep (numbered v.a
       ap (λ (z : Left x (specs_in there) slice). z.0.0) (left_unique x (specs_in there) slice m left_there) in
       record {
         passed = take k values;
-        parts =
-            sym (take-append-drop k values)
-            ∙ ap (λ (xs : List (ℕ × Datum)). take k values ++ xs) (sym (ap (map value_of) same ∙ here.values));
+        parts = search (rules, take-append-drop, here);
         are_passed =
             front_passed does_lead x front (specs_in there) v.left.0.0
             (subst (λ (ss : List AttributeSpec). AreAttributes x ss v.left.0.0) parts v.left.1.are) goes.none_leads;

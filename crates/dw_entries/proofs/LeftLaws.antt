@@ -1,6 +1,6 @@
 -- The attributes of an entry that stand in .debug_info, and the value of one of them.
-use Rattle.std.proofs.Common.{rules, ◌≡◌, ℕ, ◌+◌, List, ◌++◌, length, map, None, false, sym, ap, subst, ◌∙◌}
-use Rattle.std.specs.Prelude.{◌==◌, ◌≢◌, All, slice_index_or}
+use Rattle.std.proofs.Common.{rules, ◌≡◌, ℕ, ◌+◌, List, ◌++◌, length, map, None, false, ap, [], ◌∷◌}
+use Rattle.std.specs.Prelude.{◌≢◌, All}
 use Rattle.std.specs.List.{flat_map}
 use Rattle.std.proofs.lemmas.Bool.{ne_eqb}
 use Rattle.std.proofs.lemmas.Option.{slice_get-get_or}
@@ -10,33 +10,35 @@ use Rattle.dw_forms.specs.KeptDecls.{Tables}
 use Rattle.dw_entries.specs.declared.header.UnitHeader.{UnitHeader}
 use Rattle.dw_entries.specs.declared.records.Record.{Record}
 use Rattle.dw_entries.specs.declared.records.UnitRecord.{UnitRecord}
-use Rattle.dw_entries.specs.Grammar.{AreAttributes, attribute_bytes}
+use Rattle.dw_entries.specs.Grammar.{AreAttributes, attribute_bytes, Context, Attribute}
 use Rattle.dw_entries.specs.Header.{version_of, IsSize}
-use Rattle.dw_entries.specs.Units.{context_of, IsUnit}
 use Rattle.dw_entries.specs.UnitLaws.{unit_sized}
-use Rattle.dw_entries.specs.Entries.{Entry}
-use Rattle.dw_entries.specs.ByNumber.{no_unit}
-use Rattle.dw_entries.specs.Scanned.{found_units, Scanned}
+use Rattle.dw_entries.specs.Scanned.{Scanned}
 use Rattle.dw_entries.specs.EntryRules.{value_of, values_of}
 use Rattle.dw_entries.specs.ValuePlaces.{placed_values, placed_values_from}
 use Rattle.dw_entries.specs.Values.{value_context, Left}
-use Rattle.dw_entries.specs.ValueLaws.{left_unique, without_table}
+use Rattle.dw_entries.specs.ValueLaws.{left_unique}
 use Rattle.dw_entries.specs.Lookups.{declares, value_at_entry}
 use Rattle.dw_entries.proofs.HeadLaws.{all_get}
 use Rattle.dw_entries.proofs.KeptLaws.{KeptEntry, found_entry, found_unit}
 use Rattle.dw_entries.proofs.ValueSteps.{value_of_none}
 
+-- the table of a unit has no part in its attributes
+without_table : (x : Context) (specs : List AttributeSpec) (bs : List Attribute) → AreAttributes x specs bs
+    → AreAttributes (value_context x.version x.address_size) specs bs
+without_table x [] [] p = tt
+without_table x [] (b ∷ bs) p = absurd p
+without_table x (s ∷ specs) [] p = absurd p
+without_table x (s ∷ specs) (b ∷ bs) p = search (rules, (without_table x specs bs p.1))
+
 module _ {base : ℕ} {a info : List ℕ} {tables : Tables} {rs : List UnitRecord} {records : List Record}
-    {s : Scanned base a info tables rs records} {id : ℕ} (k : KeptEntry a info tables rs records s id)
+    {s : Scanned base a info tables rs records} {id : ℕ} (k : KeptEntry s id)
     (header : UnitHeader) (specs : List AttributeSpec) (bytes : List ℕ) (version : ℕ)
     (of_unit : header ≡ (found_unit s id).header) (of_specs : specs ≡ (found_entry s id).head.decl.attributes)
     (of_bytes : (behind : List ℕ) × (bytes ≡ flat_map attribute_bytes (found_entry s id).head.attributes ++ behind))
     (version_is : version ≡ version_of header.kind) where
   pub sized_here : IsSize header.address_size
-  sized_here = subst (λ (h : UnitHeader). IsSize h.address_size) (sym of_unit)
-      (unit_sized a (found_unit s id)
-      (all_get (IsUnit a) (found_units s) (found_entry s id).unit (found_unit s id) s.1.spells.are
-      (slice_get-get_or (found_units s) (found_entry s id).unit no_unit k.stands.within))).size
+  sized_here = search (rules, unit_sized, all_get, slice_get-get_or)
 
   context_is : value_context version header.address_size
       ≡ value_context (version_of (found_unit s id).header.kind) (found_unit s id).header.address_size
@@ -73,17 +75,12 @@ module _ {base : ℕ} {a info : List ℕ} {tables : Tables} {rs : List UnitRecor
 
 -- an attribute that is not declared has no value
 pub undeclared : {base : ℕ} {a info : List ℕ} {tables : Tables} {rs : List UnitRecord} {records : List Record}
-    {s : Scanned base a info tables rs records} {id : ℕ} (k : KeptEntry a info tables rs records s id)
+    {s : Scanned base a info tables rs records} {id : ℕ} (k : KeptEntry s id)
     (specs : List AttributeSpec) (attribute : ℕ) → specs ≡ (found_entry s id).head.decl.attributes
     → declares specs attribute ≡ false → None ≡ value_at_entry (found_entry s id) attribute
-undeclared {s = s} {id = id} k specs attribute same none =
-    let e : Entry = found_entry s id in
-    value_of_none (context_of (found_unit s id)) e.head.decl.attributes e.head.attributes attribute
-    k.stands.is.attributes (ap (λ (ss : List AttributeSpec). declares ss attribute) (sym same) ∙ none)
+undeclared {s = s} {id = id} k specs attribute same none = search (rules, value_of_none)
 
 -- a code that no attribute has is not declared
 pub declares_none : (specs : List AttributeSpec) (attribute : ℕ)
     → All (λ (spec : AttributeSpec). spec.attribute ≢ attribute) specs → declares specs attribute ≡ false
-declares_none specs attribute none =
-    list_any_none (λ (spec : AttributeSpec). spec.attribute == attribute) specs
-    (λ k d within. ne_eqb (slice_index_or specs k d).attribute attribute (none k d within))
+declares_none specs attribute none = search (rules, list_any_none, ne_eqb)

@@ -5,7 +5,7 @@ use Rattle.dw_entries.specs.declared.records.Record.{Record}
 use Rattle.dw_entries.specs.declared.header.HeaderKind.{HeaderKind}
 use Rattle.dw_forms.specs.declared.rule.Rule.TheVariants.{LeftOver}
 use Rattle.dw_entries.specs.declared.fault.Failing.{Failing}
-use Rattle.dw_entries.specs.Grammar.{Context, IsNull}
+use Rattle.dw_entries.specs.Grammar.{Context}
 use Rattle.dw_entries.specs.Header.{fits_tag, unit_header_size}
 use Rattle.dw_entries.specs.Tree.{Node, leaf, parent, node_bytes}
 use Rattle.dw_entries.specs.Items.{Item, null, items_bytes, node_items}
@@ -31,12 +31,8 @@ nulls_next bytes rest after n e =
     let took = read_takes code rest 0 after e in
     record {
       nulls = n.nulls ++ took.text ∷ [];
-      are = all-append IsNull n.nulls (took.text ∷ []) n.are (took.spelled, tt);
-      parts =
-          n.parts ∙ ap (λ (b : List ℕ). nulls_bytes n.nulls ++ b)
-          (took.parts ∙ ap (λ (b : List ℕ). b ++ after) (sym (append-nil took.text)))
-          ∙ sym (append_assoc (nulls_bytes n.nulls) (took.text ++ []) after)
-          ∙ ap (λ (b : List ℕ). b ++ after) (sym (flat_map-append (λ (z : List ℕ). z) n.nulls (took.text ∷ [])));
+      are = search (rules, all-append);
+      parts = search (rules, append-nil, append_assoc, flat_map-append);
     }
 
 pub null_shorter : (rest after : List ℕ) → code.read rest ≡ Ok (0, after) → length after < length rest
@@ -63,9 +59,8 @@ tree_end t numbers kind body rest at old new tree (zs, are, parts) = record {
   is = tree.is;
   tag = tree.tag;
   nulls = tree.nulls ++ zs;
-  are_nulls = all-append IsNull tree.nulls zs tree.are_nulls are;
-  parts =
-      together body (node_bytes tree.root) rest tree.nulls zs [] tree.parts (parts ∙ sym (append-nil (nulls_bytes zs)));
+  are_nulls = search (rules, all-append);
+  parts = search (rules, together, append-nil);
   records = tree.records;
 }
 
@@ -84,9 +79,7 @@ left_over t numbers kind header start body rest left old new s tree then =
     let zs : List (List ℕ) = tree.nulls ++ then.nulls in
     let is : List Item = node_items tree.root ++ map null zs in
     let spelled : items_bytes is ≡ node_bytes tree.root
-    ++ nulls_bytes zs = items_bytes-append (node_items tree.root) (map null zs)
-    ∙ ap (λ (b : List ℕ). b ++ items_bytes (map null zs)) (node_spelled tree.root)
-    ∙ ap (λ (b : List ℕ). node_bytes tree.root ++ b) (nulls_spelled zs) in
+    ++ nulls_bytes zs = search (rules, items_bytes-append, node_spelled, nulls_spelled) in
     let parts : body ≡ items_bytes is
     ++ left = together body (node_bytes tree.root) rest tree.nulls then.nulls left tree.parts then.parts
     ∙ ap (λ (b : List ℕ). b ++ left) (sym spelled) in

@@ -1,5 +1,5 @@
 -- One attribute whose value is an offset of four bytes.
-use Rattle.std.proofs.Common.{◌≡◌, ℕ, ◌≤◌, ◌-◌, true, List, [], ◌∷◌, length, take, drop, map, Some, Result, Ok, Err, refl, ap}
+use Rattle.std.proofs.Common.{rules, ◌≡◌, ℕ, ◌≤◌, ◌-◌, true, List, [], ◌∷◌, length, take, drop, map, Some, Result, Ok, Err, refl}
 use Rattle.std.specs.Prelude.{IfSome}
 use Rattle.dw_forms.specs.declared.abbrev.AttributeSpec.{AttributeSpec}
 use Rattle.dw_forms.specs.declared.attributes.Attributes.{Attributes}
@@ -24,7 +24,7 @@ use Rattle.dw_entries.proofs.ValueSteps.{form_reads, left_after, reads_first, st
 
 -- there is one
 pub offset_on : (l : Lead) → is_offset_lead l ≡ true → l ≡ lead.Nothing → ⊥
-offset_on l is nothing = let no : is_offset_lead lead.Nothing ≡ true = rw nothing at is in cc
+offset_on l is nothing = search (rules)
 
 -- the form of an attribute that has such a lead
 abbrev pub offset_form : Lead → Form
@@ -43,14 +43,13 @@ form_is _ is = absurd cc
 in_layout : (of : ℕ → Datum) (bytes : List ℕ) (r : Result (ℕ × List ℕ) ValueFault) → fixed_at 4 bytes ≡ r
     → layout_at (fixed 4 of) bytes ≡ (r >>= λ x. let y : Datum × List ℕ = (of x.0, x.1) in Ok y)
 unfolding laid_out
-in_layout of bytes r e = ap (λ (q : Result (ℕ × List ℕ) ValueFault). q >>= λ x. let y : Datum × List ℕ =
-    (of x.0, x.1) in Ok y) e
+in_layout of bytes r e = search (rules)
 
 module _ (version size : ℕ) (bytes : List ℕ) where
   value_by : (l : Lead) (n : ℕ) (rest : List ℕ) → fixed_at 4 bytes ≡ Ok (n, rest)
       → value_at version (offset_form l) size bytes ≡ Ok (offset_by l n, rest)
   value_by lead.Text n rest e = in_layout str bytes (Ok (n, rest)) e
-  value_by _ n rest e = in_layout ref_unit bytes (Ok (n, rest)) e
+  value_by _ n rest e = search (rules, in_layout)
 
   fault_by : (l : Lead) (f : ValueFault) → fixed_at 4 bytes ≡ Err f
       → value_at version (offset_form l) size bytes ≡ Err f

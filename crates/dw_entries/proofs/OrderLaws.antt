@@ -1,5 +1,5 @@
 -- The entries stand in rising offset.
-use Rattle.std.proofs.Common.{ℕ, suc, ◌+◌, ◌≤◌, List, [], ◌∷◌, ◌++◌, length, Option, Some, None, ap, ◌∙◌, arith, length-append, length-drop}
+use Rattle.std.proofs.Common.{rules, ℕ, suc, ◌+◌, ◌≤◌, List, [], ◌∷◌, ◌++◌, length, Option, Some, None, ap, ◌∙◌, arith, length-append, length-drop}
 use Rattle.dw_entries.specs.Scanned.{numbers_of, Scanned}
 use Rattle.dw_entries.specs.declared.records.Record.{Record}
 use Rattle.dw_entries.specs.declared.records.UnitRecord.{UnitRecord}
@@ -53,11 +53,14 @@ mutual
       → Rises at (at + length (nodes_bytes ns)) (nodes_records numbers above id at ns)
   nodes_rise t numbers unit above depth id at none p = omega arith
   nodes_rise t numbers unit above depth id at (n then ns) p =
-      let e : (at + length (node_bytes n)) + length (nodes_bytes ns) ≤ at
-      + length (nodes_bytes (n then ns)) = omega (arith, length-append (node_bytes n) (nodes_bytes ns)) in
-      Rises-to at _ _ _ e (Rises-append at (at + length (node_bytes n)) _ _ _
-      (node_rises t numbers unit (Some above) depth (first_id ns (id + node_count n)) id at n p.0)
-      (nodes_rise t numbers unit above depth (id + node_count n) (at + length (node_bytes n)) ns p.1))
+      search (
+        rules,
+        length-append,
+        Rises-to,
+        Rises-append,
+        (node_rises t numbers unit (Some above) depth (first_id ns (id + node_count n)) id at n p.0),
+        (nodes_rise t numbers unit above depth (id + node_count n) (at + length (node_bytes n)) ns p.1),
+      )
 
 pub units_rise : (a : List ℕ) (numbers : ℕ → ℕ → ℕ) (unit id at : ℕ) (us : List DebugUnit) → AreUnits a us
     → Rises at (at + length (units_bytes us)) (records_from numbers unit id at us)
@@ -76,7 +79,7 @@ units_rise a numbers unit id at (u ∷ us) p =
 
 Rises-few : (low high : ℕ) (rs : List Record) → Rises low high rs → low + length rs ≤ high
 Rises-few low high [] p = omega (arith, p)
-Rises-few low high (r ∷ rs) p = let more = Rises-few (suc r.at) high rs p.1 in omega (arith, more, p.0)
+Rises-few low high (r ∷ rs) p = search (rules, (Rises-few (suc r.at) high rs p.1))
 
 -- each entry takes a byte at least
 pub few_entries : (a : List ℕ) (numbers : ℕ → ℕ → ℕ) (at : ℕ) (us : List DebugUnit) → AreUnits a us

@@ -1,5 +1,5 @@
 -- Attributes that are passed, and the one after them.
-use Rattle.std.proofs.Common.{◌≡◌, ℕ, zero, suc, ◌<◌, ◌≤◌, ◌-◌, take, drop, Ok, true, false, List, [], ◌∷◌, ◌++◌, length, map, Option, Some, None, refl, sym, ap, subst, ◌∙◌, append_assoc, length-append, arith}
+use Rattle.std.proofs.Common.{rules, ◌≡◌, ℕ, zero, suc, ◌<◌, ◌≤◌, ◌-◌, take, drop, Ok, true, false, List, [], ◌∷◌, ◌++◌, length, map, Option, Some, None, refl, sym, ap, ◌∙◌, append_assoc, length-append}
 use Rattle.std.specs.Prelude.{IfNone, IfSome}
 use Rattle.std.proofs.lemmas.Bool.{or_parts}
 use Rattle.std.specs.List.{list_any}
@@ -38,8 +38,7 @@ both_passed (x ∷ xs) ys front back (suc k) item is =
     both_passed xs ys (λ j i e. front (suc j) i e) back k item is
 
 one_passed : (item : ℕ × Datum) → IsPassed DoesNotLead item → ArePassed DoesNotLead (item ∷ [])
-one_passed item is zero other e =
-    let same : item ≡ other = cc in subst (IsPassed DoesNotLead) same is
+one_passed item is zero other e = search (rules)
 one_passed item is (suc k) other e = absurd cc
 
 none_of_both : (xs ys : List AttributeSpec) → list_any does_lead xs ≡ false → list_any does_lead ys ≡ false
@@ -51,7 +50,7 @@ none_of_both (x ∷ xs) ys front back =
 
 -- where a lead goes on, there is one
 pub on_some : (l : Lead) → leads_on l ≡ true → l ≡ lead.Nothing → ⊥
-on_some l on nothing = let no : leads_on lead.Nothing ≡ true = rw nothing at on in cc
+on_some l on nothing = search (rules)
 
 -- the given form is that of the first attribute
 pub form_fits : (given : Option Form) (l : Lead) (specs : List AttributeSpec) → given ≡ form_of_lead l
@@ -64,8 +63,7 @@ form_fits (Some f) l specs is b = λ spec others e.
 
 -- there is a first attribute
 pub some_first : (l : Lead) (specs : List AttributeSpec) → BeginsWithLead l specs → specs ≡ [] → ⊥
-some_first l specs b none =
-    let both : ◌≡◌ {A = List AttributeSpec} (b.spec ∷ b.others) [] = sym b.begins ∙ none in cc
+some_first l specs b none = search (rules)
 
 -- ---- one attribute more
 
@@ -73,25 +71,11 @@ module _ (items left : List (ℕ × Datum)) (specs others : List AttributeSpec) 
   where
     pub next_over : (item : ℕ × Datum) (behind : List (ℕ × Datum)) → left ≡ item ∷ behind
         → IsNextOf DoesNotLead items item behind
-    next_over item behind is = record {
-      passed = p.passed;
-      parts = p.parts ∙ ap (λ (xs : List (ℕ × Datum)). p.passed ++ xs) is;
-      are_passed = p.are_passed;
-    }
+    next_over item behind is = search (rules)
 
     pub steps_over : (l : Lead) (item : ℕ × Datum) (behind : List AttributeSpec) → BeginsWithLead l others
         → ReadsFirst others behind item → StepsTo l specs behind item
-    steps_over l item behind b r =
-        let both : ◌≡◌ {A = List AttributeSpec} (b.spec ∷ b.others) (r.spec ∷ behind) = sym b.begins ∙ r.parts in
-        let same : b.spec ≡ r.spec = cc in
-        record {
-          passed = p.passed_specs;
-          spec = r.spec;
-          parts = p.spec_parts ∙ ap (λ (xs : List AttributeSpec). p.passed_specs ++ xs) r.parts;
-          none_leads = p.none_leads;
-          has_lead = ap lead_of (sym same) ∙ b.has_lead;
-          is_read = r.is_read;
-        }
+    steps_over l item behind b r = search (rules)
 
     -- which leads nowhere
     pub over_more : (item : ℕ × Datum) (behind : List (ℕ × Datum)) (spec : AttributeSpec) (after : List AttributeSpec)
@@ -99,21 +83,16 @@ module _ (items left : List (ℕ × Datum)) (specs others : List AttributeSpec) 
         → PassesOver items behind specs after
     over_more item behind spec after is are passed quiet = record {
       passed = p.passed ++ item ∷ [];
-      parts =
-          p.parts ∙ ap (λ (xs : List (ℕ × Datum)). p.passed ++ xs) is
-          ∙ sym (append_assoc p.passed (item ∷ []) behind);
-      are_passed = both_passed p.passed (item ∷ []) p.are_passed (one_passed item passed);
+      parts = search (rules, append_assoc);
+      are_passed = search (rules, both_passed, one_passed);
       passed_specs = p.passed_specs ++ spec ∷ [];
-      spec_parts =
-          p.spec_parts ∙ ap (λ (xs : List AttributeSpec). p.passed_specs ++ xs) are
-          ∙ sym (append_assoc p.passed_specs (spec ∷ []) after);
-      none_leads = none_of_both p.passed_specs (spec ∷ []) p.none_leads (rw quiet refl);
+      spec_parts = search (rules, append_assoc);
+      none_leads = search (rules, none_of_both);
     }
 
     pub fewer_over : (item : ℕ × Datum) (behind : List (ℕ × Datum)) → left ≡ item ∷ behind
         → length behind < length items
-    fewer_over item behind is =
-        omega (arith, ap length p.parts, length-append p.passed left, ap length is)
+    fewer_over item behind is = search (rules, length-append)
 
     -- ---- more of them
 
@@ -121,40 +100,32 @@ module _ (items left : List (ℕ × Datum)) (specs others : List AttributeSpec) 
         → PassesOver items behind specs after
     over_over behind after q = record {
       passed = p.passed ++ q.passed;
-      parts =
-          p.parts ∙ ap (λ (xs : List (ℕ × Datum)). p.passed ++ xs) q.parts
-          ∙ sym (append_assoc p.passed q.passed behind);
-      are_passed = both_passed p.passed q.passed p.are_passed q.are_passed;
+      parts = search (rules, append_assoc);
+      are_passed = search (rules, both_passed);
       passed_specs = p.passed_specs ++ q.passed_specs;
-      spec_parts =
-          p.spec_parts ∙ ap (λ (xs : List AttributeSpec). p.passed_specs ++ xs) q.spec_parts
-          ∙ sym (append_assoc p.passed_specs q.passed_specs after);
-      none_leads = none_of_both p.passed_specs q.passed_specs p.none_leads q.none_leads;
+      spec_parts = search (rules, append_assoc);
+      none_leads = search (rules, none_of_both);
     }
 
     found_over : (item : ℕ × Datum) (behind : List (ℕ × Datum)) → IsNextOf DoesNotLead left item behind
         → IsNextOf DoesNotLead items item behind
     found_over item behind n = record {
       passed = p.passed ++ n.passed;
-      parts =
-          p.parts ∙ ap (λ (xs : List (ℕ × Datum)). p.passed ++ xs) n.parts
-          ∙ sym (append_assoc p.passed n.passed (item ∷ behind));
-      are_passed = both_passed p.passed n.passed p.are_passed n.are_passed;
+      parts = search (rules, append_assoc);
+      are_passed = search (rules, both_passed);
     }
 
     leads_over : (it : Led) (behind : List AttributeSpec) → LeadsNext it others behind → LeadsNext it specs behind
     leads_over it behind n = record {
       passed = p.passed_specs ++ n.passed;
       spec = n.spec;
-      parts =
-          p.spec_parts ∙ ap (λ (xs : List AttributeSpec). p.passed_specs ++ xs) n.parts
-          ∙ sym (append_assoc p.passed_specs n.passed (n.spec ∷ behind));
-      none_leads = none_of_both p.passed_specs n.passed p.none_leads n.none_leads;
+      parts = search (rules, append_assoc);
+      none_leads = search (rules, none_of_both);
       is_led = n.is_led;
     }
 
     all_over : ArePassed DoesNotLead left → ArePassed DoesNotLead items
-    all_over back k item is = both_passed p.passed left p.are_passed back k item (rw p.parts at is)
+    all_over back k item is = search (rules, both_passed)
 
     pub found_all : (r : Option Led) (behind : List (ℕ × Datum))
         → IfSome r (λ it. IsNextOf DoesNotLead left (item_of it) behind)
@@ -192,13 +163,10 @@ nothing_left a step is x bytes l none =
 -- the first attribute leads nowhere, where its lead says so
 first_quiet : (l : Lead) (specs others : List AttributeSpec) (spec : AttributeSpec) → BeginsWithLead l specs
     → specs ≡ spec ∷ others → l ≡ lead.Passed → DoesNotLead spec
-first_quiet l specs others spec b parts is =
-    let both : ◌≡◌ {A = List AttributeSpec} (b.spec ∷ b.others) (spec ∷ others) = sym b.begins ∙ parts in
-    let same : b.spec ≡ spec = cc in
-    lead_says spec lead.Passed (ap lead_of (sym same) ∙ b.has_lead ∙ is)
+first_quiet l specs others spec b parts is = search (rules, lead_says)
 
 pub passed_on : (l : Lead) → l ≡ lead.Passed → l ≡ lead.Nothing → ⊥
-passed_on l passed nothing = let no : lead.Passed ≡ lead.Nothing = sym passed ∙ nothing in cc
+passed_on l passed nothing = search (rules)
 
 -- the first attribute is skipped, after those that are passed
 module _ (v : Values) (items : List (ℕ × Datum)) (specs : List AttributeSpec)

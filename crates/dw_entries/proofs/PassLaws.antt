@@ -1,11 +1,10 @@
 -- Values that are passed together, and the value after them.
-use Rattle.std.proofs.Common.{◌≡◌, ◌≢◌, ℕ, zero, suc, ◌+◌, ◌-◌, Bool, true, false, List, [], ◌∷◌, ◌++◌, length, take, drop, map, Option, Some, None, Result, Ok, Err, refl, sym, ap, subst, ◌∙◌, append_assoc, length-append, length-drop, arith}
+use Rattle.std.proofs.Common.{rules, ◌≡◌, ◌≢◌, ℕ, zero, suc, ◌+◌, ◌-◌, Bool, true, false, List, [], ◌∷◌, ◌++◌, length, take, drop, map, Option, Some, None, Result, Ok, Err, refl, sym, ap, ◌∙◌, append_assoc, length-append, length-drop, arith}
 use Rattle.std.specs.Prelude.{◌&&◌, slice_index_or, option_map}
 use Rattle.std.specs.List.{flat_map, slice_range}
 use Rattle.std.proofs.lemmas.Bool.{ne_eqb, eq-eqb}
 use Rattle.dw_forms.specs.declared.abbrev.AttributeSpec.{AttributeSpec}
 use Rattle.dw_forms.specs.declared.value.ValueFault.{ValueFault}
-use Rattle.dw_forms.specs.Steps.{◌>>=◌}
 use Rattle.dw_forms.specs.FormCodes.{is_allowed}
 use Rattle.dw_forms.specs.declared.form.Form.TheVariants.{Flag}
 use Rattle.dw_forms.specs.declared.value.Value.{Value}
@@ -15,7 +14,6 @@ use Rattle.dw_forms.specs.KnownValues.{values_end}
 use Rattle.dw_forms.specs.FirstPlaces.{StandsFirst, value_behind, ReadsFirst, AnswersFirst}
 use Rattle.dw_entries.specs.Grammar.{Context, Attribute, IsAttribute, AreAttributes, attribute_bytes}
 use Rattle.dw_entries.specs.ItemFormats.{bytes_after, attributes}
-use Rattle.dw_entries.specs.ItemLaws.{value_again}
 use Rattle.dw_forms.specs.WithBytes.{bind_ok}
 use Rattle.dw_entries.specs.EntryRules.{value_of}
 use Rattle.dw_entries.specs.Lookups.{value_in}
@@ -23,7 +21,7 @@ use Rattle.dw_entries.specs.OwnBytes.{IsRest}
 use Rattle.dw_entries.specs.ValuePlaces.{placed_values_from}
 use Rattle.dw_entries.specs.Values.{Left}
 use Rattle.dw_entries.specs.ValueLaws.{left_unique}
-use Rattle.dw_entries.proofs.ReadingSteps.{attributes_turn, attribute_ends}
+use Rattle.dw_entries.proofs.ReadingSteps.{attributes_turn, attribute_ends, value_again}
 use Rattle.dw_entries.proofs.ValueSteps.{value_of_none}
 use Rattle.dw_entries.proofs.LeftLaws.{declares_none}
 
@@ -38,7 +36,7 @@ pub all_after : (t : Context) (specs : List AttributeSpec) (bytes rest : List �
     → values_end t.version t.address_size specs bytes ≡ Ok rest
     → bytes_after ((attributes t specs).read bytes) ≡ Ok rest
 unfolding values_end attributes
-all_after t [] bytes rest allowed e = let same : ◌≡◌ {A = Result (List ℕ) ValueFault} (Ok bytes) (Ok rest) = e in cc
+all_after t [] bytes rest allowed e = search (rules)
 all_after t (s ∷ specs) bytes rest allowed e =
     let both = both_true (is_allowed t.version s.form) (are_allowed t.version specs) allowed in
     let next = bind_ok (rest_at t.version s.form t.address_size bytes)
@@ -69,7 +67,7 @@ unfolding rest_at
 one_end x s b rest p = rw (value_again x s b rest p) refl
 
 longer : (at : ℕ) (a b : List ℕ) → at + length (a ++ b) ≡ (at + length a) + length b
-longer at a b = let long = length-append a b in omega (arith, long)
+longer at a b = search (rules, length-append)
 
 pub passed : (x : Context) (front back : List AttributeSpec) (bs : List Attribute) (rest bytes : List ℕ)
     → AreAttributes x (front ++ back) bs → bytes ≡ flat_map attribute_bytes bs ++ rest
@@ -89,21 +87,16 @@ passed x [] back bs rest bytes are spelled =
     }
 passed x (s ∷ front) back [] rest bytes are spelled = absurd are
 passed x (s ∷ front) back (b ∷ bs) rest bytes are spelled =
-    let here : bytes ≡ b.bytes ++ (flat_map attribute_bytes bs ++ rest) = spelled
-    ∙ append_assoc b.bytes (flat_map attribute_bytes bs) rest in
+    let here : bytes ≡ b.bytes ++ (flat_map attribute_bytes bs ++ rest) = search (rules, append_assoc) in
     let p = passed x front back bs rest (flat_map attribute_bytes bs ++ rest) are.1 refl in
     let first : rest_at x.version s.form x.address_size bytes ≡ Ok (flat_map attribute_bytes bs ++ rest) =
-    ap (λ (c : List ℕ). rest_at x.version s.form x.address_size c) here
-    ∙ one_end x s b (flat_map attribute_bytes bs ++ rest) are.0 in
+    search (rules, one_end) in
     record {
       behind = p.behind;
       others = p.others;
-      ends =
-          ap (λ (r : Result (List ℕ) ValueFault). r >>= λ more. values_end x.version x.address_size front more) first
-          ∙ p.ends;
+      ends = search rules;
       before = b.bytes ++ p.before;
-      parts =
-          here ∙ ap (λ (c : List ℕ). b.bytes ++ c) p.parts ∙ sym (append_assoc b.bytes p.before p.behind);
+      parts = search (rules, append_assoc);
       are = p.are;
       spelled = p.spelled;
       values = p.values;
@@ -115,29 +108,23 @@ passed x (s ∷ front) back (b ∷ bs) rest bytes are spelled =
 -- where bytes start that follow others at the end of a section
 start_of : (section bytes before rest : List ℕ) → IsRest section bytes → bytes ≡ before ++ rest
     → length section - length rest ≡ (length section - length bytes) + length before
-start_of section bytes before rest is parts =
-    let all = sym (length-drop (length section - length bytes) section) ∙ ap length is in
-    let both = ap length parts ∙ length-append before rest in
-    omega (arith, all, both)
+start_of section bytes before rest is parts = search (rules, length-drop, length-append)
 
 module _ (x : Context) (specs front back : List AttributeSpec) (parts : specs ≡ front ++ back) (bytes : List ℕ)
     (l : Left x specs bytes) where
   pub those : Passed x front back l.0.0 l.0.1 bytes
-  those =
-      passed x front back l.0.0 l.0.1 bytes
-      (subst (λ (ss : List AttributeSpec). AreAttributes x ss l.0.0) parts l.1.are) l.1.spelled
+  those = search (rules, passed)
 
   pub never_cut : (f : ValueFault) → values_end x.version x.address_size front bytes ≡ Err f → ⊥
   never_cut f e = let ok = those.ends in cc
 
   behind_is : (rest : List ℕ) → values_end x.version x.address_size front bytes ≡ Ok rest → those.behind ≡ rest
-  behind_is rest e =
-      let both : ◌≡◌ {A = Result (List ℕ) ValueFault} (Ok those.behind) (Ok rest) = sym those.ends ∙ e in cc
+  behind_is rest e = search (rules, those)
 
   -- their bytes are the first
   pub passed_parts : (rest : List ℕ) → values_end x.version x.address_size front bytes ≡ Ok rest
       → bytes ≡ those.before ++ rest
-  passed_parts rest e = those.parts ∙ ap (λ (b : List ℕ). those.before ++ b) (behind_is rest e)
+  passed_parts rest e = search (rules, those, behind_is)
 
   -- what is left after them
   pub left_on : (rest : List ℕ) → values_end x.version x.address_size front bytes ≡ Ok rest
@@ -197,20 +184,18 @@ unfolding values_end
 first_value x [] bs rest bytes code place are spelled first = absurd (omega (arith, first.within))
 first_value x (s ∷ specs) [] rest bytes code place are spelled first = absurd are
 first_value x (s ∷ specs) (b ∷ bs) rest bytes code zero are spelled first =
-    let here : bytes ≡ b.bytes ++ (flat_map attribute_bytes bs ++ rest) = spelled
-    ∙ append_assoc b.bytes (flat_map attribute_bytes bs) rest in
+    let here : bytes ≡ b.bytes ++ (flat_map attribute_bytes bs ++ rest) = search (rules, append_assoc) in
     let same : s.attribute ≡ code = first.has s in
-    let is : b.code ≡ code = let c : b.code ≡ s.attribute = are.0.code in c ∙ same in
+    let is : b.code ≡ code = search rules in
     record {
       datum = b.value;
       is_value = rw (eq-eqb b.code code is) refl;
       reads = λ d. rw (here, value_again x s b (flat_map attribute_bytes bs ++ rest) are.0) refl;
     }
 first_value x (s ∷ specs) (b ∷ bs) rest bytes code (suc place) are spelled first =
-    let here : bytes ≡ b.bytes ++ (flat_map attribute_bytes bs ++ rest) = spelled
-    ∙ append_assoc b.bytes (flat_map attribute_bytes bs) rest in
+    let here : bytes ≡ b.bytes ++ (flat_map attribute_bytes bs ++ rest) = search (rules, append_assoc) in
     let other : s.attribute ≢ code = first.none_before 0 s (omega arith) in
-    let apart : b.code ≡ code → ⊥ = let c : b.code ≡ s.attribute = are.0.code in λ same. other (sym c ∙ same) in
+    let apart : b.code ≡ code → ⊥ = search rules in
     let behind : StandsFirst specs code place =
     record {
       within = omega (arith, first.within);
@@ -220,12 +205,12 @@ first_value x (s ∷ specs) (b ∷ bs) rest bytes code (suc place) are spelled f
     let more = first_value x specs bs rest (flat_map attribute_bytes bs ++ rest) code place are.1 refl behind in
     record {
       datum = more.datum;
-      is_value = more.is_value ∙ rw (ne_eqb b.code code apart) refl;
+      is_value = search (rules, ne_eqb);
       reads = λ d. rw (here, one_end x s b (flat_map attribute_bytes bs ++ rest) are.0) (more.reads d);
     }
 
 front_range : (specs : List AttributeSpec) (k : ℕ) → slice_range specs 0 k ≡ take k specs
-front_range specs k = let same : k - 0 ≡ k = omega arith in ap (λ (n : ℕ). take n specs) same
+front_range specs k = search (rules)
 
 pub value_of_left : (x : Context) (specs : List AttributeSpec) (bytes : List ℕ) (l : Left x specs bytes) (attribute : ℕ)
     (answer : Result Datum ValueFault) → ReadsFirst x.version x.address_size specs attribute bytes answer
@@ -242,8 +227,7 @@ value_of_left x specs bytes l attribute answer r =
 pub answers_left : (x : Context) (specs : List AttributeSpec) (bytes : List ℕ) (l : Left x specs bytes) (attribute : ℕ)
     (found : Option Value) → AnswersFirst x.version x.address_size specs attribute bytes (Ok found)
     → option_map view found ≡ value_in (map value_of l.0.0) attribute
-answers_left x specs bytes l attribute None none =
-    value_of_none x specs l.0.0 attribute l.1.are (declares_none specs attribute none)
+answers_left x specs bytes l attribute None none = search (rules, value_of_none, declares_none)
 answers_left x specs bytes l attribute (Some v) reads =
     let (w, is, here) = value_of_left x specs bytes l attribute (Ok (view v)) reads in
     ap (λ (d : Datum). Some d) (ok_is is) ∙ here

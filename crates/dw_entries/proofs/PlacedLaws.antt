@@ -1,10 +1,8 @@
 -- The bytes of a value are the last of its spelling, and where they are in .debug_info.
-use Rattle.std.proofs.Common.{◌≡◌, ℕ, ◌+◌, ◌-◌, List, [], ◌++◌, ◌≤◌, length, take, drop, refl, sym, ap, subst, ◌∙◌, append_assoc, append-nil, length-append, length-drop, length-take, drop_at, take-append-drop, ◌∷◌, Some, Ok, arith}
+use Rattle.std.proofs.Common.{rules, ◌≡◌, ℕ, ◌-◌, List, [], ◌++◌, ◌≤◌, length, take, drop, refl, sym, ap, ◌∙◌, append_assoc, append-nil, length-append, length-drop, length-take, drop_at, take-append-drop, ◌∷◌, Some, Ok, arith}
 use Rattle.dw_forms.specs.declared.form.Form.{Form}
 use Rattle.dw_forms.specs.declared.form.Form.TheVariants as form
 use Rattle.std.specs.Prelude.{slice_get}
-use Rattle.std.specs.List.{flat_map}
-use Rattle.dw_forms.specs.FormCodes.{form_of}
 use Rattle.dw_forms.specs.Value.{Datum}
 use Rattle.dw_forms.specs.FormTable.{layout_of}
 use Rattle.dw_forms.specs.ValueFormats.{Val, laid_out, counted_bytes, leb_counted_bytes}
@@ -12,7 +10,7 @@ use Rattle.dw_forms.specs.ValueLaws.{named_plain}
 use Rattle.dw_forms.specs.KeptDecls.{Tables}
 use Rattle.dw_entries.specs.declared.records.Record.{Record}
 use Rattle.dw_entries.specs.declared.records.UnitRecord.{UnitRecord}
-use Rattle.dw_entries.specs.Grammar.{Attribute, attribute_bytes}
+use Rattle.dw_entries.specs.Grammar.{Attribute}
 use Rattle.dw_entries.specs.ItemFormats.{code}
 use Rattle.dw_entries.specs.Scanned.{Scanned, found_units}
 use Rattle.dw_entries.specs.Entries.{Entry}
@@ -32,11 +30,7 @@ record EndWithBytes (bytes : List ℕ) (v : Datum) : Type 0 where
 -- a value that has these bytes after some others
 after_count : (count content bytes : List ℕ) (v w : Datum) → bytes ≡ count ++ content → v ≡ w → content ≡ bytes_of w
     → HasNoZero w → EndWithBytes bytes v
-after_count count content bytes v w parts is same no_zero = record {
-  before = count;
-  parts = parts ∙ ap (λ (b : List ℕ). count ++ b) (same ∙ ap bytes_of (sym is));
-  no_zero = subst HasNoZero (sym is) no_zero;
-}
+after_count count content bytes v w parts is same no_zero = search (rules)
 
 -- a value that has no bytes itself
 no_bytes : (bytes : List ℕ) (v w : Datum) → v ≡ w → bytes_of w ≡ [] → HasNoZero w → EndWithBytes bytes v
@@ -45,20 +39,13 @@ no_bytes bytes v w is none = after_count bytes [] bytes v w (sym (append-nil byt
 plain_bytes : (size : ℕ) (f : Form) (bytes : List ℕ) (v : Datum) → (laid_out (layout_of size f)).Spells bytes v
     → EndWithBytes bytes v
 unfolding laid_out counted_bytes leb_counted_bytes
-plain_bytes size form.Block1 bytes v (content, counted, is) =
-    after_count counted.first counted.second bytes v _ counted.parts is counted.is_second.same tt
-plain_bytes size form.Block2 bytes v (content, counted, is) =
-    after_count counted.first counted.second bytes v _ counted.parts is counted.is_second.same tt
-plain_bytes size form.Block4 bytes v (content, counted, is) =
-    after_count counted.first counted.second bytes v _ counted.parts is counted.is_second.same tt
-plain_bytes size form.Block bytes v (content, counted, is) =
-    after_count counted.first counted.second bytes v _ counted.parts is counted.is_second.same tt
-plain_bytes size form.Exprloc bytes v (content, counted, is) =
-    after_count counted.first counted.second bytes v _ counted.parts is counted.is_second.same tt
-plain_bytes size form.Text bytes v (content, ended, is) =
-    after_count [] bytes bytes v _ refl is ended.parts ended.none_before
-plain_bytes size form.Data16 bytes v (content, exactly, is) =
-    after_count [] bytes bytes v _ refl is exactly.same tt
+plain_bytes size form.Block1 bytes v (content, counted, is) = search (rules, after_count)
+plain_bytes size form.Block2 bytes v (content, counted, is) = search (rules, after_count)
+plain_bytes size form.Block4 bytes v (content, counted, is) = search (rules, after_count)
+plain_bytes size form.Block bytes v (content, counted, is) = search (rules, after_count)
+plain_bytes size form.Exprloc bytes v (content, counted, is) = search (rules, after_count)
+plain_bytes size form.Text bytes v (content, ended, is) = search (rules, after_count)
+plain_bytes size form.Data16 bytes v (content, exactly, is) = search (rules, after_count)
 plain_bytes size form.Indirect bytes v p = absurd p
 plain_bytes size form.FlagPresent bytes v p = no_bytes bytes v _ p.1 refl tt
 plain_bytes size (form.ImplicitConst number) bytes v p = no_bytes bytes v _ p.1 refl tt
@@ -68,7 +55,7 @@ after_code : (code content bytes : List ℕ) (v : Datum) → bytes ≡ code ++ c
     → EndWithBytes bytes v
 after_code code content bytes v parts end = record {
   before = code ++ end.before;
-  parts = parts ∙ ap (λ (b : List ℕ). code ++ b) end.parts ∙ sym (append_assoc code end.before (bytes_of v));
+  parts = search (rules, append_assoc);
   no_zero = end.no_zero;
 }
 
@@ -76,14 +63,12 @@ after_code code content bytes v parts end = record {
 spelled_bytes : (version size : ℕ) (f : Form) (bytes : List ℕ) (v : Datum) → Val version f size bytes v
     → EndWithBytes bytes v
 unfolding laid_out
-spelled_bytes version size form.Indirect bytes v p =
-    let (f, plain) = named_plain version size (form_of p.value) p.second v p.is_second in
-    after_code p.first p.second bytes v p.parts (plain_bytes size f p.second v plain)
+spelled_bytes version size form.Indirect bytes v p = search (rules, named_plain, after_code, plain_bytes)
 spelled_bytes version size form.Block1 bytes v p = plain_bytes size form.Block1 bytes v p
 spelled_bytes version size form.Block2 bytes v p = plain_bytes size form.Block2 bytes v p
 spelled_bytes version size form.Block4 bytes v p = plain_bytes size form.Block4 bytes v p
 spelled_bytes version size form.Block bytes v p = plain_bytes size form.Block bytes v p
-spelled_bytes version size form.Exprloc bytes v p = plain_bytes size form.Exprloc bytes v p
+spelled_bytes version size form.Exprloc bytes v p = search (rules, plain_bytes)
 spelled_bytes version size form.Text bytes v p = plain_bytes size form.Text bytes v p
 spelled_bytes version size form.Data16 bytes v p = plain_bytes size form.Data16 bytes v p
 spelled_bytes version size form.FlagPresent bytes v p = no_bytes bytes v _ p.1 refl tt
@@ -93,22 +78,11 @@ spelled_bytes version size _ bytes v p = no_bytes bytes v _ p.2 refl tt
 -- the bytes of a value that was read, and those that follow
 pub leaves : (version size len : ℕ) (f : Form) (bytes rest : List ℕ) (v : Datum) → Val version f size (take len bytes) v
     → rest ≡ drop len bytes → Leaves v bytes rest
-leaves version size len f bytes rest v spelled rest_is =
-    let end = spelled_bytes version size f (take len bytes) v spelled in
-    record {
-      before = end.before;
-      parts = sym (take-append-drop len bytes) ∙ ap (λ (b : List ℕ). b ++ drop len bytes) end.parts
-          ∙ append_assoc end.before (bytes_of v) (drop len bytes)
-          ∙ ap (λ (b : List ℕ). end.before ++ (bytes_of v ++ b)) (sym rest_is);
-      no_zero = end.no_zero;
-    }
+leaves version size len f bytes rest v spelled rest_is = search (rules, spelled_bytes, take-append-drop, append_assoc)
 
 -- what a section ends with
 pub rest_after : (section before bytes : List ℕ) → section ≡ before ++ bytes → IsRest section bytes
-rest_after section before bytes parts =
-    let long : length section ≡ length before + length bytes = ap length parts ∙ length-append before bytes in
-    ap (drop (length section - length bytes)) parts
-    ∙ drop_at before bytes (length section - length bytes) (omega (arith, long))
+rest_after section before bytes parts = search (rules, length-append, drop_at)
 
 -- and without the first of these bytes
 pub rest_on : (section bytes before rest : List ℕ) → IsRest section bytes → bytes ≡ before ++ rest
@@ -132,8 +106,7 @@ pub ends_at : (section bytes rest : List ℕ) (v : Datum) → IsRest section byt
 ends_at section bytes rest v is l =
     let front : List ℕ = take (length section - length bytes) section in
     let whole : section ≡ (front ++ l.before) ++ (bytes_of v ++ rest) =
-    sym (take-append-drop (length section - length bytes) section)
-    ∙ ap (λ (b : List ℕ). front ++ b) (is ∙ l.parts) ∙ sym (append_assoc front l.before (bytes_of v ++ rest)) in
+    search (rules, take-append-drop, append_assoc) in
     record {
       before = front ++ l.before;
       rest = rest;
@@ -155,21 +128,11 @@ pub place_taken : (section bytes rest : List ℕ) (old new : List Attribute) (at
     → IsRest section bytes → BeginWith old new bytes rest (attribute, v)
     → placed_values_from (length section - length bytes) old
     ≡ placed_value attribute v (length section - length rest) ∷ placed_values_from (length section - length rest) new
-place_taken section bytes rest old new attribute v is first =
-    let a = first.attribute in
-    let from : ℕ = length section - length bytes in
-    let long : length section - from ≡ length bytes = sym (length-drop from section) ∙ ap length is in
-    let sum : length bytes ≡ length a.bytes + length rest =
-    ap length first.spelled ∙ length-append a.bytes rest in
-    let end : from + length a.bytes ≡ length section - length rest = omega (arith, long, sum) in
-    let code : a.code ≡ attribute = ap (λ (x : ℕ × Datum). x.0) first.is in
-    let value : a.value ≡ v = ap (λ (x : ℕ × Datum). x.1) first.is in
-    ap (placed_values_from from) first.left
-    ∙ (λ i. placed_value (code i) (value i) (end i) ∷ placed_values_from (end i) new)
+place_taken section bytes rest old new attribute v is first = search (rules, length-drop, length-append)
 
 -- .debug_info ends with what follows the code of an entry
 pub follow_code : {base : ℕ} {a info : List ℕ} {tables : Tables} {rs : List UnitRecord} {records : List Record}
-    {s : Scanned base a info tables rs records} {id : ℕ} (k : KeptEntry a info tables rs records s id) (r : Record)
+    {s : Scanned base a info tables rs records} {id : ℕ} (k : KeptEntry s id) (r : Record)
     → slice_get records id ≡ Some r → (n : ℕ) (rest : List ℕ)
     → code.read (take (length info - r.at) (drop r.at info)) ≡ Ok (n, rest) → FollowCode info (found_entry s id) rest
 follow_code {info = info} {s = s} {id = id} k r read n rest got =
@@ -180,12 +143,7 @@ follow_code {info = info} {s = s} {id = id} k r read n rest got =
     record {
       before = front ++ e.head.code;
       rest = k.stands.after;
-      parts =
-          sym (take-append-drop e.at info)
-          ∙ ap (λ (b : List ℕ). front ++ b)
-          (k.stands.parts ∙ append_assoc e.head.code (flat_map attribute_bytes e.head.attributes) k.stands.after
-          ∙ ap (λ (b : List ℕ). e.head.code ++ b) (sym values))
-          ∙ sym (append_assoc front e.head.code rest);
+      parts = search (rules, take-append-drop, append_assoc);
       start = omega (arith, within, length-append front e.head.code, length-take e.at info);
       spelled = values;
     }

@@ -1,10 +1,10 @@
 -- One turn of the loop that reads attributes.
-use Rattle.std.proofs.Common.{◌≡◌, ℕ, true, List, [], ◌∷◌, Result, Ok, Err, refl, sym, ap, ◌∙◌}
+use Rattle.std.proofs.Common.{rules, ◌≡◌, ℕ, true, List, [], ◌∷◌, Result, Ok, Err, refl, ◌++◌}
 use Rattle.dw_forms.specs.declared.abbrev.AttributeSpec.{AttributeSpec}
 use Rattle.dw_forms.specs.Formats.{as_other}
 use Rattle.dw_forms.specs.Steps.{◌>>=◌}
 use Rattle.dw_entries.specs.declared.fault.Failing.{Failing}
-use Rattle.dw_entries.specs.Grammar.{Context, Attribute}
+use Rattle.dw_entries.specs.Grammar.{Context, Attribute, IsAttribute}
 use Rattle.dw_forms.specs.declared.value.ValueFault.{ValueFault}
 use Rattle.dw_forms.specs.FormCodes.{is_allowed}
 use Rattle.dw_forms.specs.Value.{Datum}
@@ -29,24 +29,19 @@ pub attributes_cons : (t : Context) (f : AttributeSpec) (fs : List AttributeSpec
     → bytes_after ((attributes t (f ∷ fs)).read bytes)
     ≡ (bytes_after ((attribute t f).read bytes) >>= λ rest. bytes_after ((attributes t fs).read rest))
 unfolding attributes
-attributes_cons t f fs bytes =
-    after_then ((attribute t f).read bytes) (λ x. (attributes t fs).read x.1 >>= λ more. Ok (x.0 ∷ more.0, more.1))
-    (λ rest. bytes_after ((attributes t fs).read rest)) (λ x. after_more x.0 ((attributes t fs).read x.1))
+attributes_cons t f fs bytes = search (rules, after_then, after_more)
 
 -- a turn of the loop gives the total, whatever reading the first value gives
 pub attributes_turn : (t : Context) (f : AttributeSpec) (left fs : List AttributeSpec) (bytes : List ℕ)
     (total first : Result (List ℕ) Failing) → left ≡ f ∷ fs → bytes_after ((attribute t f).read bytes) ≡ first
     → bytes_after ((attributes t left).read bytes) ≡ total
     → (first >>= λ rest. bytes_after ((attributes t fs).read rest)) ≡ total
-attributes_turn t f left fs bytes total first parts read so_far =
-    ap (λ (r : Result (List ℕ) Failing). r >>= λ rest. bytes_after ((attributes t fs).read rest)) (sym read)
-    ∙ sym (attributes_cons t f fs bytes)
-    ∙ ap (λ (specs : List AttributeSpec). bytes_after ((attributes t specs).read bytes)) (sym parts) ∙ so_far
+attributes_turn t f left fs bytes total first parts read so_far = search (rules, attributes_cons)
 
 pub attributes_end : (t : Context) (left : List AttributeSpec) (bytes : List ℕ) → left ≡ []
     → bytes_after ((attributes t left).read bytes) ≡ Ok bytes
 unfolding attributes
-attributes_end t left bytes none = ap (λ (gs : List AttributeSpec). bytes_after ((attributes t gs).read bytes)) none
+attributes_end t left bytes none = search (rules)
 
 after_value : (spec : AttributeSpec) (t : Context) (bytes : List ℕ) (r : Result (Datum × List ℕ) ValueFault)
     → bytes_after (as_other (λ f. failing_by (value_rule f) spec.attribute)
@@ -62,5 +57,10 @@ pub attribute_ends : (t : Context) (spec : AttributeSpec) (version : ℕ) (bytes
     → bytes_after ((attribute t spec).read bytes) ≡ as_other (λ f. failing_by (value_rule f) spec.attribute) r
 unfolding attribute rest_at
 attribute_ends t spec version bytes r v allowed is =
-    let here : is_allowed t.version spec.form ≡ true = ap (λ (n : ℕ). is_allowed n spec.form) (sym v) ∙ sym allowed in
+    let here : is_allowed t.version spec.form ≡ true = search rules in
     rw (← is, v, here) (after_value spec t bytes (value_at t.version spec.form t.address_size bytes))
+
+-- a value that is spelled is read, whatever follows
+pub value_again : (x : Context) (spec : AttributeSpec) (a : Attribute) (rest : List ℕ) → IsAttribute x spec a
+    → value_at x.version spec.form x.address_size (a.bytes ++ rest) ≡ Ok (a.value, rest)
+value_again x spec a rest p = (value_in x spec).is_reader.again a.bytes rest a.value p.value

@@ -1,12 +1,12 @@
 -- The entries of one unit, by their offsets.
-use Rattle.std.proofs.Common.{rules, ◌≡◌, ℕ, ◌+◌, ◌<◌, ◌≤◌, ◌^◌, List, length, sym, ap, subst, ◌∙◌, arith}
+use Rattle.std.proofs.Common.{rules, ◌≡◌, ℕ, ◌+◌, ◌<◌, ◌≤◌, ◌^◌, List, length, arith}
 use Rattle.std.proofs.lemmas.Option.{slice_get-get_or}
 use Rattle.dw_forms.specs.KeptDecls.{Tables}
 use Rattle.dw_entries.specs.declared.records.Record.{Record}
 use Rattle.dw_entries.specs.declared.records.UnitRecord.{UnitRecord}
 use Rattle.dw_entries.specs.Units.{DebugUnit}
 use Rattle.dw_entries.specs.Entries.{Entry, entries_of, PlacedUnit, placed}
-use Rattle.dw_entries.specs.ByNumber.{end_in, entry_of, no_entry, no_placed, placed_of}
+use Rattle.dw_entries.specs.ByNumber.{end_in, entry_of, placed_of}
 use Rattle.dw_entries.specs.Scanned.{found_units, Scanned}
 use Rattle.dw_entries.specs.EntriesAt.{IsEntryAt, IsEntryIn, ReachesInUnit}
 use Rattle.dw_entries.specs.EntryRules.{OffsetsRise}
@@ -27,23 +27,16 @@ one_at entries offset i j rise a b = search (rules, three_ways, slice_get-get_or
 pub reached_at : (entries : List Entry) (units : List PlacedUnit) (number offset at id : ℕ)
     → at ≡ offset + (placed_of units number).at → ReachesInUnit entries units number offset id
     → IsEntryIn entries number at id
-reached_at entries units number offset at id sum reached =
-    let same : (placed_of units number).at + offset ≡ at = omega (arith, sum) in
-    subst (λ (n : ℕ). IsEntryIn entries number n id) same reached.target
+reached_at entries units number offset at id sum reached = search (rules)
 
 pub in_is_at : (entries : List Entry) (unit offset id : ℕ) → IsEntryIn entries unit offset id
     → IsEntryAt entries offset id
-in_is_at entries unit offset id found = record { within = found.within; begins = found.begins }
+in_is_at entries unit offset id found = search (rules)
 
 pub reaches : (entries : List Entry) (units : List PlacedUnit) (number offset at id : ℕ) → number < length units
     → at ≡ offset + (placed_of units number).at → IsEntryAt entries at id → (entry_of entries id).unit ≡ number
     → ReachesInUnit entries units number offset id
-reaches entries units number offset at id within sum found same =
-    let begins : at ≡ (placed_of units number).at + offset = omega (arith, sum) in
-    record {
-      unit_within = within;
-      target = record { within = found.within; begins = found.begins ∙ begins; in_unit = same };
-    }
+reaches entries units number offset at id within sum found same = search (rules)
 
 -- where the entry at the offset is not between the first and the end of the unit, none of the unit is there
 pub never_other : (us : List DebugUnit) (number offset at first end id : ℕ) → number < length us
@@ -51,15 +44,7 @@ pub never_other : (us : List DebugUnit) (number offset at first end id : ℕ) �
     → first ≡ (placed_of (placed us) number).first → end ≡ end_in (placed us) number
     → (first ≤ id → id < end → ⊥) → (j : ℕ) → ReachesInUnit (entries_of us) (placed us) number offset j → ⊥
 never_other us number offset at first end id within rise sum found begins ends outside j reached =
-    let there = reached_at (entries_of us) (placed us) number offset at j sum reached in
-    let same = one_at (entries_of us) at j id rise (in_is_at (entries_of us) number at j there) found in
-    let its = range_of_unit us number (placed_of (placed us) number) id (entry_of (entries_of us) id)
-    (slice_get-get_or (placed us) number no_placed (omega (arith, within, length-placed us)))
-    (slice_get-get_or (entries_of us) id no_entry found.within)
-    (ap (λ (n : ℕ). (entry_of (entries_of us) n).unit) (sym same) ∙ there.in_unit) in
-    let low = its.0 in
-    let high = its.1 in
-    outside (omega (arith, low, begins)) (omega (arith, high, ends))
+    search (rules, reached_at, one_at, in_is_at, range_of_unit, slice_get-get_or, length-placed)
 
 -- where it is between them, it is of the unit
 pub reaches_by_range : (us : List DebugUnit) (number offset at first end id : ℕ) → number < length us
@@ -67,20 +52,15 @@ pub reaches_by_range : (us : List DebugUnit) (number offset at first end id : �
     → first ≡ (placed_of (placed us) number).first → end ≡ end_in (placed us) number
     → first ≤ id → id < end → ReachesInUnit (entries_of us) (placed us) number offset id
 reaches_by_range us number offset at first end id within sum found begins ends low high =
-    let long = length-placed us in
-    reaches (entries_of us) (placed us) number offset at id (omega (arith, within, long)) sum found
-    (unit_in_range us number (placed_of (placed us) number) id (entry_of (entries_of us) id)
-    (slice_get-get_or (placed us) number no_placed (omega (arith, within, long)))
-    (slice_get-get_or (entries_of us) id no_entry found.within) (omega (arith, low, begins))
-    (omega (arith, high, ends)))
+    search (rules, length-placed, reaches, unit_in_range, slice_get-get_or)
 
 -- no entry begins after 2 ^ 64 bytes
-pub never_far : {base : ℕ} (a info : List ℕ) (tables : Tables) (rs : List UnitRecord) (records : List Record)
+pub never_far : {base : ℕ} {a info : List ℕ} {tables : Tables} {rs : List UnitRecord} {records : List Record}
     (s : Scanned base a info tables rs records) (number offset start : ℕ)
     → start ≡ (placed_of (placed (found_units s)) number).at → length info < 2 ^ 64 → 2 ^ 64 ≤ offset + start → (j : ℕ)
     → ReachesInUnit (entries_of (found_units s)) (placed (found_units s)) number offset j → ⊥
-never_far a info tables rs records s number offset start place few far j reached =
+never_far {info = info} s number offset start place few far j reached =
     let begins = reached.target.begins in
     let stands = stands_within (found_units s) info (found_entry s j)
-    (kept_entry a info tables rs records s j reached.target.within).stands in
+    (kept_entry s j reached.target.within).stands in
     omega (arith, place, begins, stands, few, far)

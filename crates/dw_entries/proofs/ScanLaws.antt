@@ -1,5 +1,5 @@
 -- How far the scan of a section has come.
-use Rattle.std.proofs.Common.{rules, ◌≡◌, ℕ, zero, suc, ◌+◌, ◌-◌, ◌<◌, ◌≤◌, List, [], ◌∷◌, ◌++◌, length, take, drop, None, refl, sym, ap, subst, ◌∙◌, append_assoc, append-nil, arith, length-append, length-drop, drop_at, drop-drop, drop_of_length-le, take_all, add-zero}
+use Rattle.std.proofs.Common.{rules, ◌≡◌, ℕ, zero, suc, ◌+◌, ◌-◌, ◌<◌, ◌≤◌, List, [], ◌∷◌, ◌++◌, length, take, drop, None, refl, sym, ap, ◌∙◌, append_assoc, append-nil, arith, length-append, length-drop, drop_at, drop-drop, drop_of_length-le, take_all, add-zero}
 use Rattle.std.proofs.lemmas.List.Concat.{flat_map-append}
 use Rattle.std.specs.List.{AllZip}
 use Rattle.dw_entries.specs.declared.records.Record.{Record}
@@ -16,7 +16,7 @@ use Rattle.dw_forms.specs.declared.fault.Stop.TheVariants.{Memory, Fault as Brea
 use Rattle.dw_forms.specs.Stops.{IfFault}
 use Rattle.dw_entries.specs.Header.{unit_header_size}
 use Rattle.dw_entries.specs.UnitLaws.{unit_some}
-use Rattle.dw_entries.specs.Units.{DebugUnit, unit_bytes, IsUnit, AreUnits, units_bytes, AreFrom}
+use Rattle.dw_entries.specs.Units.{DebugUnit, unit_bytes, AreUnits, units_bytes, AreFrom}
 use Rattle.dw_entries.specs.Entries.{node_count, start_of, PlacedUnit, placed_from, placed}
 use Rattle.dw_entries.specs.Records.{node_records, records_from, records_kept}
 use Rattle.dw_entries.specs.Scanned.{table_of, numbers_of, IsRecordOfUnit, Scanned}
@@ -62,8 +62,7 @@ records_same f g unit id at (u ∷ us) same =
     λ i. node_records (same unit (omega arith) i) None None id (at + unit_header_size u.header.kind) u.root ++ rest i
 
 units_bytes-push : (us : List DebugUnit) (u : DebugUnit) → units_bytes (us ++ u ∷ []) ≡ units_bytes us ++ unit_bytes u
-units_bytes-push us u =
-    flat_map-append unit_bytes us (u ∷ []) ∙ ap (λ (b : List ℕ). units_bytes us ++ b) (append-nil (unit_bytes u))
+units_bytes-push us u = search (rules, flat_map-append, append-nil)
 
 IsRecordOfUnit-more : (old new : Tables) (r : UnitRecord) (p : PlacedUnit) → Stay old new → IsRecordOfUnit old r p
     → IsRecordOfUnit new r p
@@ -95,8 +94,7 @@ numbers_stay old new rs ps r n stay k less = search (rules, table_stays, table_w
 
 numbers_last : (tables : Tables) (rs : List UnitRecord) (r : UnitRecord) (n : ℕ) → n ≡ length rs
     → decl_number_in (chain_in tables r.table) ≡ numbers_of tables (rs ++ r ∷ []) n
-numbers_last tables rs r n e =
-    ap (λ (t : ℕ). decl_number_in (chain_in tables t)) (sym (ap (table_of (rs ++ r ∷ [])) e ∙ table_of-last rs r))
+numbers_last tables rs r n e = search (rules, table_of-last)
 
 AllKept-push : (old new : Tables) (rs : List UnitRecord) (ps : List PlacedUnit) (r : UnitRecord) (p : PlacedUnit)
     → Stay old new → AllZip (IsRecordOfUnit old) rs ps → IsRecordOfUnit new r p
@@ -168,13 +166,9 @@ upto_next a info base header old new len u t =
     let at : header ≡ base + length (units_bytes u.units) = u.at in
     record {
       units = u.units ++ v ∷ [];
-      are = all-append (IsUnit a) u.units (v ∷ []) u.are (t.is, tt);
-      are_from = from_more base u.units v u.are_from (t.begins ∙ at);
-      parts =
-          u.parts ∙ ap (λ (x : List ℕ). units_bytes u.units ++ x)
-          (t.parts ∙ ap (λ (x : List ℕ). unit_bytes v ++ x) (sym left))
-          ∙ sym (append_assoc (units_bytes u.units) (unit_bytes v) _)
-          ∙ ap (λ (x : List ℕ). x ++ drop (header + len) info) (sym (units_bytes-push u.units v));
+      are = search (rules, all-append);
+      are_from = search (rules, from_more);
+      parts = search (rules, append_assoc, units_bytes-push);
       at =
           omega (
             arith,
@@ -206,24 +200,16 @@ upto_next a info base header old new len u t =
 
 pub few_units : (a : List ℕ) (us : List DebugUnit) → AreUnits a us → length us ≤ length (units_bytes us)
 few_units a [] are = omega arith
-few_units a (u ∷ us) are =
-    omega (arith, length-append (unit_bytes u) (units_bytes us), unit_some a u are.0, few_units a us are.1)
+few_units a (u ∷ us) are = search (rules, length-append, unit_some, (few_units a us are.1))
 
 pub upto_few_entries : (a info : List ℕ) (base header : ℕ) (kept : Kept) → Upto a info base header kept
     → length kept.records.items ≤ header
-upto_few_entries a info base header kept u =
-    omega (
-      arith,
-      ap length u.places,
-      u.at,
-      few_entries a (numbers_of (tables_in kept.tables) kept.units.items) base u.units
-          u.are,
-    )
+upto_few_entries a info base header kept u = search (rules, few_entries)
 
 -- units that begin at an offset are placed from there on
 placed_there : (base : ℕ) (us : List DebugUnit) → AreFrom base us → placed us ≡ placed_from base 0 us
 placed_there base [] from = refl
-placed_there base (u ∷ us) from = ap (λ (n : ℕ). placed_from n 0 (u ∷ us)) from.0
+placed_there base (u ∷ us) from = search (rules)
 
 records_there : (numbers : ℕ → ℕ → ℕ) (base : ℕ) (us : List DebugUnit) → AreFrom base us
     → records_from numbers 0 0 (start_of us) us ≡ records_from numbers 0 0 base us
@@ -233,15 +219,13 @@ records_there numbers base (u ∷ us) from = ap (λ (n : ℕ). records_from numb
 pub upto_end : (a info : List ℕ) (base header : ℕ) (kept : Kept) → Upto a info base header kept
     → length info ≤ header → Scanned base a info (tables_in kept.tables) kept.units.items kept.records.items
 upto_end a info base header kept u e =
-    let whole : drop base info ≡ units_bytes u.units = u.parts
-    ∙ ap (λ (x : List ℕ). units_bytes u.units ++ x) (drop_of_length-le info e) ∙ append-nil (units_bytes u.units) in
+    let whole : drop base info ≡ units_bytes u.units = search (rules, drop_of_length-le, append-nil) in
     let numbers : ℕ → ℕ → ℕ = numbers_of (tables_in kept.tables) kept.units.items in (
       u.units,
       record {
         spells = record { are = u.are; parts = whole };
         are_from = u.are_from;
-        kept = subst (AllZip (IsRecordOfUnit (tables_in kept.tables)) kept.units.items)
-            (sym (placed_there base u.units u.are_from)) u.unit_records;
+        kept = search (rules, placed_there);
         entries =
             u.places ∙ sym (records_kept numbers u.units ∙ records_there numbers base u.units u.are_from);
       },
@@ -249,7 +233,7 @@ upto_end a info base header kept u e =
 
 -- the rest of a slice
 pub rest_of : (n : ℕ) (s : List ℕ) → n ≤ length s → take (length s - n) (drop n s) ≡ drop n s
-rest_of n s le = take_all _ (drop n s) (omega (arith, length-drop n s))
+rest_of n s le = search (rules, take_all, length-drop)
 
 -- ---- the same by the bytes that are left
 
@@ -260,23 +244,12 @@ pub record UptoRest (a info : List ℕ) (base : ℕ) (rest : List ℕ) (kept : K
 
 pub rest_start : (a info : List ℕ) (base : ℕ) (kept : Kept) → base ≤ length info → Upto a info base base kept
     → UptoRest a info base (take (length info - base) (drop base info)) kept
-rest_start a info base kept low u =
-    let rest : List ℕ = take (length info - base) (drop base info) in
-    let is : rest ≡ drop base info = rest_of base info low in
-    let at : base ≡ length info - length rest = omega (arith, low, ap length is, length-drop base info) in
-    record {
-      upto = subst (λ (n : ℕ). Upto a info base n kept) at u;
-      rest_is = is ∙ ap (λ (n : ℕ). drop n info) at;
-      long = omega (arith, ap length is, length-drop base info);
-    }
+rest_start a info base kept low u = search (rules, rest_of, length-drop)
 
 -- a unit that was taken is within the rest, and has a byte
 pub taken_within : (a rest : List ℕ) (at : ℕ) (old new : Kept) (len : ℕ) → UnitTaken a rest at old new len
     → (len ≤ length rest) × (0 < len)
-taken_within a rest at old new len t = (
-  omega (arith, t.len_is, ap length t.parts, length-append (unit_bytes t.taken) t.after),
-  omega (arith, t.len_is, unit_some a t.taken t.is),
-)
+taken_within a rest at old new len t = search (rules, length-append, unit_some)
 
 pub rest_next : (a info : List ℕ) (base : ℕ) (rest : List ℕ) (old new : Kept) (len : ℕ)
     → UptoRest a info base rest old → UnitTaken a rest (length info - length rest) old new len
@@ -289,10 +262,8 @@ rest_next a info base rest old new len u t =
     let at : header + len ≡ length info - length after =
     omega (arith, u.long, within, ap length cut, length-drop len rest) in
     record {
-      upto = subst (λ (n : ℕ). Upto a info base n new) at (upto_next a info base header old new len u.upto
-          (subst (λ (xs : List ℕ). UnitTaken a xs header old new len) u.rest_is t));
-      rest_is =
-          cut ∙ ap (drop len) u.rest_is ∙ drop-drop len header info ∙ ap (λ (n : ℕ). drop n info) at;
+      upto = search (rules, upto_next);
+      rest_is = search (rules, drop-drop);
       long = omega (arith, u.long, ap length cut, length-drop len rest);
     }
 
@@ -309,4 +280,4 @@ rest_end a info base rest kept u none =
 
 pub none_broken : (P : PlainFault → Type 0) (e : Stop PlainFault) (b : PlainFault) → e ≡ Breaks b → IfFault P e → P b
 none_broken P Memory b e p = absurd cc
-none_broken P (Breaks a) b e p = let same : a ≡ b = cc in subst P same p
+none_broken P (Breaks a) b e p = search (rules)

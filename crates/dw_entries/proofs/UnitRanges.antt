@@ -37,10 +37,12 @@ mutual
       → AllByRecursion (IsOfUnit unit) (nodes_entries unit above depth id at ns)
   nodes_unit unit above depth id at none = tt
   nodes_unit unit above depth id at (n then ns) =
-      all-append (IsOfUnit unit) (node_entries unit (Some above) depth (first_id ns (id + node_count n)) id at n)
-      (nodes_entries unit above depth (id + node_count n) (at + length (node_bytes n)) ns)
-      (node_unit unit (Some above) depth (first_id ns (id + node_count n)) id at n)
-      (nodes_unit unit above depth (id + node_count n) (at + length (node_bytes n)) ns)
+      search (
+        rules,
+        all-append,
+        (node_unit unit (Some above) depth (first_id ns (id + node_count n)) id at n),
+        (nodes_unit unit above depth (id + node_count n) (at + length (node_bytes n)) ns),
+      )
 
 -- an element of two lists, one after the other
 pub get_front : {A : Type 0} (xs ys : List A) (k : ℕ) → k < length xs → slice_get (xs ++ ys) k ≡ slice_get xs k
@@ -50,11 +52,9 @@ get_front (x ∷ xs) ys (suc k) lt = get_front xs ys k (omega arith)
 
 pub get_behind : {A : Type 0} (xs ys : List A) (k : ℕ) → length xs ≤ k
     → slice_get (xs ++ ys) k ≡ slice_get ys (k - length xs)
-get_behind [] ys k le = ap (slice_get ys) (let e : k ≡ k - 0 = omega arith in e)
+get_behind [] ys k le = search (rules)
 get_behind (x ∷ xs) ys zero le = absurd (omega arith)
-get_behind (x ∷ xs) ys (suc k) le =
-    get_behind xs ys k (omega arith)
-    ∙ ap (slice_get ys) (let e : k - length xs ≡ suc k - suc (length xs) = omega arith in e)
+get_behind (x ∷ xs) ys (suc k) le = search (rules, (get_behind xs ys k (omega arith)))
 
 -- no unit begins with an earlier entry than these units do
 first_least : (at first : ℕ) (us : List DebugUnit) (k : ℕ) (p : PlacedUnit)
@@ -62,8 +62,7 @@ first_least : (at first : ℕ) (us : List DebugUnit) (k : ℕ) (p : PlacedUnit)
 first_least at first [] k p is = absurd cc
 first_least at first (u ∷ us) zero p is = search (rules)
 first_least at first (u ∷ us) (suc k) p is =
-    let more = first_least (at + length (unit_bytes u)) (first + node_count u.root) us k p is in
-    omega (arith, more)
+    search (rules, (first_least (at + length (unit_bytes u)) (first + node_count u.root) us k p is))
 
 -- the entries between the first of a unit and that of the next are of the unit
 range_from : (unit id at : ℕ) (us : List DebugUnit) (n : ℕ) (p : PlacedUnit) (k : ℕ) (e : Entry)
@@ -78,7 +77,7 @@ range_from unit id at (u ∷ us) zero p k e is is_e low high =
     let P : PlacedUnit → Type 0 = λ q. id + k < q.first + node_count q.unit.root in
     let below : id + k < id + node_count u.root = subst P (sym same) high in
     let count = length-node_entries unit None 0 None id (at + unit_header_size u.header.kind) u.root in
-    let here : slice_get es k ≡ Some e = sym (get_front es fs k (omega (arith, below, count))) ∙ is_e in
+    let here : slice_get es k ≡ Some e = search (rules, get_front) in
     let number : unit ≡ unit + 0 = omega arith in
     all_get (IsOfUnit unit) es k e (node_unit unit None 0 None id (at + unit_header_size u.header.kind) u.root) here
     ∙ number
@@ -88,7 +87,7 @@ range_from unit id at (u ∷ us) (suc n) p k e is is_e low high =
     let count = length-node_entries unit None 0 None id (at + unit_header_size u.header.kind) u.root in
     let least = first_least (at + length (unit_bytes u)) (id + node_count u.root) us n p is in
     let behind : slice_get fs (k - length es)
-    ≡ Some e = sym (get_behind es fs k (omega (arith, count, least, low))) ∙ is_e in
+    ≡ Some e = search (rules, get_behind, least) in
     let same = range_from (suc unit) (id + node_count u.root) (at + length (unit_bytes u)) us n p (k - length es) e is
     behind
     (omega (arith, count, least, low)) (omega (arith, count, least, low, high)) in
@@ -122,9 +121,9 @@ pub range_of_unit : (us : List DebugUnit) (n : ℕ) (p : PlacedUnit) (k : ℕ) (
 range_of_unit us n p k e is is_e of_unit =
     let (m, q, is_q, low, high) = some_range 0 0 (start_of us) us k (slice_get_within (entries_of us) k e is_e)
     in
-    let same : m ≡ n = sym (unit_in_range us m q k e is_q is_e (omega (arith, low)) (omega (arith, high))) ∙ of_unit in
+    let same : m ≡ n = search (rules, unit_in_range, high) in
     let P : ℕ → Type 0 = λ i. slice_get (placed us) i ≡ Some q in
-    let one : q ≡ p = one_some (slice_get (placed us) n) q p (subst P same is_q) is in
+    let one : q ≡ p = search (rules, one_some) in
     let R : PlacedUnit → Type 0 = λ x. (x.first ≤ k) × (k < x.first + node_count x.unit.root) in
     subst R one (omega (arith, low), omega (arith, high))
 
@@ -140,7 +139,7 @@ next_from at first (u ∷ us) (suc n) p q is next =
 
 pub next_first : (us : List DebugUnit) (n : ℕ) (p q : PlacedUnit) → slice_get (placed us) n ≡ Some p
     → slice_get (placed us) (suc n) ≡ Some q → q.first ≡ p.first + node_count p.unit.root
-next_first us n p q is next = next_from (start_of us) 0 us n p q is next
+next_first us n p q is next = search (rules, next_from)
 
 -- the last unit ends with the last entry
 last_from : (unit id at : ℕ) (us : List DebugUnit) (n : ℕ) (p : PlacedUnit)
@@ -150,19 +149,16 @@ last_from unit id at [] n p is last = absurd cc
 last_from unit id at (u ∷ []) zero p is last = search (rules, length-node_entries, length-append)
 last_from unit id at (u ∷ v ∷ us) zero p is last = absurd (omega (arith, last))
 last_from unit id at (u ∷ us) (suc n) p is last =
-    let es : List Entry = node_entries unit None 0 None id (at + unit_header_size u.header.kind) u.root in
-    let fs : List Entry = entries_from (suc unit) (id + node_count u.root) (at + length (unit_bytes u)) us in
-    let count = length-node_entries unit None 0 None id (at + unit_header_size u.header.kind) u.root in
-    let len = length-append es fs in
-    let more = last_from (suc unit) (id + node_count u.root) (at + length (unit_bytes u)) us n p is
-    (omega (arith, last)) in
-    omega (arith, count, len, more)
+    search (
+      rules,
+      length-node_entries,
+      length-append,
+      (last_from (suc unit) (id + node_count u.root) (at + length (unit_bytes u)) us n p is (omega (arith, last))),
+    )
 
 pub last_ends : (us : List DebugUnit) (n : ℕ) (p : PlacedUnit) → slice_get (placed us) n ≡ Some p → suc n ≡ length us
     → length (entries_of us) ≡ p.first + node_count p.unit.root
-last_ends us n p is last =
-    (let z : length (entries_of us) ≡ 0 + length (entries_of us) = omega arith in z)
-    ∙ last_from 0 0 (start_of us) us n p is last
+last_ends us n p is last = search (rules, last_from)
 
 -- units begin with rising entries
 firsts_from : (at first : ℕ) (us : List DebugUnit) (i j : ℕ) (p q : PlacedUnit) → i ≤ j
@@ -176,16 +172,16 @@ firsts_from at first (u ∷ us) (suc i) (suc j) p q le is_p is_q =
 
 -- ---- the units that are kept
 
-module _ {base : ℕ} (a info : List ℕ) (tables : Tables) (rs : List UnitRecord) (records : List Record)
+module _ {base : ℕ} {a info : List ℕ} {tables : Tables} {rs : List UnitRecord} {records : List Record}
     (s : Scanned base a info tables rs records) where
   -- what is kept of a unit says where its first entry is
   pub kept_first : (n : ℕ) (u : UnitRecord) → slice_get rs n ≡ Some u
       → (slice_get (placed (found_units s)) n ≡ Some (found_place s n)) × (u.first ≡ (found_place s n).first)
   kept_first n u is =
       let within = slice_get_within rs n u is in
-      let k = kept_unit a info tables rs records s n (omega (arith, within, units_counted a info tables rs records s))
+      let k = kept_unit s n (omega (arith, within, units_counted s))
       in
-      let same : k.unit_record ≡ u = one_some (slice_get rs n) k.unit_record u k.is_unit_record is in
+      let same : k.unit_record ≡ u = search (rules, one_some) in
       (k.is_place, ap (λ (q : UnitRecord). q.first) (sym same) ∙ k.kept.first)
 
   -- the entries of a unit that is kept, up to its end
@@ -195,7 +191,7 @@ module _ {base : ℕ} (a info : List ℕ) (tables : Tables) (rs : List UnitRecor
   its_entries n end u is ends id within low high =
       let (is_p, first) = kept_first n u is in
       sym (unit_in_range (found_units s) n (found_place s n) id (found_entry s id) is_p
-      (kept_entry a info tables rs records s id within).is_entry (omega (arith, low, first))
+      (kept_entry s id within).is_entry (omega (arith, low, first))
       (omega (arith, high, ends)))
 
   -- a unit ends where the next one begins
@@ -203,7 +199,7 @@ module _ {base : ℕ} (a info : List ℕ) (tables : Tables) (rs : List UnitRecor
       → next.first ≡ end_in (placed (found_units s)) n
   ends_with_next n next is =
       let within = slice_get_within rs (n + 1) next is in
-      let k = kept_unit a info tables rs records s n (omega (arith, within, units_counted a info tables rs records s))
+      let k = kept_unit s n (omega (arith, within, units_counted s))
       in
       let is_place = k.is_place in
       search (rules, kept_first, next_first)
@@ -213,8 +209,8 @@ module _ {base : ℕ} (a info : List ℕ) (tables : Tables) (rs : List UnitRecor
       → length records ≡ end_in (placed (found_units s)) n
   ends_with_all n within past =
       entries_counted a info tables rs records s
-      ∙ last_ends (found_units s) n (found_place s n) (kept_unit a info tables rs records s n within).is_place
-      (omega (arith, within, past, units_counted a info tables rs records s))
+      ∙ last_ends (found_units s) n (found_place s n) (kept_unit s n within).is_place
+      (omega (arith, within, past, units_counted s))
 
   pub units_rise : IsNonDecreasingBy (λ (u : UnitRecord). u.first) rs
   units_rise i j d le lt = search (rules, kept_first, slice_get-get_or, firsts_from)
@@ -223,7 +219,7 @@ module _ {base : ℕ} (a info : List ℕ) (tables : Tables) (rs : List UnitRecor
   few_records =
       omega (
         arith,
-        units_counted a info tables rs records s,
+        units_counted s,
         few_units a (found_units s) s.1.spells.are,
         ap length s.1.spells.parts,
         length-drop base info,
@@ -234,7 +230,7 @@ module _ {base : ℕ} (a info : List ℕ) (tables : Tables) (rs : List UnitRecor
     -- an entry is of a unit
     pub some_unit : 0 < length rs
     some_unit =
-        let k = kept_entry a info tables rs records s id within in
+        let k = kept_entry s id within in
         let w = slice_get_within rs (found_entry s id).unit k.unit_record k.is_unit_record in omega (arith, w)
 
     -- the first unit begins with the first entry
@@ -247,7 +243,7 @@ module _ {base : ℕ} (a info : List ℕ) (tables : Tables) (rs : List UnitRecor
                 let (is_p, first) = kept_first 0 it.0 it.2 in
                 let begins = least (found_place s 0) is_p in
                 let P : UnitRecord → Type 0 = λ u. id < u.first in
-                let above : id < it.0.first = subst P it.3 (point.1 0 it.0 (omega (arith, same)) it.1) in
+                let above : id < it.0.first = search rules in
                 absurd (omega (arith, first, begins, above))
             | inr it ↦ (let past = it.0 in absurd (omega (arith, past, some_unit)))
           ]
@@ -271,11 +267,11 @@ module _ {base : ℕ} (a info : List ℕ) (tables : Tables) (rs : List UnitRecor
     -- the last unit that begins with this entry or an earlier one has it
     pub unit_found : n ≤ length rs → n - 1 ≡ (found_entry s id).unit
     unit_found le =
-        let k = kept_entry a info tables rs records s id within in
+        let k = kept_entry s id within in
         let u = get_or rs (n - 1) k.unit_record in
         let p = found_place s (n - 1) in
         let (is_p, first) = kept_first (n - 1) u (slice_get-get_or rs (n - 1) k.unit_record (point_within le)) in
-        let low : u.first ≤ id = point.0 (n - 1) k.unit_record (omega arith) (omega (arith, some_before)) in
+        let low : u.first ≤ id = search (rules, some_before) in
         sym (unit_in_range (found_units s) (n - 1) p id (found_entry s id) is_p k.is_entry (omega (arith, low, first))
         (high p is_p))
       where
@@ -288,13 +284,13 @@ module _ {base : ℕ} (a info : List ℕ) (tables : Tables) (rs : List UnitRecor
             elim (slice_get_cases rs n).1 [
               | inl it ↦
                   let Q : UnitRecord → Type 0 = λ v. id < v.first in
-                  let above : id < it.0.first = subst Q it.3 (point.1 n it.0 (omega arith) it.1) in
+                  let above : id < it.0.first = search rules in
                   let (is_q, first) = kept_first n it.0 it.2 in
                   let next = next_first (found_units s) (n - 1) p (found_place s n) is_p (rw (← behind) is_q) in
                   omega (arith, above, next, first)
               | inr it ↦
                   let past = it.0 in
-                  let counted = units_counted a info tables rs records s in
+                  let counted = units_counted s in
                   let all = last_ends (found_units s) (n - 1) p is_p (omega (arith, past, le, behind, counted)) in
                   omega (arith, all, within)
             ]

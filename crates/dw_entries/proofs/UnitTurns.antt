@@ -17,7 +17,7 @@ unit_turn us n h within told = search (rules, slice_get-get_or, length-placed, a
 pub fewer_units : (us : List DebugUnit) (n : ℕ) (h : UnitHead) → n < length us
     → h ≡ unit_head (placed_of (placed us) n)
     → length (map unit_head (drop (n + 1) (placed us))) < length (map unit_head (drop n (placed us)))
-fewer_units us n h within told = omega (arith, ap length (unit_turn us n h within told))
+fewer_units us n h within told = search (rules, unit_turn)
 
 pub no_units : (us : List DebugUnit) (n : ℕ) → length us ≤ n → map unit_head (drop n (placed us)) ≡ []
 no_units us n past =

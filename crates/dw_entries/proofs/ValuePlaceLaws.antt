@@ -1,5 +1,5 @@
 -- Values with their places are the values, and the first one with a code.
-use Rattle.std.proofs.Common.{rules, ◌≡◌, ℕ, ◌+◌, Bool, true, false, List, [], ◌∷◌, ◌++◌, length, drop, map, Option, None, Some, refl, sym, ap, ◌∙◌}
+use Rattle.std.proofs.Common.{rules, ◌≡◌, ℕ, ◌+◌, Bool, true, false, List, [], ◌∷◌, ◌++◌, length, drop, map, None, Some, refl, sym, ◌∙◌}
 use Rattle.std.proofs.lemmas.Bool.{eq-eqb}
 use Rattle.std.proofs.lemmas.List.{length-map}
 use Rattle.std.specs.Prelude.{option_map, ◌||◌, ◌==◌}
@@ -16,17 +16,16 @@ use Rattle.dw_entries.specs.ValuePlaces.{PlacedValue, end_of, placed_value_at, p
 values_from : (at : ℕ) (attributes : List Attribute)
     → map (λ (p : PlacedValue). (p.attribute, p.value)) (placed_values_from at attributes) ≡ map value_of attributes
 values_from at [] = refl
-values_from at (a ∷ more) = ap (λ (l : List (ℕ × Datum)). value_of a ∷ l) (values_from (at + length a.bytes) more)
+values_from at (a ∷ more) = search (rules, (values_from (at + length a.bytes) more))
 
 -- those of an entry
 pub values_placed : (e : Entry)
     → map (λ (p : PlacedValue). (p.attribute, p.value)) (placed_values e) ≡ values_of e.head
-values_placed e = values_from (e.at + length e.head.code) e.head.attributes
+values_placed e = search (rules, values_from)
 
 -- as many
 pub placed_long : (e : Entry) → length (placed_values e) ≡ length (values_of e.head)
-placed_long e =
-    sym (length-map (placed_values e) (λ (p : PlacedValue). (p.attribute, p.value))) ∙ ap length (values_placed e)
+placed_long e = search (rules, length-map, values_placed)
 
 value_from : (at : ℕ) (attributes : List Attribute) (code : ℕ) → value_in (map value_of attributes) code
     ≡ option_map (λ (p : PlacedValue). p.value) (placed_value_in (placed_values_from at attributes) code)
@@ -36,29 +35,18 @@ value_from at (a ∷ more) code = search (rules, (value_from (at + length a.byte
 -- that of an attribute
 pub value_placed : (e : Entry) (attribute : ℕ)
     → value_at_entry e attribute ≡ option_map (λ (p : PlacedValue). p.value) (placed_value_at e attribute)
-value_placed e attribute = value_from (e.at + length e.head.code) e.head.attributes attribute
+value_placed e attribute = search (rules, value_from)
 
 -- an attribute that has a value has an end
 pub has_end : (e : Entry) (attribute : ℕ) (v : Datum) → value_at_entry e attribute ≡ Some v → end_of e attribute ≡ None
     → ⊥
-has_end e attribute v value none = go (placed_value_at e attribute) (sym value ∙ value_placed e attribute) none
-  where
-    go : (found : Option PlacedValue) → Some v ≡ option_map (λ (p : PlacedValue). p.value) found
-        → option_map (λ (p : PlacedValue). p.end) found ≡ None → ⊥
-    go None is none = cc
-    go (Some p) is none = cc
+has_end e attribute v value none = search (rules, value_placed)
 
 -- the first one that has a code has the value of that attribute
 pub value_found : (e : Entry) (attribute : ℕ) (values more : List PlacedValue) (p : PlacedValue) (v : Datum)
     → placed_value_in values attribute ≡ placed_value_at e attribute → values ≡ p ∷ more → p.attribute ≡ attribute
     → value_at_entry e attribute ≡ Some v → p.value ≡ v
-value_found e attribute values more p v here steps same is =
-    let first : placed_value_in (p ∷ more) attribute ≡ Some p = rw (eq-eqb p.attribute attribute same) refl in
-    let found : Some p ≡ placed_value_at e attribute =
-    sym first ∙ ap (λ (vs : List PlacedValue). placed_value_in vs attribute) (sym steps) ∙ here in
-    let both : Some p.value ≡ Some v = ap (option_map (λ (q : PlacedValue). q.value)) found
-    ∙ sym (value_placed e attribute) ∙ is in
-    cc
+value_found e attribute values more p v here steps same is = search (rules, eq-eqb, value_placed)
 
 neither : (a b : Bool) → (a || b) ≡ false → (a ≡ false) × (b ≡ false)
 neither true b e = absurd cc
@@ -73,7 +61,7 @@ placed_behind x [] back bs at code are none = refl
 placed_behind x (s ∷ front) back [] at code are none = absurd are
 placed_behind x (s ∷ front) back (b ∷ bs) at code are none =
     let both = neither (has_this code s) (list_any (has_this code) front) none in
-    let other : (b.code == code) ≡ false = ap (λ (n : ℕ). n == code) are.0.code ∙ both.0 in
+    let other : (b.code == code) ≡ false = search rules in
     let step : placed_value_in (placed_values_from at (b ∷ bs)) code
     ≡ placed_value_in (placed_values_from (at + length b.bytes) bs) code = rw other refl in
     placed_behind x front back bs (at + length b.bytes) code are.1 both.1 ∙ sym step

@@ -1,5 +1,5 @@
 -- One attribute of those that are left.
-use Rattle.std.proofs.Common.{rules, ◌≡◌, ℕ, ◌≤◌, subst, List, [], ◌∷◌, ◌++◌, ◌-◌, length, take, drop, map, Option, Some, None, Result, Ok, Err, refl, sym, ap, ◌∙◌, append_assoc, true, false}
+use Rattle.std.proofs.Common.{rules, ◌≡◌, ℕ, ◌≤◌, List, [], ◌∷◌, ◌++◌, ◌-◌, length, take, drop, map, Option, Some, None, Result, Ok, Err, refl, sym, ap, ◌∙◌, append_assoc, true, false}
 use Rattle.std.specs.List.{flat_map}
 use Rattle.std.specs.Option.{unwrap_or}
 use Rattle.std.specs.Prelude.{IfSome}
@@ -16,7 +16,6 @@ use Rattle.dw_forms.specs.ValueReading.{value_at}
 use Rattle.dw_forms.proofs.SuffixLaws.{first_specs}
 use Rattle.dw_entries.specs.declared.values.Values.{Values}
 use Rattle.dw_entries.specs.Grammar.{Context, Attribute, IsAttribute, AreAttributes, attribute_bytes}
-use Rattle.dw_entries.specs.ItemLaws.{value_again}
 use Rattle.dw_forms.specs.WithBytes.{ok_pair}
 use Rattle.dw_entries.specs.Leading.{BeginsWithForm, DoesNotLead, ReadsFirst}
 use Rattle.dw_entries.specs.PassedAttributes.{IsPassed}
@@ -24,6 +23,7 @@ use Rattle.dw_entries.specs.EntryRules.{value_of}
 use Rattle.dw_entries.specs.Lookups.{declares, value_in}
 use Rattle.dw_entries.specs.Values.{Left, value_context}
 use Rattle.dw_entries.specs.ValuesLeft.{BeginWith, specs_left}
+use Rattle.dw_entries.proofs.ReadingSteps.{value_again}
 use Rattle.dw_entries.proofs.ScanLaws.{rest_of}
 use Rattle.dw_entries.specs.ValueLaws.{left_unique}
 
@@ -44,30 +44,25 @@ goes x s ss bytes found p spelled = search (rules, append_assoc)
 module _ (x : Context) (gs : List AttributeSpec) (s : AttributeSpec) (ss : List AttributeSpec) (bytes : List ℕ)
     (l : Left x gs bytes) (e : gs ≡ s ∷ ss) where
   pub left_goes : Goes x s ss bytes l.0
-  left_goes =
-      goes x s ss bytes l.0 (subst (λ (hs : List AttributeSpec). AreAttributes x hs l.0.0) e l.1.are) l.1.spelled
+  left_goes = search (rules, goes)
 
   -- what the reader of a value answers
   pub left_read : value_at x.version s.form x.address_size bytes
       ≡ Ok (left_goes.first.value, flat_map attribute_bytes left_goes.others ++ l.0.1)
-  left_read =
-      ap (λ (b : List ℕ). value_at x.version s.form x.address_size b) left_goes.spelled
-      ∙ value_again x s left_goes.first (flat_map attribute_bytes left_goes.others ++ l.0.1) left_goes.is
+  left_read = search (rules, left_goes, value_again)
 
   pub never_fails : (f : ValueFault) → value_at x.version s.form x.address_size bytes ≡ Err f → ⊥
   never_fails f read = let ok = left_read in cc
 
   module _ (v : Datum) (rest : List ℕ) (read : value_at x.version s.form x.address_size bytes ≡ Ok (v, rest)) where
     value_is : (left_goes.first.value ≡ v) × (flat_map attribute_bytes left_goes.others ++ l.0.1 ≡ rest)
-    value_is =
-        ok_pair {E = ValueFault} left_goes.first.value v (flat_map attribute_bytes left_goes.others ++ l.0.1) rest
-        (sym left_read ∙ read)
+    value_is = search (rules, ok_pair, left_goes, left_read)
 
     pub next_left : Left x ss rest
     next_left = ((left_goes.others, l.0.1), record { are = left_goes.are; spelled = sym value_is.1 })
 
     pub first_value : value_of left_goes.first ≡ (s.attribute, v)
-    first_value = let c : left_goes.first.code ≡ s.attribute = left_goes.is.code in λ i. (c i, value_is.0 i)
+    first_value = search (rules, left_goes, value_is)
 
     pub steps : (m : Left x ss rest) → map value_of l.0.0 ≡ (s.attribute, v) ∷ map value_of m.0.0
     unfolding next_left
@@ -83,9 +78,9 @@ module _ (x : Context) (gs : List AttributeSpec) (s : AttributeSpec) (ss : List 
         let same : m.0.0 ≡ left_goes.others = ap (λ (z : Left x ss rest). z.0.0) (left_unique x ss rest m next_left) in
         record {
           attribute = left_goes.first;
-          left = left_goes.parts ∙ ap (λ (b : List Attribute). left_goes.first ∷ b) (sym same);
+          left = search (rules, left_goes, same);
           is = first_value;
-          spelled = left_goes.spelled ∙ ap (λ (b : List ℕ). left_goes.first.bytes ++ b) value_is.1;
+          spelled = search (rules, left_goes, value_is);
         }
 
 -- where none of these attributes has a code, no value has it
@@ -99,7 +94,7 @@ value_of_none x (s ∷ specs) (a ∷ bs) attribute p e = search (rules, (value_o
 -- the bytes from a length on, as a slice has them
 pub read_on : (bytes : List ℕ) (len : ℕ) (r : Result (Datum × List ℕ) ValueFault) {v : Datum} → len ≤ length bytes
     → r ≡ Ok (v, drop len bytes) → r ≡ Ok (v, take (length bytes - len) (drop len bytes))
-read_on bytes len r {v} within e = e ∙ ap (λ (b : List ℕ). Ok (v, b)) (sym (rest_of len bytes within))
+read_on bytes len r {v} within e = search (rules, rest_of)
 
 -- ---- the first attribute, read in a form that is given or in its own
 
@@ -115,13 +110,13 @@ module _ (v : Values) (given : Option Form) (spec : AttributeSpec) (rest : Attri
   here = value_context v.version v.address_size
 
   parts_are : specs_left v ≡ spec ∷ specs_in rest
-  parts_are = first_specs v.attributes rest spec first
+  parts_are = search (rules, first_specs)
 
   same : spec.form ≡ form
-  same = form_given given (specs_left v) (specs_in rest) spec fits parts_are ∙ sym form_is
+  same = search (rules, form_given, parts_are)
 
   pub form_allowed : is_allowed v.version form ≡ true
-  form_allowed = rw same at (left_goes here (specs_left v) spec (specs_in rest) v.bytes.now v.left parts_are).is.allowed
+  form_allowed = search (rules, same, left_goes, parts_are)
 
   pub form_reads : (f : ValueFault) → value_at v.version form v.address_size v.bytes.now ≡ Err f → ⊥
   form_reads f read =
@@ -134,38 +129,21 @@ module _ (v : Values) (given : Option Form) (spec : AttributeSpec) (rest : Attri
     after = take (length v.bytes.now - len) (drop len v.bytes.now)
 
     own_read : value_at v.version spec.form v.address_size v.bytes.now ≡ Ok (d, after)
-    own_read =
-        (λ i. value_at v.version (same i) v.address_size v.bytes.now)
-        ∙ read_on v.bytes.now len (value_at v.version form v.address_size v.bytes.now) within read
+    own_read = search (rules, same, read_on)
 
     pub left_after : Left here (specs_in rest) after
-    left_after = next_left here (specs_left v) spec (specs_in rest) v.bytes.now v.left parts_are d after own_read
+    left_after = search (rules, next_left, parts_are, own_read)
 
     pub steps_after : (m : Left here (specs_in rest) after)
         → map value_of v.left.0.0 ≡ (spec.attribute, d) ∷ map value_of m.0.0
-    steps_after = steps here (specs_left v) spec (specs_in rest) v.bytes.now v.left parts_are d after own_read
+    steps_after = search (rules, steps, parts_are, own_read)
 
     pub takes_after : (m : Left here (specs_in rest) after)
         → BeginWith v.left.0.0 m.0.0 v.bytes.now after (spec.attribute, d)
-    takes_after = takes here (specs_left v) spec (specs_in rest) v.bytes.now v.left parts_are d after own_read
+    takes_after = search (rules, takes, parts_are, own_read)
 
     pub reads_first : ReadsFirst (specs_left v) (specs_in rest) (spec.attribute, d)
-    reads_first = record {
-      spec = spec;
-      parts = parts_are;
-      is_read =
-          record {
-            has_code = refl;
-            made =
-                record {
-                  version = v.version;
-                  size = v.address_size;
-                  bytes = v.bytes.now;
-                  behind = after;
-                  reads = own_read;
-                };
-          };
-    }
+    reads_first = search (rules, parts_are, own_read)
 
 -- ---- the first attribute, skipped
 
@@ -177,14 +155,14 @@ value_there (Err f) rest e = absurd cc
 
 none_there_at : (r : Result (Datum × List ℕ) ValueFault) (f : ValueFault) → (r >>= λ x. Ok x.1) ≡ Err f → r ≡ Err f
 none_there_at (Ok x) f e = absurd cc
-none_there_at (Err g) f e = let same : g ≡ f = cc in ap (λ (h : ValueFault). Err h) same
+none_there_at (Err g) f e = search (rules)
 
 module _ (v : Values) (spec : AttributeSpec) (rest : Attributes)
     (first : Ends v.attributes rest (record { number = v.attributes.first; item = spec } ∷ [])) where
   pub skipped : (len : ℕ) → rest_at v.version spec.form v.address_size v.bytes.now ≡ Ok (drop len v.bytes.now)
       → (d : Datum) × (value_at v.version spec.form v.address_size v.bytes.now ≡ Ok (d, drop len v.bytes.now))
   unfolding rest_at
-  skipped len e = value_there (value_at v.version spec.form v.address_size v.bytes.now) (drop len v.bytes.now) e
+  skipped len e = search (rules, value_there)
 
   pub skips_on : (f : ValueFault) → rest_at v.version spec.form v.address_size v.bytes.now ≡ Err f → ⊥
   unfolding rest_at
@@ -206,6 +184,5 @@ module _ (v : Values) (spec : AttributeSpec) (rest : Attributes)
         passes = quiet;
         declared = g.first;
         is_attribute = g.is;
-        is_item =
-            first_value x (specs_left v) spec (specs_in rest) v.bytes.now v.left parts d (drop len v.bytes.now) read;
+        is_item = search (rules, first_value);
       }

@@ -29,14 +29,11 @@ mutual
       → length (nodes_records numbers above id at ns) ≡ nodes_count ns
   length-nodes_records numbers above id at none = refl
   length-nodes_records numbers above id at (n then ns) =
-      omega (
-        arith,
-        length-append (node_records numbers (Some above) (first_id ns (id + node_count n)) id at n)
-            (nodes_records numbers above (id + node_count n) (at + length (node_bytes n)) ns),
-        length-node_records numbers
-            (Some above) (first_id ns (id + node_count n)) id at n,
-        length-nodes_records numbers above (id + node_count n)
-            (at + length (node_bytes n)) ns,
+      search (
+        rules,
+        length-append,
+        (length-node_records numbers (Some above) (first_id ns (id + node_count n)) id at n),
+        (length-nodes_records numbers above (id + node_count n) (at + length (node_bytes n)) ns),
       )
 
 -- the link of a node after these
@@ -45,7 +42,7 @@ link_node : (numbers : ℕ → ℕ) (rs : List Record) (above : Option ℕ) (id 
     ≡ rs ++ node_records numbers above (Some to) id at n
 link_node numbers [] above id at (leaf h) to = refl
 link_node numbers [] above id at (parent h ns z) to = refl
-link_node numbers (r ∷ rs) above id at n to = ap (λ (x : List Record). r ∷ x) (link_node numbers rs above id at n to)
+link_node numbers (r ∷ rs) above id at n to = search (rules, (link_node numbers rs above id at n to))
 
 -- what is linked before these nodes are entered, and the last of them
 abbrev linked : Nodes → Option ℕ → ℕ → List Record → List Record
@@ -64,7 +61,7 @@ linked_node : (numbers : ℕ → ℕ) (ns : Nodes) (rs : List Record) (above : O
     → length rs ≡ id → linked ns (Some id) to (rs ++ node_records numbers above None id at n)
     ≡ rs ++ node_records numbers above (first_id ns to) id at n
 linked_node numbers none rs above id at n to e = refl
-linked_node numbers (m then ns) rs above id at n to e = rw (← e) (link_node numbers rs above (length rs) at n to)
+linked_node numbers (m then ns) rs above id at n to e = search (rules, link_node)
 
 abbrev walk : List Record → List Level → Walk
 walk rs ls = record { records = rs; levels = ls }
@@ -79,12 +76,11 @@ entered numbers h at rs p last ls =
 
 length-entered : (numbers : ℕ → ℕ) (h : Head) (at : ℕ) (rs : List Record) (p : ℕ) (last : Option ℕ) (ls : List Level)
     → length (entered numbers h at rs p last ls) ≡ suc (length rs)
-length-entered numbers h at rs p last ls = simp length-append (omega (arith, length-link_last last (length rs) rs))
+length-entered numbers h at rs p last ls = search (rules, length-append, length-link_last)
 
 parent_end : (at : ℕ) (h : Head) (ns : Nodes) (z : List ℕ)
     → ((at + length (head_bytes h)) + length (nodes_bytes ns)) + length z ≡ at + length (node_bytes (parent h ns z))
-parent_end at h ns z =
-    omega (arith, length-append (head_bytes h) (nodes_bytes ns ++ z), length-append (nodes_bytes ns) z)
+parent_end at h ns z = search (rules, length-append)
 
 parent_records : (numbers : ℕ → ℕ) (h : Head) (at : ℕ) (rs : List Record) (p : ℕ) (last : Option ℕ) (ls : List Level)
     (ns : Nodes)
@@ -97,9 +93,7 @@ parent_records numbers h at rs p last ls ns = search (rules, linked-None, length
 -- the pass from another offset, and with other records
 same_walk : (numbers : ℕ → ℕ) (is : List Item) (ls : List Level) (at to : ℕ) (rs qs : List Record) → at ≡ to → rs ≡ qs
     → walk_along numbers at is (walk rs ls) ≡ walk_along numbers to is (walk qs ls)
-same_walk numbers is ls at to rs qs e f =
-    ap (λ (o : ℕ). walk_along numbers o is (walk rs ls)) e
-    ∙ ap (λ (r : List Record). walk_along numbers to is (walk r ls)) f
+same_walk numbers is ls at to rs qs e f = search (rules)
 
 abbrev with_node : (ℕ → ℕ) → ℕ → Node → List Record → ℕ → Option ℕ → List Level → List Record
 with_node numbers at n rs p last ls =
@@ -107,13 +101,7 @@ with_node numbers at n rs p last ls =
 
 length-with_node : (numbers : ℕ → ℕ) (at : ℕ) (n : Node) (rs : List Record) (p : ℕ) (last : Option ℕ) (ls : List Level)
     → length (with_node numbers at n rs p last ls) ≡ length rs + node_count n
-length-with_node numbers at n rs p last ls =
-    simp length-append (omega (
-      arith,
-      length-link_last last (length rs) rs,
-      length-node_records numbers (Some p) None
-          (length rs) at n,
-    ))
+length-with_node numbers at n rs p last ls = search (rules, length-append, length-link_last, length-node_records)
 
 more_nodes : (numbers : ℕ → ℕ) (at : ℕ) (n : Node) (ns : Nodes) (is : List Item) (rs : List Record) (p : ℕ)
     (last : Option ℕ) (ls : List Level)
@@ -187,8 +175,6 @@ along_root numbers t at (parent h ns z) rs good =
     let below : ℕ → List Record = λ k. nodes_records numbers (length rs) k (at + length (head_bytes h)) ns in
     let len : length new ≡ suc (length rs) = simp length-append (omega arith) in
     let all : linked ns None (length new) new ++ below (length new)
-    ≡ rs ++ node_records numbers None None (length rs) at (parent h ns z) =
-    ap (λ (r : List Record). r ++ below (length new)) (linked-None ns (length new) new)
-    ∙ ap (λ (k : ℕ). new ++ below k) len ∙ append_assoc rs _ (below (suc (length rs))) in
+    ≡ rs ++ node_records numbers None None (length rs) at (parent h ns z) = search (rules, linked-None, append_assoc) in
     rw e (along_nodes numbers t (at + length (head_bytes h)) ns (null z ∷ []) new (length rs) None [] good.2
     ∙ ap (λ (r : List Record). walk r []) all)

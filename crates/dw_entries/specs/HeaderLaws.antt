@@ -1,15 +1,12 @@
 -- Laws: the sizes of a unit that is spelled, and what is known of the fields of its header.
 use Rattle.std.proofs.Common.{◌≡◌, ℕ, ◌+◌, ◌<◌, inl, inr, Bool, true, false, eqb, ltb, List, ◌++◌, length, take}
-use Rattle.std.proofs.Common.{Result, Ok, Err, refl, sym, ap, subst, ◌∙◌, append_assoc, append-nil, arith}
+use Rattle.std.proofs.Common.{Result, refl, sym, ap, subst, ◌∙◌, append_assoc, append-nil, arith}
 use Rattle.std.proofs.Common.{length-append, take_at, ltb-true, eqb-true}
 use Rattle.std.specs.Prelude.{◌||◌}
 use Rattle.std.proofs.Props.{props}
 use mathlib.Core.Logic.{∥∥₁_elim}
 use Rattle.byteorder.specs.Endian.{little_number}
 use Rattle.dw_forms.specs.Formats.{Format, tested_is, apart}
-use Rattle.dw_forms.specs.Front.{Takes}
-use Rattle.dw_forms.specs.Readers.{read_is}
-use Rattle.dw_forms.specs.Steps.{◌>>=◌}
 use Rattle.dw_forms.specs.declared.rule.Rule.{Rule}
 use Rattle.dw_forms.specs.declared.rule.Rule.TheVariants.{Not32Bit, BadVersion, BadUnitType, BadAddressSize}
 use Rattle.dw_forms.specs.declared.rule.Rule.TheVariants.{BadAbbrevOffset}
@@ -18,10 +15,10 @@ use Rattle.dw_entries.specs.declared.header.HeaderKind.TheVariants.{CompileUnit,
 use Rattle.dw_entries.specs.declared.header.UnitHeader.{UnitHeader}
 use Rattle.dw_entries.specs.Choices.{size_unique}
 use Rattle.dw_entries.specs.Header.{unit_header_size, IsSize, field, address_size, abbrev_offset, version4, kind_fields}
-use Rattle.dw_entries.specs.Header.{version5, header_fields, unit_content, header_and_body, unit_at, header_at}
+use Rattle.dw_entries.specs.Header.{version5, header_fields, header_and_body}
 use Rattle.dw_forms.specs.Spans.{Spans, spans_then, spans_mapped, spans_end, spans_nothing, spans_choose, spans_tested}
 use Rattle.dw_forms.specs.Spans.{spans_failing}
-use Rattle.dw_forms.specs.WithBytes.{bind_ok, squashed, read_takes}
+use Rattle.dw_forms.specs.WithBytes.{squashed}
 
 -- nothing is known of the value
 abbrev Any : ℕ → Type 0
@@ -140,57 +137,23 @@ is_sized abbrev_size text h body s =
       table = f.table;
     }
 
--- ---- reading
+-- ---- one header at most
 
 module _ (abbrev_size : ℕ) where
   -- what is read of a unit
-  abbrev Read : Type 0
+  abbrev pub Read : Type 0
   Read = UnitHeader × List ℕ
-
-  -- a unit without the bytes after it
-  abbrev unit_read : Read × List ℕ → Result Read Rule
-  unit_read y = Ok y.0
-
-  -- what is read is the header and the body of the unit
-  header_is : (bytes : List ℕ) → header_at abbrev_size bytes ≡ ((header_and_body abbrev_size).read bytes >>= unit_read)
-  unfolding header_at unit_at header_and_body
-  header_is bytes = by_unit (unit_content.read bytes)
-    where
-      by_header : (r : Result Read Rule) (rest : List ℕ) → r ≡ ((r >>= λ x. Ok (x, rest)) >>= unit_read)
-      by_header (Ok x) rest = refl
-      by_header (Err e) rest = refl
-
-      by_unit : (r : Result ((ℕ × List ℕ) × List ℕ) Rule)
-          → ((r >>= λ u. Ok u.0) >>= λ u. (header_fields abbrev_size u.0).read u.1)
-          ≡ ((r >>= λ u. (header_fields abbrev_size u.0.0).read u.0.1 >>= λ x. Ok (x, u.1)) >>= unit_read)
-      by_unit (Ok u) = by_header ((header_fields abbrev_size u.0.0).read u.0.1) u.1
-      by_unit (Err e) = refl
-
-  -- a header that is read is spelled, and so is the body
-  pub header_takes : (bytes : List ℕ) (x : Read) → header_at abbrev_size bytes ≡ Ok x
-      → (after : List ℕ) × Takes (header_and_body abbrev_size).Spells bytes x after
-  header_takes bytes x e =
-      let (y, was, is) = bind_ok ((header_and_body abbrev_size).read bytes) unit_read x (sym (header_is bytes) ∙ e) in
-      let same : y.0 ≡ x = read_is is in
-      (y.1, read_takes (header_and_body abbrev_size) bytes x y.1 (was ∙ ap (λ (z : Read). Ok (z, y.1)) same))
 
   pub read_set : IsSet (Result (Read × List ℕ) Rule)
   read_set = hlevel props
 
   -- a unit's header and body, where nothing tells how they are spelled
-  abbrev unit_format : Format Read Rule
+  abbrev pub unit_format : Format Read Rule
   unit_format = squashed (header_and_body abbrev_size) read_set
 
   pub sized : (text : List ℕ) (h : UnitHeader) (body : List ℕ) → unit_format.Spells text (h, body)
       → IsSized abbrev_size text h body
   sized text h body s = ∥∥₁_elim s (hlevel (props, size_unique)) (is_sized abbrev_size text h body)
-
-  -- a header that is spelled is read, whatever follows its unit
-  pub header_again : (text rest : List ℕ) (x : Read) → unit_format.Spells text x
-      → header_at abbrev_size (text ++ rest) ≡ Ok x
-  header_again text rest x s =
-      header_is (text ++ rest)
-      ∙ ap (λ (r : Result (Read × List ℕ) Rule). r >>= unit_read) (unit_format.is_reader.again text rest x s)
 
   -- no unit's bytes begin another's
   pub headers_apart : (a b x y : List ℕ) (v w : Read) → unit_format.Spells a v → unit_format.Spells b w

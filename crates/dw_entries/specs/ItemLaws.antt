@@ -1,31 +1,22 @@
 -- Laws: what the formats of items spell is what the grammar says, so no item begins another.
 use Rattle.std.proofs.Common.{◌≡◌, ℕ, ◌<◌, Bool, true, false, cond, List, [], ◌∷◌, ◌++◌, Option, Some, None}
-use Rattle.std.proofs.Common.{Ok, Err, eqb, refl, sym, ap, subst, ◌∙◌, append-nil, arith, length}
+use Rattle.std.proofs.Common.{eqb, refl, sym, ap, subst, ◌∙◌, append-nil, arith, length}
 use Rattle.std.proofs.Common.{length-append, eqb-true}
 use Rattle.std.specs.List.{flat_map}
 use Rattle.dw_forms.specs.declared.abbrev.AttributeSpec.{AttributeSpec}
-use Rattle.dw_forms.specs.declared.rule.Rule.TheVariants.{NoUnitEntry, WrongUnitTag, FormVersion}
+use Rattle.dw_forms.specs.declared.rule.Rule.TheVariants.{WrongUnitTag, FormVersion}
 use Rattle.dw_forms.specs.Abbrev.{Declaration}
 use Rattle.dw_forms.specs.FormCodes.{is_allowed}
 use Rattle.dw_forms.specs.Formats.{nothing, failing, choose, mapped}
 use Rattle.dw_forms.specs.Leb.{Uleb}
-use Rattle.dw_forms.specs.ValueReading.{value_at}
-use Rattle.dw_entries.specs.declared.fault.Failing.{Failing}
-use Rattle.dw_entries.specs.declared.header.HeaderKind.{HeaderKind}
 use Rattle.dw_entries.specs.Grammar.{Context, declared_in, declared, Attribute, IsAttribute, AreAttributes}
 use Rattle.dw_entries.specs.Grammar.{attribute_bytes, Head, head_bytes, IsHead}
-use Rattle.dw_entries.specs.Header.{fits_tag}
 use Rattle.dw_entries.specs.ItemFormats.{failing_by, value_in, valued, attribute, attributes, code, as_head, head_by}
-use Rattle.dw_entries.specs.ItemFormats.{item, fitting_head, first_head}
+use Rattle.dw_entries.specs.ItemFormats.{item}
 use Rattle.dw_entries.specs.Items.{Item, entry, null, item_bytes, IsItem}
-use Rattle.dw_forms.specs.WithBytes.{read_takes, read_fails, one_value}
+use Rattle.dw_forms.specs.WithBytes.{one_value}
 
 -- ---- attributes
-
--- a value that is spelled is read, whatever follows
-pub value_again : (x : Context) (spec : AttributeSpec) (a : Attribute) (rest : List ℕ) → IsAttribute x spec a
-    → value_at x.version spec.form x.address_size (a.bytes ++ rest) ≡ Ok (a.value, rest)
-value_again x spec a rest p = (value_in x spec).is_reader.again a.bytes rest a.value p.value
 
 attribute_from : (x : Context) (spec : AttributeSpec) (text : List ℕ) (a : Attribute) → (attribute x spec).Spells text a
     → (text ≡ a.bytes) × IsAttribute x spec a
@@ -88,8 +79,8 @@ declared_code (c ∷ ds) n d e = go (eqb c.code n) refl (λ more. declared_code 
 
 module _ (x : Context) (fits : ℕ → Bool) where
   -- an entry after its code
-  head_from : (n : ℕ) (o : Option Declaration) (spelling text : List ℕ) (h : Head) → Uleb spelling n → eqb n 0 ≡ false
-      → declared x n ≡ o → (head_by x fits o spelling).Spells text h
+  pub head_from : (n : ℕ) (o : Option Declaration) (spelling text : List ℕ) (h : Head) → Uleb spelling n
+      → eqb n 0 ≡ false → declared x n ≡ o → (head_by x fits o spelling).Spells text h
       → (spelling ++ text ≡ head_bytes h) × IsHead x h × (fits h.decl.tag ≡ true)
   unfolding head_by
   head_from n None spelling text h number other known s = absurd s
@@ -110,14 +101,14 @@ module _ (x : Context) (fits : ℕ → Bool) where
           rw is (ap (λ (b : List ℕ). spelling ++ b) are.0, head, fit)
       go false wrong s = absurd s
 
-  head_to : (h : Head) → IsHead x h → fits h.decl.tag ≡ true
+  pub head_to : (h : Head) → IsHead x h → fits h.decl.tag ≡ true
       → (head_by x fits (declared x h.decl.code) h.code).Spells (flat_map attribute_bytes h.attributes) h
   unfolding head_by
   head_to h p fit = rw (p.decl, fit) (h.attributes, attributes_to x h.decl.attributes h.attributes p.attributes, refl)
 
 -- ---- items
 
-item_from : (x : Context) (text : List ℕ) (i : Item) → (item x).Spells text i → (text ≡ item_bytes i) × IsItem x i
+pub item_from : (x : Context) (text : List ℕ) (i : Item) → (item x).Spells text i → (text ≡ item_bytes i) × IsItem x i
 unfolding item code
 item_from x text i s = go (eqb s.value.0 0) refl s.is_second
   where
@@ -157,21 +148,6 @@ item_to x (entry h) p = record {
   is_second = rw p.not_null (h, head_to x (λ tag. true) h p refl, refl);
 }
 
--- an item that is read is spelled so, whatever is kept of it
-pub item_takes : {B : Type 0} (f : Item → B) (x : Context) (bytes : List ℕ) (y : B) (rest : List ℕ)
-    → (mapped f (item x)).read bytes ≡ Ok (y, rest)
-    → (i : Item) × (y ≡ f i) × (bytes ≡ item_bytes i ++ rest) × IsItem x i
-item_takes f x bytes y rest e =
-    let t = read_takes (mapped f (item x)) bytes y rest e in
-    let (i, s, is) = t.spelled in
-    let from = item_from x t.text i s in
-    (i, is, t.parts ∙ ap (λ (b : List ℕ). b ++ rest) from.0, from.1)
-
--- what is kept of an item changes no fault
-pub item_fails : {B : Type 0} (f : Item → B) (x : Context) (bytes : List ℕ) (e : Failing)
-    → (mapped f (item x)).read bytes ≡ Err e → (item x).Fails bytes e
-item_fails f x = read_fails (mapped f (item x))
-
 -- no item begins another
 pub item_unique : (x : Context) (i j : Item) (a b : List ℕ) → IsItem x i → IsItem x j
     → item_bytes i ++ a ≡ item_bytes j ++ b → (i ≡ j) × (a ≡ b)
@@ -183,43 +159,3 @@ pub item_some : (x : Context) (i : Item) → IsItem x i → 0 < length (item_byt
 item_some x (null z) h = code_has_byte z 0 h
 item_some x (entry h) p =
     omega (arith, code_has_byte h.code h.decl.code p.code, length-append h.code (flat_map attribute_bytes h.attributes))
-
--- ---- first entries
-
--- a first entry that is read is spelled so, and fits
-pub first_takes : {B : Type 0} (f : Head → B) (x : Context) (kind : HeaderKind) (bytes : List ℕ) (y : B) (rest : List ℕ)
-    → (mapped f (first_head x kind)).read bytes ≡ Ok (y, rest)
-    → (h : Head) × (y ≡ f h) × (bytes ≡ head_bytes h ++ rest) × IsHead x h × (fits_tag kind h.decl.tag ≡ true)
-unfolding first_head fitting_head code
-first_takes f x kind bytes y rest e =
-    let t = read_takes (mapped f (first_head x kind)) bytes y rest e in
-    let (h, s, is) = t.spelled in
-    let number = subst (λ (b : List ℕ). Uleb b s.value.0) s.is_first.1 s.is_first.0 in
-    let from = go s.value.0 s.value.1 s.second h (eqb s.value.0 0) number refl s.is_second in (
-      h,
-      is,
-      t.parts ∙ ap (λ (b : List ℕ). b ++ rest) (s.parts ∙ ap (λ (b : List ℕ). b ++ s.second) s.is_first.1 ∙ from.0),
-      from.1,
-      from.2,
-    )
-  where
-    go : (n : ℕ) (spelling text : List ℕ) (h : Head) (b : Bool) → Uleb spelling n → eqb n 0 ≡ b
-        → (choose b (failing (failing_by NoUnitEntry 0))
-        (head_by x (fits_tag kind) (declared x n) spelling)).Spells text h
-        → (spelling ++ text ≡ head_bytes h) × IsHead x h × (fits_tag kind h.decl.tag ≡ true)
-    go n spelling text h true number zero s = absurd s
-    go n spelling text h false number other s =
-        head_from x (fits_tag kind) n (declared x n) spelling text h number other refl s
-
--- a first entry that is spelled and fits is read, whatever follows
-pub first_to : (x : Context) (kind : HeaderKind) (h : Head) → IsHead x h → fits_tag kind h.decl.tag ≡ true
-    → (first_head x kind).Spells (head_bytes h) h
-unfolding first_head fitting_head code
-first_to x kind h p fit = record {
-  value = (h.decl.code, h.code);
-  first = h.code;
-  second = flat_map attribute_bytes h.attributes;
-  parts = refl;
-  is_first = (p.code, refl);
-  is_second = rw p.not_null (head_to x (fits_tag kind) h p fit);
-}

@@ -1,6 +1,6 @@
 -- Laws: one list of units at most spells .debug_info, and where units begin changes nothing else of them.
-use Rattle.std.proofs.Common.{◌≡◌, ◌<◌, ℕ, ◌+◌, List, [], ◌∷◌, ◌++◌, length, drop, ◌⊎◌, Result, Ok, refl, sym, ap}
-use Rattle.std.proofs.Common.{subst, ◌∙◌, arith, length-append, drop_at, map}
+use Rattle.std.proofs.Common.{◌≡◌, ◌<◌, ℕ, ◌+◌, List, [], ◌∷◌, ◌++◌, length, drop, Result, Ok, refl, sym, ap}
+use Rattle.std.proofs.Common.{subst, ◌∙◌, arith, drop_at, map}
 use Rattle.std.specs.List.{AllByRecursion}
 use Rattle.std.proofs.lemmas.List.{append_cancel_right}
 use Rattle.dw_forms.specs.declared.fault.AbbrevFault.{AbbrevFault}
@@ -8,12 +8,11 @@ use Rattle.dw_forms.specs.Abbrev.{Declaration}
 use Rattle.dw_forms.specs.AbbrevReading.{table_at}
 use Rattle.dw_entries.specs.declared.header.UnitHeader.{UnitHeader}
 use Rattle.dw_entries.specs.Grammar.{Context, IsNull}
-use Rattle.dw_entries.specs.Header.{unit_header_size, header_at}
 use Rattle.dw_entries.specs.Tree.{Node, IsNode}
 use Rattle.dw_entries.specs.Units.{DebugUnit, context_by, context_of, nulls_bytes, AreNulls, body_bytes, unit_bytes}
 use Rattle.dw_entries.specs.Units.{IsUnit, AreUnits, units_bytes, Spells, AreFrom}
-use Rattle.dw_entries.specs.Joined.{GoesOn, IsUnique, begins, one_row}
-use Rattle.dw_entries.specs.HeaderLaws.{IsSized, sized, header_again, headers_apart}
+use Rattle.dw_entries.specs.Joined.{IsUnique, one_row}
+use Rattle.dw_entries.specs.HeaderLaws.{IsSized, sized, headers_apart}
 use Rattle.dw_entries.specs.ItemLaws.{code_has_byte}
 use Rattle.dw_forms.specs.WithBytes.{one_value}
 use Rattle.dw_forms.specs.BaseFormats.{uleb}
@@ -54,26 +53,17 @@ nulls_unique = one_row (λ z. z) IsNull null_unique (λ z null. code_has_byte z 
 table_is : (r : Result (List Declaration) AbbrevFault) (x y : List Declaration) → r ≡ Ok x → r ≡ Ok y → x ≡ y
 table_is r x y p q = let same : ◌≡◌ {A = Result (List Declaration) AbbrevFault} (Ok x) (Ok y) = sym p ∙ q in cc
 
--- the header of a unit is read, and the bytes after it
-pub unit_header : (a : List ℕ) (u : DebugUnit) (x : List ℕ) → IsUnit a u
-    → header_at (length a) (unit_bytes u ++ x) ≡ Ok (u.header, body_bytes u)
-unit_header a u x p = header_again (length a) (unit_bytes u) x (u.header, body_bytes u) p.header
-
 -- the sizes of a unit, and what is known of its header
 pub unit_sized : (a : List ℕ) (u : DebugUnit) → IsUnit a u
     → IsSized (length a) (unit_bytes u) u.header (body_bytes u)
 unit_sized a u p = sized (length a) (unit_bytes u) u.header (body_bytes u) p.header
-
-pub header_long : (a : List ℕ) (u : DebugUnit) → IsUnit a u → length u.header_bytes ≡ unit_header_size u.header.kind
-header_long a u p =
-    let long = (unit_sized a u p).header in omega (arith, long, length-append u.header_bytes (body_bytes u))
 
 -- a unit has some bytes
 pub unit_some : (a : List ℕ) (u : DebugUnit) → IsUnit a u → 0 < length (unit_bytes u)
 unit_some a u p = let whole = (unit_sized a u p).whole in omega (arith, whole)
 
 -- no spelling of a unit begins another
-unit_unique : (a : List ℕ) → IsUnique unit_bytes (IsBare a)
+pub unit_unique : (a : List ℕ) → IsUnique unit_bytes (IsBare a)
 unit_unique a u v x y (p, from) (q, same_from) e =
     let both = headers_apart (length a) (unit_bytes u) (unit_bytes v) x y (u.header, body_bytes u)
     (v.header, body_bytes v) p.header q.header e in
@@ -105,7 +95,7 @@ bytes_bare [] = refl
 bytes_bare (u ∷ us) = ap (λ (b : List ℕ). unit_bytes u ++ b) (bytes_bare us)
 
 -- .. nor does what a unit is
-are_bare : (a : List ℕ) (us : List DebugUnit) → AreUnits a us → AllByRecursion (IsBare a) (map bare us)
+pub are_bare : (a : List ℕ) (us : List DebugUnit) → AreUnits a us → AllByRecursion (IsBare a) (map bare us)
 are_bare a [] are = tt
 are_bare a (u ∷ us) (is, are) = (
   (
@@ -120,15 +110,6 @@ are_bare a (u ∷ us) (is, are) = (
   ),
   are_bare a us are,
 )
-
--- of two lists of units that spell beginnings of the same bytes one goes on where the other ends, but for their places
-pub units_begin : (a : List ℕ) (us vs : List DebugUnit) (x y : List ℕ) → AreUnits a us → AreUnits a vs
-    → units_bytes us ++ x ≡ units_bytes vs ++ y
-    → GoesOn unit_bytes (IsBare a) (map bare us) (map bare vs) x y
-    ⊎ GoesOn unit_bytes (IsBare a) (map bare vs) (map bare us) y x
-units_begin a us vs x y p q e =
-    begins unit_bytes (IsBare a) (unit_unique a) (map bare us) (map bare vs) x y (are_bare a us p) (are_bare a vs q)
-    (ap (λ (b : List ℕ). b ++ x) (bytes_bare us) ∙ e ∙ ap (λ (b : List ℕ). b ++ y) (sym (bytes_bare vs)))
 
 -- units one after another are at the same places
 one_places : (at : ℕ) (us vs : List DebugUnit) → map bare us ≡ map bare vs → AreFrom at us → AreFrom at vs → us ≡ vs

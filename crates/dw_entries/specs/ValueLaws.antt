@@ -1,15 +1,15 @@
 -- Laws: some bytes begin with one list of attributes at most.
-use Rattle.std.proofs.Common.{◌≡◌, ℕ, List, [], ◌∷◌, sym, ◌∙◌}
+use Rattle.std.proofs.Common.{◌≡◌, ℕ, List, sym, ◌∙◌}
 use Rattle.std.specs.List.{flat_map}
 use mathlib.Core.HLevel.{Σ_prop_path}
 use Rattle.std.proofs.Props.{props}
 use Rattle.dw_forms.specs.declared.abbrev.AttributeSpec.{AttributeSpec}
-use Rattle.dw_entries.specs.Grammar.{Context, Attribute, AreAttributes, attribute_bytes}
+use Rattle.dw_entries.specs.Grammar.{Context, Attribute, attribute_bytes}
 use Rattle.dw_entries.specs.ItemFormats.{attributes}
 use Rattle.dw_entries.specs.ItemLaws.{attributes_to}
 use Rattle.dw_forms.specs.WithBytes.{one_value}
 use Rattle.dw_entries.specs.OneProof.{AreAttributes-prop}
-use Rattle.dw_entries.specs.Values.{value_context, Begin, Left}
+use Rattle.dw_entries.specs.Values.{Begin, Left}
 
 Begin-prop : (x : Context) (specs : List AttributeSpec) (bytes : List ℕ) (found : List Attribute × List ℕ)
     → IsProp (Begin x specs bytes found)
@@ -27,12 +27,3 @@ left_unique x specs bytes p q =
     let first : p.0.0 ≡ q.0.0 = same.0 in
     let second : p.0.1 ≡ q.0.1 = same.1 in
     Σ_prop_path (Begin-prop x specs bytes) (pair_path p.0 q.0 first second)
-
--- the table has no part in it
-pub without_table : (x : Context) (specs : List AttributeSpec) (bs : List Attribute) → AreAttributes x specs bs
-    → AreAttributes (value_context x.version x.address_size) specs bs
-without_table x [] [] p = tt
-without_table x [] (b ∷ bs) p = absurd p
-without_table x (s ∷ specs) [] p = absurd p
-without_table x (s ∷ specs) (b ∷ bs) p =
-    (record { code = p.0.code; allowed = p.0.allowed; value = p.0.value }, without_table x specs bs p.1)

@@ -1,7 +1,7 @@
 use Rattle.std.proofs.Common.{rules, ap, [], arith}
 use Rattle.dw_entries.specs.Units.{context_in, numbers_in}
 use Rattle.dw_entries.specs.Walk.{walk_of, levels_of}
-use Rattle.dw_entries.specs.ItemLaws.{item_fails}
+use Rattle.dw_forms.specs.WithBytes.{read_fails}
 use Rattle.dw_entries.proofs.AlongLaws.{along_few, along_end, along_next, first_fault, first_turn, turn_fault, turn_shorter}
 use Rattle.dw_entries.proofs.tree.walk_tree.Goals as goal
 
@@ -13,7 +13,7 @@ returns-in-Err-Fault-clause-fault c =
     turn_fault (context_in c.args.context) (numbers_in c.args.context) c.args.unit.header.kind c.args.unit.at
     c.args.start c.args.body.now c.args.records.now.items c.loop-inner.rest.now c.loop-inner.records.items
     c.loop-inner.outer.items c.in-Some.level c.in-Err-Fault.failing _ c.requires.start
-    (rw c.in-Some.is at c.loop-inner.invariant) (search (rules, item_fails)) c.plain_fault_at-in-Err-Fault.ensures
+    (rw c.in-Some.is at c.loop-inner.invariant) (search (rules, read_fails)) c.plain_fault_at-in-Err-Fault.ensures
 
 pub loop-inner-init : goal.loop-inner-init
 loop-inner-init c =

@@ -7,16 +7,16 @@ use Rattle.dw_entries.proofs.cursor.Cursor.at.Goals as goal
 
 pub index-requires : goal.index-requires
 index-requires c =
-    omega (arith, c.unit_number-unit.ensures.within, units_counted _ _ _ _ _ c.args.self.now.entries.now.scanned)
+    omega (arith, c.unit_number-unit.ensures.within, units_counted c.args.self.now.entries.now.scanned)
 
 pub invariant_of-self : goal.invariant_of-self
 invariant_of-self c =
     let it = c.args.self.now.entries.now in
     let n = c.unit_number-unit.result in
     let within : n < length it.units.items = omega
-    (arith, c.unit_number-unit.ensures.within, units_counted _ _ _ _ _ it.scanned) in
+    (arith, c.unit_number-unit.ensures.within, units_counted it.scanned) in
     let kept = slice_get-get_or it.units.items n c.index.result.now within
     ∙ ap (λ (u : UnitRecord). Some u) (sym c.index.ensures) in
     record {
-      its = its_entries _ _ _ _ _ it.scanned n c.end_of-self.result c.index.result.now kept c.end_of-self.ensures;
+      its = its_entries it.scanned n c.end_of-self.result c.index.result.now kept c.end_of-self.ensures;
     }

@@ -4,15 +4,15 @@ use Rattle.dw_entries.proofs.entries.Entries.decl.Goals as goal
 
 pub decl-requires-clause-some : goal.decl-requires-clause-some
 decl-requires-clause-some c =
-    decl_numbered c.args.self.now.decls (kept_entry _ _ _ _ _ c.args.self.now.scanned c.args.id c.requires)
+    decl_numbered c.args.self.now.decls (kept_entry c.args.self.now.scanned c.args.id c.requires)
     c.record-kept.result c.record-kept.ensures
 
 pub decl-requires-clause-within : goal.decl-requires-clause-within
 decl-requires-clause-within c =
-    decl_kept c.args.self.now.decls (kept_entry _ _ _ _ _ c.args.self.now.scanned c.args.id c.requires)
+    decl_kept c.args.self.now.decls (kept_entry c.args.self.now.scanned c.args.id c.requires)
     c.record-kept.result c.record-kept.ensures
 
 pub returns : goal.returns
 returns c =
-    decl_is c.args.self.now.decls (kept_entry _ _ _ _ _ c.args.self.now.scanned c.args.id c.requires)
+    decl_is c.args.self.now.decls (kept_entry c.args.self.now.scanned c.args.id c.requires)
     c.record-kept.result c.record-kept.ensures (decl_view c.decl.result) c.decl.ensures

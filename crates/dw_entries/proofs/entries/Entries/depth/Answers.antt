@@ -6,7 +6,7 @@ use Rattle.dw_entries.proofs.entries.Entries.depth.Goals as goal
 
 pub loop-above-init : goal.loop-above-init
 loop-above-init c =
-    rw c.get-above.ensures (starts _ _ _ _ _ c.args.self.now.scanned c.args.id c.record.result c.requires
+    rw c.get-above.ensures (starts c.args.self.now.scanned c.args.id c.record.result c.requires
     c.record.ensures)
 
 pub overflow_add-depth : goal.overflow_add-depth
@@ -15,23 +15,23 @@ overflow_add-depth c = search (rules, depth_less, entries_counted, scanned_few)
 pub index-requires : goal.index-requires
 index-requires c =
     let here = rw c.in-Some.is at c.loop-above.invariant in
-    omega (arith, above_within _ _ _ _ _ c.args.self.now.scanned c.args.id c.loop-above.depth c.in-Some.parent here)
+    omega (arith, above_within c.args.self.now.scanned c.args.id c.loop-above.depth c.in-Some.parent here)
 
 pub loop-above-smaller : goal.loop-above-smaller
 loop-above-smaller c =
     let here = rw c.in-Some.is at c.loop-above.invariant in
     rw (c.in-Some.is, c.get-above-in-Some.ensures)
-    (lower _ _ _ _ _ c.args.self.now.scanned c.args.id c.loop-above.depth c.in-Some.parent here c.index.result.now
+    (lower c.args.self.now.scanned c.args.id c.loop-above.depth c.in-Some.parent here c.index.result.now
     c.index.ensures)
 
 pub loop-above-preserved : goal.loop-above-preserved
 loop-above-preserved c =
     let here = rw c.in-Some.is at c.loop-above.invariant in
     rw c.get-above-in-Some.ensures
-    (climbs _ _ _ _ _ c.args.self.now.scanned c.args.id c.loop-above.depth c.in-Some.parent here c.index.result.now
+    (climbs c.args.self.now.scanned c.args.id c.loop-above.depth c.in-Some.parent here c.index.result.now
     c.index.ensures)
 
 pub returns : goal.returns
 returns c =
-    is_deep _ _ _ _ _ c.args.self.now.scanned c.args.id c.loop-above.depth
+    is_deep c.args.self.now.scanned c.args.id c.loop-above.depth
     (rw c.in_default.is at c.loop-above.invariant)

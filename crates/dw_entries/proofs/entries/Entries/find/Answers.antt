@@ -26,7 +26,7 @@ pub returns-in_err-past-clause-none : goal.returns-in_err-past-clause-none
 returns-in_err-past-clause-none c =
     all_elsewhere (entries_of (units_of c.args.self.now)) c.args.offset c.from_residual.result
     (rw c.from_residual.ensures
-    (λ id found. let low = past_base _ _ _ _ _ c.args.self.now.scanned id c.args.offset found in
+    (λ id found. let low = past_base c.args.self.now.scanned id c.args.offset found in
     omega (arith, low, c.in_err-past.ensures)))
 
 pub returns-clause-found : goal.returns-clause-found

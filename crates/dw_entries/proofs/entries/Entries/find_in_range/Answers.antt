@@ -8,7 +8,7 @@ use Rattle.dw_entries.proofs.entries.Entries.find_in_range.Goals.{then-number-ra
 pub returns-in_err-checked_add-clause-none : goal.returns-in_err-checked_add-clause-none
 returns-in_err-checked_add-clause-none c =
     rw c.from_residual.ensures
-    (never_far _ _ _ _ _ c.args.self.now.scanned c.args.unit c.args.offset _ c.requires.past
+    (never_far c.args.self.now.scanned c.args.unit c.args.offset _ c.requires.past
     (omega (arith, c.args.self.now.sections.info_fits)) (omega (arith, c.in_err-checked_add.ensures, c.from.ensures)))
 
 pub returns-then-number-range-clause-none : goal.returns-then-number-range-clause-none

@@ -7,17 +7,17 @@ use Rattle.dw_entries.proofs.entries.Entries.placed.Goals as goal
 
 pub decl-requires-clause-some : goal.decl-requires-clause-some
 decl-requires-clause-some c =
-    decl_numbered c.args.self.now.decls (kept_entry _ _ _ _ _ c.args.self.now.scanned c.args.id c.requires.id)
+    decl_numbered c.args.self.now.decls (kept_entry c.args.self.now.scanned c.args.id c.requires.id)
     c.record-kept.result c.record-kept.ensures
 
 pub decl-requires-clause-within : goal.decl-requires-clause-within
 decl-requires-clause-within c =
-    decl_kept c.args.self.now.decls (kept_entry _ _ _ _ _ c.args.self.now.scanned c.args.id c.requires.id)
+    decl_kept c.args.self.now.decls (kept_entry c.args.self.now.scanned c.args.id c.requires.id)
     c.record-kept.result c.record-kept.ensures
 
 pub index-requires : goal.index-requires
 index-requires c =
-    let kept = kept_entry _ _ _ _ _ c.args.self.now.scanned c.args.id c.requires.id in
+    let kept = kept_entry c.args.self.now.scanned c.args.id c.requires.id in
     omega (
       arith,
       slice_get_within c.args.self.now.units.items _ kept.unit_record kept.is_unit_record,
@@ -26,12 +26,12 @@ index-requires c =
 
 pub values_with-requires-clause-header : goal.values_with-requires-clause-header
 values_with-requires-clause-header c =
-    header_is (kept_entry _ _ _ _ _ c.args.self.now.scanned c.args.id c.requires.id) c.args.unit c.index.result.now
+    header_is (kept_entry c.args.self.now.scanned c.args.id c.requires.id) c.args.unit c.index.result.now
     c.requires.unit c.index.ensures
 
 pub values_with-requires-clause-specs : goal.values_with-requires-clause-specs
 values_with-requires-clause-specs c =
-    let kept = kept_entry _ _ _ _ _ c.args.self.now.scanned c.args.id c.requires.id in
+    let kept = kept_entry c.args.self.now.scanned c.args.id c.requires.id in
     c.attributes-attributes.ensures.specs
     ∙ ap (λ (d : Declaration). d.attributes)
     (decl_is c.args.self.now.decls kept c.record-kept.result c.record-kept.ensures (decl_view c.decl.result)

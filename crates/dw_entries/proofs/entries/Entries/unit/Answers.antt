@@ -6,7 +6,7 @@ use Rattle.dw_entries.proofs.entries.Entries.unit.Goals as goal
 
 pub index-unit-requires : goal.index-unit-requires
 index-unit-requires c =
-    omega (arith, number_within (kept_unit _ _ _ _ _ c.args.self.now.scanned c.args.number c.requires))
+    omega (arith, number_within (kept_unit c.args.self.now.scanned c.args.number c.requires))
 
 pub decl-requires : goal.decl-requires
 decl-requires c =
@@ -14,13 +14,13 @@ decl-requires c =
       arith,
       c.new-first.ensures,
       first_within
-          (kept_unit _ _ _ _ _ c.args.self.now.scanned c.args.number c.requires) c.index-unit.result.now
+          (kept_unit c.args.self.now.scanned c.args.number c.requires) c.index-unit.result.now
           c.index-unit.ensures,
     )
 
 pub returns : goal.returns
 returns c =
-    unit_told (kept_unit _ _ _ _ _ c.args.self.now.scanned c.args.number c.requires) c.index-unit.result.now
+    unit_told (kept_unit c.args.self.now.scanned c.args.number c.requires) c.index-unit.result.now
     c.index-unit.ensures
     c.new-first.result (decl_view c.decl.result) c.unit_type.result c.new-first.ensures c.decl.ensures
     (c.unit_type.ensures ∙ ap (type_of c.index-unit.result.now.header.kind) c.tag.ensures)

@@ -7,7 +7,7 @@ use Rattle.dw_entries.proofs.entries.Entries.value.Goals as goal
 
 pub returns-then-lacks : goal.returns-then-lacks
 returns-then-lacks c =
-    let kept = kept_entry _ _ _ _ _ c.args.self.now.scanned c.args.id c.requires in
+    let kept = kept_entry c.args.self.now.scanned c.args.id c.requires in
     let specs = (decl_view c.decl.result).attributes in
     undeclared kept specs c.args.attribute (ap (λ (d : Declaration). d.attributes) c.decl.ensures)
     (declares_none specs c.args.attribute (c.lacks.ensures.0 c.if-lacks.true))

@@ -9,7 +9,7 @@ use Rattle.dw_entries.proofs.entries.Entries.values_with.Goals as goal
 
 pub invariant_of-result : goal.invariant_of-result
 invariant_of-result c =
-    let kept = kept_entry _ _ _ _ _ c.args.self.now.scanned c.args.id c.requires.id in
+    let kept = kept_entry c.args.self.now.scanned c.args.id c.requires.id in
     let bytes = c.value_bytes.result.now in
     let f = c.value_bytes.ensures in
     record {
@@ -24,14 +24,14 @@ invariant_of-result c =
 
 pub returns-clause-values : goal.returns-clause-values
 returns-clause-values c =
-    let kept = kept_entry _ _ _ _ _ c.args.self.now.scanned c.args.id c.requires.id in
+    let kept = kept_entry c.args.self.now.scanned c.args.id c.requires.id in
     let f = c.value_bytes.ensures in
     search (values_here kept c.args.header (specs_in c.args.attributes) c.value_bytes.result.now c.version.result
     c.requires.header c.requires.specs (f.rest, f.spelled) c.version.ensures)
 
 pub returns-clause-left : goal.returns-clause-left
 returns-clause-left c =
-    let kept = kept_entry _ _ _ _ _ c.args.self.now.scanned c.args.id c.requires.id in
+    let kept = kept_entry c.args.self.now.scanned c.args.id c.requires.id in
     let info = c.args.self.now.sections.info.now in
     let bytes = c.value_bytes.result.now in
     let f = c.value_bytes.ensures in

@@ -11,7 +11,7 @@ use Rattle.dw_entries.proofs.entry.EntryAt.find_value.Goals as goal
 pub value-requires : goal.value-requires
 value-requires c =
     let it = c.self.inside in
-    let kept = kept_entry _ _ _ _ _ it.entries.now.scanned it.id c.self.invariant.0 in
+    let kept = kept_entry it.entries.now.scanned it.id c.self.invariant.0 in
     let specs = (decl_view it.decl).attributes in
     sized_here kept it.header specs c.value_bytes-bytes.result.now c.version-version.result c.self.invariant.3
     (ap (λ (d : Declaration). d.attributes) c.self.invariant.2)
@@ -20,7 +20,7 @@ value-requires c =
 pub unreachable-requires : goal.unreachable-requires
 unreachable-requires c =
     let it = c.self.inside in
-    let kept = kept_entry _ _ _ _ _ it.entries.now.scanned it.id c.self.invariant.0 in
+    let kept = kept_entry it.entries.now.scanned it.id c.self.invariant.0 in
     let specs = (decl_view it.decl).attributes in
     let left = left_here kept it.header specs c.value_bytes-bytes.result.now c.version-version.result c.self.invariant.3
     (ap (λ (d : Declaration). d.attributes) c.self.invariant.2)
@@ -32,7 +32,7 @@ unreachable-requires c =
 pub returns : goal.returns
 returns c =
     let it = c.self.inside in
-    let kept = kept_entry _ _ _ _ _ it.entries.now.scanned it.id c.self.invariant.0 in
+    let kept = kept_entry it.entries.now.scanned it.id c.self.invariant.0 in
     let specs = (decl_view it.decl).attributes in
     let of_specs = ap (λ (d : Declaration). d.attributes) c.self.invariant.2 in
     let f = c.value_bytes-bytes.ensures in

@@ -6,7 +6,7 @@ use Rattle.dw_entries.proofs.entry.EntryAt.head.Goals as goal
 pub returns : goal.returns
 returns c =
     let it = c.self.inside in
-    let kept = kept_entry _ _ _ _ _ it.entries.now.scanned it.id c.self.invariant.0 in
+    let kept = kept_entry it.entries.now.scanned it.id c.self.invariant.0 in
     let is = record_is kept it.kept c.self.invariant.1 in
     let at = ap (λ (r : Record). r.at) is in
     let parent = ap (λ (r : Record). r.parent) is in

@@ -5,7 +5,7 @@ use Rattle.dw_entries.proofs.entry.EntryAt.new.Goals as goal
 
 pub index-requires : goal.index-requires
 index-requires c =
-    let kept = kept_entry _ _ _ _ _ c.args.entries.now.scanned c.args.id c.requires.id in
+    let kept = kept_entry c.args.entries.now.scanned c.args.id c.requires.id in
     omega (
       arith,
       slice_get_within c.args.entries.now.units.items _ kept.unit_record kept.is_unit_record,
@@ -14,5 +14,5 @@ index-requires c =
 
 pub at_with-requires-clause-header : goal.at_with-requires-clause-header
 at_with-requires-clause-header c =
-    let kept = kept_entry _ _ _ _ _ c.args.entries.now.scanned c.args.id c.requires.id in
+    let kept = kept_entry c.args.entries.now.scanned c.args.id c.requires.id in
     header_is kept c.args.unit c.index.result.now c.requires.unit c.index.ensures

@@ -8,7 +8,7 @@ use Rattle.dw_entries.proofs.entry.EntryAt.value.Goals as goal
 pub returns-then-lacks : goal.returns-then-lacks
 returns-then-lacks c =
     let it = c.self.inside in
-    let kept = kept_entry _ _ _ _ _ it.entries.now.scanned it.id c.self.invariant.0 in
+    let kept = kept_entry it.entries.now.scanned it.id c.self.invariant.0 in
     let specs = (decl_view it.decl).attributes in
     rw (← c.self.view_is) (undeclared kept specs c.args.attribute
     (ap (λ (d : Declaration). d.attributes) c.self.invariant.2)
