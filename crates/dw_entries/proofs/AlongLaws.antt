@@ -243,7 +243,6 @@ along_few t numbers kind at body old rest records outer own a =
     let is : List Item = entry a.first ∷ a.others in
     let bytes = taken t numbers kind at body old rest (walk_of records outer (Some own)) a in
     let (r, l) = walk_few t numbers at is (walk old []) a.front.are in (
-      omega (arith, bytes, r, ap (λ (w : Walk). length w.records) a.walked),
-      omega
-          (arith, bytes, l, ap (λ (w : Walk). length w.levels) a.walked, length-reverse outer),
+      omega (arith, ap (λ (w : Walk). length w.records) a.walked),
+      omega (arith, ap (λ (w : Walk). length w.levels) a.walked, length-reverse outer),
     )

@@ -49,7 +49,7 @@ in_back es fs id first above depth k e starts le (inr h) =
     inr (record {
       place = length es + h.place;
       above = h.above;
-      before = omega (arith, before, le);
+      before = omega arith;
       is_above = search (rules, get_behind);
       parent = search rules;
       depth = h.depth;
@@ -99,7 +99,7 @@ mutual
           inr (record {
             place = suc h.place;
             above = h.above;
-            before = omega (arith, before);
+            before = omega arith;
             is_above = h.is_above;
             parent = search rules;
             depth = h.depth;
@@ -119,7 +119,7 @@ mutual
             (node_below unit (Some above) depth (first_id ns (id + node_count n)) id at n k e
             (sym (get_front es fs k lt) ∙ is))
         | inr le ↦
-            in_back es fs id (id + node_count n) (Some above) depth k e (omega (arith, count)) le
+            in_back es fs id (id + node_count n) (Some above) depth k e (omega arith) le
             (nodes_below unit above depth (id + node_count n) (at + length (node_bytes n)) ns (k - length es) e
             (sym (get_behind es fs k le) ∙ is))
       ]
@@ -139,7 +139,7 @@ units_below unit id at (u ∷ us) k e is =
           (node_below unit None 0 None id (at + unit_header_size u.header.kind) u.root k e
           (sym (get_front es fs k lt) ∙ is))
       | inr le ↦
-          in_back es fs id (id + node_count u.root) None 0 k e (omega (arith, count)) le
+          in_back es fs id (id + node_count u.root) None 0 k e (omega arith) le
           (units_below (suc unit) (id + node_count u.root) (at + length (unit_bytes u)) us (k - length es) e
           (sym (get_behind es fs k le) ∙ is))
     ]
@@ -166,10 +166,9 @@ one_deeper us k p e is under = go (units_below 0 0 (start_of us) us k e is)
     go (inr h) =
         let both : Some (0 + h.place) ≡ Some p = sym h.parent ∙ under in
         let same : 0 + h.place ≡ p = cc in
-        let before = h.before in
-        let place : h.place ≡ p = omega (arith, same) in
+        let place : h.place ≡ p = omega arith in
         let P : ℕ → Type 0 = λ n. slice_get (entries_of us) n ≡ Some h.above in
-        (h.above, subst P place h.is_above, h.depth, omega (arith, before, place))
+        (h.above, subst P place h.is_above, h.depth, omega arith)
 
 -- ---- steps up from an entry
 
@@ -214,8 +213,7 @@ module _ {base : ℕ} {a info : List ℕ} {tables : Tables} {rs : List UnitRecor
         omega (
           arith,
           slice_get_within (entries_of (found_units s)) p above is,
-          entries_counted a info tables rs records
-              s,
+          entries_counted a info tables rs records s,
         )
 
     pub depth_less : depth < id
@@ -235,8 +233,8 @@ module _ {base : ℕ} {a info : List ℕ} {tables : Tables} {rs : List UnitRecor
             here = above;
             is_here = is;
             parent = sym (parent_kept p r above stands is);
-            sum = omega (arith, sum, deeper);
-            fewer = omega (arith, fewer, less);
+            sum = omega arith;
+            fewer = omega arith;
           }
 
       pub lower : height r.parent < suc p
@@ -248,7 +246,7 @@ module _ {base : ℕ} {a info : List ℕ} {tables : Tables} {rs : List UnitRecor
               let (above, is, deeper, less) = one_deeper (found_units s) c.place p c.here c.is_here c.parent in
               let (more, there, far, before) = one_deeper (found_units s) p q above is
               (sym (parent_kept p r above stands is) ∙ at) in
-              omega (arith, before)
+              omega arith
 
   pub is_deep : (id depth : ℕ) → Climbs (entries_of (found_units s)) id depth None
       → depth ≡ (found_entry s id).depth

@@ -168,7 +168,7 @@ first_from unit id at (u ∷ us) (suc k) p is =
     let number : suc unit + k ≡ unit + suc k = omega arith in
     let P : ℕ → Type 0 = λ n. IsFirstEntry n p has.entry in (
       length es + j,
-      omega (arith, first, count),
+      omega arith,
       record {
         entry = has.entry;
         is_entry = behind_first es fs j ∙ has.is_entry;
@@ -181,7 +181,7 @@ pub first_entry : (us : List DebugUnit) (k : ℕ) (p : PlacedUnit) → slice_get
     → HasFirst (entries_of us) p.first k p
 first_entry us k p is =
     let (j, first, has) = first_from 0 0 (start_of us) us k p is in
-    let e : j ≡ p.first = omega (arith, first) in
+    let e : j ≡ p.first = omega arith in
     let number : 0 + k ≡ k = omega arith in
     let P : ℕ → Type 0 = λ i. HasFirst (entries_of us) i (0 + k) p in
     let Q : ℕ → Type 0 = λ n. HasFirst (entries_of us) p.first n p in

@@ -19,7 +19,7 @@ use Rattle.dw_entries.proofs.OrderLaws.{scanned_few}
 
 -- the first unit is where the units begin
 starts_at : (base number : ℕ) (us : List DebugUnit) → AreFrom base us → number < length us → start_of us ≡ base
-starts_at base number [] from within = absurd (omega (arith, within))
+starts_at base number [] from within = absurd (omega arith)
 starts_at base number (u ∷ us) from within = from.0
 
 pub entries_counted : {base : ℕ} (a info : List ℕ) (tables : Tables) (rs : List UnitRecord) (records : List Record)
@@ -60,9 +60,8 @@ module _ {base : ℕ} {a info : List ℕ} {tables : Tables} {rs : List UnitRecor
   past_base id offset found =
       let k = kept_entry s id found.within in
       let start = starts_at base (found_entry s id).unit (found_units s) s.1.are_from k.stands.within in
-      let begins = found.begins in
       let past = entry_past a (found_units s) s.1.spells.are id (found_entry s id) k.is_entry in
-      omega (arith, start, begins, past)
+      omega arith
 
   -- no unit is either
   pub unit_past : (number : ℕ) → number < length (found_units s) → base ≤ (found_place s number).at
@@ -70,7 +69,7 @@ module _ {base : ℕ} {a info : List ℕ} {tables : Tables} {rs : List UnitRecor
       let k = kept_unit s number within in
       let start = starts_at base number (found_units s) s.1.are_from within in
       let past = placed_past (found_units s) number (found_place s number) k.is_place in
-      omega (arith, start, past)
+      omega arith
 
   -- the records are in the order of their entries
   pub records_ordered : AreInOrder records base (length info)
@@ -87,17 +86,14 @@ module _ {base : ℕ} {a info : List ℕ} {tables : Tables} {rs : List UnitRecor
           let up = entries_rise a (found_units s) s.1.spells.are i j (found_entry s i) (found_entry s j) less
           (kept_entry s i low.within).is_entry
           (kept_entry s j high.within).is_entry in
-          let begins_low = low.begins in
-          let begins_high = high.begins in
-          omega (arith, up, begins_low, begins_high)
+          omega arith
 
       below : (number offset : ℕ) → IsRecordAt records offset number → offset < length info
       below number offset at =
           let here = entry_at offset number at in
-          let begins = here.begins in
           let w = stands_within (found_units s) info (found_entry s number)
           (kept_entry s number here.within).stands in
-          omega (arith, begins, w)
+          omega arith
 
   -- what the blocks say of an offset is so
   module _ (blocks : List Block) (starts : AreStarts records base blocks) (past : ℕ) where
@@ -117,4 +113,4 @@ module _ {base : ℕ} {a info : List ℕ} {tables : Tables} {rs : List UnitRecor
         go (Some id) is =
             let within = (found_from id is).within in
             let few = scanned_few a info tables rs records s in
-            omega (arith, within, few, entries_counted a info tables rs records s, fits)
+            omega (arith, entries_counted a info tables rs records s)

@@ -19,7 +19,7 @@ pub first_at_place : (place : Place) (Fails : Rule → Type 0) (rule : Rule) (br
 first_at_place place Fails rule broken least named = search (rules, not_before_itself)
 
 pub none_at_place : (place : Place) (Fails : Rule → Type 0) → IsLeast Fails None → HasNone (AtPlace place Fails)
-none_at_place place Fails none f fails = none f.rule fails.fails
+none_at_place place Fails none f fails = search (rules)
 
 -- of two headers' failures the one that precedes does not come after
 pub header_precedes_le : (a b : ℕ) (f g : Failure) → f.place ≡ at_header a → g.place ≡ at_header b → Precedes f g

@@ -62,7 +62,7 @@ first_of_list {X} xs offset Fails number x broken rise stands is_x passed first 
         | inr more ↦
             let above = rise number fails.number x fails.item more is_x fails.is_item in
             let below = stands fails.number number fails.item x g first.failure fails.fails first.fails precedes in
-            omega (arith, above, below)
+            omega arith
       ];
 }
 

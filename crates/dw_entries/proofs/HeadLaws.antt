@@ -156,7 +156,6 @@ stands_within us info e s =
       arith,
       ap length s.parts,
       length-append (head_bytes e.head) s.after,
-      item_some (context_of (unit_of us e.unit))
-          (entry e.head) s.is,
+      item_some (context_of (unit_of us e.unit)) (entry e.head) s.is,
       length-drop e.at info,
     )

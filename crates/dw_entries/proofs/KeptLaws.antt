@@ -24,7 +24,7 @@ use Rattle.dw_entries.specs.Grammar.{declared_in, attribute_bytes}
 use Rattle.dw_entries.specs.Header.{type_of}
 use Rattle.dw_entries.specs.ItemFormats.{code}
 use Rattle.dw_forms.specs.WithBytes.{ok_pair}
-use Rattle.dw_entries.specs.Units.{DebugUnit, head_of}
+use Rattle.dw_entries.specs.Units.{DebugUnit}
 use Rattle.dw_entries.specs.Entries.{Entry, entries_of, PlacedUnit, placed}
 use Rattle.dw_entries.specs.ByNumber.{no_entry, no_unit, entry_of, placed_of, unit_of}
 use Rattle.dw_entries.specs.Scanned.{found_units, tables_among, table_of, numbers_of, record_of, IsRecordOfUnit, Scanned}
@@ -110,7 +110,7 @@ module _ {base : ℕ} {a info : List ℕ} {tables : Tables} {rs : List UnitRecor
     pub at_within : r.at < length info
     at_within =
         let e : r.at ≡ (found_entry s id).at = ap (λ (q : Record). q.at) record_is in
-        let w = stands_within (found_units s) info (found_entry s id) k.stands in omega (arith, e, w)
+        let w = stands_within (found_units s) info (found_entry s id) k.stands in omega arith
 
     -- its code is read at its offset, and its values follow
     code_read : code.read (take (length info - r.at) (drop r.at info))
@@ -123,7 +123,7 @@ module _ {base : ℕ} {a info : List ℕ} {tables : Tables} {rs : List UnitRecor
         let e : r.at ≡ (found_entry s id).at = ap (λ (q : Record). q.at) record_is in
         let w = at_within in
         ap (λ (b : List ℕ). code.read b)
-        (rest_of r.at info (omega (arith, w)) ∙ ap (λ (n : ℕ). drop n info) e)
+        (rest_of r.at info (omega arith) ∙ ap (λ (n : ℕ). drop n info) e)
         ∙ stands_code (found_units s) info (found_entry s id) k.stands
 
     pub never_unread : (f : Failing)
@@ -228,14 +228,7 @@ module _ {base : ℕ} {a info : List ℕ} {tables : Tables} {rs : List UnitRecor
     pub unit_told : (first : ℕ) (d : Declaration) (t : UnitType) → first ≡ u.first
         → d ≡ (found_entry s first).head.decl → t ≡ type_of u.header.kind d.tag
         → told u.at u.header t first ≡ unit_head (found_place s number)
-    unit_told first d t same declared typed =
-        let is : found_entry s first ≡ k.first.entry = search (rules, get_or_from_slice_get, first_is) in
-        let of_first : d ≡ k.first.entry.head.decl = search rules in
-        let tag : d.tag ≡ (head_of (found_place s number).unit.root).decl.tag = search rules in
-        let type_is : t ≡ type_of (found_place s number).unit.header.kind
-        (head_of (found_place s number).unit.root).decl.tag = search (rules, kept_is) in
-        let number_is : first ≡ (found_place s number).first = same ∙ kept_is.first in
-        λ i. told (kept_is.at i) (kept_is.header i) (type_is i) (number_is i)
+    unit_told first d t same declared typed = search (rules, get_or_from_slice_get, first_is, kept_is)
 
 -- as many records as units
 pub units_counted : {base : ℕ} {a info : List ℕ} {tables : Tables} {rs : List UnitRecord} {records : List Record}

@@ -1,5 +1,5 @@
 -- The values that leads lead to: their forms, and what is read of their bytes.
-use Rattle.std.proofs.Common.{rules, ◌≡◌, ℕ, Bool, true, false, List, length, Some, Ok, Err, refl, subst, ◌∙◌, Result, sym}
+use Rattle.std.proofs.Common.{rules, ◌≡◌, ℕ, Bool, true, false, List, length, Some, Ok, Err, refl, subst, Result, sym}
 use Rattle.std.specs.Prelude.{⊤, nat_lt}
 use Rattle.std.specs.Bool.{OnTrue}
 use Rattle.dw_forms.specs.declared.leading_steps.Lead.{Lead}
@@ -89,10 +89,10 @@ pub lead_form : (l : Lead) (f : Form) (spec : AttributeSpec) → form_of_lead l 
 lead_form lead.TypeEntry f spec e is = search (rules, lead_says, form_is)
 lead_form lead.Sibling f spec e is = search (rules, lead_says, form_is)
 lead_form lead.Specification f spec e is = search (rules, lead_says, form_is)
-lead_form lead.Entry f spec e is = (lead_says spec lead.Entry is).0 ∙ form_is e
-lead_form lead.Text f spec e is = (lead_says spec lead.Text is).0 ∙ form_is e
-lead_form lead.Index1 f spec e is = (lead_says spec lead.Index1 is).0 ∙ form_is e
-lead_form lead.Index2 f spec e is = (lead_says spec lead.Index2 is).0 ∙ form_is e
+lead_form lead.Entry f spec e is = search (rules, lead_says, form_is)
+lead_form lead.Text f spec e is = search (rules, lead_says, form_is)
+lead_form lead.Index1 f spec e is = search (rules, lead_says, form_is)
+lead_form lead.Index2 f spec e is = search (rules, lead_says, form_is)
 lead_form lead.Address f spec e is = search (rules, lead_says, form_is)
 lead_form _ f spec e is = absurd cc
 
@@ -102,9 +102,9 @@ holds_by l spec item is read = by_lead l (λ f e. subst (λ (g : Form). IsMade g
     read.made)
   where
     by_lead : (l : Lead) → ((f : Form) → form_of_lead l ≡ Some f → IsMade f item.1) → HoldsBy l item.1
-    by_lead lead.Index1 made = index1_made item.1 (made Strx1 refl)
-    by_lead lead.Index2 made = index2_made item.1 (made Strx2 refl)
-    by_lead lead.Address made = address_made item.1 (made Addrx refl)
+    by_lead lead.Index1 made = search (rules, index1_made)
+    by_lead lead.Index2 made = search (rules, index2_made)
+    by_lead lead.Address made = search (rules, address_made)
     by_lead _ made = tt
 
 -- which leaves no lead but `Other`, where it is no offset

@@ -85,8 +85,11 @@ left_over t numbers kind header start body rest left old new s tree then =
     ∙ ap (λ (b : List ℕ). b ++ left) (sym spelled) in
     let f : Failing = record { rule = LeftOver; attribute = 0 } in
     let here : start + (length body - length left)
-    ≡ header + unit_header_size kind + length (items_bytes is) = omega
-    (arith, s, ap length parts, length-append (items_bytes is) left) in
+    ≡ header + unit_header_size kind + length (items_bytes is) = omega (
+      arith,
+      ap length parts,
+      length-append (items_bytes is) left,
+    ) in
     record {
       items = is;
       rest = left;

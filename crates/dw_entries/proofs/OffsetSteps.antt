@@ -10,7 +10,7 @@ use Rattle.dw_forms.specs.declared.leading_steps.Lead.TheVariants as lead
 use Rattle.dw_forms.specs.declared.value.ValueFault.{ValueFault}
 use Rattle.dw_forms.specs.Steps.{◌>>=◌}
 use Rattle.dw_forms.specs.Suffixes.{Ends, specs_in}
-use Rattle.dw_forms.specs.Value.{Datum, fixed, ref_unit, str}
+use Rattle.dw_forms.specs.Value.{Datum, fixed, str}
 use Rattle.dw_forms.specs.ValueFormats.{laid_out}
 use Rattle.dw_forms.specs.ValueReading.{fixed_at, layout_at, value_at}
 use Rattle.dw_entries.specs.declared.values.Values.{Values}
@@ -48,13 +48,13 @@ in_layout of bytes r e = search (rules)
 module _ (version size : ℕ) (bytes : List ℕ) where
   value_by : (l : Lead) (n : ℕ) (rest : List ℕ) → fixed_at 4 bytes ≡ Ok (n, rest)
       → value_at version (offset_form l) size bytes ≡ Ok (offset_by l n, rest)
-  value_by lead.Text n rest e = in_layout str bytes (Ok (n, rest)) e
+  value_by lead.Text n rest e = search (rules, in_layout)
   value_by _ n rest e = search (rules, in_layout)
 
   fault_by : (l : Lead) (f : ValueFault) → fixed_at 4 bytes ≡ Err f
       → value_at version (offset_form l) size bytes ≡ Err f
   fault_by lead.Text f e = in_layout str bytes (Err f) e
-  fault_by _ f e = in_layout ref_unit bytes (Err f) e
+  fault_by _ f e = search (rules, in_layout)
 
 module _ (v : Values) (l : Lead) (is : is_offset_lead l ≡ true) (begins : BeginsWithLead l (specs_left v))
     (spec : AttributeSpec) (rest : Attributes)

@@ -181,7 +181,7 @@ pub first_value : (x : Context) (specs : List AttributeSpec) (bs : List Attribut
     → StandsFirst specs code place
     → FirstValue x.version x.address_size specs bytes (map value_of bs) code place
 unfolding values_end
-first_value x [] bs rest bytes code place are spelled first = absurd (omega (arith, first.within))
+first_value x [] bs rest bytes code place are spelled first = absurd (omega arith)
 first_value x (s ∷ specs) [] rest bytes code place are spelled first = absurd are
 first_value x (s ∷ specs) (b ∷ bs) rest bytes code zero are spelled first =
     let here : bytes ≡ b.bytes ++ (flat_map attribute_bytes bs ++ rest) = search (rules, append_assoc) in
@@ -198,9 +198,9 @@ first_value x (s ∷ specs) (b ∷ bs) rest bytes code (suc place) are spelled f
     let apart : b.code ≡ code → ⊥ = search rules in
     let behind : StandsFirst specs code place =
     record {
-      within = omega (arith, first.within);
+      within = omega arith;
       has = first.has;
-      none_before = λ k d less. first.none_before (suc k) d (omega (arith, less));
+      none_before = λ k d less. first.none_before (suc k) d (omega arith);
     } in
     let more = first_value x specs bs rest (flat_map attribute_bytes bs ++ rest) code place are.1 refl behind in
     record {

@@ -64,13 +64,13 @@ spelled_bytes : (version size : ℕ) (f : Form) (bytes : List ℕ) (v : Datum) �
     → EndWithBytes bytes v
 unfolding laid_out
 spelled_bytes version size form.Indirect bytes v p = search (rules, named_plain, after_code, plain_bytes)
-spelled_bytes version size form.Block1 bytes v p = plain_bytes size form.Block1 bytes v p
-spelled_bytes version size form.Block2 bytes v p = plain_bytes size form.Block2 bytes v p
-spelled_bytes version size form.Block4 bytes v p = plain_bytes size form.Block4 bytes v p
-spelled_bytes version size form.Block bytes v p = plain_bytes size form.Block bytes v p
+spelled_bytes version size form.Block1 bytes v p = search (rules, plain_bytes)
+spelled_bytes version size form.Block2 bytes v p = search (rules, plain_bytes)
+spelled_bytes version size form.Block4 bytes v p = search (rules, plain_bytes)
+spelled_bytes version size form.Block bytes v p = search (rules, plain_bytes)
 spelled_bytes version size form.Exprloc bytes v p = search (rules, plain_bytes)
-spelled_bytes version size form.Text bytes v p = plain_bytes size form.Text bytes v p
-spelled_bytes version size form.Data16 bytes v p = plain_bytes size form.Data16 bytes v p
+spelled_bytes version size form.Text bytes v p = search (rules, plain_bytes)
+spelled_bytes version size form.Data16 bytes v p = search (rules, plain_bytes)
 spelled_bytes version size form.FlagPresent bytes v p = no_bytes bytes v _ p.1 refl tt
 spelled_bytes version size (form.ImplicitConst number) bytes v p = no_bytes bytes v _ p.1 refl tt
 spelled_bytes version size _ bytes v p = no_bytes bytes v _ p.2 refl tt
@@ -144,6 +144,6 @@ follow_code {info = info} {s = s} {id = id} k r read n rest got =
       before = front ++ e.head.code;
       rest = k.stands.after;
       parts = search (rules, take-append-drop, append_assoc);
-      start = omega (arith, within, length-append front e.head.code, length-take e.at info);
+      start = omega (arith, length-append front e.head.code, length-take e.at info);
       spelled = values;
     }

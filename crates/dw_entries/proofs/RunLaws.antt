@@ -60,7 +60,6 @@ pub never_far : {base : ℕ} {a info : List ℕ} {tables : Tables} {rs : List Un
     → start ≡ (placed_of (placed (found_units s)) number).at → length info < 2 ^ 64 → 2 ^ 64 ≤ offset + start → (j : ℕ)
     → ReachesInUnit (entries_of (found_units s)) (placed (found_units s)) number offset j → ⊥
 never_far {info = info} s number offset start place few far j reached =
-    let begins = reached.target.begins in
     let stands = stands_within (found_units s) info (found_entry s j)
     (kept_entry s j reached.target.within).stands in
-    omega (arith, place, begins, stands, few, far)
+    omega arith

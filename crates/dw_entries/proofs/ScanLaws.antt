@@ -58,7 +58,7 @@ records_same : (f g : ℕ → ℕ → ℕ) (unit id at : ℕ) (us : List DebugUn
 records_same f g unit id at [] same = refl
 records_same f g unit id at (u ∷ us) same =
     let rest = records_same f g (suc unit) (id + node_count u.root) (at + length (unit_bytes u)) us
-    (λ n less. same n (omega (arith, less))) in
+    (λ n less. same n (omega arith)) in
     λ i. node_records (same unit (omega arith) i) None None id (at + unit_header_size u.header.kind) u.root ++ rest i
 
 units_bytes-push : (us : List DebugUnit) (u : DebugUnit) → units_bytes (us ++ u ∷ []) ≡ units_bytes us ++ unit_bytes u
@@ -72,16 +72,16 @@ IsRecordOfUnit-more old new r p stay k = search (rules, length-append, table_sta
 table_within : (tables : Tables) (rs : List UnitRecord) (ps : List PlacedUnit) (n : ℕ)
     → AllZip (IsRecordOfUnit tables) rs ps
     → n < length rs → table_of rs n < length tables
-table_within tables [] ps n k less = absurd (omega (arith, less))
+table_within tables [] ps n k less = absurd (omega arith)
 table_within tables (r ∷ rs) [] n k less = absurd k
 table_within tables (r ∷ rs) (p ∷ ps) zero k less = k.0.within
-table_within tables (r ∷ rs) (p ∷ ps) (suc n) k less = table_within tables rs ps n k.1 (omega (arith, less))
+table_within tables (r ∷ rs) (p ∷ ps) (suc n) k less = table_within tables rs ps n k.1 (omega arith)
 
 table_of-push : (rs : List UnitRecord) (r : UnitRecord) (n : ℕ) → n < length rs
     → table_of (rs ++ r ∷ []) n ≡ table_of rs n
-table_of-push [] r n less = absurd (omega (arith, less))
+table_of-push [] r n less = absurd (omega arith)
 table_of-push (q ∷ rs) r zero less = refl
-table_of-push (q ∷ rs) r (suc n) less = table_of-push rs r n (omega (arith, less))
+table_of-push (q ∷ rs) r (suc n) less = table_of-push rs r n (omega arith)
 
 table_of-last : (rs : List UnitRecord) (r : UnitRecord) → table_of (rs ++ r ∷ []) (length rs) ≡ r.table
 table_of-last [] r = refl
@@ -137,10 +137,10 @@ upto_start a info base kept tables us e = search (rules, add-zero)
 -- and one more
 from_more : (at : ℕ) (us : List DebugUnit) (u : DebugUnit) → AreFrom at us → u.at ≡ at + length (units_bytes us)
     → AreFrom at (us ++ u ∷ [])
-from_more at [] u from is = (omega (arith, is), tt)
+from_more at [] u from is = search (rules)
 from_more at (v ∷ us) u (here, from) is = (
   here,
-  from_more (at + length (unit_bytes v)) us u from (omega (arith, is, length-append (unit_bytes v) (units_bytes us))),
+  from_more (at + length (unit_bytes v)) us u from (omega (arith, length-append (unit_bytes v) (units_bytes us))),
 )
 
 pub upto_next : (a info : List ℕ) (base header : ℕ) (old new : Kept) (len : ℕ) → Upto a info base header old
@@ -160,8 +160,8 @@ upto_next a info base header old new len u t =
     u.places ∙ records_same before numbers 0 0 base u.units
     (λ n less. numbers_stay (tables_in old.tables) tables old.units.items (placed_from base 0 u.units) t.record_is n
     t.stay
-    u.unit_records (omega (arith, less, u.count))) in
-    let n : unit ≡ 0 + length u.units = omega (arith, u.count) in
+    u.unit_records (omega arith)) in
+    let n : unit ≡ 0 + length u.units = omega arith in
     let id : length records ≡ 0 + length (records_from numbers 0 0 base u.units) = omega (arith, ap length same) in
     let at : header ≡ base + length (units_bytes u.units) = u.at in
     record {
@@ -170,22 +170,13 @@ upto_next a info base header old new len u t =
       are_from = search (rules, from_more);
       parts = search (rules, append_assoc, units_bytes-push);
       at =
-          omega (
-            arith,
-            u.at,
-            t.len_is,
-            ap length (units_bytes-push u.units v),
-            length-append (units_bytes u.units)
-                (unit_bytes v),
-          );
+          omega (arith, ap length (units_bytes-push u.units v), length-append (units_bytes u.units) (unit_bytes v));
       count =
           omega (
             arith,
             ap length t.units,
             length-append old.units.items (t.record_is ∷ []),
-            u.count,
-            length-append
-                u.units (v ∷ []),
+            length-append u.units (v ∷ []),
           );
       unit_records = rw (t.units, placed_from-push numbers 0 base 0 u.units v, ← at, ← id)
           (AllKept-push (tables_in old.tables) tables old.units.items (placed_from base 0 u.units) t.record_is
@@ -260,23 +251,23 @@ rest_next a info base rest old new len u t =
     let within = (taken_within a rest header old new len t).0 in
     let cut : after ≡ drop len rest = rest_of len rest within in
     let at : header + len ≡ length info - length after =
-    omega (arith, u.long, within, ap length cut, length-drop len rest) in
+    omega (arith, ap length cut, length-drop len rest) in
     record {
       upto = search (rules, upto_next);
       rest_is = search (rules, drop-drop);
-      long = omega (arith, u.long, ap length cut, length-drop len rest);
+      long = omega (arith, ap length cut, length-drop len rest);
     }
 
 pub rest_fewer : (a rest : List ℕ) (at : ℕ) (old new : Kept) (len : ℕ) → UnitTaken a rest at old new len
     → length (take (length rest - len) (drop len rest)) < length rest
 rest_fewer a rest at old new len t =
     let (within, some) = taken_within a rest at old new len t in
-    omega (arith, within, some, ap length (rest_of len rest within), length-drop len rest)
+    omega (arith, ap length (rest_of len rest within), length-drop len rest)
 
 pub rest_end : (a info : List ℕ) (base : ℕ) (rest : List ℕ) (kept : Kept) → UptoRest a info base rest kept
     → length rest ≡ 0 → Scanned base a info (tables_in kept.tables) kept.units.items kept.records.items
 rest_end a info base rest kept u none =
-    upto_end a info base (length info - length rest) kept u.upto (omega (arith, none))
+    upto_end a info base (length info - length rest) kept u.upto (omega arith)
 
 pub none_broken : (P : PlainFault → Type 0) (e : Stop PlainFault) (b : PlainFault) → e ≡ Breaks b → IfFault P e → P b
 none_broken P Memory b e p = absurd cc

@@ -90,7 +90,7 @@ range_from unit id at (u ∷ us) (suc n) p k e is is_e low high =
     ≡ Some e = search (rules, get_behind, least) in
     let same = range_from (suc unit) (id + node_count u.root) (at + length (unit_bytes u)) us n p (k - length es) e is
     behind
-    (omega (arith, count, least, low)) (omega (arith, count, least, low, high)) in
+    (omega arith) (omega (arith, high)) in
     same ∙ (let number : suc unit + n ≡ unit + suc n = omega arith in number)
 
 pub unit_in_range : (us : List DebugUnit) (n : ℕ) (p : PlacedUnit) (k : ℕ) (e : Entry)
@@ -104,14 +104,14 @@ some_range : (unit id at : ℕ) (us : List DebugUnit) (k : ℕ) → k < length (
     × (id + k < p.first + node_count p.unit.root)
 some_range unit id at [] k within = absurd (omega arith)
 some_range unit id at (u ∷ us) k within = elim (cases_lt k (node_count u.root)) [
-  | inl less ↦ (0, record { at = at; first = id; unit = u }, refl, omega arith, omega (arith, less))
+  | inl less ↦ (0, record { at = at; first = id; unit = u }, refl, omega arith, omega arith)
   | inr more ↦
       let count = length-node_entries unit None 0 None id (at + unit_header_size u.header.kind) u.root in
       let both = length-append (node_entries unit None 0 None id (at + unit_header_size u.header.kind) u.root)
       (entries_from (suc unit) (id + node_count u.root) (at + length (unit_bytes u)) us) in
       let (n, p, is, low, high) = some_range (suc unit) (id + node_count u.root) (at + length (unit_bytes u)) us
-      (k - node_count u.root) (omega (arith, within, more, count, both)) in
-      (suc n, p, is, omega (arith, low, more), omega (arith, high, more))
+      (k - node_count u.root) (omega arith) in
+      (suc n, p, is, omega arith, omega (arith, high))
 ]
 
 -- the entries of a unit are between its first one and that of the next
@@ -123,9 +123,9 @@ range_of_unit us n p k e is is_e of_unit =
     in
     let same : m ≡ n = search (rules, unit_in_range, high) in
     let P : ℕ → Type 0 = λ i. slice_get (placed us) i ≡ Some q in
-    let one : q ≡ p = search (rules, one_some) in
+    let one : q ≡ p = search rules in
     let R : PlacedUnit → Type 0 = λ x. (x.first ≤ k) × (k < x.first + node_count x.unit.root) in
-    subst R one (omega (arith, low), omega (arith, high))
+    subst R one (omega arith, omega (arith, high))
 
 -- the next unit begins where a unit ends
 next_from : (at first : ℕ) (us : List DebugUnit) (n : ℕ) (p q : PlacedUnit)
@@ -147,13 +147,13 @@ last_from : (unit id at : ℕ) (us : List DebugUnit) (n : ℕ) (p : PlacedUnit)
     → suc n ≡ length us → id + length (entries_from unit id at us) ≡ p.first + node_count p.unit.root
 last_from unit id at [] n p is last = absurd cc
 last_from unit id at (u ∷ []) zero p is last = search (rules, length-node_entries, length-append)
-last_from unit id at (u ∷ v ∷ us) zero p is last = absurd (omega (arith, last))
+last_from unit id at (u ∷ v ∷ us) zero p is last = absurd (omega arith)
 last_from unit id at (u ∷ us) (suc n) p is last =
     search (
       rules,
       length-node_entries,
       length-append,
-      (last_from (suc unit) (id + node_count u.root) (at + length (unit_bytes u)) us n p is (omega (arith, last))),
+      (last_from (suc unit) (id + node_count u.root) (at + length (unit_bytes u)) us n p is (omega arith)),
     )
 
 pub last_ends : (us : List DebugUnit) (n : ℕ) (p : PlacedUnit) → slice_get (placed us) n ≡ Some p → suc n ≡ length us
@@ -179,7 +179,7 @@ module _ {base : ℕ} {a info : List ℕ} {tables : Tables} {rs : List UnitRecor
       → (slice_get (placed (found_units s)) n ≡ Some (found_place s n)) × (u.first ≡ (found_place s n).first)
   kept_first n u is =
       let within = slice_get_within rs n u is in
-      let k = kept_unit s n (omega (arith, within, units_counted s))
+      let k = kept_unit s n (omega (arith, units_counted s))
       in
       let same : k.unit_record ≡ u = search (rules, one_some) in
       (k.is_place, ap (λ (q : UnitRecord). q.first) (sym same) ∙ k.kept.first)
@@ -191,15 +191,15 @@ module _ {base : ℕ} {a info : List ℕ} {tables : Tables} {rs : List UnitRecor
   its_entries n end u is ends id within low high =
       let (is_p, first) = kept_first n u is in
       sym (unit_in_range (found_units s) n (found_place s n) id (found_entry s id) is_p
-      (kept_entry s id within).is_entry (omega (arith, low, first))
-      (omega (arith, high, ends)))
+      (kept_entry s id within).is_entry (omega arith)
+      (omega (arith, high)))
 
   -- a unit ends where the next one begins
   pub ends_with_next : (n : ℕ) (next : UnitRecord) → slice_get rs (n + 1) ≡ Some next
       → next.first ≡ end_in (placed (found_units s)) n
   ends_with_next n next is =
       let within = slice_get_within rs (n + 1) next is in
-      let k = kept_unit s n (omega (arith, within, units_counted s))
+      let k = kept_unit s n (omega (arith, units_counted s))
       in
       let is_place = k.is_place in
       search (rules, kept_first, next_first)
@@ -210,7 +210,7 @@ module _ {base : ℕ} {a info : List ℕ} {tables : Tables} {rs : List UnitRecor
   ends_with_all n within past =
       entries_counted a info tables rs records s
       ∙ last_ends (found_units s) n (found_place s n) (kept_unit s n within).is_place
-      (omega (arith, within, past, units_counted s))
+      (omega (arith, units_counted s))
 
   pub units_rise : IsNonDecreasingBy (λ (u : UnitRecord). u.first) rs
   units_rise i j d le lt = search (rules, kept_first, slice_get-get_or, firsts_from)
@@ -231,12 +231,12 @@ module _ {base : ℕ} {a info : List ℕ} {tables : Tables} {rs : List UnitRecor
     pub some_unit : 0 < length rs
     some_unit =
         let k = kept_entry s id within in
-        let w = slice_get_within rs (found_entry s id).unit k.unit_record k.is_unit_record in omega (arith, w)
+        let w = slice_get_within rs (found_entry s id).unit k.unit_record k.is_unit_record in omega arith
 
     -- the first unit begins with the first entry
     pub some_before : 0 < n
     some_before = elim (three_ways n 0) [
-      | inl (inl less) ↦ omega (arith, less)
+      | inl (inl less) ↦ omega arith
       | inl (inr same) ↦
           elim (slice_get_cases rs 0).1 [
             | inl it ↦
@@ -244,25 +244,17 @@ module _ {base : ℕ} {a info : List ℕ} {tables : Tables} {rs : List UnitRecor
                 let begins = least (found_place s 0) is_p in
                 let P : UnitRecord → Type 0 = λ u. id < u.first in
                 let above : id < it.0.first = search rules in
-                absurd (omega (arith, first, begins, above))
-            | inr it ↦ (let past = it.0 in absurd (omega (arith, past, some_unit)))
+                absurd (omega arith)
+            | inr it ↦ (let past = it.0 in absurd (omega (arith, some_unit)))
           ]
       | inr more ↦ more
     ]
       where
         least : (p : PlacedUnit) → slice_get (placed (found_units s)) 0 ≡ Some p → p.first ≡ 0
-        least p is = go (found_units s) is
-          where
-            go : (us : List DebugUnit) → slice_get (placed us) 0 ≡ Some p → p.first ≡ 0
-            go [] gone = absurd cc
-            go (u ∷ us) is =
-                let some : ◌≡◌ {A = Option PlacedUnit} (Some (record { at = u.at; first = 0; unit = u })) (Some p) = is
-                in
-                let same : ◌≡◌ {A = PlacedUnit} (record { at = u.at; first = 0; unit = u }) p = cc in
-                sym (ap (λ (q : PlacedUnit). q.first) same)
+        least p is = search (rules)
 
     pub point_within : n ≤ length rs → n - 1 < length rs
-    point_within le = omega (arith, le, some_before)
+    point_within le = omega (arith, some_before)
 
     -- the last unit that begins with this entry or an earlier one has it
     pub unit_found : n ≤ length rs → n - 1 ≡ (found_entry s id).unit
@@ -272,7 +264,7 @@ module _ {base : ℕ} {a info : List ℕ} {tables : Tables} {rs : List UnitRecor
         let p = found_place s (n - 1) in
         let (is_p, first) = kept_first (n - 1) u (slice_get-get_or rs (n - 1) k.unit_record (point_within le)) in
         let low : u.first ≤ id = search (rules, some_before) in
-        sym (unit_in_range (found_units s) (n - 1) p id (found_entry s id) is_p k.is_entry (omega (arith, low, first))
+        sym (unit_in_range (found_units s) (n - 1) p id (found_entry s id) is_p k.is_entry (omega arith)
         (high p is_p))
       where
         behind : n ≡ suc (n - 1)
@@ -287,10 +279,10 @@ module _ {base : ℕ} {a info : List ℕ} {tables : Tables} {rs : List UnitRecor
                   let above : id < it.0.first = search rules in
                   let (is_q, first) = kept_first n it.0 it.2 in
                   let next = next_first (found_units s) (n - 1) p (found_place s n) is_p (rw (← behind) is_q) in
-                  omega (arith, above, next, first)
+                  omega arith
               | inr it ↦
                   let past = it.0 in
                   let counted = units_counted s in
                   let all = last_ends (found_units s) (n - 1) p is_p (omega (arith, past, le, behind, counted)) in
-                  omega (arith, all, within)
+                  omega arith
             ]

@@ -22,4 +22,4 @@ fewer_units us n h within told = search (rules, unit_turn)
 pub no_units : (us : List DebugUnit) (n : ℕ) → length us ≤ n → map unit_head (drop n (placed us)) ≡ []
 no_units us n past =
     ap (map unit_head) (nil_from_length (drop n (placed us))
-    (omega (arith, past, length-drop n (placed us), length-placed us)))
+    (omega (arith, length-drop n (placed us), length-placed us)))

@@ -1,5 +1,4 @@
 use Rattle.std.proofs.Common.{◌∙◌, sym, ap}
-use Rattle.dw_forms.specs.KeptDecls.{decl_view}
 use Rattle.dw_entries.specs.Grammar.{declared_in}
 use Rattle.dw_entries.specs.ItemLaws.{declared_code}
 use Rattle.dw_entries.specs.Units.{context_in, numbers_in}
@@ -8,6 +7,5 @@ use Rattle.dw_entries.proofs.item.find_decl.Goals as goal
 pub returns-in-Some-clause-number : goal.returns-in-Some-clause-number
 unfolding declared_in
 returns-in-Some-clause-number c =
-    let code = declared_code (context_in c.args.context).table c.args.code (decl_view c.in-Some.declared.1)
-    (sym c.in-Some.ensures.decl) in
+    let code = declared_code (context_in c.args.context).table _ _ (sym c.in-Some.ensures.decl) in
     c.in-Some.ensures.number ∙ ap (numbers_in c.args.context) (sym code)

@@ -1,4 +1,4 @@
-use Rattle.std.proofs.Common.{length, sym, ap, ◌∙◌, arith}
+use Rattle.std.proofs.Common.{rules, sym}
 use Rattle.std.proofs.lemmas.Result.{err_from_is_err_and}
 use Rattle.dw_forms.specs.Suffixes.{specs_in}
 use Rattle.dw_forms.proofs.SuffixLaws.{first_specs}
@@ -15,16 +15,11 @@ returns-in_err-rest c =
 
 pub loop-spec-preserved : goal.loop-spec-preserved
 loop-spec-preserved c =
-    let parts = first_specs c.loop-spec.left c.in-Some.after c.in-Some.spec c.in-Some.ensures in
-    attributes_turn (context_in c.args.context) c.in-Some.spec (specs_in c.loop-spec.left) (specs_in c.in-Some.after)
-    c.loop-spec.rest.now _ _ parts c.in_ok-rest.ensures c.loop-spec.invariant
+    let parts = first_specs c.loop-spec.left _ _ c.in-Some.ensures in
+    attributes_turn _ _ _ _ c.loop-spec.rest.now _ _ parts c.in_ok-rest.ensures c.loop-spec.invariant
 
 pub loop-spec-smaller : goal.loop-spec-smaller
-loop-spec-smaller c =
-    let parts = ap length (first_specs c.loop-spec.left c.in-Some.after c.in-Some.spec c.in-Some.ensures) in
-    omega (arith, parts)
+loop-spec-smaller c = search (rules, first_specs)
 
 pub returns : goal.returns
-returns c =
-    sym c.loop-spec.invariant ∙ attributes_end (context_in c.args.context) (specs_in c.loop-spec.left)
-    c.loop-spec.rest.now c.in_default.ensures
+returns c = search (rules, attributes_end)

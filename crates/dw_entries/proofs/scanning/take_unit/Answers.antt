@@ -3,20 +3,14 @@ use Rattle.dw_entries.proofs.UnitSteps.{read_size, read_offset, read_start, unit
 use Rattle.dw_entries.proofs.scanning.take_unit.Goals as goal
 
 pub unit_table-requires-clause-offset : goal.unit_table-requires-clause-offset
-unit_table-requires-clause-offset c =
-    read_offset c.args.section.now c.args.rest.now c.in-Ok.found.0 c.in-Ok.found.1.now
-    c.in-Ok.ensures
+unit_table-requires-clause-offset c = search (rules, read_offset)
 
 pub invariant_of-context-clause-is_size : goal.invariant_of-context-clause-is_size
-invariant_of-context-clause-is_size c =
-    read_size c.args.section.now c.args.rest.now c.in-Ok.found.0 c.in-Ok.found.1.now
-    c.in-Ok.ensures
+invariant_of-context-clause-is_size c = search (rules, read_size)
 
 pub returns-clause-unit : goal.returns-clause-unit
 returns-clause-unit c =
-    unit_taken c.args.section.now c.args.rest.now c.in-Ok.found.0 c.in-Ok.found.1.now
-    c.in-Ok.ensures c.args.at _ c.in_ok-table.table c.len.result
-    c.args.kept.now (record {
+    unit_taken _ c.args.rest.now c.in-Ok.found.0 _ c.in-Ok.ensures _ _ _ _ _ (record {
       tables = c.unit_table.new.tables;
       units = c.push.new.self;
       records = c.walk_unit.new.records;

@@ -1,6 +1,6 @@
-use Rattle.std.proofs.Common.{rules, ap, [], arith}
+use Rattle.std.proofs.Common.{rules, ap, arith}
 use Rattle.dw_entries.specs.Units.{context_in, numbers_in}
-use Rattle.dw_entries.specs.Walk.{walk_of, levels_of}
+use Rattle.dw_entries.specs.Walk.{levels_of}
 use Rattle.dw_forms.specs.WithBytes.{read_fails}
 use Rattle.dw_entries.proofs.AlongLaws.{along_few, along_end, along_next, first_fault, first_turn, turn_fault, turn_shorter}
 use Rattle.dw_entries.proofs.tree.walk_tree.Goals as goal
@@ -16,10 +16,7 @@ returns-in-Err-Fault-clause-fault c =
     (rw c.in-Some.is at c.loop-inner.invariant) (search (rules, read_fails)) c.plain_fault_at-in-Err-Fault.ensures
 
 pub loop-inner-init : goal.loop-inner-init
-loop-inner-init c =
-    rw c.new-outer.ensures.items (first_turn (context_in c.args.context) (numbers_in c.args.context)
-    c.args.unit.header.kind c.args.start c.args.body.now c.args.records.now.items _ c.in-Ok.found.1.now
-    (walk_of c.enter_first.new.records.items [] c.in_ok-inner.inner) c.in-Ok.ensures c.in_ok-inner.ensures)
+loop-inner-init c = rw c.new-outer.ensures.items (first_turn _ _ _ _ _ _ _ _ _ c.in-Ok.ensures c.in_ok-inner.ensures)
 
 pub loop-inner-smaller : goal.loop-inner-smaller
 loop-inner-smaller c = search (rules, turn_shorter)
@@ -29,9 +26,7 @@ loop-inner-preserved c = search (rules, along_next)
 
 pub returns-clause-tree : goal.returns-clause-tree
 returns-clause-tree c =
-    along_end (context_in c.args.context) (numbers_in c.args.context) c.args.unit.header.kind c.args.start
-    c.args.body.now c.args.records.now.items c.loop-inner.rest.now
-    (walk_of c.loop-inner.records.items c.loop-inner.outer.items c.loop-inner.inner) c.loop-inner.invariant
+    along_end _ _ _ _ _ _ c.loop-inner.rest.now _ c.loop-inner.invariant
     (ap (levels_of c.loop-inner.outer.items) c.in_default.is)
 
 pub turn-requires-clause-few_entries : goal.turn-requires-clause-few_entries

@@ -11,8 +11,7 @@ overflow_add-next c = search (rules, few_records, units_counted)
 pub returns-then-next-len : goal.returns-then-next-len
 returns-then-next-len c =
     let unit = c.index.result.now in
-    ends_with_next c.args.entries.now.scanned c.args.number unit
-    (slice_get-get_or c.args.entries.now.units.items (c.args.number + 1) unit
+    ends_with_next c.args.entries.now.scanned _ unit (slice_get-get_or _ (c.args.number + 1) unit
     (omega (arith, c.if-next-len.true, c.len.ensures)) ∙ ap (λ (u : UnitRecord). Some u) (sym c.index.ensures))
 
 pub returns-else-next-len : goal.returns-else-next-len

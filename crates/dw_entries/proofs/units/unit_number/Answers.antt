@@ -8,18 +8,16 @@ units_up_to-requires c = rw c.deref.ensures.value (units_rise c.args.entries.now
 
 pub overflow_sub-result : goal.overflow_sub-result
 overflow_sub-result c =
-    some_before c.args.entries.now.scanned c.args.id c.requires c.units_up_to.result
-    (rw c.deref.ensures.value at c.units_up_to.ensures.up_to)
+    some_before c.args.entries.now.scanned _ c.requires _ (rw c.deref.ensures.value at c.units_up_to.ensures.up_to)
 
 pub returns-clause-within : goal.returns-clause-within
 returns-clause-within c =
-    let within = point_within c.args.entries.now.scanned c.args.id c.requires c.units_up_to.result
+    let within = point_within c.args.entries.now.scanned _ c.requires _
     (rw c.deref.ensures.value at c.units_up_to.ensures.up_to)
     (omega (arith, c.units_up_to.ensures.within, c.deref.ensures.len)) in
     omega (arith, within, units_counted c.args.entries.now.scanned)
 
 pub returns-clause-number : goal.returns-clause-number
 returns-clause-number c =
-    unit_found c.args.entries.now.scanned c.args.id c.requires c.units_up_to.result
-    (rw c.deref.ensures.value at c.units_up_to.ensures.up_to)
+    unit_found c.args.entries.now.scanned _ c.requires _ (rw c.deref.ensures.value at c.units_up_to.ensures.up_to)
     (omega (arith, c.units_up_to.ensures.within, c.deref.ensures.len))

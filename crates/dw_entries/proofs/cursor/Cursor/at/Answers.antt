@@ -1,4 +1,4 @@
-use Rattle.std.proofs.Common.{◌<◌, length, Some, sym, ap, ◌∙◌, arith}
+use Rattle.std.proofs.Common.{rules, ◌<◌, length, Some, sym, ap, ◌∙◌, arith}
 use Rattle.std.proofs.lemmas.Option.{slice_get-get_or}
 use Rattle.dw_entries.specs.declared.records.UnitRecord.{UnitRecord}
 use Rattle.dw_entries.proofs.KeptLaws.{units_counted}
@@ -6,8 +6,7 @@ use Rattle.dw_entries.proofs.UnitRanges.{its_entries}
 use Rattle.dw_entries.proofs.cursor.Cursor.at.Goals as goal
 
 pub index-requires : goal.index-requires
-index-requires c =
-    omega (arith, c.unit_number-unit.ensures.within, units_counted c.args.self.now.entries.now.scanned)
+index-requires c = search (rules, units_counted)
 
 pub invariant_of-self : goal.invariant_of-self
 invariant_of-self c =
@@ -15,8 +14,8 @@ invariant_of-self c =
     let n = c.unit_number-unit.result in
     let within : n < length it.units.items = omega
     (arith, c.unit_number-unit.ensures.within, units_counted it.scanned) in
-    let kept = slice_get-get_or it.units.items n c.index.result.now within
+    let kept = slice_get-get_or it.units.items n _ within
     ∙ ap (λ (u : UnitRecord). Some u) (sym c.index.ensures) in
     record {
-      its = its_entries it.scanned n c.end_of-self.result c.index.result.now kept c.end_of-self.ensures;
+      its = its_entries it.scanned n _ _ kept c.end_of-self.ensures;
     }

@@ -1,18 +1,12 @@
-use Rattle.dw_forms.specs.KeptDecls.{decl_view}
+use Rattle.std.proofs.Common.{rules}
 use Rattle.dw_entries.proofs.KeptLaws.{kept_entry, decl_numbered, decl_kept, decl_is}
 use Rattle.dw_entries.proofs.entries.Entries.decl.Goals as goal
 
 pub decl-requires-clause-some : goal.decl-requires-clause-some
-decl-requires-clause-some c =
-    decl_numbered c.args.self.now.decls (kept_entry c.args.self.now.scanned c.args.id c.requires)
-    c.record-kept.result c.record-kept.ensures
+decl-requires-clause-some c = search (rules, decl_numbered, kept_entry)
 
 pub decl-requires-clause-within : goal.decl-requires-clause-within
-decl-requires-clause-within c =
-    decl_kept c.args.self.now.decls (kept_entry c.args.self.now.scanned c.args.id c.requires)
-    c.record-kept.result c.record-kept.ensures
+decl-requires-clause-within c = search (rules, decl_kept, kept_entry)
 
 pub returns : goal.returns
-returns c =
-    decl_is c.args.self.now.decls (kept_entry c.args.self.now.scanned c.args.id c.requires)
-    c.record-kept.result c.record-kept.ensures (decl_view c.decl.result) c.decl.ensures
+returns c = search (rules, decl_is, kept_entry)

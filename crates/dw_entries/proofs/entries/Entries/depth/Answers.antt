@@ -15,21 +15,17 @@ overflow_add-depth c = search (rules, depth_less, entries_counted, scanned_few)
 pub index-requires : goal.index-requires
 index-requires c =
     let here = rw c.in-Some.is at c.loop-above.invariant in
-    omega (arith, above_within c.args.self.now.scanned c.args.id c.loop-above.depth c.in-Some.parent here)
+    omega (arith, above_within c.args.self.now.scanned _ _ _ here)
 
 pub loop-above-smaller : goal.loop-above-smaller
 loop-above-smaller c =
     let here = rw c.in-Some.is at c.loop-above.invariant in
-    rw (c.in-Some.is, c.get-above-in-Some.ensures)
-    (lower c.args.self.now.scanned c.args.id c.loop-above.depth c.in-Some.parent here c.index.result.now
-    c.index.ensures)
+    rw (c.in-Some.is, c.get-above-in-Some.ensures) (lower c.args.self.now.scanned _ _ _ here _ c.index.ensures)
 
 pub loop-above-preserved : goal.loop-above-preserved
 loop-above-preserved c =
     let here = rw c.in-Some.is at c.loop-above.invariant in
-    rw c.get-above-in-Some.ensures
-    (climbs c.args.self.now.scanned c.args.id c.loop-above.depth c.in-Some.parent here c.index.result.now
-    c.index.ensures)
+    rw c.get-above-in-Some.ensures (climbs c.args.self.now.scanned _ _ _ here _ c.index.ensures)
 
 pub returns : goal.returns
 returns c =

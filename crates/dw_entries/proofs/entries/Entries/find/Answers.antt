@@ -1,9 +1,8 @@
-use Rattle.std.proofs.Common.{ℕ, ◌+◌, ◌≡◌, ◌≢◌, List, Option, Some, None, All, ap, subst, ◌∙◌, arith}
+use Rattle.std.proofs.Common.{rules, ℕ, ◌≡◌, ◌≢◌, List, Option, Some, None, All, ap, ◌∙◌, arith}
 use Rattle.std.specs.Prelude.{IfNone, IfSome}
 use Rattle.std.proofs.lemmas.List.{get_or_default}
-use Rattle.dw_entries.specs.Entries.{Entry, entries_of}
+use Rattle.dw_entries.specs.Entries.{Entry}
 use Rattle.dw_entries.specs.ByNumber.{entry_of, no_entry}
-use Rattle.dw_entries.specs.Views.{units_of}
 use Rattle.dw_entries.specs.EntriesAt.{IsEntryAt}
 use Rattle.dw_entries.proofs.FindLaws.{past_base}
 use Rattle.dw_entries.proofs.entries.Entries.find.Goals as goal
@@ -24,22 +23,12 @@ each_there entries at offset same (Some id) there = there.begins ∙ same
 
 pub returns-in_err-past-clause-none : goal.returns-in_err-past-clause-none
 returns-in_err-past-clause-none c =
-    all_elsewhere (entries_of (units_of c.args.self.now)) c.args.offset c.from_residual.result
-    (rw c.from_residual.ensures
-    (λ id found. let low = past_base c.args.self.now.scanned id c.args.offset found in
+    all_elsewhere _ _ _ (rw c.from_residual.ensures
+    (λ id found. let low = past_base c.args.self.now.scanned id _ found in
     omega (arith, low, c.in_err-past.ensures)))
 
 pub returns-clause-found : goal.returns-clause-found
-returns-clause-found c =
-    let past = c.in_ok-past.ensures in
-    each_there (entries_of (units_of c.args.self.now)) _ c.args.offset
-    (omega (arith, past.0, past.1, c.from.ensures)) c.find_past.result c.find_past.ensures.found
+returns-clause-found c = search (rules, each_there)
 
 pub returns-clause-none : goal.returns-clause-none
-returns-clause-none c =
-    let past = c.in_ok-past.ensures in
-    let entries = entries_of (units_of c.args.self.now) in
-    let sum : c.args.self.now.sections.base + c.from.result ≡ c.args.offset =
-    omega (arith, past.0, past.1, c.from.ensures) in
-    subst (λ (n : ℕ). IfNone c.find_past.result (All (λ e. e.at ≢ n) entries)) sum
-    (all_elsewhere entries _ c.find_past.result c.find_past.ensures.none)
+returns-clause-none c = search (rules, all_elsewhere)

@@ -1,5 +1,4 @@
 use Rattle.std.proofs.Common.{◌+◌, arith}
-use Rattle.dw_entries.specs.Views.{units_of}
 use Rattle.dw_entries.proofs.EntryFacts.{entries_rise}
 use Rattle.dw_entries.proofs.RunLaws.{never_far, never_other, reaches_by_range}
 use Rattle.dw_entries.proofs.entries.Entries.find_in_range.Goals as goal
@@ -13,13 +12,10 @@ returns-in_err-checked_add-clause-none c =
 
 pub returns-then-number-range-clause-none : goal.returns-then-number-range-clause-none
 returns-then-number-range-clause-none c =
-    never_other (units_of c.args.self.now) c.args.unit c.args.offset
-    (c.args.self.now.sections.base + c.in_ok-checked_add.field-0) c.args.range.0
-    c.args.range.1 c.in_ok-id.id c.requires.unit
-    (entries_rise _ (units_of c.args.self.now) c.args.self.now.scanned.1.spells.are)
+    never_other _ _ _ (c.args.self.now.sections.base + c.in_ok-checked_add.field-0) c.args.range.0
+    c.args.range.1 _ c.requires.unit (entries_rise _ _ c.args.self.now.scanned.1.spells.are)
     (omega (arith, c.in_ok-checked_add.ensures, c.from.ensures, c.requires.past)) c.in_ok-id.ensures.found
-    c.requires.first c.requires.end
-    (λ low high. elim c.then-number-range.branch [
+    c.requires.first c.requires.end (λ low high. elim c.then-number-range.branch [
       | then-number-range-via-then-number-range w ↦ omega (arith, low, w.if-number-range.true, c.number.ensures)
       | then-number-range-via-else-number-range+then-number-range-2 w ↦
           omega (arith, high, w.if-number-range-2.true, w.number-else-number-range.ensures)
@@ -27,9 +23,8 @@ returns-then-number-range-clause-none c =
 
 pub returns-clause-found : goal.returns-clause-found
 returns-clause-found c =
-    reaches_by_range (units_of c.args.self.now) c.args.unit c.args.offset
-    (c.args.self.now.sections.base + c.in_ok-checked_add.field-0) c.args.range.0
-    c.args.range.1 c.in_ok-id.id c.requires.unit
+    reaches_by_range _ _ _ (c.args.self.now.sections.base + c.in_ok-checked_add.field-0) c.args.range.0
+    c.args.range.1 _ c.requires.unit
     (omega (arith, c.in_ok-checked_add.ensures, c.from.ensures, c.requires.past)) c.in_ok-id.ensures.found
     c.requires.first c.requires.end (omega (arith, c.if-number-range.false, c.number.ensures))
     (omega (arith, c.if-number-range-2.false, c.number-else-number-range.ensures))

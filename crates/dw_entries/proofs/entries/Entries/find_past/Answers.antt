@@ -4,18 +4,15 @@ use Rattle.dw_entries.proofs.entries.Entries.find_past.Goals as goal
 
 pub number_from-requires : goal.number_from-requires
 number_from-requires c =
-    rw c.deref.ensures.value
-    (few_from c.args.self.now.scanned c.args.self.now.blocks.items c.args.self.now.starts c.args.past
+    rw c.deref.ensures.value (few_from c.args.self.now.scanned _ c.args.self.now.starts _
     (omega (arith, c.args.self.now.sections.info_fits)))
 
 pub returns-in_err-number_from-clause-none : goal.returns-in_err-number_from-clause-none
 returns-in_err-number_from-clause-none c =
-    rw c.from_residual.ensures
-    (none_from c.args.self.now.scanned c.args.self.now.blocks.items c.args.self.now.starts c.args.past
+    rw c.from_residual.ensures (none_from c.args.self.now.scanned _ c.args.self.now.starts _
     (rw c.deref.ensures.value at (sym c.number_from.ensures ∙ c.in_err-number_from.was)))
 
 pub returns-clause-found : goal.returns-clause-found
 returns-clause-found c =
-    rw c.new.ensures
-    (found_from c.args.self.now.scanned c.args.self.now.blocks.items c.args.self.now.starts c.args.past
-    c.in_ok-number_from.field-0 (rw c.deref.ensures.value at (sym c.number_from.ensures ∙ c.in_ok-number_from.was)))
+    rw c.new.ensures (found_from c.args.self.now.scanned _ c.args.self.now.starts _
+    _ (rw c.deref.ensures.value at (sym c.number_from.ensures ∙ c.in_ok-number_from.was)))

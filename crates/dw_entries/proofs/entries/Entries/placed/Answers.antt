@@ -1,4 +1,4 @@
-use Rattle.std.proofs.Common.{ap, ◌∙◌, arith}
+use Rattle.std.proofs.Common.{rules, ap, ◌∙◌, arith}
 use Rattle.std.proofs.lemmas.Option.{slice_get_within}
 use Rattle.dw_forms.specs.Abbrev.{Declaration}
 use Rattle.dw_forms.specs.KeptDecls.{decl_view}
@@ -6,14 +6,10 @@ use Rattle.dw_entries.proofs.KeptLaws.{kept_entry, decl_is, decl_kept, decl_numb
 use Rattle.dw_entries.proofs.entries.Entries.placed.Goals as goal
 
 pub decl-requires-clause-some : goal.decl-requires-clause-some
-decl-requires-clause-some c =
-    decl_numbered c.args.self.now.decls (kept_entry c.args.self.now.scanned c.args.id c.requires.id)
-    c.record-kept.result c.record-kept.ensures
+decl-requires-clause-some c = search (rules, decl_numbered, kept_entry)
 
 pub decl-requires-clause-within : goal.decl-requires-clause-within
-decl-requires-clause-within c =
-    decl_kept c.args.self.now.decls (kept_entry c.args.self.now.scanned c.args.id c.requires.id)
-    c.record-kept.result c.record-kept.ensures
+decl-requires-clause-within c = search (rules, decl_kept, kept_entry)
 
 pub index-requires : goal.index-requires
 index-requires c =
@@ -25,9 +21,7 @@ index-requires c =
     )
 
 pub values_with-requires-clause-header : goal.values_with-requires-clause-header
-values_with-requires-clause-header c =
-    header_is (kept_entry c.args.self.now.scanned c.args.id c.requires.id) c.args.unit c.index.result.now
-    c.requires.unit c.index.ensures
+values_with-requires-clause-header c = search (rules, header_is, kept_entry)
 
 pub values_with-requires-clause-specs : goal.values_with-requires-clause-specs
 values_with-requires-clause-specs c =

@@ -1,5 +1,4 @@
 use Rattle.std.proofs.Common.{ap, ◌∙◌, arith}
-use Rattle.dw_forms.specs.KeptDecls.{decl_view}
 use Rattle.dw_entries.specs.Header.{type_of}
 use Rattle.dw_entries.proofs.KeptLaws.{kept_unit, number_within, first_within, unit_told}
 use Rattle.dw_entries.proofs.entries.Entries.unit.Goals as goal
@@ -13,14 +12,11 @@ decl-requires c =
     omega (
       arith,
       c.new-first.ensures,
-      first_within
-          (kept_unit c.args.self.now.scanned c.args.number c.requires) c.index-unit.result.now
-          c.index-unit.ensures,
+      first_within (kept_unit c.args.self.now.scanned _ c.requires) _ c.index-unit.ensures,
     )
 
 pub returns : goal.returns
 returns c =
-    unit_told (kept_unit c.args.self.now.scanned c.args.number c.requires) c.index-unit.result.now
-    c.index-unit.ensures
-    c.new-first.result (decl_view c.decl.result) c.unit_type.result c.new-first.ensures c.decl.ensures
+    unit_told (kept_unit c.args.self.now.scanned _ c.requires) _ c.index-unit.ensures
+    _ _ _ c.new-first.ensures c.decl.ensures
     (c.unit_type.ensures ∙ ap (type_of c.index-unit.result.now.header.kind) c.tag.ensures)

@@ -15,10 +15,10 @@ slice_bounds-read_code-start c =
 
 pub unreachable-requires : goal.unreachable-requires
 unreachable-requires c =
-    let kept = kept_entry c.args.self.now.scanned c.args.id c.requires.id in
-    never_unread kept c.args.kept c.requires.kept c.in-Err.field-0 c.in-Err.ensures
+    let kept = kept_entry c.args.self.now.scanned _ c.requires.id in
+    never_unread kept _ c.requires.kept _ c.in-Err.ensures
 
 pub returns : goal.returns
 returns c =
-    let kept = kept_entry c.args.self.now.scanned c.args.id c.requires.id in
-    follow_code kept c.args.kept c.requires.kept _ c.in-Ok.values.now c.in-Ok.ensures
+    let kept = kept_entry c.args.self.now.scanned _ c.requires.id in
+    follow_code kept _ c.requires.kept _ _ c.in-Ok.ensures

@@ -1,4 +1,4 @@
-use Rattle.std.proofs.Common.{arith}
+use Rattle.std.proofs.Common.{rules, arith}
 use Rattle.std.proofs.lemmas.Option.{slice_get_within}
 use Rattle.dw_entries.proofs.KeptLaws.{kept_entry, header_is}
 use Rattle.dw_entries.proofs.entry.EntryAt.new.Goals as goal
@@ -13,6 +13,4 @@ index-requires c =
     )
 
 pub at_with-requires-clause-header : goal.at_with-requires-clause-header
-at_with-requires-clause-header c =
-    let kept = kept_entry c.args.entries.now.scanned c.args.id c.requires.id in
-    header_is kept c.args.unit c.index.result.now c.requires.unit c.index.ensures
+at_with-requires-clause-header c = search (rules, kept_entry, header_is)

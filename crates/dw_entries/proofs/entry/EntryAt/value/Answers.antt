@@ -10,6 +10,5 @@ returns-then-lacks c =
     let it = c.self.inside in
     let kept = kept_entry it.entries.now.scanned it.id c.self.invariant.0 in
     let specs = (decl_view it.decl).attributes in
-    rw (← c.self.view_is) (undeclared kept specs c.args.attribute
-    (ap (λ (d : Declaration). d.attributes) c.self.invariant.2)
-    (declares_none specs c.args.attribute (c.lacks.ensures.0 c.if-lacks.true)))
+    rw (← c.self.view_is) (undeclared kept specs _ (ap (λ (d : Declaration). d.attributes) c.self.invariant.2)
+    (declares_none specs _ (c.lacks.ensures.0 c.if-lacks.true)))

@@ -1,7 +1,8 @@
+use Rattle.std.proofs.Common.{rules}
 use Rattle.dw_entries.proofs.entry.EntryAt.values_in.Goals as goal
 
 pub values_with-requires-clause-specs : goal.values_with-requires-clause-specs
-values_with-requires-clause-specs c = rw (← c.self.view_is) at c.requires
+values_with-requires-clause-specs c = search (rules)
 
 pub returns-clause-left : goal.returns-clause-left
-returns-clause-left c = rw (← c.self.view_is) c.values_with.ensures.values
+returns-clause-left c = search (rules)

@@ -1,5 +1,4 @@
 use Rattle.std.proofs.Common.{inl, inr}
-use Rattle.dw_entries.specs.Values.{value_context}
 use Rattle.dw_entries.proofs.OverLaws.{nothing_left}
 use Rattle.dw_entries.proofs.leads.Leading.take_next.Goals as goal
 
@@ -9,7 +8,6 @@ returns-in-Nothing-clause-none c =
     let v = it.values in
     elim c.in-Nothing.is [
       | inl none ↦
-          nothing_left v.attributes it.step.now it.steps (value_context v.version v.address_size) v.bytes.now v.left
-          none
+          nothing_left v.attributes it.step.now it.steps _ v.bytes.now v.left none
       | inr passed ↦ absurd (c.requires passed)
     ]

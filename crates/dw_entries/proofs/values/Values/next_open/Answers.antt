@@ -1,8 +1,6 @@
 use Rattle.std.proofs.Common.{length}
 use Rattle.dw_forms.specs.Classes.{is_open}
 use Rattle.dw_forms.proofs.SuffixLaws.{follow}
-use Rattle.dw_entries.specs.Values.{value_context}
-use Rattle.dw_entries.specs.ValuesLeft.{values_left}
 use Rattle.dw_entries.proofs.ChosenSteps.{before_passed, next_found, none_found, stop_taken}
 use Rattle.dw_entries.proofs.values.Values.next_open.Goals as goal
 
@@ -14,22 +12,17 @@ pass-requires c =
 pub returns-in-Some-clause-some : goal.returns-in-Some-clause-some
 returns-in-Some-clause-some c =
     let v = c.args.self.now in
-    let f = follow is_open v.attributes c.next_open-from.result c.next_open-from.ensures in
-    next_found _ (values_left v) (values_left c.pass.new.self) (values_left c.take_by.new.self) (length f.before) _
-    c.in-Some.ensures.steps (c.pass.ensures.left f.before f.ends)
-    (before_passed is_open (value_context v.version v.address_size) v.attributes c.next_open-from.result
-    c.next_open-from.ensures v.left.0.0 v.left.1.are)
+    let f = follow is_open v.attributes _ c.next_open-from.ensures in
+    next_found _ _ _ _ (length f.before) _ c.in-Some.ensures.steps (c.pass.ensures.left f.before f.ends)
+    (before_passed is_open _ v.attributes _ c.next_open-from.ensures v.left.0.0 v.left.1.are)
 
 pub returns-in-Some-clause-stop : goal.returns-in-Some-clause-stop
 returns-in-Some-clause-stop c =
-    stop_taken is_open c.args.self.now.attributes c.next_open-from.result c.pass.new.self.attributes
-    c.take_by.new.self.attributes c.next_open-from.ensures c.pass.ensures.attributes c.in-Some.ensures.first
+    stop_taken is_open _ _ _ _ c.next_open-from.ensures c.pass.ensures.attributes c.in-Some.ensures.first
 
 pub returns-in-None-clause-none : goal.returns-in-None-clause-none
 returns-in-None-clause-none c =
     let v = c.args.self.now in
-    let f = follow is_open v.attributes c.next_open-from.result c.next_open-from.ensures in
-    none_found _ (values_left v) (values_left c.pass.new.self) (length f.before) c.in-None.ensures.steps.0
-    (c.pass.ensures.left f.before f.ends)
-    (before_passed is_open (value_context v.version v.address_size) v.attributes c.next_open-from.result
-    c.next_open-from.ensures v.left.0.0 v.left.1.are)
+    let f = follow is_open v.attributes _ c.next_open-from.ensures in
+    none_found _ _ _ (length f.before) c.in-None.ensures.steps.0 (c.pass.ensures.left f.before f.ends)
+    (before_passed is_open _ v.attributes _ c.next_open-from.ensures v.left.0.0 v.left.1.are)

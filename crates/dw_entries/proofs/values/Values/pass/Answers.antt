@@ -2,9 +2,7 @@ use Rattle.std.proofs.Common.{◌≡◌, length, sym}
 use Rattle.std.proofs.lemmas.List.{length-map}
 use Rattle.dw_forms.specs.declared.abbrev.AttributeSpec.{AttributeSpec}
 use Rattle.dw_forms.specs.Chains.{Numbered, items_of}
-use Rattle.dw_forms.specs.Suffixes.{specs_in}
 use Rattle.dw_forms.proofs.SuffixLaws.{specs_ends}
-use Rattle.dw_entries.specs.Values.{value_context}
 use Rattle.dw_entries.proofs.PassLaws.{left_on, left_rest, never_cut, passed_parts, placed_rest}
 use Rattle.dw_entries.proofs.PlacedLaws.{rest_on}
 use Rattle.dw_entries.proofs.values.Values.pass.Goals as goal
@@ -16,38 +14,31 @@ invariant_of-self c =
     record {
       sized = v.sized;
       left =
-          (left_on (value_context v.version v.address_size) (specs_in v.attributes) (items_of before)
-          (specs_in c.args.to) (specs_ends v.attributes c.args.to before ends) v.bytes.now v.left c.in-Ok.bytes.now
+          (left_on _ _ _ _ (specs_ends v.attributes _ before ends) v.bytes.now v.left _
           (c.in-Ok.ensures before ends)).0;
       rest =
-          rest_on v.info.now v.bytes.now _ c.in-Ok.bytes.now v.rest
-          (passed_parts (value_context v.version v.address_size) (specs_in v.attributes) (items_of before)
-          (specs_in c.args.to) (specs_ends v.attributes c.args.to before ends) v.bytes.now v.left c.in-Ok.bytes.now
-          (c.in-Ok.ensures before ends));
+          rest_on v.info.now v.bytes.now _ _ v.rest (passed_parts _ _ _
+          _ (specs_ends v.attributes _ before ends) v.bytes.now v.left _ (c.in-Ok.ensures before ends));
     }
 
 pub unreachable-requires : goal.unreachable-requires
 unreachable-requires c =
     let v = c.args.self.now in
     let (before, ends) = c.requires in
-    never_cut (value_context v.version v.address_size) (specs_in v.attributes) (items_of before) (specs_in c.args.to)
-    (specs_ends v.attributes c.args.to before ends) v.bytes.now v.left c.in-Err.field-0
-    (c.in-Err.ensures before ends)
+    never_cut _ _ _ _ (specs_ends v.attributes _ before ends) v.bytes.now v.left _ (c.in-Err.ensures before ends)
 
 pub returns-clause-left : goal.returns-clause-left
 returns-clause-left c before ends =
     let v = c.args.self.now in
     let long : length before ≡ length (items_of before) = sym
     (length-map before (λ (n : Numbered AttributeSpec). n.item)) in
-    search (left_rest (value_context v.version v.address_size) (specs_in v.attributes) (items_of before)
-    (specs_in c.args.to) (specs_ends v.attributes c.args.to before ends) v.bytes.now v.left (length before) long
-    c.in-Ok.bytes.now (c.in-Ok.ensures before ends))
+    search (left_rest _ _ _ _ (specs_ends v.attributes _ before ends) v.bytes.now v.left (length before) long
+    _ (c.in-Ok.ensures before ends))
 
 pub returns-clause-placed : goal.returns-clause-placed
 returns-clause-placed c before ends =
     let v = c.args.self.now in
     let long : length before ≡ length (items_of before) = sym
     (length-map before (λ (n : Numbered AttributeSpec). n.item)) in
-    search (placed_rest (value_context v.version v.address_size) (specs_in v.attributes) (items_of before)
-    (specs_in c.args.to) (specs_ends v.attributes c.args.to before ends) v.bytes.now v.left (length before) long
-    c.in-Ok.bytes.now (c.in-Ok.ensures before ends) v.info.now v.rest)
+    search (placed_rest _ _ _ _ (specs_ends v.attributes _ before ends) v.bytes.now v.left (length before) long
+    _ (c.in-Ok.ensures before ends) v.info.now v.rest)
