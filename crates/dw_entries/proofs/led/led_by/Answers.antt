@@ -1,4 +1,4 @@
-use Rattle.std.proofs.Common.{◌≡◌, true, false, sym, ◌∙◌}
+use Rattle.std.proofs.Common.{rules, ◌≡◌, true, false, sym, ◌∙◌}
 use Rattle.dw_forms.specs.Value.{view}
 use Rattle.dw_forms.specs.declared.value.Value.TheVariants as value
 use Rattle.dw_entries.proofs.LeadValues.{holds_by, other_value}
@@ -12,7 +12,7 @@ returns-in_default-clause-lead c =
     elim c.in_default.branch [
       | in_default-via-in-StrIndex+else-is_index w ↦
           other_value _ _ c.requires.on c.requires.other holds
-          (λ m is l. let both : true ≡ false = sym l ∙ sym w.is_index.ensures ∙ w.if-is_index.false in cc)
+          (λ m is l. let both : true ≡ false = search rules in cc)
           (λ m is. let no : value.StrIndex w.in-StrIndex.index ≡ value.AddrIndex m = sym w.in-StrIndex.is ∙ is in cc)
       | in_default-via-in-AddrIndex+else-eq w ↦
           other_value _ _ c.requires.on c.requires.other holds

@@ -38,7 +38,7 @@ turn-requires-clause-few_entries c =
     let start = c.requires.start in
     let fits = c.requires.fits in
     let old = c.requires.few_entries in
-    omega (arith, records, start, fits, old)
+    omega arith
 
 pub turn-requires-clause-few_levels : goal.turn-requires-clause-few_levels
 turn-requires-clause-few_levels c =
@@ -47,4 +47,4 @@ turn-requires-clause-few_levels c =
     c.loop-inner.outer.items c.in-Some.level (rw c.in-Some.is at c.loop-inner.invariant) in
     let outer = few.1 in
     let fits = c.requires.fits in
-    omega (arith, outer, fits)
+    omega arith

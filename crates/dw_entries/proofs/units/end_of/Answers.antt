@@ -12,7 +12,7 @@ pub returns-then-next-len : goal.returns-then-next-len
 returns-then-next-len c =
     let unit = c.index.result.now in
     ends_with_next c.args.entries.now.scanned _ unit (slice_get-get_or _ (c.args.number + 1) unit
-    (omega (arith, c.if-next-len.true, c.len.ensures)) ∙ ap (λ (u : UnitRecord). Some u) (sym c.index.ensures))
+    (omega arith) ∙ ap (λ (u : UnitRecord). Some u) (sym c.index.ensures))
 
 pub returns-else-next-len : goal.returns-else-next-len
 returns-else-next-len c = search (rules, ends_with_all)

@@ -14,10 +14,10 @@ pub returns-clause-within : goal.returns-clause-within
 returns-clause-within c =
     let within = point_within c.args.entries.now.scanned _ c.requires _
     (rw c.deref.ensures.value at c.units_up_to.ensures.up_to)
-    (omega (arith, c.units_up_to.ensures.within, c.deref.ensures.len)) in
-    omega (arith, within, units_counted c.args.entries.now.scanned)
+    (omega arith) in
+    omega (arith, units_counted c.args.entries.now.scanned)
 
 pub returns-clause-number : goal.returns-clause-number
 returns-clause-number c =
     unit_found c.args.entries.now.scanned _ c.requires _ (rw c.deref.ensures.value at c.units_up_to.ensures.up_to)
-    (omega (arith, c.units_up_to.ensures.within, c.deref.ensures.len))
+    (omega arith)

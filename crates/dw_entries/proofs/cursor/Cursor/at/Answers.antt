@@ -12,10 +12,9 @@ pub invariant_of-self : goal.invariant_of-self
 invariant_of-self c =
     let it = c.args.self.now.entries.now in
     let n = c.unit_number-unit.result in
-    let within : n < length it.units.items = omega
-    (arith, c.unit_number-unit.ensures.within, units_counted it.scanned) in
+    let within : n < length it.units.items = omega (arith, units_counted it.scanned) in
     let kept = slice_get-get_or it.units.items n _ within
     ∙ ap (λ (u : UnitRecord). Some u) (sym c.index.ensures) in
     record {
-      its = its_entries it.scanned n _ _ kept c.end_of-self.ensures;
+      its = search (rules, its_entries);
     }

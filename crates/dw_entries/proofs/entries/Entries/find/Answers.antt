@@ -1,8 +1,8 @@
-use Rattle.std.proofs.Common.{rules, ℕ, ◌≡◌, ◌≢◌, List, Option, Some, None, All, ap, ◌∙◌, arith}
+use Rattle.std.proofs.Common.{rules, ℕ, ◌≡◌, ◌≢◌, List, Option, Some, None, All, ◌∙◌, arith}
 use Rattle.std.specs.Prelude.{IfNone, IfSome}
 use Rattle.std.proofs.lemmas.List.{get_or_default}
 use Rattle.dw_entries.specs.Entries.{Entry}
-use Rattle.dw_entries.specs.ByNumber.{entry_of, no_entry}
+use Rattle.dw_entries.specs.ByNumber.{entry_of}
 use Rattle.dw_entries.specs.EntriesAt.{IsEntryAt}
 use Rattle.dw_entries.proofs.FindLaws.{past_base}
 use Rattle.dw_entries.proofs.entries.Entries.find.Goals as goal
@@ -12,7 +12,7 @@ all_elsewhere : (entries : List Entry) (offset : ℕ) (o : Option ℕ)
 all_elsewhere entries offset None nowhere =
     λ k d lt same. nowhere k (record {
       within = lt;
-      begins = ap (λ (e : Entry). e.at) (get_or_default entries k no_entry d lt) ∙ same;
+      begins = search (rules, get_or_default);
     })
 all_elsewhere entries offset (Some id) nowhere = tt
 
@@ -25,7 +25,7 @@ pub returns-in_err-past-clause-none : goal.returns-in_err-past-clause-none
 returns-in_err-past-clause-none c =
     all_elsewhere _ _ _ (rw c.from_residual.ensures
     (λ id found. let low = past_base c.args.self.now.scanned id _ found in
-    omega (arith, low, c.in_err-past.ensures)))
+    omega arith))
 
 pub returns-clause-found : goal.returns-clause-found
 returns-clause-found c = search (rules, each_there)

@@ -8,23 +8,23 @@ pub returns-in_err-checked_add-clause-none : goal.returns-in_err-checked_add-cla
 returns-in_err-checked_add-clause-none c =
     rw c.from_residual.ensures
     (never_far c.args.self.now.scanned c.args.unit c.args.offset _ c.requires.past
-    (omega (arith, c.args.self.now.sections.info_fits)) (omega (arith, c.in_err-checked_add.ensures, c.from.ensures)))
+    (omega arith) (omega arith))
 
 pub returns-then-number-range-clause-none : goal.returns-then-number-range-clause-none
 returns-then-number-range-clause-none c =
     never_other _ _ _ (c.args.self.now.sections.base + c.in_ok-checked_add.field-0) c.args.range.0
     c.args.range.1 _ c.requires.unit (entries_rise _ _ c.args.self.now.scanned.1.spells.are)
-    (omega (arith, c.in_ok-checked_add.ensures, c.from.ensures, c.requires.past)) c.in_ok-id.ensures.found
+    (omega arith) c.in_ok-id.ensures.found
     c.requires.first c.requires.end (λ low high. elim c.then-number-range.branch [
-      | then-number-range-via-then-number-range w ↦ omega (arith, low, w.if-number-range.true, c.number.ensures)
+      | then-number-range-via-then-number-range w ↦ omega arith
       | then-number-range-via-else-number-range+then-number-range-2 w ↦
-          omega (arith, high, w.if-number-range-2.true, w.number-else-number-range.ensures)
+          omega arith
     ])
 
 pub returns-clause-found : goal.returns-clause-found
 returns-clause-found c =
     reaches_by_range _ _ _ (c.args.self.now.sections.base + c.in_ok-checked_add.field-0) c.args.range.0
     c.args.range.1 _ c.requires.unit
-    (omega (arith, c.in_ok-checked_add.ensures, c.from.ensures, c.requires.past)) c.in_ok-id.ensures.found
-    c.requires.first c.requires.end (omega (arith, c.if-number-range.false, c.number.ensures))
-    (omega (arith, c.if-number-range-2.false, c.number-else-number-range.ensures))
+    (omega arith) c.in_ok-id.ensures.found
+    c.requires.first c.requires.end (omega arith)
+    (omega arith)

@@ -5,7 +5,7 @@ use Rattle.dw_entries.proofs.entries.Entries.find_past.Goals as goal
 pub number_from-requires : goal.number_from-requires
 number_from-requires c =
     rw c.deref.ensures.value (few_from c.args.self.now.scanned _ c.args.self.now.starts _
-    (omega (arith, c.args.self.now.sections.info_fits)))
+    (omega arith))
 
 pub returns-in_err-number_from-clause-none : goal.returns-in_err-number_from-clause-none
 returns-in_err-number_from-clause-none c =

@@ -5,11 +5,4 @@ use Rattle.dw_entries.proofs.entries.Entries.id.Goals as goal
 
 pub overflow_cast-number : goal.overflow_cast-number
 overflow_cast-number c =
-    omega (
-      arith,
-      c.requires,
-      entries_counted _ _ _ _ _ c.args.self.now.scanned,
-      scanned_few _ _ _ _ _
-          c.args.self.now.scanned,
-      c.args.self.now.sections.info_fits,
-    )
+    omega (arith, entries_counted _ _ _ _ _ c.args.self.now.scanned, scanned_few _ _ _ _ _ c.args.self.now.scanned)

@@ -9,9 +9,9 @@ index-requires c = search (rules, units_counted)
 pub overflow_sub-result : goal.overflow_sub-result
 overflow_sub-result c =
     let at = (kept_is (kept_unit c.args.self.now.scanned _ c.requires) _ c.index.ensures).at in
-    omega (arith, at, unit_past c.args.self.now.scanned _ c.requires)
+    omega (arith, unit_past c.args.self.now.scanned _ c.requires)
 
 pub returns : goal.returns
 returns c =
     let at = (kept_is (kept_unit c.args.self.now.scanned _ c.requires) _ c.index.ensures).at in
-    omega (arith, at, unit_past c.args.self.now.scanned _ c.requires)
+    omega (arith, unit_past c.args.self.now.scanned _ c.requires)

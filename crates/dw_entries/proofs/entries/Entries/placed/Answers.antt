@@ -14,11 +14,7 @@ decl-requires-clause-within c = search (rules, decl_kept, kept_entry)
 pub index-requires : goal.index-requires
 index-requires c =
     let kept = kept_entry c.args.self.now.scanned c.args.id c.requires.id in
-    omega (
-      arith,
-      slice_get_within c.args.self.now.units.items _ kept.unit_record kept.is_unit_record,
-      c.requires.unit,
-    )
+    omega (arith, slice_get_within c.args.self.now.units.items _ kept.unit_record kept.is_unit_record)
 
 pub values_with-requires-clause-header : goal.values_with-requires-clause-header
 values_with-requires-clause-header c = search (rules, header_is, kept_entry)

@@ -12,7 +12,7 @@ pub returns-clause-first : goal.returns-clause-first
 returns-clause-first c =
     let it = c.args.self.now in
     let n = c.args.unit in
-    let within : n < length it.units.items = omega (arith, c.requires, units_counted it.scanned) in
+    let within : n < length it.units.items = omega (arith, units_counted it.scanned) in
     let kept = slice_get-get_or it.units.items n _ within
     ∙ ap (λ (u : UnitRecord). Some u) (sym c.index.ensures) in
     (kept_first it.scanned n _ kept).1

@@ -9,11 +9,7 @@ index-unit-requires c =
 
 pub decl-requires : goal.decl-requires
 decl-requires c =
-    omega (
-      arith,
-      c.new-first.ensures,
-      first_within (kept_unit c.args.self.now.scanned _ c.requires) _ c.index-unit.ensures,
-    )
+    omega (arith, first_within (kept_unit c.args.self.now.scanned _ c.requires) _ c.index-unit.ensures)
 
 pub returns : goal.returns
 returns c =

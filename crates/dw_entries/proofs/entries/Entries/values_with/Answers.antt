@@ -30,6 +30,6 @@ returns-clause-left c =
     let f = c.value_bytes.ensures in
     let e = entry_of (all_entries c.args.self.now) c.args.id in
     let start : length info - length bytes ≡ e.at + length e.head.code =
-    omega (arith, ap length f.parts, length-append f.before bytes, f.start) in
+    omega (arith, ap length f.parts, length-append f.before bytes) in
     search (placed_here kept _ _ bytes _ c.requires.header
     c.requires.specs (f.rest, f.spelled) c.version.ensures (length info - length bytes) start)

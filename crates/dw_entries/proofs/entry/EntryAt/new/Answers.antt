@@ -6,11 +6,7 @@ use Rattle.dw_entries.proofs.entry.EntryAt.new.Goals as goal
 pub index-requires : goal.index-requires
 index-requires c =
     let kept = kept_entry c.args.entries.now.scanned c.args.id c.requires.id in
-    omega (
-      arith,
-      slice_get_within c.args.entries.now.units.items _ kept.unit_record kept.is_unit_record,
-      c.requires.unit,
-    )
+    omega (arith, slice_get_within c.args.entries.now.units.items _ kept.unit_record kept.is_unit_record)
 
 pub at_with-requires-clause-header : goal.at_with-requires-clause-header
 at_with-requires-clause-header c = search (rules, kept_entry, header_is)

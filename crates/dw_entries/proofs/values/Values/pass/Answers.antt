@@ -1,7 +1,6 @@
-use Rattle.std.proofs.Common.{◌≡◌, length, sym}
+use Rattle.std.proofs.Common.{rules, ◌≡◌, length}
 use Rattle.std.proofs.lemmas.List.{length-map}
-use Rattle.dw_forms.specs.declared.abbrev.AttributeSpec.{AttributeSpec}
-use Rattle.dw_forms.specs.Chains.{Numbered, items_of}
+use Rattle.dw_forms.specs.Chains.{items_of}
 use Rattle.dw_forms.proofs.SuffixLaws.{specs_ends}
 use Rattle.dw_entries.proofs.PassLaws.{left_on, left_rest, never_cut, passed_parts, placed_rest}
 use Rattle.dw_entries.proofs.PlacedLaws.{rest_on}
@@ -30,15 +29,13 @@ unreachable-requires c =
 pub returns-clause-left : goal.returns-clause-left
 returns-clause-left c before ends =
     let v = c.args.self.now in
-    let long : length before ≡ length (items_of before) = sym
-    (length-map before (λ (n : Numbered AttributeSpec). n.item)) in
+    let long : length before ≡ length (items_of before) = search (rules, length-map) in
     search (left_rest _ _ _ _ (specs_ends v.attributes _ before ends) v.bytes.now v.left (length before) long
     _ (c.in-Ok.ensures before ends))
 
 pub returns-clause-placed : goal.returns-clause-placed
 returns-clause-placed c before ends =
     let v = c.args.self.now in
-    let long : length before ≡ length (items_of before) = sym
-    (length-map before (λ (n : Numbered AttributeSpec). n.item)) in
+    let long : length before ≡ length (items_of before) = search (rules, length-map) in
     search (placed_rest _ _ _ _ (specs_ends v.attributes _ before ends) v.bytes.now v.left (length before) long
     _ (c.in-Ok.ensures before ends) v.info.now v.rest)

@@ -1,7 +1,7 @@
-use Rattle.std.proofs.Common.{◌≡◌, ℕ, List, ◌-◌, drop, length, sym, ap, subst, ◌∙◌}
+use Rattle.std.proofs.Common.{rules, ◌≡◌, ℕ, List, ◌-◌, drop, length, sym, ap, subst, ◌∙◌}
 use Rattle.std.proofs.lemmas.List.{length-map}
 use Rattle.dw_forms.specs.declared.abbrev.AttributeSpec.{AttributeSpec}
-use Rattle.dw_forms.specs.Chains.{Numbered, items_of}
+use Rattle.dw_forms.specs.Chains.{items_of}
 use Rattle.dw_forms.proofs.SuffixLaws.{follow, specs_ends}
 use Rattle.dw_entries.specs.Grammar.{AreAttributes}
 use Rattle.dw_entries.specs.ValuePlaces.{PlacedValue, placed_value_in}
@@ -19,8 +19,7 @@ pub returns-clause-same : goal.returns-clause-same
 returns-clause-same c =
     let v = c.args.self.now in
     let f = follow _ v.attributes _ c.find-to.ensures in
-    let long : length (items_of f.before) ≡ length f.before = length-map f.before
-    (λ (n : Numbered AttributeSpec). n.item) in
+    let long : length (items_of f.before) ≡ length f.before = search (rules, length-map) in
     let rest = c.pass.ensures.placed f.before f.ends in
     let declared = subst (λ (ss : List AttributeSpec). AreAttributes (value_context v.version v.address_size) ss
     v.left.0.0) (specs_ends v.attributes _ f.before f.ends) v.left.1.are in

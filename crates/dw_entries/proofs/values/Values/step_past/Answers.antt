@@ -21,7 +21,7 @@ invariant_of-self c =
       sized = v.sized;
       left =
           left_after v None _ c.in-Some.rest _ c.in-Some.ensures.0 tt refl d.0 _ c.in-Ok.ensures.within d.1;
-      rest = rest_of_slice v.info.now v.bytes.now _ v.rest c.in-Ok.ensures.within;
+      rest = search (rules, rest_of_slice);
     }
 
 pub unreachable-requires-in-Err : goal.unreachable-requires-in-Err
