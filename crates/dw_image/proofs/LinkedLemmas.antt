@@ -1,5 +1,5 @@
 -- The steps by value that an image keeps.
-use Rattle.std.proofs.Common.{◌≡◌, ℕ, ◌<◌, ◌≤◌, List, length, Some, None, sym, ap, ◌∙◌, arith}
+use Rattle.std.proofs.Common.{rules, ◌≡◌, ℕ, ◌<◌, ◌≤◌, List, length, Some, None, sym, ap, ◌∙◌}
 use Rattle.std.specs.Prelude.{slice_get}
 use Rattle.std.proofs.lemmas.Option.{slice_get-get_or, slice_get_past}
 use Rattle.dw_entries.specs.Entries.{entries_of}
@@ -15,10 +15,7 @@ module _ (us : List DebugUnit) (graph : Graph) (is : graph ≡ by_value us) wher
 
   -- each step leads to an entry
   pub step-below : (node k : ℕ) → k < length (steps_of graph node) → step_at graph node k < length (entries_of us)
-  step-below node k within =
-      let long = length-by_value us in
-      let below = by_value-leads us node k (rw is at within) in
-      rw is (omega (arith, below, long))
+  step-below node k within = search (rules, length-by_value, by_value-leads)
 
   -- the k-th step, or none past the last
   pub step-there : (node k : ℕ) → k < length (steps_of graph node)

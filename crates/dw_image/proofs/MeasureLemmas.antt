@@ -5,15 +5,13 @@ use Rattle.std.specs.Prelude.{slice_index, Contains}
 use Rattle.std.proofs.lemmas.List.{get_or_past}
 use Rattle.std.proofs.lemmas.List.Elements.{Contains-get_or}
 use Rattle.std.proofs.lemmas.Option.{slice_get_within}
-use Rattle.dw_elf.specs.declared.sections.Sections.{Sections}
 use Rattle.dw_entries.specs.Entries.{entries_of}
 use Rattle.dw_forms.specs.declared.rule.Rule.TheVariants.{ContainsItself}
-use Rattle.dw_entries.specs.Failures.{Failure, HasNone, IsFirst, IsPlainFault}
+use Rattle.dw_entries.specs.Failures.{Failure, HasNone, IsFirst}
 use Rattle.dw_entries.specs.Places.{at_entry}
 use Rattle.dw_entries.specs.Units.{DebugUnit}
 use Rattle.dw_forms.specs.declared.rule.Rule.{Rule}
 use Rattle.dw_entries.specs.declared.fault.PlainFault.{PlainFault}
-use Rattle.dw_entries.specs.declared.fault.Fault.{Fault}
 use Rattle.dw_links.proofs.TableLemmas.{target_within}
 use Rattle.dw_types.proofs.SiblingLemmas.{parent-first}
 use Rattle.dw_types.specs.Cycles.{AreClear}
@@ -25,11 +23,9 @@ use Rattle.dw_types.specs.Entries.{entry_in, type_target}
 use Rattle.dw_types.specs.SizeTables.{Size}
 use Rattle.dw_types.specs.Sizes.{IsSizeTable, size_to}
 use Rattle.dw_types.specs.SizeFaults.{fails_size, SizeFailures, IsFirstSizeFault}
-use Rattle.dw_image.specs.FirstFault.{offset_at, ContainsItselfAt, FailsBySize, Group, shapes, cycles, sizes, turn_of, failures_of, NamesCycle}
+use Rattle.dw_image.specs.FirstFault.{offset_at, ContainsItselfAt, FailsBySize}
 use Rattle.dw_image.specs.Headline.{HoldsNoneOfItself}
 use Rattle.dw_types.specs.Orders.{Ranking, IsOrderOf}
-use Rattle.dw_types.proofs.SizeFaultLemmas.{sizes_by_rank, is-size_table, exact-lines}
-use Rattle.dw_image.specs.StepsAndSizes.{AreOrdered, PassInTypes, FailsInTypes}
 
 -- without a closed list of steps no entry contains itself
 pub no_cycle_holds : (us : List DebugUnit) → HasNoCycle (by_value us) → HasNone (ContainsItselfAt us)
@@ -42,7 +38,7 @@ cycle_failure us nodes =
 
 pub cycle_fails : (us : List DebugUnit) (nodes : List ℕ) → IsCycle (by_value us) nodes
     → ContainsItselfAt us (cycle_failure us nodes)
-cycle_fails us nodes cycle = record { nodes = nodes; is_cycle = cycle; rule = refl; place = refl; attribute = refl }
+cycle_fails us nodes cycle = search (rules)
 
 pub contained_of : (units : List DebugUnit) → HasNone (ShapeFailures units)
     → HasNoCycle (by_value units) → HoldsNoneOfItself units
@@ -120,84 +116,6 @@ module _ (us : List DebugUnit) where
         λ g fails precedes. fault.first.first g
         (same_failures fault.table fails.table fault.is_table fails.one g fails.fails) precedes;
   }
-
-none_late : (s : Sections) (us : List DebugUnit) (earlier : Group) → 4 < turn_of earlier → turn_of earlier < 5
-    → HasNone (failures_of s us earlier)
-none_late s us earlier late less = absurd (omega (arith, late, less))
-
-shapes_late : (s : Sections) (us : List DebugUnit) → HasNone (ShapeFailures us) → (earlier : Group)
-    → 4 < turn_of earlier → turn_of earlier < 6 → HasNone (failures_of s us earlier)
-shapes_late s us none shapes late less = none
-shapes_late s us none _ late less = absurd (omega (arith, late, less))
-
-cycles_late : (s : Sections) (us : List DebugUnit) → HasNone (ShapeFailures us)
-    → HasNoCycle (by_value us) → (earlier : Group) → 4 < turn_of earlier → turn_of earlier < 7
-    → HasNone (failures_of s us earlier)
-cycles_late s us none nor shapes late less = none
-cycles_late s us none nor cycles late less = no_cycle_holds us nor
-cycles_late s us none nor _ late less = absurd (omega (arith, late, less))
-
--- ---- the first failure of the groups on types
-
-pub wrong_shape : (s : Sections) (us : List DebugUnit) (turn : ℕ) → 5 < turn → (fault : Fault)
-    → IsPlainFault (IsFirst (ShapeFailures us)) fault
-    → FailsInTypes s us turn fault
-wrong_shape s us turn more fault first =
-    record { group = shapes; late = omega arith; early = more; before = none_late s us; first = first }
-
-pub contains_itself : (s : Sections) (us : List DebugUnit) (fault : Fault) → HasNone (ShapeFailures us)
-    → NamesCycle us fault
-    → FailsInTypes s us 7 fault
-contains_itself s us fault none names =
-    record { group = cycles; late = omega arith; early = omega arith; before = shapes_late s us none; first = names }
-
-pub wrong_size : (s : Sections) (us : List DebugUnit) (fault : Fault) → HasNone (ShapeFailures us)
-    → HasNoCycle (by_value us)
-    → IsPlainFault (IsFirstSizeFault us) fault → FailsInTypes s us 8 fault
-wrong_size s us fault none nor first = record {
-  group = sizes;
-  late = omega arith;
-  early = omega arith;
-  before = cycles_late s us none nor;
-  first =
-      record {
-        holds = first_by_size us _ first.holds;
-        cycle = first.cycle;
-      };
-}
-
-pub wrong_before : (s : Sections) (us : List DebugUnit) (fault : Fault) → FailsInTypes s us 7 fault
-    → FailsInTypes s us 8 fault
-wrong_before s us fault fails =
-    record {
-      group = fails.group;
-      late = fails.late;
-      early = (let less = fails.early in omega (arith, less));
-      before = fails.before;
-      first = fails.first;
-    }
-
--- ---- none of them before a turn
-
-pub pass_shapes : (s : Sections) (us : List DebugUnit) (turn : ℕ) → turn ≡ 6 → HasNone (ShapeFailures us)
-    → PassInTypes s us turn
-pass_shapes s us turn is none =
-    subst (PassInTypes s us) (sym is)
-    (record { hold = shapes_late s us none; measured = λ late. absurd (omega (arith, late)) })
-
-pub pass_ordered : (s : Sections) (us : List DebugUnit) (turn : ℕ) (order : Ranking) → turn ≡ 7
-    → AreOrdered us order → PassInTypes s us turn
-pass_ordered s us turn order is ordered =
-    let falls = ordered.ordered.falls in
-    subst (PassInTypes s us) (sym is) (record {
-      hold = cycles_late s us ordered.shapes ordered.contained;
-      measured = λ late. (
-        sizes_by_rank us order.ranks falls,
-        is-size_table us order.ranks falls
-            (sizes_by_rank us order.ranks falls)
-            (exact-lines us order.ranks falls),
-      );
-    })
 
 -- ---- the nodes of an order by rising rank
 

@@ -1,5 +1,5 @@
 -- A rule is told by its group and its number, in all groups but the first.
-use Rattle.std.proofs.Common.{rules, ◌≡◌, ℕ, ◌==◌, refl, sym, ap, ◌∙◌, if◌then◌else◌}
+use Rattle.std.proofs.Common.{rules, ◌≡◌, ℕ, ◌==◌, refl, if◌then◌else◌}
 use Rattle.dw_forms.specs.declared.rule.Rule.{Rule}
 use Rattle.dw_forms.specs.declared.rule.Rule.TheVariants.{WrongClass, ContainsItself}
 use Rattle.dw_forms.specs.Rules.{group_of, number_of}
@@ -19,6 +19,4 @@ told _ behind = search rules
 -- two rules of one group with one number are one
 pub one_rule : (rule other : Rule) → (group_of rule ≡ 1 → ⊥) → group_of rule ≡ group_of other
     → number_of rule ≡ number_of other → rule ≡ other
-one_rule rule other behind group number =
-    sym (told rule behind) ∙ ap (λ g. rule_at g (number_of rule)) group ∙ ap (rule_at (group_of other)) number
-    ∙ told other (λ first. behind (group ∙ first))
+one_rule rule other behind group number = search (rules, told)

@@ -1,7 +1,5 @@
--- State: the steps by value and the sizes, if no rule on types fails, or the first fault of these rules.
-use Rattle.std.specs.Prelude.{◌≡◌, ℕ, ◌<◌, List, length}
-use Rattle.dw_elf.specs.declared.sections.Sections.{Sections}
-use Rattle.dw_entries.specs.declared.fault.Fault.{Fault}
+-- State: the steps by value and the sizes, if no rule on types fails.
+use Rattle.std.specs.Prelude.{◌≡◌, List, length}
 use Rattle.dw_entries.specs.Entries.{entries_of}
 use Rattle.dw_entries.specs.Failures.{HasNone}
 use Rattle.dw_entries.specs.Units.{DebugUnit}
@@ -13,8 +11,6 @@ use Rattle.dw_types.specs.Packing.{cut}
 use Rattle.dw_types.specs.Shapes.{ShapeFailures}
 use Rattle.dw_types.specs.Steps.{by_value}
 use Rattle.dw_types.specs.SizeTables.{Size, size_at}
-use Rattle.dw_types.specs.Sizes.{IsSizeTable}
-use Rattle.dw_image.specs.FirstFault.{Group, turn_of, failures_of, IsFirstIn}
 use Rattle.dw_image.specs.Valid.{HasSizes}
 
 -- these are the steps by value, and this is how many entries are types
@@ -34,17 +30,3 @@ pub record AreOrdered (units : List DebugUnit) (order : Ranking) : Type 0 where
   pub shapes : HasNone (ShapeFailures units)
   pub contained : HasNoCycle (by_value units)
   pub ordered : IsOrderOf (by_value units) order
-
--- no rule fails of the groups on types before a turn, and where only sizes are left, they have their one table
-pub record PassInTypes (s : Sections) (units : List DebugUnit) (turn : ℕ) : Type 0 where
-  pub hold : (earlier : Group) → 4 < turn_of earlier → turn_of earlier < turn → HasNone (failures_of s units earlier)
-  pub measured : 6 < turn → (table : ℕ → Size) × IsSizeTable units table
-
--- the first failure of the groups on types before a turn: no rule of an earlier one of them fails
-pub record FailsInTypes (s : Sections) (units : List DebugUnit) (turn : ℕ) (fault : Fault) : Type 0 where
-  pub group : Group
-  pub late : 4 < turn_of group
-  pub early : turn_of group < turn
-  pub before : (earlier : Group) → 4 < turn_of earlier → turn_of earlier < turn_of group
-      → HasNone (failures_of s units earlier)
-  pub first : IsFirstIn s units group fault

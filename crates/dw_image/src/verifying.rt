@@ -1,21 +1,19 @@
 //! The verdict on six sections: the groups of rules in their order, the last of them on types: shapes, containment and
 //! sizes.
 
-ghost use Rattle.std.specs.Prelude.{◌≡◌, ◌<◌, ◌≤◌, length, map, IfOk, IfErr, OnOk};
+ghost use Rattle.std.specs.Prelude.{◌≡◌, ◌<◌, length, map, IfOk, IfErr};
 ghost use Rattle.dw_forms.specs.Stops.{IfFault};
-ghost use Rattle.dw_forms.specs.Rules.{group_of};
 ghost use Rattle.dw_entries.specs.Views.{sections_of, all_entries, units_of};
 ghost use Rattle.dw_types.specs.Graphs.{IsCycle};
 ghost use Rattle.dw_types.specs.Steps.{by_value};
-ghost use Rattle.dw_image.specs.GroupsBefore.{PassBefore, FailsBefore, IsVerdictBefore};
 ghost use Rattle.dw_image.specs.FirstFault.{offset_at, NamesCycle};
 ghost use Rattle.dw_image.specs.Headline.{IsImageOf, IsFaultOf, IsVerdictOf};
-ghost use Rattle.dw_image.specs.StepsAndSizes.{AreOrdered, AreSteps, FailsInTypes, PassInTypes};
+ghost use Rattle.dw_image.specs.StepsAndSizes.{AreOrdered, AreSteps};
 
 use crate::image::Image;
 use dw_elf::Sections;
 use dw_entries::{Entries, Fault, Rule, Section, Stop, scan};
-use dw_links::{Links, check_classes, check_strings, link};
+use dw_links::{Links, link};
 use dw_types::{ByValue, NoMemory, Order, OrderFault, order, sizes};
 use std::alloc::{AllocError, Global};
 
@@ -74,8 +72,7 @@ fn cycle_fault(alloc: Global, entries: &Entries<'_>, numbers: &[usize]) -> Resul
 fn order_types(alloc: Global, links: &Links<'_, '_>) -> Result<(ByValue, Order), Stop<Fault>>
     ensures steps { IfOk result (λ found. AreSteps (units_of links.now.entries.now) found.0) }
     ensures order { IfOk result (λ found. AreOrdered (units_of links.now.entries.now) found.1) }
-    ensures fault { IfErr result
-        (IfFault (FailsInTypes (sections_of links.now.entries.now) (units_of links.now.entries.now) 7)) }
+    ensures fault { IfErr result (IfFault (IsFaultOf (sections_of links.now.entries.now))) }
 {
     let steps = ByValue::new(alloc, links.entries, links)?;
     match order(alloc, &steps) {
@@ -84,70 +81,6 @@ fn order_types(alloc: Global, links: &Links<'_, '_>) -> Result<(ByValue, Order),
             Err(Stop::Fault(cycle_fault(alloc, links.entries, nodes.as_slice())?))
         }
         Err(OrderFault::Memory) => Err(Stop::Memory),
-    }
-}
-
-/// Checks the groups of rules before a group, which is the one on references or an earlier one.
-fn check_values(alloc: Global, entries: &Entries<'_>, group: u8) -> Result<(), Stop<Fault>>
-    requires { group ≤ 4 }
-    ensures ok { OnOk result (PassBefore (sections_of entries.now) (units_of entries.now) group) }
-    ensures fault { IfErr result (IfFault (FailsBefore (sections_of entries.now) group)) }
-{
-    if group <= 2 {
-        return Ok(());
-    }
-    check_classes(alloc, entries)?;
-    if group == 3 {
-        return Ok(());
-    }
-    check_strings(alloc, entries)?;
-    Ok(())
-}
-
-/// Checks the groups of rules on types before a group.
-fn check_types(alloc: Global, links: &Links<'_, '_>, group: u8) -> Result<(), Stop<Fault>>
-    requires { group ≤ 7 }
-    ensures ok { OnOk result (PassInTypes (sections_of links.now.entries.now) (units_of links.now.entries.now) group) }
-    ensures fault { IfErr result
-        (IfFault (FailsInTypes (sections_of links.now.entries.now) (units_of links.now.entries.now) group)) }
-{
-    if group <= 5 {
-        return Ok(());
-    }
-    if group == 6 {
-        let _steps = ByValue::new(alloc, links.entries, links)?;
-        return Ok(());
-    }
-    let _ordered = order_types(alloc, links)?;
-    Ok(())
-}
-
-/// Checks the groups of rules before a group, in their order.
-fn check_before(alloc: Global, entries: &Entries<'_>, group: u8) -> Result<(), Stop<Fault>>
-    requires { group ≤ 7 }
-    ensures ok { OnOk result (PassBefore (sections_of entries.now) (units_of entries.now) group) }
-    ensures fault { IfErr result (IfFault (FailsBefore (sections_of entries.now) group)) }
-{
-    if group <= 4 {
-        return check_values(alloc, entries, group);
-    }
-    let links = link(alloc, entries)?;
-    check_types(alloc, &links, group)
-}
-
-/// The first fault of scanned entries, if it is of a group of rules before the rule's own. None if no rule of these
-/// groups fails; the others are not checked.
-pub fn verify_before(
-    alloc: Global,
-    entries: &Entries<'_>,
-    rule: Rule,
-) -> Result<Option<Fault>, NoMemory>
-    ensures { IfOk result (IsVerdictBefore (sections_of entries.now) (units_of entries.now) (group_of rule)) }
-{
-    match check_before(alloc, entries, rule.group()) {
-        Ok(()) => Ok(None),
-        Err(Stop::Fault(fault)) => Ok(Some(fault)),
-        Err(Stop::Memory) => Err(NoMemory),
     }
 }
 

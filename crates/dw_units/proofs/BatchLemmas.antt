@@ -1,5 +1,5 @@
 -- Where batches are: the first unit, the first entry and the offset of each.
-use Rattle.std.proofs.Common.{rules, ◌≡◌, ℕ, zero, suc, ◌+◌, ◌<◌, ◌≤◌, ◌⊎◌, List, [], ◌∷◌, ◌++◌, length, Some, refl, sym, ap, subst, ◌∙◌, inl, inr, arith, length-append}
+use Rattle.std.proofs.Common.{rules, ◌≡◌, ℕ, zero, suc, ◌+◌, ◌<◌, ◌≤◌, ◌⊎◌, List, [], ◌∷◌, ◌++◌, length, Some, refl, ap, subst, ◌∙◌, inl, inr, arith, length-append}
 use Rattle.std.specs.Prelude.{slice_get}
 use Rattle.std.specs.List.{AllByRecursion}
 use Rattle.std.proofs.lemmas.Grind.{flat_map-append}
@@ -54,16 +54,13 @@ pub record IsPast (number first at : ℕ) (p : PlacedBatch) : Type 0 where
 pub none_before : (number first at : ℕ) (bs : List (List DebugUnit)) (k : ℕ) (p : PlacedBatch)
     → slice_get (batches_from number first at bs) k ≡ Some p → IsPast number first at p
 none_before number first at [] k p is = absurd cc
-none_before number first at (units ∷ bs) zero p is =
-    at_front (IsPast number first at) _ p is
-    (record { number_past = omega arith; first_past = omega arith; at_past = omega arith })
+none_before number first at (units ∷ bs) zero p is = search (rules, at_front)
 none_before number first at (units ∷ bs) (suc k) p is =
-    let more = none_before (number + length units) (first + length (entries_of units))
-    (at + length (units_bytes units)) bs k p is in
-    let a = more.number_past in
-    let b = more.first_past in
-    let c = more.at_past in
-    record { number_past = omega (arith, a); first_past = omega (arith, b); at_past = omega (arith, c) }
+    search (
+      rules,
+      (none_before (number + length units) (first + length (entries_of units)) (at + length (units_bytes units)) bs k p
+          is),
+    )
 
 -- a batch comes after another one
 abbrev pub IsAfter : PlacedBatch → PlacedBatch → Type 0
@@ -75,10 +72,7 @@ after : (number first at : ℕ) (bs : List (List DebugUnit)) (k j : ℕ) (p q : 
     → k < j → IsAfter p q
 after number first at [] k j p q is_p is_q less = absurd cc
 after number first at (units ∷ bs) k zero p q is_p is_q less = absurd (omega (arith, less))
-after number first at (units ∷ bs) zero (suc j) p q is_p is_q less =
-    at_front (λ (b : PlacedBatch). IsAfter b q) _ p is_p
-    (none_before (number + length units) (first + length (entries_of units)) (at + length (units_bytes units)) bs j q
-    is_q)
+after number first at (units ∷ bs) zero (suc j) p q is_p is_q less = search (rules, at_front, none_before)
 after number first at (units ∷ bs) (suc k) (suc j) p q is_p is_q less =
     after (number + length units) (first + length (entries_of units)) (at + length (units_bytes units)) bs k j p q is_p
     is_q (omega (arith, less))
@@ -86,13 +80,7 @@ after number first at (units ∷ bs) (suc k) (suc j) p q is_p is_q less =
 -- two batches neither of which comes after the other are one
 pub same_batch : (bs : List (List DebugUnit)) (k j : ℕ) (p q : PlacedBatch) → slice_get (placed_batches bs) k ≡ Some p
     → slice_get (placed_batches bs) j ≡ Some q → (IsAfter p q → ⊥) → (IsAfter q p → ⊥) → p ≡ q
-same_batch bs k j p q is_p is_q first second =
-    elim (three_ways k j) [
-      | inl (inl less) ↦ absurd (first (after 0 0 (start_of (joined bs)) bs k j p q is_p is_q less))
-      | inl (inr same) ↦
-          same_some (slice_get (placed_batches bs) j) p q (ap (slice_get (placed_batches bs)) (sym same) ∙ is_p) is_q
-      | inr more ↦ absurd (second (after 0 0 (start_of (joined bs)) bs j k q p is_q is_p more))
-    ]
+same_batch bs k j p q is_p is_q first second = search (rules, three_ways, after, same_some)
 
 pub bytes_before : (at : ℕ) (units : List DebugUnit) (bs : List (List DebugUnit))
     → at + length (units_bytes units) + length (units_bytes (joined bs))
@@ -167,23 +155,18 @@ placed_there at (u ∷ us) from = ap (λ (n : ℕ). placed_from n 0 (u ∷ us)) 
 
 pub entries_there : (at : ℕ) (us : List DebugUnit) → AreFrom at us → entries_of us ≡ entries_from 0 0 at us
 entries_there at [] from = refl
-entries_there at (u ∷ us) from = ap (λ (n : ℕ). entries_from 0 0 n (u ∷ us)) from.0
+entries_there at (u ∷ us) from = search (rules)
 
 -- some units, and those after them
 pub from_parts : (at : ℕ) (us more : List DebugUnit) → AreFrom at (us ++ more)
     → AreFrom at us × AreFrom (at + length (units_bytes us)) more
-from_parts at [] more from =
-    let here : at ≡ at + 0 = omega arith in (tt, subst (λ (n : ℕ). AreFrom n more) here from)
+from_parts at [] more from = search (rules)
 from_parts at (u ∷ us) more (here, from) =
-    let (one, rest) = from_parts (at + length (unit_bytes u)) us more from in
-    let there : at + length (unit_bytes u) + length (units_bytes us) ≡ at + length (units_bytes (u ∷ us)) =
-    omega (arith, length-append (unit_bytes u) (units_bytes us)) in
-    ((here, one), subst (λ (n : ℕ). AreFrom n more) there rest)
+    search (rules, (from_parts (at + length (unit_bytes u)) us more from), length-append)
 
 pub from_both : (at : ℕ) (us more : List DebugUnit) → AreFrom at us → AreFrom (at + length (units_bytes us)) more
     → AreFrom at (us ++ more)
-from_both at [] more from rest =
-    let here : at + 0 ≡ at = omega arith in subst (λ (n : ℕ). AreFrom n more) here rest
+from_both at [] more from rest = search (rules)
 from_both at (u ∷ us) more (here, from) rest =
     let there : at + length (units_bytes (u ∷ us)) ≡ at + length (unit_bytes u) + length (units_bytes us) =
     omega (arith, length-append (unit_bytes u) (units_bytes us)) in
@@ -195,7 +178,7 @@ AreJoined bs = AreFrom (start_of (joined bs)) (joined bs)
 
 from_start : (at : ℕ) (us : List DebugUnit) → AreFrom at us → AreFrom (start_of us) us
 from_start at [] from = tt
-from_start at (u ∷ us) from = subst (λ (n : ℕ). AreFrom n (u ∷ us)) (sym from.0) from
+from_start at (u ∷ us) from = search (rules)
 
 batch_at : (number first at : ℕ) (bs : List (List DebugUnit)) (k : ℕ) (p : PlacedBatch) → AreFrom at (joined bs)
     → slice_get (batches_from number first at bs) k ≡ Some p → AreFrom p.at p.units

@@ -1,6 +1,6 @@
 -- The first failure of a group of rules, where the failures among all units are those of each batch alone: it is the
 -- first of the first batch that has one.
-use Rattle.std.proofs.Common.{rules, ◌≡◌, ℕ, ◌+◌, ◌<◌, ◌≤◌, List, ◌∷◌, ◌++◌, length, Some, ap, subst, inl, inr, arith}
+use Rattle.std.proofs.Common.{rules, ◌≡◌, ℕ, ◌+◌, ◌<◌, ◌≤◌, List, ◌∷◌, ◌++◌, length, Some, subst, inl, inr, arith}
 use Rattle.std.specs.Prelude.{slice_get}
 use Rattle.std.specs.List.{AllByRecursion}
 use Rattle.dw_entries.specs.declared.fault.PlainFault.{PlainFault}
@@ -34,20 +34,12 @@ before_offset low high a b (at_entry x) (at_entry y) in_p in_q is = omega (arith
 before_offset low high a b (at_entry x) (at_attribute y k) in_p in_q is = is
 before_offset low high a b (at_attribute x j) (at_header y) in_p in_q is = absurd in_q
 before_offset low high a b (at_attribute x j) (at_entry y) in_p in_q is = omega (arith, is)
-before_offset low high a b (at_attribute x j) (at_attribute y k) in_p in_q is =
-    elim is [ inl less ↦ omega (arith, less) | inr same ↦ (let here = same.0 in omega (arith, here)) ]
+before_offset low high a b (at_attribute x j) (at_attribute y k) in_p in_q is = search (rules)
 
 -- nothing in a window precedes what is in an earlier one
 later_window : (low high a b : ℕ) (f g : Failure) → high ≤ a → IsInside low high f.place → IsInside a b g.place
     → Precedes g f → ⊥
-later_window low high a b f g apart in_f in_g precedes =
-    let under = inside_high low high f.place in_f in
-    let over = inside_low a b g.place in_g in
-    elim precedes [
-      | inl before ↦
-          let le = before_offset low high a b g.place f.place in_g in_f before in omega (arith, le, under, over, apart)
-      | inr same ↦ let here = ap offset_of same.0 in omega (arith, here, under, over, apart)
-    ]
+later_window low high a b f g apart in_f in_g precedes = search (rules, inside_high, inside_low, before_offset)
 
 -- ---- failures of a group
 
@@ -74,9 +66,7 @@ pub record AreOfBatches (bs : List (List DebugUnit)) (Fails : Failure → Type 0
 module _ (bs : List (List DebugUnit)) (Fails : Failure → Type 0) (Alone : List DebugUnit → Failure → Type 0)
     (are : AreOfBatches bs Fails Alone) where
   pub none_of_batches : AllByRecursion (λ units. HasNone (Alone units)) bs → HasNone Fails
-  none_of_batches all f fails =
-      let i = are.down f fails in
-      all_batches (λ units. HasNone (Alone units)) bs i.which i.place all i.is_place i.failure i.fails
+  none_of_batches all f fails = search (rules, all_batches)
 
 pub first_of_group : (before : List (List DebugUnit)) (units : List DebugUnit) (behind : List (List DebugUnit))
     (Fails : Failure → Type 0) (Alone : List DebugUnit → Failure → Type 0)

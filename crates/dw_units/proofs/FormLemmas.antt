@@ -41,13 +41,11 @@ passes_where holds spec never x a is head rule so =
 -- no value under such a declaration leaves its unit by a signature
 pub form_passes : (spec : AttributeSpec) → (leaves_by spec.form ≡ BySignature → ⊥)
     → NeverFailsAt (Where is_signature) spec
-form_passes spec other =
-    passes_where is_signature spec (λ version size bytes v val. stays_by_form version size spec.form bytes v other val)
+form_passes spec other = search (rules, passes_where, stays_by_form)
 
 -- nor is one an offset of .debug_info
 pub offset_passes : (spec : AttributeSpec) → leaves_by spec.form ≡ Never → NeverFailsAt (Where is_offset) spec
-offset_passes spec never =
-    passes_where is_offset spec (λ version size bytes v val. no_offset_by_form version size spec.form bytes v never val)
+offset_passes spec never = search (rules, passes_where, no_offset_by_form)
 
 not_true : (b : Bool) → (b ≡ true → ⊥) → b ≡ false
 not_true true never = absurd (never refl)

@@ -1,11 +1,11 @@
 -- The groups of rules, and the first fault, of batches that refer to nothing outside themselves.
-use Rattle.std.proofs.Common.{◌≡◌, ◌+◌, ◌<◌, List, [], ◌∷◌, ◌++◌, length, refl, arith}
+use Rattle.std.proofs.Common.{rules, ◌≡◌, ◌+◌, ◌<◌, List, [], ◌∷◌, ◌++◌, length, refl, arith}
 use Rattle.std.specs.List.{AllByRecursion}
 use Rattle.dw_elf.specs.declared.sections.Sections.{Sections}
 use Rattle.dw_entries.specs.declared.fault.Fault.{Fault}
 use Rattle.dw_entries.specs.Units.{DebugUnit, units_bytes}
 use Rattle.dw_entries.specs.Entries.{start_of}
-use Rattle.dw_entries.specs.Failures.{Failure, HasNone, IsFirst, plain_fault_of, IsPlainFault}
+use Rattle.dw_entries.specs.Failures.{Failure, HasNone, IsFirst, IsPlainFault}
 use Rattle.dw_entries.proofs.HeadLaws.{all-append}
 use Rattle.dw_image.specs.FirstFault.{Group, classes, strings, references, shapes, cycles, sizes, turn_of, failures_of}
 use Rattle.dw_image.specs.FirstFault.{IsFirstIn, NamesCycle, in_group}
@@ -60,8 +60,7 @@ group_batches : (s : Sections) (bs : List (List DebugUnit)) → AreBatches s bs 
 group_batches s bs all classes other measured refer = classes_batches s bs all
 group_batches s bs all strings other measured refer = strings_batches s bs all
 group_batches s bs all references other measured refer = references_batches s bs all
-group_batches s bs all shapes other measured refer =
-    shapes_batches s bs (record { apart = all; none = refer (omega arith) })
+group_batches s bs all shapes other measured refer = search (rules, shapes_batches)
 group_batches s bs all cycles other measured refer = absurd (other refl)
 group_batches s bs all sizes other measured refer =
     sizes_batches s bs (record { apart = all; none = refer (omega arith) }) measured
@@ -85,10 +84,7 @@ module _ (s : Sections) (before : List (List DebugUnit)) (units : List DebugUnit
       → AreOfBatches (before ++ units ∷ behind) Fails Alone
       → AllByRecursion (λ batch. HasNone (Alone batch)) before → IsFirm units fault.rule
       → IsPlainFault (IsFirst (Alone units)) fault → IsPlainFault (IsFirst Fails) fault
-  plain Fails Alone are none firm first = record {
-    holds = first_of_group before units behind Fails Alone (plain_fault_of fault) are none firm first.holds;
-    cycle = first.cycle;
-  }
+  plain Fails Alone are none firm first = search (rules, first_of_group)
 
   cycle_there : Refer s bs → NamesCycle units fault → NamesCycle (joined bs) fault
   cycle_there refer names =
@@ -105,8 +101,7 @@ module _ (s : Sections) (before : List (List DebugUnit)) (units : List DebugUnit
       → (4 < turn_of group → AllByRecursion (Passes s references) bs)
       → AllByRecursion (Passes s group) before → IsFirm units fault.rule
       → IsFirstIn s units group fault → IsFirstIn s (joined bs) group fault
-  first_batches cycles measured refer none firm first =
-      cycle_there (record { apart = all; none = refer (omega arith) }) first
+  first_batches cycles measured refer none firm first = search (rules, cycle_there)
   first_batches group measured refer none firm first =
       plain (failures_of s (joined bs) group) (λ batch. failures_of s batch group)
       (group_batches s bs all group (λ is. omega (arith, is)) measured refer) none firm first

@@ -25,10 +25,7 @@ use Rattle.dw_units.proofs.ReferenceLemmas.{Refer}
 
 pub trees_join : (s : Sections) (bs : List (List DebugUnit)) → AreBatches s bs
     → drop s.base s.info.now ≡ units_bytes (joined bs) → SpellsInfo s (joined bs)
-trees_join s bs all parts = record {
-  spells = record { are = units_joined s bs all.stay; parts = parts };
-  are_from = all.follow;
-}
+trees_join s bs all parts = search (rules, units_joined)
 
 -- a table of all agrees with one of each batch
 abbrev Agrees : (ℕ → Size) → PlacedBatch → Type 0

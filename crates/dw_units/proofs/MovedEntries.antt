@@ -3,7 +3,7 @@ use Rattle.std.proofs.Common.{rules, ◌≡◌, ℕ, zero, suc, ◌+◌, ◌-◌
 use Rattle.std.specs.Prelude.{slice_get, option_map}
 use Rattle.std.proofs.lemmas.List.{map-append, length-map}
 use Rattle.std.proofs.lemmas.Option.{get_or_from_slice_get, slice_get-get_or, slice_get-map, slice_get_within}
-use Rattle.dw_entries.specs.ByNumber.{entry_of, no_entry, no_placed, placed_of}
+use Rattle.dw_entries.specs.ByNumber.{entry_of, placed_of}
 use Rattle.dw_entries.specs.Grammar.{Head, head_bytes}
 use Rattle.dw_entries.specs.Header.{unit_header_size}
 use Rattle.dw_entries.specs.Tree.{Node, Nodes, leaf, parent, none, ◌then◌, node_bytes}
@@ -125,12 +125,7 @@ count_more u us from =
 pub entries_after : (unit id at unit_to id_to to : ℕ) (us more : List DebugUnit) → AreFrom at us
     → unit_to ≡ unit + length us → id_to ≡ id + length (entries_of us) → to ≡ at + length (units_bytes us)
     → entries_from unit id at (us ++ more) ≡ entries_from unit id at us ++ entries_from unit_to id_to to more
-entries_after unit id at unit_to id_to to [] more from u i p =
-    rw (
-      let e : unit_to ≡ unit = omega (arith, u) in e,
-      let e : id_to ≡ id = omega (arith, i) in e,
-      let e : to ≡ at = omega (arith, p) in e,
-    ) refl
+entries_after unit id at unit_to id_to to [] more from u i p = search (rules)
 entries_after unit id at unit_to id_to to (v ∷ us) more (here, from) u i p =
     let es : List Entry = node_entries unit None 0 None id (at + unit_header_size v.header.kind) v.root in
     let count = count_more v us (subst (λ (n : ℕ). AreFrom (n + length (unit_bytes v)) us) (sym here) from) in
@@ -144,8 +139,7 @@ entries_after unit id at unit_to id_to to (v ∷ us) more (here, from) u i p =
 placed_after : (id at id_to to : ℕ) (us more : List DebugUnit) → AreFrom at us
     → id_to ≡ id + length (entries_of us) → to ≡ at + length (units_bytes us)
     → placed_from at id (us ++ more) ≡ placed_from at id us ++ placed_from to id_to more
-placed_after id at id_to to [] more from i p =
-    rw (let e : id_to ≡ id = omega (arith, i) in e, let e : to ≡ at = omega (arith, p) in e) refl
+placed_after id at id_to to [] more from i p = search (rules)
 placed_after id at id_to to (v ∷ us) more (here, from) i p =
     let count = count_more v us (subst (λ (n : ℕ). AreFrom (n + length (unit_bytes v)) us) (sym here) from) in
     ap (λ (xs : List PlacedUnit). record { at = at; first = id; unit = v } ∷ xs)
@@ -188,39 +182,31 @@ two_ways i n = grind arith
 -- an element of a list that is moved, before others
 moved_get : {X Y : Type 0} (f : X → Y) (xs : List X) (more : List Y) (i : ℕ) (x : X) → slice_get xs i ≡ Some x
     → slice_get (map f xs ++ more) i ≡ Some (f x)
-moved_get f xs more i x is =
-    let below = slice_get_within xs i x is in
-    get_front (map f xs) more i (omega (arith, below, length-map xs f)) ∙ slice_get-map f xs i
-    ∙ ap (option_map f) is
+moved_get f xs more i x is = search (rules, slice_get_within, get_front, length-map, slice_get-map)
 
 moved_found : {X Y : Type 0} (f : X → Y) (xs : List X) (more : List Y) (i : ℕ) (y : Y) → i < length xs
     → slice_get (map f xs ++ more) i ≡ Some y → (x : X) × (slice_get xs i ≡ Some x) × (f x ≡ y)
-moved_found f xs more i y below is =
-    map_some f (slice_get xs i) y
-    (sym (slice_get-map f xs i) ∙ sym (get_front (map f xs) more i (omega (arith, below, length-map xs f))) ∙ is)
+moved_found f xs more i y below is = search (rules, map_some, slice_get-map, get_front, length-map)
 
 -- an element of the list behind
 moved_behind : {X Y : Type 0} (f : X → Y) (xs : List X) (more : List Y) (i j : ℕ) → i ≡ length xs + j
     → slice_get (map f xs ++ more) i ≡ slice_get more j
-moved_behind f xs more i j is =
-    let long = length-map xs f in
-    get_behind (map f xs) more i (omega (arith, is, long))
-    ∙ ap (slice_get more) (let e : i - length (map f xs) ≡ j = omega (arith, is, long) in e)
+moved_behind f xs more i j is = search (rules, length-map, get_behind)
 
 -- an entry among all: the batch that it is of, and which entry of the batch alone
-pub record Found (batches : List PlacedBatch) (id i : ℕ) (e : Entry) : Type 0 where
+pub record Found (batches : List PlacedBatch) (id : ℕ) (e : Entry) : Type 0 where
   pub which : ℕ
   pub place : PlacedBatch
   pub is_place : slice_get batches which ≡ Some place
   pub inner : ℕ
   pub entry : Entry
   pub is_entry : slice_get (entries_of place.units) inner ≡ Some entry
-  pub begins : id + i ≡ place.first + inner
+  pub begins : id ≡ place.first + inner
   pub same : moved place.number place.first entry ≡ e
 
 found_from : (number first at : ℕ) (bs : List (List DebugUnit)) (i : ℕ) (e : Entry) → AreFrom at (joined bs)
     → slice_get (entries_from number first at (joined bs)) i ≡ Some e
-    → Found (batches_from number first at bs) first i e
+    → Found (batches_from number first at bs) (first + i) e
 found_from number first at [] i e from is = absurd cc
 found_from number first at (units ∷ bs) i e from is =
     go (λ j. found_from (number + length units) (first + length (entries_of units)) (at + length (units_bytes units)) bs
@@ -239,9 +225,9 @@ found_from number first at (units ∷ bs) i e from is =
 
     go : ((j : ℕ) → slice_get behind j ≡ Some e
         → Found (batches_from (number + length units) (first + length (entries_of units))
-        (at + length (units_bytes units)) bs) (first + length (entries_of units)) j e)
+        (at + length (units_bytes units)) bs) (first + length (entries_of units) + j) e)
         → (i < length (entries_of units)) ⊎ (length (entries_of units) ≤ i)
-        → Found (batches_from number first at (units ∷ bs)) first i e
+        → Found (batches_from number first at (units ∷ bs)) (first + i) e
     go in_rest (inl below) =
         let (d, is_d, same) = moved_found (moved number first) (entries_of units) behind i e below here in
         record {
@@ -309,31 +295,11 @@ module _ {X Y : Type 0} (begin : (number first : ℕ) → ℕ) (alone : List Deb
 
 -- ---- the same of all entries
 
-pub record IsOf (bs : List (List DebugUnit)) (i : ℕ) (e : Entry) : Type 0 where
-  pub which : ℕ
-  pub place : PlacedBatch
-  pub is_place : slice_get (placed_batches bs) which ≡ Some place
-  pub inner : ℕ
-  pub entry : Entry
-  pub is_entry : slice_get (entries_of place.units) inner ≡ Some entry
-  pub begins : i ≡ place.first + inner
-  pub same : moved place.number place.first entry ≡ e
-
 module _ (bs : List (List DebugUnit)) (from : AreJoined bs) where
-  pub found : (i : ℕ) (e : Entry) → slice_get (entries_of (joined bs)) i ≡ Some e → IsOf bs i e
+  pub found : (i : ℕ) (e : Entry) → slice_get (entries_of (joined bs)) i ≡ Some e → Found (placed_batches bs) i e
   found i e is =
-      let f = found_from 0 0 (start_of (joined bs)) bs i e from is in
-      let begins = f.begins in
-      record {
-        which = f.which;
-        place = f.place;
-        is_place = f.is_place;
-        inner = f.inner;
-        entry = f.entry;
-        is_entry = f.is_entry;
-        begins = omega (arith, begins);
-        same = f.same;
-      }
+      let here : 0 + i ≡ i = omega arith in
+      subst (λ (n : ℕ). Found (placed_batches bs) n e) here (found_from 0 0 (start_of (joined bs)) bs i e from is)
 
   pub get : (k : ℕ) (p : PlacedBatch) (inner : ℕ) (d : Entry)
       → slice_get (placed_batches bs) k ≡ Some p → slice_get (entries_of p.units) inner ≡ Some d
@@ -359,35 +325,23 @@ module _ (bs : List (List DebugUnit)) (from : AreJoined bs) where
   module _ (k : ℕ) (p : PlacedBatch) (is : slice_get (placed_batches bs) k ≡ Some p) (inner : ℕ) where
     got : inner < length (entries_of p.units) → slice_get (entries_of (joined bs)) (p.first + inner)
         ≡ Some (moved p.number p.first (entry_of (entries_of p.units) inner))
-    got inside =
-        get k p inner (entry_of (entries_of p.units) inner) is
-        (slice_get-get_or (entries_of p.units) inner no_entry inside)
+    got inside = search (rules, get, slice_get-get_or)
 
     pub entry_within : inner < length (entries_of p.units)
         → p.first + inner < length (entries_of (joined bs))
-    entry_within inside =
-        slice_get_within (entries_of (joined bs)) (p.first + inner)
-        (moved p.number p.first (entry_of (entries_of p.units) inner)) (got inside)
+    entry_within inside = search (rules, slice_get_within, got)
 
     pub entry_at : inner < length (entries_of p.units) → entry_of (entries_of (joined bs)) (p.first + inner)
         ≡ moved p.number p.first (entry_of (entries_of p.units) inner)
-    entry_at inside =
-        get_or_from_slice_get (entries_of (joined bs)) (p.first + inner)
-        (moved p.number p.first (entry_of (entries_of p.units) inner)) no_entry (got inside)
+    entry_at inside = search (rules, get_or_from_slice_get, got)
 
     got_unit : inner < length p.units → slice_get (placed (joined bs)) (p.number + inner)
         ≡ Some (moved_unit p.first (placed_of (placed p.units) inner))
-    got_unit inside =
-        unit_get k p inner (placed_of (placed p.units) inner) is
-        (slice_get-get_or (placed p.units) inner no_placed (omega (arith, inside, length-placed p.units)))
+    got_unit inside = search (rules, unit_get, slice_get-get_or, length-placed)
 
     pub unit_within : inner < length p.units → p.number + inner < length (placed (joined bs))
-    unit_within inside =
-        slice_get_within (placed (joined bs)) (p.number + inner)
-        (moved_unit p.first (placed_of (placed p.units) inner)) (got_unit inside)
+    unit_within inside = search (rules, slice_get_within, got_unit)
 
     pub unit_at : inner < length p.units → placed_of (placed (joined bs)) (p.number + inner)
         ≡ moved_unit p.first (placed_of (placed p.units) inner)
-    unit_at inside =
-        get_or_from_slice_get (placed (joined bs)) (p.number + inner)
-        (moved_unit p.first (placed_of (placed p.units) inner)) no_placed (got_unit inside)
+    unit_at inside = search (rules, get_or_from_slice_get, got_unit)

@@ -123,10 +123,6 @@ module _ (s : Sections) (bs : List (List DebugUnit)) (all : AreBatches s bs) (k 
         → (reach_of (entries_of (joined bs)) (placed (joined bs)) (p.number + j) v
         ≡ moved_number p.first (reach_of (entries_of p.units) (placed p.units) j v))
         ⊎ ((is_offset v ≡ true) × (reach_of (entries_of p.units) (placed p.units) j v ≡ None))
-    reach_either (ref_info offset) stays =
-        elim (info_either offset (offset_is (entries_of p.units) offset) refl) [
-          | inl same ↦ inl same
-          | inr none ↦ inr (refl, none)
-        ]
+    reach_either (ref_info offset) stays = search (rules, info_either)
     reach_either (ref_unit offset) stays = inl (in_unit_moved offset)
     reach_either v stays = inl (search (rules))

@@ -9,7 +9,7 @@ use Rattle.dw_forms.specs.Value.{Datum}
 use Rattle.dw_forms.specs.declared.rule.Rule.{Rule}
 use Rattle.dw_entries.specs.Units.{DebugUnit, AreFrom, unit_bytes}
 use Rattle.dw_entries.specs.Lookups.{entry_head}
-use Rattle.dw_entries.specs.Entries.{Entry, entries_of, node_count, start_of, PlacedUnit, placed_from, placed}
+use Rattle.dw_entries.specs.Entries.{Entry, entries_of, node_count, PlacedUnit, placed_from, placed}
 use Rattle.dw_forms.specs.declared.rule.Rule.TheVariants.{NoEntry, WrongKind, NotNextSibling, NoSignature}
 use Rattle.dw_entries.specs.Places.{at_attribute}
 use Rattle.dw_forms.specs.Rules.{number_of}
@@ -19,7 +19,7 @@ use Rattle.dw_entries.proofs.HeadLaws.{all-append}
 use Rattle.dw_entries.proofs.Firsts.{same_some}
 use Rattle.dw_links.specs.Signatures.{type_unit_of}
 use Rattle.dw_links.specs.Targets.{reach_of}
-use Rattle.dw_links.specs.References.{permits, is_reference_value, is_signature, NoSignatureThere, IsOtherThan, ReachesWrong, ReferenceFailsBy, ReferenceFails, HeaderFails, HeaderFailures, AttributeFailures, ReferenceFailures}
+use Rattle.dw_links.specs.References.{permits, is_reference_value, is_signature, NoSignatureThere, IsOtherThan, ReachesWrong, ReferenceFailsBy, ReferenceFails, HeaderFailures, AttributeFailures, ReferenceFailures}
 use Rattle.dw_links.proofs.ListLookups.{there}
 use Rattle.dw_links.proofs.TargetLemmas.{reach_within}
 use Rattle.dw_units.specs.IndependentBatches.{joined, HaveNoTypeUnit, StandsAlone}
@@ -63,8 +63,7 @@ other_in_place first (Some next) alone (id, reached, apart) =
 next_none : (first : ℕ) (next reached : Option ℕ) → reached ≡ None → IsOtherThan next reached
     → (there : Option ℕ) → IsOtherThan (moved_number first next) there
 next_none first None reached none apart there = tt
-next_none first (Some next) reached none (id, reaches, other) there =
-    let no : ◌≡◌ {A = Option ℕ} None (Some id) = sym none ∙ reaches in absurd cc
+next_none first (Some next) reached none (id, reaches, other) there = search (rules)
 
 one_least : (rule : Rule) → 1 ≤ number_of rule
 one_least rule = search (rules)
@@ -101,19 +100,14 @@ module _ (s : Sections) (bs : List (List DebugUnit)) (all : AreBatches s bs) (k 
       → ReferenceFailsBy (entries_of (joined bs)) (placed (joined bs)) (entry_head (moved p.number p.first e))
       attribute v rule
       → ReferenceFailsBy (entries_of p.units) (placed p.units) (entry_head e) attribute v rule
-  by_alone e attribute v NoEntry stays reached (other, none) =
-      (other, none_moved p.first (reach_of (entries_of p.units) (placed p.units) e.unit v) (sym reached ∙ none))
+  by_alone e attribute v NoEntry stays reached (other, none) = search (rules, none_moved)
   by_alone e attribute v WrongKind stays reached (inl form) = inl form
   by_alone e attribute v WrongKind stays reached (inr wrong) =
       let all : List Entry = entries_of (joined bs) in
       inr (wrong_alone e attribute (reach_of (entries_of p.units) (placed p.units) e.unit v)
       (reached_below (entries_of p.units) (placed p.units) e.unit v)
       (subst (ReachesWrong all (entry_head (moved p.number p.first e)) attribute) reached wrong))
-  by_alone e attribute v NotNextSibling stays reached (sibling, other) = (
-    sibling,
-    other_alone p.first e.next (reach_of (entries_of p.units) (placed p.units) e.unit v)
-        (subst (IsOtherThan (moved_number p.first e.next)) reached other),
-  )
+  by_alone e attribute v NotNextSibling stays reached (sibling, other) = search (rules, other_alone, moved_number)
   by_alone e attribute v NoSignature stays reached fails =
       absurd (no_signature (placed (joined bs)) v stays fails)
   by_alone e attribute v rule stays reached fails = absurd fails
@@ -147,13 +141,8 @@ module _ (s : Sections) (bs : List (List DebugUnit)) (all : AreBatches s bs) (k 
       attribute v rule
   by_none e attribute v NoEntry stays none other fails = absurd (other refl)
   by_none e attribute v WrongKind stays none other (inl form) = inl form
-  by_none e attribute v WrongKind stays none other (inr wrong) =
-      let no : ◌≡◌ {A = Option ℕ} None (Some wrong.id) = sym none ∙ wrong.reaches in absurd cc
-  by_none e attribute v NotNextSibling stays none other (sibling, apart) = (
-    sibling,
-    next_none p.first e.next (reach_of (entries_of p.units) (placed p.units) e.unit v) none apart
-        (reach_of (entries_of (joined bs)) (placed (joined bs)) (p.number + e.unit) v),
-  )
+  by_none e attribute v WrongKind stays none other (inr wrong) = search (rules)
+  by_none e attribute v NotNextSibling stays none other (sibling, apart) = search (rules, next_none)
   by_none e attribute v NoSignature stays none other fails = absurd (no_signature (placed p.units) v stays fails)
   by_none e attribute v rule stays none other fails = absurd fails
 
@@ -199,16 +188,12 @@ no_header_in at first (u ∷ us) (one, more) (suc number) q is =
 -- no unit is a type unit, so no rule fails at a header
 no_header_fails : (entries : List Entry) (us : List DebugUnit) → HaveNoTypeUnit us
     → HasNone (HeaderFailures entries (placed us))
-no_header_fails entries us none f fails =
-    subst (λ (o : Option (ℕ × ℕ)). HeaderFails entries (placed us) fails.number fails.item.at o f.rule)
-    (no_header_in (start_of us) 0 us none fails.number fails.item fails.is_item) fails.fails.fails
+no_header_fails entries us none f fails = search (rules, no_header_in)
 
 none_joined : (s : Sections) (bs : List (List DebugUnit)) → AllByRecursion (StaysAlone s) bs
     → HaveNoTypeUnit (joined bs)
 none_joined s [] all = tt
-none_joined s (units ∷ bs) (one, more) =
-    all-append (λ (u : DebugUnit). type_unit_of u.header.kind ≡ None) units (joined bs) one.no_type_unit
-    (none_joined s bs more)
+none_joined s (units ∷ bs) (one, more) = search (rules, all-append, (none_joined s bs more))
 
 attributes_batches : (s : Sections) (bs : List (List DebugUnit)) → AreBatches s bs
     → AreOfBatches bs (AttributeFailures (entries_of (joined bs)) (placed (joined bs)))
@@ -267,10 +252,7 @@ pub record Refer (s : Sections) (bs : List (List DebugUnit)) : Type 0 where
 
 pub refer_of : (s : Sections) (bs : List (List DebugUnit)) → AllByRecursion (StandsAlone s) bs
     → AreFrom s.base (joined bs) → Refer s bs
-refer_of s bs all follow = record {
-  apart = apart_of s bs all follow;
-  none = each_of (StandsAlone s) (λ units. HasNone (ReferenceFailures units)) bs (λ units one. one.references) all;
-}
+refer_of s bs all follow = search (rules, apart_of, each_of)
 
 offset_refers : (v : Datum) → is_offset v ≡ true → is_reference_value v ≡ true
 offset_refers v is = search (rules)

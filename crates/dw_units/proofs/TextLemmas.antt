@@ -9,7 +9,7 @@ use Rattle.dw_forms.specs.declared.rule.Rule.{Rule}
 use Rattle.dw_entries.specs.Header.{version_of}
 use Rattle.dw_entries.specs.Units.{DebugUnit, IsUnit, AreUnits, AreFrom, units_bytes}
 use Rattle.dw_entries.specs.Entries.{Entry, entries_of, PlacedUnit, placed}
-use Rattle.dw_entries.specs.Places.{Place, at_attribute, IsBefore}
+use Rattle.dw_entries.specs.Places.{at_attribute}
 use Rattle.dw_entries.specs.Failures.{Failure, Precedes}
 use Rattle.dw_forms.specs.Rules.{number_of}
 use Rattle.dw_entries.specs.EntryRules.{HasAttribute, AtEntries, values_of}
@@ -55,11 +55,7 @@ each_of P Q (units ∷ bs) holds (one, more) = (holds units one, each_of P Q bs 
 pub apart_of : (s : Sections) (bs : List (List DebugUnit)) → AllByRecursion (StandsAlone s) bs
     → AreFrom s.base (joined bs)
     → AreBatches s bs
-apart_of s bs all follow = record {
-  stay = each_of (StandsAlone s) (StaysAlone s) bs
-      (λ units one. record { are = one.are; no_type_unit = one.no_type_unit; stays = one.stays }) all;
-  follow = follow;
-}
+apart_of s bs all follow = search (rules, each_of)
 
 pub units_joined : (s : Sections) (bs : List (List DebugUnit)) → AllByRecursion (StaysAlone s) bs
     → AreUnits s.«abbrev».now (joined bs)
@@ -86,11 +82,8 @@ rises_between low high (q ∷ rs) p = let more = rises_between (suc q.at) high r
 rises_inside : (low high : ℕ) (rs : List Record) (k : ℕ) (r : Record) → Rises low high rs → slice_get rs k ≡ Some r
     → (low ≤ r.at) × (r.at < high)
 rises_inside low high [] k r p is = absurd cc
-rises_inside low high (q ∷ rs) zero r p is =
-    at_front (λ (x : Record). (low ≤ x.at) × (x.at < high)) q r is
-    (p.0, let few = rises_between (suc q.at) high rs p.1 in omega (arith, few))
-rises_inside low high (q ∷ rs) (suc k) r p is =
-    let (over, under) = rises_inside (suc q.at) high rs k r p.1 is in (omega (arith, over, p.0), under)
+rises_inside low high (q ∷ rs) zero r p is = search (rules, at_front, rises_between)
+rises_inside low high (q ∷ rs) (suc k) r p is = search (rules, (rises_inside (suc q.at) high rs k r p.1 is))
 
 pub entry_inside : (a : List ℕ) (at : ℕ) (units : List DebugUnit) (k : ℕ) (e : Entry) → AreUnits a units
     → AreFrom at units → slice_get (entries_of units) k ≡ Some e
@@ -124,13 +117,13 @@ FailAlike bs Fails Alone =
 
 no_later : (f g : Failure) → f.place ≡ g.place → number_of g.rule ≤ number_of f.rule → (h : Failure) → Precedes f h
     → Precedes g h
-no_later f g place early h (inl before) = inl (subst (λ (q : Place). IsBefore q h.place) place before)
+no_later f g place early h (inl before) = search (rules)
 no_later f g place early h (inr (here, less)) = inr (sym place ∙ here, omega (arith, early, less))
 
 -- where the same rules fail in the place as alone
 same_rules : (P Q : Rule → Type 0) (units : List DebugUnit) (rule : Rule) → (P rule → Q rule) → (Q rule → P rule)
     → (P rule → FailsBy Q rule) × (Q rule → IsFirm units rule → P rule)
-same_rules P Q units rule down up = (λ fails. (rule, down fails, omega arith), λ fails firm. up fails)
+same_rules P Q units rule down up = search (rules)
 
 pub heads_batches : (s : Sections) (bs : List (List DebugUnit)) (Fails : Rules) (Alone : List DebugUnit → Rules)
     → AreBatches s bs
@@ -186,46 +179,101 @@ heads_batches s bs Fails Alone all alike = record {
       (batch_from bs k p (are_joined s bs all) is) fails.is_item);
 }
 
--- a unit of the batch, in its place
-pub placed_at : (bs : List (List DebugUnit)) (from : AreJoined bs) (k : ℕ) (p : PlacedBatch)
-    → slice_get (placed_batches bs) k ≡ Some p
-    → (e : Entry) (q r : PlacedUnit) → slice_get (placed p.units) e.unit ≡ Some q
-    → slice_get (placed (joined bs)) (p.number + e.unit) ≡ Some r → r ≡ moved_unit p.first q
-placed_at bs from k p is e q r is_q is_r =
-    same_some (slice_get (placed (joined bs)) (p.number + e.unit)) r (moved_unit p.first q) is_r
-    (unit_get bs from k p e.unit q is is_q)
+-- of the head only its parent is asked
+strings_in : (s : Sections) (header : UnitHeader) (strings addresses : Option ℕ) (number first : ℕ) (e : Entry)
+    (attribute : ℕ) (v : Datum)
+    (rule : Rule) → StringFailsIn s header strings addresses (entry_head (moved number first e)) attribute v rule
+    → StringFailsIn s header strings addresses (entry_head e) attribute v rule
+strings_in s header strings addresses number first e attribute v rule is = search (rules, none_moved)
 
--- ---- classes
+strings_in_place : (s : Sections) (header : UnitHeader) (strings addresses : Option ℕ) (number first : ℕ) (e : Entry)
+    (attribute : ℕ) (v : Datum)
+    (rule : Rule) → StringFailsIn s header strings addresses (entry_head e) attribute v rule
+    → StringFailsIn s header strings addresses (entry_head (moved number first e)) attribute v rule
+strings_in_place s header strings addresses number first e attribute v rule is = search (rules, moved_number)
 
-class_alone : (bs : List (List DebugUnit)) (from : AreJoined bs) (k : ℕ) (p : PlacedBatch)
-    → slice_get (placed_batches bs) k ≡ Some p
-    → (e : Entry) (q : PlacedUnit)
-    → slice_get (placed p.units) e.unit ≡ Some q
-    → (attribute : ℕ) (v : Datum) (rule : Rule)
-    → ClassFails (placed (joined bs)) (entry_head (moved p.number p.first e)) attribute v rule
-    → ClassFails (placed p.units) (entry_head e) attribute v rule
-class_alone bs from k p is e q is_q attribute v rule fails =
-    let same = placed_at bs from k p is e q fails.unit is_q fails.in_unit in
-    record {
-      unit = q;
-      in_unit = is_q;
-      class =
-          subst (λ (r : PlacedUnit). allows_in (version_of r.unit.header.kind) attribute (class_of v) ≡ false) same
-          fails.class;
-      only = fails.only;
-    }
+module _ (bs : List (List DebugUnit)) (from : AreJoined bs) (k : ℕ) (p : PlacedBatch)
+    (is : slice_get (placed_batches bs) k ≡ Some p) where
+  -- a unit of the batch, in its place
+  placed_at : (e : Entry) (q r : PlacedUnit) → slice_get (placed p.units) e.unit ≡ Some q
+      → slice_get (placed (joined bs)) (p.number + e.unit) ≡ Some r → r ≡ moved_unit p.first q
+  placed_at e q r is_q is_r = search (rules, same_some, moved_unit, unit_get)
 
-class_in_place : (bs : List (List DebugUnit)) (from : AreJoined bs) (k : ℕ) (p : PlacedBatch)
-    → slice_get (placed_batches bs) k ≡ Some p
-    → (e : Entry)
-    → (attribute : ℕ) (v : Datum) (rule : Rule) → ClassFails (placed p.units) (entry_head e) attribute v rule
-    → ClassFails (placed (joined bs)) (entry_head (moved p.number p.first e)) attribute v rule
-class_in_place bs from k p is e attribute v rule fails = record {
-  unit = moved_unit p.first fails.unit;
-  in_unit = unit_get bs from k p e.unit fails.unit is fails.in_unit;
-  class = fails.class;
-  only = fails.only;
-}
+  -- ---- classes
+
+  class_alone : (e : Entry) (q : PlacedUnit) → slice_get (placed p.units) e.unit ≡ Some q
+      → (attribute : ℕ) (v : Datum) (rule : Rule)
+      → ClassFails (placed (joined bs)) (entry_head (moved p.number p.first e)) attribute v rule
+      → ClassFails (placed p.units) (entry_head e) attribute v rule
+  class_alone e q is_q attribute v rule fails = record {
+    unit = q;
+    in_unit = is_q;
+    class =
+        subst (λ (r : PlacedUnit). allows_in (version_of r.unit.header.kind) attribute (class_of v) ≡ false)
+        (placed_at e q fails.unit is_q fails.in_unit) fails.class;
+    only = fails.only;
+  }
+
+  class_in_place : (e : Entry) (attribute : ℕ) (v : Datum) (rule : Rule)
+      → ClassFails (placed p.units) (entry_head e) attribute v rule
+      → ClassFails (placed (joined bs)) (entry_head (moved p.number p.first e)) attribute v rule
+  class_in_place e attribute v rule fails = record {
+    unit = moved_unit p.first fails.unit;
+    in_unit = unit_get bs from k p e.unit fails.unit is fails.in_unit;
+    class = fails.class;
+    only = fails.only;
+  }
+
+  -- ---- strings and addresses
+
+  -- the unit's bases are those of the unit in the batch alone
+  base_same : (j : ℕ) (q : PlacedUnit) → slice_get (placed p.units) j ≡ Some q → (attribute : ℕ)
+      → base_in (entries_of (joined bs)) (moved_unit p.first q) attribute ≡ base_in (entries_of p.units) q attribute
+  base_same j q is_q attribute =
+      let all = first_entry (joined bs) (p.number + j) (moved_unit p.first q) (unit_get bs from k p j q is is_q) in
+      let alone = first_entry p.units j q is_q in
+      let heads : all.entry.head ≡ alone.entry.head = all.is_first.head ∙ sym alone.is_first.head in
+      let F : Option Entry → Option ℕ = λ o. if version_of q.unit.header.kind == 4 then None else option_and_then
+      (λ (first : Entry). section_offset_of first attribute) o in
+      let G : Head → Option ℕ = λ h. if version_of q.unit.header.kind == 4 then None
+      else option_and_then section_offset_in (value_in (values_of h) attribute) in
+      ap F all.is_entry ∙ ap G heads ∙ sym (ap F alone.is_entry)
+
+  string_alone : (s : Sections) (e : Entry) (q : PlacedUnit) → slice_get (placed p.units) e.unit ≡ Some q
+      → (attribute : ℕ) (v : Datum) (rule : Rule)
+      → StringFails s (entries_of (joined bs)) (placed (joined bs)) (entry_head (moved p.number p.first e)) attribute v
+      rule
+      → StringFails s (entries_of p.units) (placed p.units) (entry_head e) attribute v rule
+  string_alone s e q is_q attribute v rule fails =
+      let same = placed_at e q fails.unit is_q fails.in_unit in
+      let head = entry_head (moved p.number p.first e) in
+      let here = subst (λ (r : PlacedUnit). StringFailsIn s r.unit.header
+      (base_in (entries_of (joined bs)) r DW_AT_str_offsets_base)
+      (base_in (entries_of (joined bs)) r DW_AT_addr_base) head attribute v rule) same fails.fails in
+      record {
+        unit = q;
+        in_unit = is_q;
+        fails = strings_in s q.unit.header (base_in (entries_of p.units) q DW_AT_str_offsets_base)
+            (base_in (entries_of p.units) q DW_AT_addr_base) p.number p.first e attribute v rule
+            (rw (base_same e.unit q is_q DW_AT_addr_base) at
+            (rw (base_same e.unit q is_q DW_AT_str_offsets_base) at here));
+      }
+
+  string_in_place : (s : Sections) (e : Entry) (attribute : ℕ) (v : Datum) (rule : Rule)
+      → StringFails s (entries_of p.units) (placed p.units) (entry_head e) attribute v rule
+      → StringFails s (entries_of (joined bs)) (placed (joined bs)) (entry_head (moved p.number p.first e)) attribute v
+      rule
+  string_in_place s e attribute v rule fails =
+      let q = fails.unit in
+      record {
+        unit = moved_unit p.first q;
+        in_unit = unit_get bs from k p e.unit q is fails.in_unit;
+        fails = rw (
+          base_same e.unit q fails.in_unit DW_AT_str_offsets_base,
+          base_same e.unit q fails.in_unit DW_AT_addr_base,
+        ) (strings_in_place s q.unit.header (base_in (entries_of p.units) q DW_AT_str_offsets_base)
+            (base_in (entries_of p.units) q DW_AT_addr_base) p.number p.first e attribute v rule fails.fails);
+      }
 
 pub classes_batches : (s : Sections) (bs : List (List DebugUnit)) → AreBatches s bs
     → AreOfBatches bs (ClassFailures (joined bs)) ClassFailures
@@ -238,78 +286,6 @@ classes_batches s bs all =
     (ClassFails (placed p.units) (entry_head e) attribute v) p.units rule
     (class_alone bs from k p is e q is_q attribute v rule) (class_in_place bs from k p is e attribute v rule))
 
--- ---- strings and addresses
-
--- the unit's bases are those of the unit in the batch alone
-pub base_same : (bs : List (List DebugUnit)) (from : AreJoined bs) (k : ℕ) (p : PlacedBatch) (j : ℕ) (q : PlacedUnit)
-    (attribute : ℕ)
-    → slice_get (placed_batches bs) k ≡ Some p → slice_get (placed p.units) j ≡ Some q
-    → base_in (entries_of (joined bs)) (moved_unit p.first q) attribute
-    ≡ base_in (entries_of p.units) q attribute
-base_same bs from k p j q attribute is is_q =
-    let all = first_entry (joined bs) (p.number + j) (moved_unit p.first q) (unit_get bs from k p j q is is_q)
-    in
-    let alone = first_entry p.units j q is_q in
-    let heads : all.entry.head ≡ alone.entry.head = all.is_first.head ∙ sym alone.is_first.head in
-    let F : Option Entry → Option ℕ = λ o. if version_of q.unit.header.kind == 4 then None else option_and_then
-    (λ (first : Entry). section_offset_of first attribute) o in
-    let G : Head → Option ℕ = λ h. if version_of q.unit.header.kind == 4 then None
-    else option_and_then section_offset_in (value_in (values_of h) attribute) in
-    ap F all.is_entry ∙ ap G heads ∙ sym (ap F alone.is_entry)
-
--- of the head only its parent is asked
-strings_in : (s : Sections) (header : UnitHeader) (strings addresses : Option ℕ) (number first : ℕ) (e : Entry)
-    (attribute : ℕ) (v : Datum)
-    (rule : Rule) → StringFailsIn s header strings addresses (entry_head (moved number first e)) attribute v rule
-    → StringFailsIn s header strings addresses (entry_head e) attribute v rule
-strings_in s header strings addresses number first e attribute v rule is = search (rules, none_moved)
-
-string_alone : (s : Sections) (bs : List (List DebugUnit)) (from : AreJoined bs) (k : ℕ) (p : PlacedBatch)
-    → slice_get (placed_batches bs) k ≡ Some p → (e : Entry) (q : PlacedUnit)
-    → slice_get (placed p.units) e.unit ≡ Some q → (attribute : ℕ) (v : Datum) (rule : Rule)
-    → StringFails s (entries_of (joined bs)) (placed (joined bs)) (entry_head (moved p.number p.first e))
-    attribute
-    v rule
-    → StringFails s (entries_of p.units) (placed p.units) (entry_head e) attribute v rule
-string_alone s bs from k p is e q is_q attribute v rule fails =
-    let same = placed_at bs from k p is e q fails.unit is_q fails.in_unit in
-    let head = entry_head (moved p.number p.first e) in
-    let here = subst (λ (r : PlacedUnit). StringFailsIn s r.unit.header
-    (base_in (entries_of (joined bs)) r DW_AT_str_offsets_base)
-    (base_in (entries_of (joined bs)) r DW_AT_addr_base) head attribute v rule) same fails.fails in
-    record {
-      unit = q;
-      in_unit = is_q;
-      fails = strings_in s q.unit.header (base_in (entries_of p.units) q DW_AT_str_offsets_base)
-          (base_in (entries_of p.units) q DW_AT_addr_base) p.number p.first e attribute v rule
-          (rw (base_same bs from k p e.unit q DW_AT_addr_base is is_q) at
-          (rw (base_same bs from k p e.unit q DW_AT_str_offsets_base is is_q) at here));
-    }
-
-strings_in_place : (s : Sections) (header : UnitHeader) (strings addresses : Option ℕ) (number first : ℕ) (e : Entry)
-    (attribute : ℕ) (v : Datum)
-    (rule : Rule) → StringFailsIn s header strings addresses (entry_head e) attribute v rule
-    → StringFailsIn s header strings addresses (entry_head (moved number first e)) attribute v rule
-strings_in_place s header strings addresses number first e attribute v rule is = search (rules, moved_number)
-
-string_in_place : (s : Sections) (bs : List (List DebugUnit)) (from : AreJoined bs) (k : ℕ) (p : PlacedBatch)
-    → slice_get (placed_batches bs) k ≡ Some p → (e : Entry) → (attribute : ℕ) (v : Datum) (rule : Rule)
-    → StringFails s (entries_of p.units) (placed p.units) (entry_head e) attribute v rule
-    → StringFails s (entries_of (joined bs)) (placed (joined bs)) (entry_head (moved p.number p.first e))
-    attribute
-    v rule
-string_in_place s bs from k p is e attribute v rule fails =
-    let q = fails.unit in
-    record {
-      unit = moved_unit p.first q;
-      in_unit = unit_get bs from k p e.unit q is fails.in_unit;
-      fails = rw (
-        base_same bs from k p e.unit q DW_AT_str_offsets_base is fails.in_unit,
-        base_same bs from k p e.unit q DW_AT_addr_base is fails.in_unit,
-      ) (strings_in_place s q.unit.header (base_in (entries_of p.units) q DW_AT_str_offsets_base)
-          (base_in (entries_of p.units) q DW_AT_addr_base) p.number p.first e attribute v rule fails.fails);
-    }
-
 pub strings_batches : (s : Sections) (bs : List (List DebugUnit)) → AreBatches s bs
     → AreOfBatches bs (StringFailures s (joined bs)) (StringFailures s)
 strings_batches s bs all =
@@ -319,7 +295,6 @@ strings_batches s bs all =
     let from = are_joined s bs all in
     let (q, is_q, below) = unit_below s p.units (stays_at s bs k p all is) inner e is_e in
     same_rules
-    (StringFails s (entries_of (joined bs)) (placed (joined bs)) (entry_head (moved p.number p.first e))
-    attribute
-    v) (StringFails s (entries_of p.units) (placed p.units) (entry_head e) attribute v) p.units rule
-    (string_alone s bs from k p is e q is_q attribute v rule) (string_in_place s bs from k p is e attribute v rule))
+    (StringFails s (entries_of (joined bs)) (placed (joined bs)) (entry_head (moved p.number p.first e)) attribute v)
+    (StringFails s (entries_of p.units) (placed p.units) (entry_head e) attribute v) p.units rule
+    (string_alone bs from k p is s e q is_q attribute v rule) (string_in_place bs from k p is s e attribute v rule))

@@ -2,15 +2,15 @@
 use Rattle.std.proofs.Common.{rules, ◌≡◌, ℕ, ◌+◌, ◌-◌, zero, suc, ◌<◌, ◌≤◌, Bool, List, [], ◌∷◌, length, map, Option, Some, None, refl, sym, ap, subst, ◌∙◌, arith}
 use Rattle.std.specs.Prelude.{slice_index, is_some, ◌&&◌}
 use Rattle.std.proofs.lemmas.List.{get_or-map, length-map}
-use Rattle.dw_forms.specs.Codes.{DW_AT_signature, DW_AT_type}
+use Rattle.dw_forms.specs.Codes.{DW_AT_type}
 use Rattle.dw_forms.specs.declared.rule.Rule.{Rule}
 use Rattle.dw_entries.specs.Entries.{Entry, entries_of}
 use Rattle.dw_entries.specs.Units.{DebugUnit}
-use Rattle.dw_types.specs.Counts.{count_of, count_read}
-use Rattle.dw_types.specs.Entries.{entry_in, signature_target, type_target}
+use Rattle.dw_types.specs.Counts.{count_of}
+use Rattle.dw_types.specs.Entries.{entry_in, type_target}
 use Rattle.dw_types.specs.Graphs.{Graph, IsStep, IsClosed, IsCycle}
-use Rattle.dw_types.specs.Kinds.{has_members, is_declared_type, passes_type_on}
-use Rattle.dw_types.specs.Shapes.{Sight, fails_shape, is_defined_member, is_plain, numberless, passes_at, sight, violates_shape}
+use Rattle.dw_types.specs.Kinds.{has_members}
+use Rattle.dw_types.specs.Shapes.{fails_shape, is_defined_member, is_plain, numberless, passes_at, sight}
 use Rattle.dw_types.specs.Steps.{by_value, IsStepByValue, by_type, by_member, by_signature}
 use Rattle.dw_types.proofs.StepLemmas.{by_value-from_step, step-from_by_value}
 use Rattle.dw_links.proofs.TableLemmas.{target_within}
@@ -72,16 +72,11 @@ module _ (all : List DebugUnit) (p : PlacedBatch) (w : IsWindow all p) where
   parent_seen : (inner : ℕ) → inner < length (entries_of p.units) → (test : Entry → Bool)
       → passes_at all test (entry_in all (p.first + inner)).parent
       ≡ passes_at p.units test (entry_in p.units inner).parent
-  parent_seen inner inside test =
-      ap (λ (e : Entry). passes_at all test e.parent) (w.entries inner inside)
-      ∙ passes_same test (entry_in p.units inner).parent
-      (λ k is. let before = parent-first p.units inner k is in omega (arith, before, inside))
+  parent_seen inner inside test = search (rules, passes_same, parent-first)
 
   type_seen : (inner : ℕ) → inner < length (entries_of p.units) → (test : Entry → Bool)
       → passes_at all test (type_target all (p.first + inner)) ≡ passes_at p.units test (type_target p.units inner)
-  type_seen inner inside test =
-      ap (passes_at all test) (w.targets inner DW_AT_type inside)
-      ∙ passes_same test (type_target p.units inner) (target_within _ _ _ _)
+  type_seen inner inside test = search (rules, passes_same, target_within)
 
   pub plain_same : (inner : ℕ) → inner < length (entries_of p.units)
       → is_plain all (p.first + inner) ≡ is_plain p.units inner
@@ -90,47 +85,31 @@ module _ (all : List DebugUnit) (p : PlacedBatch) (w : IsWindow all p) where
 
   pub count_same : (inner : ℕ) → inner < length (entries_of p.units)
       → count_of all (p.first + inner) ≡ count_of p.units inner
-  count_same inner inside = λ i. count_read (seen_same inner inside i) (w.languages inner inside i)
+  count_same inner inside = search (rules, seen_same)
 
   pub has_target_same : (inner : ℕ) → inner < length (entries_of p.units)
       → is_some (type_target all (p.first + inner)) ≡ is_some (type_target p.units inner)
-  has_target_same inner inside =
-      ap is_some (w.targets inner DW_AT_type inside) ∙ some_of_moved p.first (type_target p.units inner)
+  has_target_same inner inside = search (rules, some_of_moved)
 
   -- so each rule on shapes looks at the same
   sight_same : (inner : ℕ) → inner < length (entries_of p.units)
       → sight all (p.first + inner) ≡ sight p.units inner
-  sight_same inner inside = λ i. record {
-    entry = seen_same inner inside i;
-    parent_is = λ test. parent_seen inner inside test i;
-    type_is = λ test. type_seen inner inside test i;
-    language = w.languages inner inside i;
-  }
+  sight_same inner inside = search (rules, seen_same, parent_seen, type_seen)
 
   pub shape_same : (inner : ℕ) → inner < length (entries_of p.units) → (rule : Rule)
       → fails_shape all (p.first + inner) rule ≡ fails_shape p.units inner rule
-  shape_same inner inside rule = ap (λ (s : Sight). violates_shape s rule) (sight_same inner inside)
+  shape_same inner inside rule = search (rules, sight_same)
 
   -- the parent of an entry that has one in the batch
   parent_alone : (inner parent : ℕ) → inner < length (entries_of p.units)
       → (entry_in all (p.first + inner)).parent ≡ Some (p.first + parent)
       → (entry_in p.units inner).parent ≡ Some parent
-  parent_alone inner parent inside is =
-      let (k, is_k, same) = some_moved p.first (entry_in p.units inner).parent (p.first + parent)
-      (ap (λ (e : Entry). e.parent) (sym (w.entries inner inside)) ∙ is) in
-      is_k ∙ ap Some (omega (arith, same))
+  parent_alone inner parent inside is = search (rules, some_moved)
 
   -- a step from an entry of the window is one of the entry alone
   step_alone : (inner to : ℕ) → inner < length (entries_of p.units) → IsStepByValue all (p.first + inner) to
       → (k : ℕ) × (k < length (entries_of p.units)) × (to ≡ p.first + k) × IsStepByValue p.units inner k
-  step_alone inner to inside (by_type passes is) =
-      let (k, target, same) = some_moved p.first (type_target p.units inner) to
-      (sym (w.targets inner DW_AT_type inside) ∙ is) in (
-        k,
-        target_within _ _ _ _ k target,
-        sym same,
-        by_type (sym (ap passes_type_on (w.entries inner inside)) ∙ passes) target,
-      )
+  step_alone inner to inside (by_type passes is) = search (rules, some_moved, target_within)
   step_alone inner to inside (by_member member below plain parent is) =
       let (m, within, there) = w.children member inner below inside parent in
       let (k, target, same) = some_moved p.first (type_target p.units m) to
@@ -141,28 +120,17 @@ module _ (all : List DebugUnit) (p : PlacedBatch) (w : IsWindow all p) where
         by_member m within (sym (plain_same m within) ∙ ap (is_plain all) (sym there) ∙ plain)
             (parent_alone m inner within (ap (λ (n : ℕ). (entry_in all n).parent) (sym there) ∙ parent)) target,
       )
-  step_alone inner to inside (by_signature declared is) =
-      let (k, target, same) = some_moved p.first (signature_target p.units inner) to
-      (sym (w.targets inner DW_AT_signature inside) ∙ is) in (
-        k,
-        target_within _ _ _ _ k target,
-        sym same,
-        by_signature (sym (ap is_declared_type (w.entries inner inside)) ∙ declared) target,
-      )
+  step_alone inner to inside (by_signature declared is) = search (rules, some_moved, target_within)
 
   -- and a step of the entry alone is one from the entry of the window
   step_in_place : (inner to : ℕ) → inner < length (entries_of p.units) → IsStepByValue p.units inner to
       → IsStepByValue all (p.first + inner) (p.first + to)
-  step_in_place inner to inside (by_type passes is) =
-      by_type (ap passes_type_on (w.entries inner inside) ∙ passes)
-      (w.targets inner DW_AT_type inside ∙ ap (moved_number p.first) is)
+  step_in_place inner to inside (by_type passes is) = search (rules, moved_number)
   step_in_place inner to inside (by_member member below plain parent is) =
       by_member (p.first + member) (w.within member below) (plain_same member below ∙ plain)
       (ap (λ (e : Entry). e.parent) (w.entries member below) ∙ ap (moved_number p.first) parent)
       (w.targets member DW_AT_type below ∙ ap (moved_number p.first) is)
-  step_in_place inner to inside (by_signature declared is) =
-      by_signature (ap is_declared_type (w.entries inner inside) ∙ declared)
-      (w.targets inner DW_AT_signature inside ∙ ap (moved_number p.first) is)
+  step_in_place inner to inside (by_signature declared is) = search (rules, moved_number)
 
   pub raised : (nodes : List ℕ) (k : ℕ) → k < length nodes
       → slice_index (map (λ (n : ℕ). p.first + n) nodes) k ≡ p.first + slice_index nodes k
@@ -239,14 +207,10 @@ module _ (all : List DebugUnit) (p : PlacedBatch) (w : IsWindow all p) where
         rw (low_from, low_to) alone
 
     pub closed_alone : IsClosed (by_value p.units) (map (λ (n : ℕ). n - p.first) nodes)
-    closed_alone =
-        closed_there (by_value all) (by_value p.units) nodes low (length-map nodes (λ (n : ℕ). n - p.first)) order
-        step_at closed
+    closed_alone = search (rules, closed_there, length-map, order, step_at)
 
     cycle_low : IsCycle (by_value all) nodes → IsCycle (by_value p.units) low
-    cycle_low cycle =
-        cycle_there (by_value all) (by_value p.units) nodes low (length-map nodes (λ (n : ℕ). n - p.first)) order
-        step_at (λ i j i_in j_in same. omega (arith, same, lowered i i_in, lowered j j_in)) cycle
+    cycle_low cycle = search (rules, cycle_there, length-map, order, step_at, lowered)
 
   -- a cycle that begins in the window is one of the entries alone
   pub cycle_alone : (nodes : List ℕ) → IsCycle (by_value all) nodes → (inner : ℕ) → inner < length (entries_of p.units)

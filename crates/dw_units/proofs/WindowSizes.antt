@@ -4,18 +4,16 @@ use Rattle.std.specs.Prelude.{if◌then◌else◌, ◌||◌, All}
 use Rattle.std.specs.List.{list_any, range_with_len}
 use Rattle.std.proofs.lemmas.Bool.{false_from_ne_true}
 use Rattle.std.proofs.lemmas.List.Elements.{filter-append}
-use Rattle.dw_forms.specs.Codes.{DW_AT_signature, DW_AT_type}
 use Rattle.dw_forms.specs.declared.rule.Rule.{Rule}
 use Rattle.dw_forms.specs.declared.rule.Rule.TheVariants.{NoSize, SizeTooGreat, MemberOutside, EnumSize}
 use Rattle.dw_entries.specs.Entries.{Entry, entries_of}
 use Rattle.dw_entries.specs.Units.{DebugUnit}
-use Rattle.dw_links.specs.Constants.{natural_of}
 use Rattle.dw_types.specs.declared.kind.Kind.{Kind}
 use Rattle.dw_types.specs.declared.kind.Kind.TheVariants.{Declared, OwnSized, Pointer, Alias, Enumeration, Array, Subroutine, NoType}
 use Rattle.dw_types.specs.Children.{children_of, is_child, is_parent, IsChildOf}
-use Rattle.dw_types.specs.Entries.{byte_size, entry_in, signature_target, type_target}
+use Rattle.dw_types.specs.Entries.{entry_in, signature_target, type_target}
 use Rattle.dw_types.specs.Extents.{ends_past_container}
-use Rattle.dw_types.specs.Kinds.{is_subrange, kind_of}
+use Rattle.dw_types.specs.Kinds.{is_subrange}
 use Rattle.dw_types.specs.SizeTables.{Size}
 use Rattle.dw_types.specs.Sizes.{array_size, element_count, elements_by, factor_of, product_of, size_line, size_of_kind, size_to}
 use Rattle.dw_types.specs.SizeFaults.{fails_size, has_no_size}
@@ -71,9 +69,7 @@ module _ (all : List DebugUnit) (p : PlacedBatch) (w : IsWindow all p) where
 
   child_moved : (inner k : ℕ) → k < length (entries_of p.units)
       → is_child (entries_of all) (p.first + inner) (p.first + k) ≡ is_child (entries_of p.units) inner k
-  child_moved inner k within =
-      ap (λ (e : Entry). is_parent e.parent (p.first + inner)) (w.entries k within)
-      ∙ parent_of_moved p.first (entry_in p.units k).parent inner
+  child_moved inner k within = search (rules, parent_of_moved)
 
   no_child : (inner k : ℕ) → inner < length (entries_of p.units) → k < length (entries_of all)
       → ((j : ℕ) → j < length (entries_of p.units) → k ≡ p.first + j → ⊥)
@@ -153,32 +149,25 @@ module _ (all : List DebugUnit) (p : PlacedBatch) (w : IsWindow all p) where
 
     type_moved : (inner : ℕ) → inner < length (entries_of p.units)
         → size_to table (type_target all (p.first + inner)) ≡ size_to lone (type_target p.units inner)
-    type_moved inner inside =
-        ap (size_to table) (w.targets inner DW_AT_type inside)
-        ∙ to_moved (type_target p.units inner) (target_within _ _ _ _)
+    type_moved inner inside = search (rules, to_moved, target_within)
 
     signature_moved : (inner : ℕ) → inner < length (entries_of p.units)
         → size_to table (signature_target all (p.first + inner)) ≡ size_to lone (signature_target p.units inner)
-    signature_moved inner inside =
-        ap (size_to table) (w.targets inner DW_AT_signature inside)
-        ∙ to_moved (signature_target p.units inner) (target_within _ _ _ _)
+    signature_moved inner inside = search (rules, to_moved, target_within)
 
     parent_moved : (inner : ℕ) → inner < length (entries_of p.units)
         → size_to table (entry_in all (p.first + inner)).parent ≡ size_to lone (entry_in p.units inner).parent
-    parent_moved inner inside =
-        ap (λ (e : Entry). size_to table e.parent) (w.entries inner inside)
-        ∙ to_moved (entry_in p.units inner).parent
-        (λ k is. let before = parent-first p.units inner k is in omega (arith, before, inside))
+    parent_moved inner inside = search (rules, to_moved, parent-first)
 
     array_moved : (inner : ℕ) → inner < length (entries_of p.units)
         → array_size all table (p.first + inner) ≡ array_size p.units lone inner
-    array_moved inner inside = rw (elements_same inner inside, type_moved inner inside, w.entries inner inside) refl
+    array_moved inner inside = search (rules, elements_same, type_moved)
 
     kind_moved : (kind : Kind) (inner : ℕ) → inner < length (entries_of p.units)
         → size_of_kind kind all table (p.first + inner) ≡ size_of_kind kind p.units lone inner
     kind_moved Declared inner inside = signature_moved inner inside
-    kind_moved OwnSized inner inside = ap (λ (e : Entry). natural_of (byte_size e)) (w.entries inner inside)
-    kind_moved Pointer inner inside = rw (w.address_sizes inner inside, w.entries inner inside) refl
+    kind_moved OwnSized inner inside = search (rules)
+    kind_moved Pointer inner inside = search (rules)
     kind_moved Alias inner inside = type_moved inner inside
     kind_moved Enumeration inner inside = rw (type_moved inner inside, w.entries inner inside) refl
     kind_moved Array inner inside = rw (array_moved inner inside, w.entries inner inside) refl
@@ -187,22 +176,12 @@ module _ (all : List DebugUnit) (p : PlacedBatch) (w : IsWindow all p) where
 
     pub line_moved : (inner : ℕ) → inner < length (entries_of p.units)
         → size_line all table (p.first + inner) ≡ size_line p.units lone inner
-    line_moved inner inside =
-        ap (λ (e : Entry). size_of_kind (kind_of e) all table (p.first + inner)) (w.entries inner inside)
-        ∙ kind_moved (kind_of (entry_in p.units inner)) inner inside
+    line_moved inner inside = search (rules, kind_moved)
 
     pub fails_moved : (inner : ℕ) → inner < length (entries_of p.units) → (rule : Rule)
         → fails_size all table (p.first + inner) rule ≡ fails_size p.units lone inner rule
     fails_moved inner inside NoSize = ap has_no_size (w.entries inner inside)
     fails_moved inner inside SizeTooGreat = rw (agree inner inside) refl
-    fails_moved inner inside MemberOutside =
-        rw (
-          plain_same all p w inner inside,
-          parent_moved inner inside,
-          type_moved inner inside,
-          w.entries inner inside,
-          past_moved p.number p.first,
-        ) refl
-    fails_moved inner inside EnumSize =
-        rw (has_target_same all p w inner inside, type_moved inner inside, w.entries inner inside) refl
+    fails_moved inner inside MemberOutside = search (rules, plain_same, parent_moved, type_moved, past_moved)
+    fails_moved inner inside EnumSize = search (rules, has_target_same, type_moved)
     fails_moved inner inside rule = refl

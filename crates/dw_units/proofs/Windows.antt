@@ -69,9 +69,7 @@ module _ (s : Sections) (bs : List (List DebugUnit)) (refer : Refer s bs) (k : �
       → target_of (entries_of (joined bs)) (placed (joined bs)) (moved p.number p.first e) attribute
       ≡ moved_number p.first (target_of (entries_of p.units) (placed p.units) e attribute)
   unfolding target_of
-  target_moved inner e is_e attribute =
-      let reaches = value_moved s bs refer k p is inner e is_e in
-      search (rules, moved_number, value_has, reaches)
+  target_moved inner e is_e attribute = search (rules, value_moved, moved_number, value_has)
 
   is_at : (inner : ℕ) → inner < length (entries_of p.units)
       → slice_get (entries_of p.units) inner ≡ Some (entry_in p.units inner)

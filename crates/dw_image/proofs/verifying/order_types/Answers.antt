@@ -1,14 +1,17 @@
-use Rattle.std.proofs.Common.{rules}
 use Rattle.std.proofs.lemmas.Result.{err_from_is_err_and}
 use Rattle.dw_entries.proofs.StopLaws.{faulty_weaker}
-use Rattle.dw_image.proofs.MeasureLemmas.{wrong_shape, contains_itself}
+use Rattle.dw_image.proofs.JoinLemmas.{wrong_shape, contains_itself}
 use Rattle.dw_image.proofs.verifying.order_types.Goals as goal
 
 pub returns-in_err-steps-clause-fault : goal.returns-in_err-steps-clause-fault
-returns-in_err-steps-clause-fault c = search (rules, err_from_is_err_and, faulty_weaker, wrong_shape)
+returns-in_err-steps-clause-fault c =
+    let p = err_from_is_err_and c.from_residual.result c.from_residual.ensures.1 in
+    rw (p.1, p.2) (faulty_weaker c.in_err-steps.field-0.0 (wrong_shape c.args.links.now) c.in_err-steps.ensures.fault)
 
 pub returns-in-Ok-clause-steps : goal.returns-in-Ok-clause-steps
 returns-in-Ok-clause-steps c = record { graph = c.in_ok-steps.ensures.graph; types = c.in_ok-steps.ensures.types }
 
 pub returns-in-Err-Cycle-clause-fault : goal.returns-in-Err-Cycle-clause-fault
-returns-in-Err-Cycle-clause-fault c = search (rules, contains_itself)
+returns-in-Err-Cycle-clause-fault c =
+    contains_itself c.args.links.now c.in_ok-cycle_fault-in-Err-Cycle.field-0 c.in_ok-steps.ensures.sound
+    c.in_ok-cycle_fault-in-Err-Cycle.ensures
