@@ -32,10 +32,11 @@ WORDS = ("-O0", "-O2", "-gdwarf-2 -gstrict-dwarf", "-gdwarf-3", "-gdwarf-4", "-g
 # Rows from here on are of code that the linker left out. Each reader prints others of them, or none.
 TOMBSTONE = 2**64 - 2
 OLD = re.compile(r"(?m)^Address .* Discriminator Flags$")
-# A directory or a file by its number, as line_rows and as llvm-dwarfdump print it.
-OWN_TABLES = re.compile(r'(?m)^(?:directory (\d+) "(.*)"|file (\d+) (\d+) "(.*)")$')
+# A directory or a file by its number, as line_rows and as llvm-dwarfdump print it, and the MD5 sum of a file.
+OWN_TABLES = re.compile(r'(?m)^(?:directory (\d+) "(.*)"|file (\d+) (\d+) "(.*?)"(?: (\w{32}))?)$')
 LLVM_TABLES = re.compile(
-    r'(?m)^(?:include_directories\[ *(\d+)\] = "(.*)"|file_names\[ *(\d+)\]:\n +name: "(.*)"\n +dir_index: (\d+))$')
+    r'(?m)^(?:include_directories\[ *(\d+)\] = "(.*)"|file_names\[ *(\d+)\]:\n +name: "(.*)"\n +dir_index: (\d+)'
+    r'(?:\n +md5_checksum: (\w{32}))?)$')
 tally = common.Tally(22)
 total = dict.fromkeys(("dw_lines", "llvm-dwarfdump", "pyelftools"), 0)
 

@@ -1,6 +1,6 @@
 -- Chapter: the directories and files of a line program (DWARF 5, 6.2.4 and 6.2.4.1; DWARF 4, 6.2.4).
 use Rattle.std.specs.Prelude.{ℕ, Bool, true, false, List, [], ◌∷◌, length, drop, Option, None, Some, nat_le, nat_lt}
-use Rattle.std.specs.Prelude.{◌==◌, ◌&&◌, ◌||◌, not, if◌then◌else◌}
+use Rattle.std.specs.Prelude.{◌==◌, ◌&&◌, ◌||◌, not, if◌then◌else◌, option_map}
 use Rattle.std.specs.List.{list_any, before_first}
 use Rattle.dw_forms.specs.declared.form.Form.{Form}
 use Rattle.dw_forms.specs.declared.form.Form.TheVariants as form
@@ -8,13 +8,11 @@ use Rattle.dw_forms.specs.declared.value.ValueFault.{ValueFault}
 use Rattle.dw_forms.specs.declared.value.ValueFault.TheVariants as values
 use Rattle.dw_forms.specs.Formats.{Format, and_then, nothing, failing, mapped, inside, choose, found, tested, renamed}
 use Rattle.dw_forms.specs.FormCodes.{form_of}
-use Rattle.dw_forms.specs.Value.{Datum, text, str, line_str, unsigned}
+use Rattle.dw_forms.specs.Value.{Datum, text, str, line_str, unsigned, wide}
 use Rattle.dw_forms.specs.ValueFormats.{attribute_value}
 use Rattle.dw_lines.specs.declared.content.Content.{Content}
 use Rattle.dw_lines.specs.declared.files.Files.{Files}
 use Rattle.dw_lines.specs.declared.files.FileEntry.{FileEntry}
-use Rattle.dw_lines.specs.declared.item.LineItem.{LineItem}
-use Rattle.dw_lines.specs.declared.item.LineItem.TheVariants as items
 use Rattle.dw_lines.specs.declared.path.LinePath.{LinePath}
 use Rattle.dw_lines.specs.declared.path.LinePath.TheVariants as paths
 use Rattle.dw_lines.specs.declared.rule.LineRule.{LineRule}
@@ -32,10 +30,15 @@ has_file files number = nat_le files.first number && nat_lt number (length files
 abbrev pub may_be_named : Files → ℕ → Bool
 may_be_named files number = has_file files number || (number == 0 && files.first == 1)
 
--- a path, and the number of a directory
+-- a path, the number of a directory, and an MD5 sum, which is the 16 bytes of DW_LNCT_MD5 if the format has it
 pub record FileAt : Type 0 where
   pub path : List ℕ
   pub directory : ℕ
+  pub md5 : Option (List ℕ)
+
+-- an entry that is no file
+abbrev pub no_file : FileAt
+no_file = record { path = []; directory = 0; md5 = None }
 
 -- the bytes of a path. In another section they are those before the first zero byte
 abbrev pub path_view : LinePath → List ℕ
@@ -44,7 +47,11 @@ path_view (paths.Section p) = before_first (λ b. b == 0) p.now
 
 -- what a file is, without where its path lies in memory
 abbrev pub file_view : FileEntry → FileAt
-file_view file = record { path = path_view file.path; directory = file.directory }
+file_view file = record {
+  path = path_view file.path;
+  directory = file.directory;
+  md5 = option_map (λ sum. sum.now) file.md5;
+}
 
 -- the path of an entry
 abbrev pub path_of : FileAt → List ℕ
@@ -64,7 +71,7 @@ path_or_end = mapped (λ p. if length p == 0 then None else Some p) path
 unfoldable pub file_or_end : ℕ → Format (Option FileAt) LineRule
 file_or_end count = and_then path_or_end (λ o. found o (nothing None) (λ p.
     and_then number (λ n. and_then (in_directory count n) (λ directory. and_then number (λ time.
-    mapped (λ size. Some (record { path = p; directory = directory })) number)))))
+    mapped (λ size. Some (record { path = p; directory = directory; md5 = None })) number)))))
 
 -- directories from 1 on; an empty path is in place of 0, which is the directory of the compilation
 unfoldable pub directories4 : Format (List (List ℕ)) LineRule
@@ -72,7 +79,7 @@ directories4 = mapped (λ paths. [] ∷ paths) (up_to_end length_end LineCut pat
 
 -- files from 1 on, after so many directories; an entry that is no file is in place of 0
 unfoldable pub files4 : ℕ → Format (List FileAt) LineRule
-files4 count = mapped (λ files. record { path = []; directory = 0 } ∷ files)
+files4 count = mapped (λ files. no_file ∷ files)
     (up_to_end length_end LineCut (file_or_end count))
 
 -- ---- version 5: the formats of entries (6.2.4.1, 7.22)
@@ -169,18 +176,6 @@ table_head = tested (λ h. has_kind DW_LNCT_path h.0 || h.1 == 0) LineForm (
 
 -- ---- version 5: entries
 
--- what a content is read as
-pub data Item : Type 0 where
-  a_path : List ℕ → Item
-  a_number : ℕ → Item
-  other : Item
-
--- the same, as it is returned
-abbrev pub item_view : LineItem → Item
-item_view (items.Path p) = a_path (path_view p)
-item_view (items.Number n) = a_number n
-item_view items.Other = other
-
 -- the string at an offset of a section, up to the first zero byte
 unfoldable pub string_at : List ℕ → ℕ → Format (List ℕ) LineRule
 string_at section offset = choose (nat_lt offset (length section))
@@ -193,33 +188,29 @@ value_rule_of values.Cut = LineCut
 value_rule_of values.BadNumber = LineNumber
 value_rule_of values.BadIndirect = LineForm
 
--- what a value is
-abbrev pub item_of : LineSections → Datum → Format Item LineRule
-item_of sections (text s) = nothing (a_path s)
-item_of sections (str offset) = mapped a_path (string_at sections.str.now offset)
-item_of sections (line_str offset) = mapped a_path (string_at sections.line_str.now offset)
-item_of sections (unsigned n) = nothing (a_number n)
-item_of sections datum = nothing other
+-- an entry with a content of this kind added, which is a string
+abbrev pub with_string : ℕ → FileAt → List ℕ → FileAt
+with_string kind e s = if kind == DW_LNCT_path then record e { path = s } else e
 
--- a content in a form. None of these forms has the size of an address
-unfoldable pub item : LineSections → Form → Format Item LineRule
-item sections f = and_then (renamed (λ bytes. value_rule_of) (attribute_value 5 f 8)) (item_of sections)
+-- an entry with a content of this kind added, which has this value
+abbrev pub with_value : LineSections → ℕ → FileAt → Datum → Format FileAt LineRule
+with_value sections kind e (text s) = nothing (with_string kind e s)
+with_value sections kind e (str offset) = mapped (with_string kind e) (string_at sections.str.now offset)
+with_value sections kind e (line_str offset) = mapped (with_string kind e) (string_at sections.line_str.now offset)
+with_value sections kind e (unsigned n) =
+    nothing (if kind == DW_LNCT_directory_index then record e { directory = n } else e)
+with_value sections kind e (wide sum) = nothing (if kind == DW_LNCT_MD5 then record e { md5 = Some sum } else e)
+with_value sections kind e datum = nothing e
 
--- an entry with a content of this kind added
-abbrev pub with_item : ℕ → Item → FileAt → FileAt
-with_item kind (a_path p) e = if kind == DW_LNCT_path then record e { path = p } else e
-with_item kind (a_number n) e = if kind == DW_LNCT_directory_index then record e { directory = n } else e
-with_item kind other e = e
-
--- an entry with these contents added, one after another
+-- an entry with these contents added, one after another. None of their forms has the size of an address
 unfoldable pub entry_from : LineSections → List Content → FileAt → Format FileAt LineRule
 entry_from sections [] e = nothing e
-entry_from sections (c ∷ others) e = and_then (item sections c.form) (λ i.
-    entry_from sections others (with_item c.kind i e))
+entry_from sections (c ∷ others) e = and_then (renamed (λ bytes. value_rule_of) (attribute_value 5 c.form 8)) (λ v.
+    and_then (with_value sections c.kind e v) (entry_from sections others))
 
--- an entry: a path, and the number of a directory, which is 0 where none is given
+-- an entry: a path, the number of a directory, which is 0 where none is given, and the MD5 sum, if one is given
 abbrev pub entry : LineSections → List Content → Format FileAt LineRule
-entry sections contents = entry_from sections contents (record { path = []; directory = 0 })
+entry sections contents = entry_from sections contents no_file
 
 -- a file, after so many directories
 unfoldable pub file_entry : LineSections → List Content → ℕ → Format FileAt LineRule

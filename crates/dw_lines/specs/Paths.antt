@@ -1,7 +1,7 @@
 -- Chapter: the path of a file (DWARF 5, 6.2.4 and 6.2.4.1; DWARF 4, 6.2.4).
 use Rattle.std.specs.Prelude.{ℕ, Bool, false, true, List, [], ◌∷◌, ◌++◌, length, slice_index_or, ◌==◌, nat_lt, ◌||◌}
 use Rattle.std.specs.Prelude.{if◌then◌else◌}
-use Rattle.dw_lines.specs.Files.{FileAt, Tables}
+use Rattle.dw_lines.specs.Files.{FileAt, Tables, no_file}
 use Rattle.dw_lines.specs.Programs.{HeaderFields}
 
 -- the byte that divides the parts of a path
@@ -42,4 +42,4 @@ path_in h named file =
 
 -- the path of a file by its number
 abbrev pub file_path : HeaderFields → List ℕ → ℕ → List ℕ
-file_path h named number = path_in h named (slice_index_or h.tables.files number (record { path = []; directory = 0 }))
+file_path h named number = path_in h named (slice_index_or h.tables.files number no_file)

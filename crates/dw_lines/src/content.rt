@@ -14,7 +14,7 @@ const DW_LNCT_timestamp: u64 = 3;
 
 const DW_LNCT_size: u64 = 4;
 
-const DW_LNCT_MD5: u64 = 5;
+pub(crate) const DW_LNCT_MD5: u64 = 5;
 
 /// A content of an entry, and its form.
 #[derive(Clone, Copy, Debug)]

@@ -7,12 +7,22 @@ ghost use Rattle.dw_lines.specs.Files.{has_file, in_directory as directory_forma
 use crate::path::LinePath;
 use crate::rule::LineRule;
 
-/// A file: its path, and the number of its directory.
+/// A file: its path, the number of its directory, and its MD5 sum.
 #[derive(Clone, Copy, Debug)]
 pub struct FileEntry<'a> {
     pub path: LinePath<'a>,
     pub directory: usize,
+    /// The 16 bytes of DW_LNCT_MD5, in the order of the header (DWARF 5, 6.2.4.1). None before version 5, or if the
+    /// format of the entries does not have it.
+    pub md5: Option<&'a [u8]>,
 }
+
+/// An entry that is no file.
+pub(crate) const NO_FILE: FileEntry<'static> = FileEntry {
+    path: LinePath::Header(&[]),
+    directory: 0,
+    md5: None,
+};
 
 /// The files by number. Before version 5 the first has number 1, and an entry that is no file is in place of number 0.
 #[derive(Debug, Drop)]

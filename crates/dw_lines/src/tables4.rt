@@ -8,7 +8,7 @@ ghost use Rattle.dw_lines.specs.Files.{directories4, files4};
 ghost use Rattle.dw_lines.specs.Header.{length_end};
 
 use crate::fields::{number, path};
-use crate::files::{FileEntry, in_directory};
+use crate::files::{FileEntry, NO_FILE, in_directory};
 use crate::path::LinePath;
 use crate::rule::LineRule;
 use dw_forms::Stop;
@@ -41,7 +41,12 @@ fn file_or_end(count: usize, bytes: &[u8]) -> Result<(Option<FileEntry<'_>>, &[u
     let directory = in_directory(count, directory)?;
     let (_time, rest) = number(rest)?;
     let (_size, rest) = number(rest)?;
-    Ok((Some(FileEntry { path, directory }), rest))
+    let file = FileEntry {
+        path,
+        directory,
+        md5: None,
+    };
+    Ok((Some(file), rest))
 }
 
 /// The directories, and the bytes after their table.
@@ -76,10 +81,7 @@ pub(crate) fn files<'a>(
     ensures { GivesOrMemory (λ x. (map file_view x.0.items, x.1.now)) result ((files4 count).read bytes.now) }
 {
     let mut files = Vec::new(alloc);
-    files.push(FileEntry {
-        path: LinePath::Header(&[]),
-        directory: 0,
-    })?;
+    files.push(NO_FILE)?;
     let mut rest = bytes;
     loop {
         let (next, after) = file_or_end(count, rest)?;

@@ -75,6 +75,7 @@ fn headers(rt: HostRuntime) -> Result<(), Fail> {
         };
         assert_eq!(rt; entry.path.bytes(), b"f".as_slice());
         assert_eq!(rt; entry.directory, directory);
+        assert!(rt; entry.md5.is_none());
         let Some(folder) = header.directories.get(directory) else {
             return Err("no directory".into());
         };
@@ -86,19 +87,23 @@ fn headers(rt: HostRuntime) -> Result<(), Fail> {
     Ok(())
 }
 
-// A path in .debug_line_str, contents that are passed over, and a table without a format.
+// A path in .debug_line_str, an MD5 sum, contents that are passed over, and a table without a format.
 #[test]
 fn contents(rt: HostRuntime) -> Result<(), Fail> {
     let alloc = rt.alloc();
     let tables = [
         1, 1, 0x08, 1, 0, // directories: an empty path
-        4, 3, 0x09, 0x80, 0x40, 0x1e, 1, 0x1f, 4, 0x0b, 1, // files: time, 0x2000, path, size
-        1, 7, 0, 1, 2, 3, 4, 5, 6, 7, 8, 9, 10, 11, 12, 13, 14, 15, 0, 0, 0, 0, 9,
+        5, 3, 0x09, 0x80, 0x40, 0x1e, 1, 0x1f, 4, 0x0b, 5, 0x1e, 1, // files: time, 0x2000, path, size, sum
+        1, 7, 0, 1, 2, 3, 4, 5, 6, 7, 8, 9, 10, 11, 12, 13, 14, 15, 0, 0, 0, 0, 9, // all but the sum
+        16, 17, 18, 19, 20, 21, 22, 23, 24, 25, 26, 27, 28, 29, 30, 31,
     ];
     let line = program(alloc, 5, &SIZES, &NUMBERS, &tables)?;
     match read(alloc, &line, 0) {
         Ok(program) => match program.header.files.entries.first() {
-            Some(entry) => assert_eq!(rt; entry.path.bytes(), b"s".as_slice()),
+            Some(entry) => {
+                assert_eq!(rt; entry.path.bytes(), b"s".as_slice());
+                assert_eq!(rt; entry.md5, Some(&tables[tables.len() - 16..]));
+            }
             None => return Err("no file".into()),
         },
         Err(code) => return Err(code.into()),

@@ -105,7 +105,18 @@ fn print_path<R: Print + AllocGlobal>(rt: &R, path: LinePath<'_>) -> io::Result<
             _ => print!(rt; "\\{byte:03o}")?,
         }
     }
-    println!(rt; "\"")
+    print!(rt; "\"")
+}
+
+/// The MD5 sum of a file, if it has one, and the end of the line.
+fn print_sum<R: Print + AllocGlobal>(rt: &R, md5: Option<&[u8]>) -> io::Result<()> {
+    if let Some(sum) = md5 {
+        print!(rt; " ")?;
+        for byte in sum {
+            print!(rt; "{byte:02x}")?;
+        }
+    }
+    println!(rt)
 }
 
 /// The lines of a program's directories and files, by number: before version 5 from 1 on.
@@ -114,10 +125,12 @@ fn print_tables<R: Print + AllocGlobal>(rt: &R, program: &Program<'_>) -> io::Re
     for (number, path) in program.header.directories.iter().enumerate().skip(first) {
         print!(rt; "directory {number} ")?;
         print_path(rt, *path)?;
+        println!(rt)?;
     }
     for (number, file) in program.header.files.entries.iter().enumerate().skip(first) {
         print!(rt; "file {number} {} ", file.directory)?;
         print_path(rt, file.path)?;
+        print_sum(rt, file.md5)?;
     }
     Ok(())
 }

@@ -1,7 +1,7 @@
 use Rattle.std.proofs.Common.{◌≡◌, ◌++◌, ◌<◌, List, [], ℕ, arith, refl, subst, sym, length, take, drop}
 use Rattle.std.proofs.lemmas.Bool.{and_parts, eq-eqb, le-ltb, lt-ltb, ltb-true, ne_eqb}
 use Rattle.std.specs.Prelude.{◌==◌, if◌then◌else◌, OnOk}
-use Rattle.dw_lines.specs.Files.{FileAt, file_view}
+use Rattle.dw_lines.specs.Files.{FileAt, file_view, no_file}
 use Rattle.dw_lines.specs.Paths.{compilation_directory, directory_path, joined, path_in}
 use Rattle.dw_lines.specs.Programs.{fields_of}
 use Rattle.dw_lines.proofs.PathLemmas.{file_here, parts_pushed}
@@ -35,7 +35,7 @@ returns-clause-ok c =
     let files = c.args.self.now.files.entries.items in
     let among : c.args.file < length files = ltb-true c.args.file (length files) (and_parts _ _ c.requires).1 in
     subst (λ (f : FileAt). OnOk r (t3 ≡ old ++ path_in h named f))
-    (sym (file_here files c.args.file entry (record { path = []; directory = 0 }) among c.index-entry.ensures))
+    (sym (file_here files c.args.file entry no_file among c.index-entry.ensures))
     (parts_pushed h named (file_view entry) old c.push_part.new.text.items t2 t3 c.if-self-lt5.base.now
     c.if-entry-eq0.directory.now n r long base directory c.in_ok-push_part.ensures.ok c.in_ok-push_part-2.ensures.ok
     last)
