@@ -1,3 +1,9 @@
+mod AddressLemmas
+mod CutLemmas
+mod OrderLemmas
+mod RisingLemmas
+mod IndexLemmas
+mod PathLemmas
 mod UnitLemmas
 mod NamedLemmas
 mod ReadingLemmas

@@ -1,6 +1,6 @@
 -- Chapter: the lines of a file: the line program of each unit, and the files that entries name (DWARF 5, 2.14 and
 -- 3.3.8.2).
-use Rattle.std.specs.Prelude.{◌≡◌, ℕ, pos, ◌<◌, ◌⊎◌, List, length, Option, Some, None, Bool, true, false, not}
+use Rattle.std.specs.Prelude.{◌≡◌, ℕ, pos, ◌<◌, ◌⊎◌, List, length, Option, Some, None, Bool, true, false, not, ◌==◌, ◌&&◌, ◌||◌}
 use Rattle.std.specs.Prelude.{option_and_then, slice_get, slice_index_or, if◌then◌else◌}
 use Rattle.dw_entries.specs.ByNumber.{entry_of}
 use Rattle.dw_entries.specs.Entries.{Entry}
@@ -9,13 +9,13 @@ use Rattle.dw_entries.specs.Views.{all_entries, units_of}
 use Rattle.dw_entries.specs.declared.entries.Entries.{Entries}
 use Rattle.dw_forms.specs.Codes.{DW_AT_call_file, DW_AT_decl_file}
 use Rattle.dw_forms.specs.Value.{Datum, unsigned, signed}
-use Rattle.dw_lines.specs.Addresses.{row_at}
-use Rattle.dw_lines.specs.Files.{has_file, may_be_named}
-use Rattle.dw_lines.specs.Paths.{file_path}
+use Rattle.dw_addresses.specs.Addresses.{row_at}
+use Rattle.dw_lines.specs.Files.{has_file}
+use Rattle.dw_addresses.specs.Paths.{file_path}
 use Rattle.dw_lines.specs.Programs.{fields_of}
 use Rattle.dw_lines.specs.Rows.{program_run}
 use Rattle.dw_lines.specs.declared.files.Files.{Files}
-use Rattle.dw_lines.specs.declared.line_index.LineIndex.{LineIndex}
+use Rattle.dw_addresses.specs.declared.line_index.LineIndex.{LineIndex}
 use Rattle.dw_lines.specs.declared.row.Row.{Row}
 use Rattle.dw_lines.specs.declared.rule.LineRule.TheVariants.{NoFile}
 use Rattle.dw_lines.specs.declared.sections.LineSections.{LineSections}
@@ -64,10 +64,11 @@ number_in (unsigned n) = Some n
 number_in (signed (pos n)) = Some n
 number_in datum = None
 
--- whether a number is one that an attribute may have, where there is a number
+-- whether a number, where there is one, is one that DW_AT_decl_file and DW_AT_call_file may have: that of a file, or
+-- before version 5 number 0, which names no file
 abbrev pub names_file : Files → Option ℕ → Bool
 names_file files None = false
-names_file files (Some n) = may_be_named files n
+names_file files (Some n) = has_file files n || (n == 0 && files.first == 1)
 
 -- whether the value of an attribute, if there is one, is the number of a file
 abbrev pub may_be_file : Files → Option Datum → Bool

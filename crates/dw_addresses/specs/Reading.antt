@@ -4,7 +4,7 @@ use Rattle.std.specs.Prelude.{slice_get, slice_index_or}
 use Rattle.dw_entries.specs.Views.{units_of}
 use Rattle.dw_entries.specs.declared.entries.Entries.{Entries}
 use Rattle.dw_lines.specs.Programs.{program_end}
-use Rattle.dw_lines.specs.declared.line_index.LineIndex.{LineIndex}
+use Rattle.dw_addresses.specs.declared.line_index.LineIndex.{LineIndex}
 use Rattle.dw_lines.specs.declared.sections.LineSections.{LineSections}
 use Rattle.dw_lines.specs.declared.fault.LineFault.{LineFault}
 use Rattle.dw_lines.specs.declared.rule.LineRule.TheVariants.{ProgramsMeet}

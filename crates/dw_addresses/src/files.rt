@@ -7,10 +7,11 @@ ghost use Rattle.dw_addresses.specs.Lines.{FilesFail, HasFiles, may_be_file, no_
 ghost use Rattle.dw_addresses.specs.Lines.{no_file_in as no_file_of_unit, number_in};
 
 use crate::fault::LinesFault;
+use crate::line_index::LineIndex;
 use crate::lines::FileLines;
 use dw_entries::constants::{DW_AT_call_file, DW_AT_decl_file};
 use dw_entries::{Attribute, Entries, EntryAt, Value};
-use dw_lines::{Files, LineFault, LineIndex, LineRule};
+use dw_lines::{Files, LineFault, LineRule};
 
 /// The number that a value is.
 pub(crate) fn number_of(value: Value<'_>) -> Option<u64>
@@ -37,7 +38,8 @@ fn is_file(files: &Files<'_>, value: Option<Value<'_>>) -> bool
         return true;
     };
     match number_of(value) {
-        Some(number) => files.may_name(number),
+        // Before version 5 number 0 names no file.
+        Some(number) => files.has(number) || (number == 0 && files.first == 1),
         None => false,
     }
 }

@@ -4,7 +4,9 @@ ghost use Rattle.std.specs.Prelude.{◌≡◌, ◌++◌, [], IfOk, OnErr, OnOk, 
 ghost use Rattle.std.specs.Option.{is_some, unwrap_or};
 ghost use Rattle.dw_addresses.specs.Lines.{path_in, program_of as program_of_unit, row_in};
 
-use dw_lines::{LineIndex, Row};
+use crate::file_path::push_path;
+use crate::line_index::LineIndex;
+use dw_lines::Row;
 use std::alloc::AllocError;
 
 /// The line programs that the units of a file name.
@@ -59,7 +61,7 @@ impl<'a> FileLines<'a> {
         if !index.program.header.files.has(file) {
             return Ok(false);
         }
-        index.program.header.push_path(comp_dir, file, text)?;
+        push_path(&index.program.header, comp_dir, file, text)?;
         Ok(true)
     }
 }

@@ -2,7 +2,7 @@
 
 ghost use Rattle.std.specs.Prelude.{IfErr, IfOk};
 ghost use Rattle.dw_forms.specs.Stops.{IfFault};
-ghost use Rattle.dw_lines.specs.Addresses.{AreAreas};
+ghost use Rattle.dw_addresses.specs.Addresses.{AreAreas};
 ghost use Rattle.dw_addresses.specs.Lines.{HasLines, LinesFail};
 
 use crate::fault::LinesFault;

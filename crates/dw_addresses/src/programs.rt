@@ -5,17 +5,18 @@ ghost use Rattle.std.specs.Prelude.{slice_index_or};
 ghost use Rattle.std.specs.List.{AllAdjacentBelow};
 ghost use Rattle.dw_entries.specs.Views.{units_of};
 ghost use Rattle.dw_forms.specs.Stops.{IfFault};
-ghost use Rattle.dw_lines.specs.Addresses.{AreAreas};
+ghost use Rattle.dw_addresses.specs.Addresses.{AreAreas};
 ghost use Rattle.dw_lines.specs.Programs.{program_end};
-ghost use Rattle.dw_lines.specs.declared.line_index.LineIndex.{LineIndex as AnyIndex};
+ghost use Rattle.dw_addresses.specs.declared.line_index.LineIndex.{LineIndex as AnyIndex};
 ghost use Rattle.dw_addresses.specs.LinePrograms.{IsInvalid, ProgramsFail};
 ghost use Rattle.dw_addresses.specs.Lines.{HasPrograms};
 ghost use Rattle.dw_addresses.specs.Reading.{AllNamed, HasLast, IsAfter, IsNext, IsRead, IsUpTo, NextFails};
 
+use crate::line_index::LineIndex;
 use crate::lines::FileLines;
 use crate::named::Named;
 use dw_entries::{Entries, Stop};
-use dw_lines::{LineFault, LineIndex, LineRule, LineSections, read_program};
+use dw_lines::{LineFault, LineRule, LineSections, read_program};
 use std::alloc::{AllocFailed, Global};
 
 /// The program that was read last.

@@ -3,10 +3,4 @@ pub mod FormatLaws
 pub mod StringLaws
 mod OpcodeSteps
 mod RunSteps
-mod RowLaws
-mod AddressLemmas
-mod CutLemmas
-mod OrderLemmas
-mod RisingLemmas
-mod IndexLemmas
-mod PathLemmas
+pub mod RowLaws

@@ -25,11 +25,6 @@ use Rattle.dw_lines.specs.Repeats.{times, up_to_end}
 abbrev pub has_file : Files → ℕ → Bool
 has_file files number = nat_le files.first number && nat_lt number (length files.entries.items)
 
--- whether DW_AT_decl_file and DW_AT_call_file may have a number: that of a file, or before version 5 number 0, which
--- names no file
-abbrev pub may_be_named : Files → ℕ → Bool
-may_be_named files number = has_file files number || (number == 0 && files.first == 1)
-
 -- a path, the number of a directory, and an MD5 sum, which is the 16 bytes of DW_LNCT_MD5 if the format has it
 pub record FileAt : Type 0 where
   pub path : List ℕ

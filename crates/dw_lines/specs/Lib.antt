@@ -4,13 +4,10 @@ pub mod Repeats
 pub mod Header
 pub mod Files
 pub mod Programs
-pub mod Paths
 pub mod Opcodes
 pub mod Machine
 pub mod Rows
 pub mod Sequences
-pub mod Addresses
 -- State.
 pub mod Turns
 pub mod RowsLeft
-pub mod Index

@@ -2,7 +2,7 @@
 
 ghost use Rattle.std.specs.Prelude.{◌≡◌, ℕ, List};
 ghost use Rattle.dw_forms.specs.ValueReading.{Gives};
-ghost use Rattle.dw_lines.specs.Files.{has_file, in_directory as directory_format, may_be_named};
+ghost use Rattle.dw_lines.specs.Files.{has_file, in_directory as directory_format};
 
 use crate::path::LinePath;
 use crate::rule::LineRule;
@@ -39,14 +39,6 @@ impl Files<'_> {
         ensures { result ≡ has_file self.now number }
     {
         number >= u64::from(self.first) && number < self.entries.len() as u64
-    }
-
-    /// Whether DW_AT_decl_file and DW_AT_call_file may have a number: that of a file, or before version 5 number 0,
-    /// which names no file.
-    pub fn may_name(&self, number: u64) -> bool
-        ensures { result ≡ may_be_named self.now number }
-    {
-        self.has(number) || (number == 0 && self.first == 1)
     }
 }
 

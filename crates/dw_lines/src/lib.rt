@@ -4,12 +4,10 @@
 mod content;
 mod fault;
 mod fields;
-mod file_path;
 mod files;
 mod header;
 mod item;
 mod laws;
-mod line_index;
 mod machine;
 mod opcode;
 mod parameters;
@@ -20,14 +18,12 @@ mod row;
 mod rows;
 mod rule;
 mod sections;
-mod sequence;
 mod tables4;
 mod tables5;
 
 pub use fault::LineFault;
 pub use files::{FileEntry, Files};
 pub use laws::{programs_are_apart, rows_obey_the_rules};
-pub use line_index::LineIndex;
 pub use parameters::Parameters;
 pub use path::LinePath;
 pub use program::{LineHeader, Program};

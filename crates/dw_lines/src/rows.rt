@@ -9,8 +9,6 @@ use crate::parameters::Parameters;
 use crate::program::Program;
 use crate::row::Row;
 use crate::rule::LineRule;
-use dw_forms::Stop;
-use std::alloc::Global;
 
 /// The rows of a line program that are left. It runs the program opcode by opcode and allocates nothing.
 #[derive(Drop)]
@@ -59,8 +57,6 @@ impl Rows<'_, '_> {
 }
 
 impl<'a> Program<'a> {
-    ghost use Rattle.std.specs.Prelude.{IfErr, IfOk, None, Some};
-    ghost use Rattle.dw_forms.specs.Stops.{IfFault};
     ghost use Rattle.dw_lines.specs.Rows.{program_run};
     ghost use Rattle.dw_lines.specs.RowsLeft.{run_left};
 
@@ -79,22 +75,6 @@ impl<'a> Program<'a> {
                 last: None,
                 rest: self.opcodes,
             },
-        }
-    }
-
-    /// All rows of the program, if it violates no rule.
-    pub(crate) fn all_rows(&self, alloc: Global) -> Result<Vec<Row>, Stop<LineFault>>
-        ensures rows { IfOk result (λ rows. program_run self.now ≡ record { rows = rows.items; fault = None }) }
-        ensures fault { IfErr result (IfFault (λ fault. (program_run self.now).fault ≡ Some fault)) }
-    {
-        let mut left = self.rows();
-        let mut rows = Vec::new(alloc);
-        loop {
-            match left.next() {
-                Ok(Some(row)) => rows.push(row)?,
-                Ok(None) => return Ok(rows),
-                Err(fault) => return Err(Stop::Fault(fault)),
-            }
         }
     }
 }

@@ -5,7 +5,7 @@ use Rattle.std.proofs.lemmas.Bool.{cases_lt}
 use Rattle.std.proofs.lemmas.List.{get_or-map, length-map}
 use Rattle.std.proofs.lemmas.List.Elements.{All-map}
 use Rattle.dw_elf.specs.Elf.{section_count}
-use Rattle.dw_lines.specs.Addresses.{AreAreas as ArePairs}
+use Rattle.dw_addresses.specs.Addresses.{AreAreas as ArePairs}
 use Rattle.dw_ranges.specs.Areas.{AreAreas, Has}
 use Rattle.dw_ranges.specs.declared.range.Range.{Range}
 use Rattle.dw_lookup.specs.Parts.{AreCodeAreas, IsCodeAt, pair_of}

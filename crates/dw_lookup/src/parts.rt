@@ -2,7 +2,7 @@
 
 ghost use Rattle.std.specs.Prelude.{◌≡◌, ◌↔◌, ◌⊎◌, ℕ, map, IfErr, IfOk, OnOk};
 ghost use Rattle.dw_elf.specs.Checks.{HasHeaders};
-ghost use Rattle.dw_lines.specs.Addresses.{AreAreas as ArePairs};
+ghost use Rattle.dw_addresses.specs.Addresses.{AreAreas as ArePairs};
 ghost use Rattle.dw_ranges.specs.Areas.{AreAreas, Has};
 ghost use Rattle.dw_lookup.specs.Parts.{AreCodeAreas, HasParts, IsCodeAt, PartsFail, budget_of, pair_of};
 

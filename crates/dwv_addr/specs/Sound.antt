@@ -5,7 +5,7 @@ use Rattle.std.specs.Fmt.{decimal}
 use Rattle.serde_json.specs.Data.{Data, boolean, member, no_members, number, object, unsigned}
 use Rattle.dw_addresses.specs.declared.lines.FileLines.{FileLines}
 use Rattle.dw_lines.specs.Rows.{program_run}
-use Rattle.dw_lines.specs.declared.line_index.LineIndex.{LineIndex}
+use Rattle.dw_addresses.specs.declared.line_index.LineIndex.{LineIndex}
 use Rattle.dw_lines.specs.declared.row.Row.{Row}
 use Rattle.dw_ranges.specs.declared.file.FileFunctions.{FileFunctions}
 use Rattle.dwv_addr.specs.declared.counts.Counts.{Counts}

@@ -6,9 +6,8 @@ ghost use Rattle.dw_report.specs.JsonObjects.{object_line};
 ghost use Rattle.dwv_addr.specs.Sound.{at_most, counts_of as counts_of_file, function_count, inlined_counts};
 ghost use Rattle.dwv_addr.specs.Sound.{row_counts, rows_in, sequence_count, sequences_in, sound_line, sound_object};
 
-use dw_addresses::FileLines;
+use dw_addresses::{FileLines, LineIndex};
 use dw_cprint::put_decimal;
-use dw_lines::LineIndex;
 use dw_ranges::FileFunctions;
 use dw_report::put_object_line;
 use serde_json::{Value, json};

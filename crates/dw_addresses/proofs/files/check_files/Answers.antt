@@ -2,7 +2,7 @@ use Rattle.std.proofs.Common.{◌≡◌, ℕ, None, Option, ap, ◌∙◌, below
 use Rattle.dw_entries.specs.ByNumber.{entry_of}
 use Rattle.dw_entries.specs.Entries.{Entry}
 use Rattle.dw_entries.specs.Views.{all_entries}
-use Rattle.dw_lines.specs.declared.line_index.LineIndex.{LineIndex}
+use Rattle.dw_addresses.specs.declared.line_index.LineIndex.{LineIndex}
 use Rattle.dw_addresses.specs.Lines.{no_file_at, no_file_in, program_of}
 use Rattle.dw_addresses.proofs.files.check_files.Goals as goal
 

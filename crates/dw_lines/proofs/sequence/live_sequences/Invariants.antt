@@ -1,5 +1,0 @@
-use Rattle.dw_lines.proofs.CutLemmas.{LiveBefore}
-use Rattle.dw_lines.proofs.sequence.live_sequences.Given as goal
-
-abbrev pub invariant-loop-end : goal.invariant-loop-end
-invariant-loop-end l = LiveBefore l.code l.rows l.found.items l.first l.end
