@@ -10,11 +10,11 @@ use Rattle.dw_forms.specs.Formats.{Format, and_then, nothing, failing, mapped, i
 use Rattle.dw_forms.specs.FormCodes.{form_of}
 use Rattle.dw_forms.specs.Value.{Datum, text, str, line_str, unsigned, wide}
 use Rattle.dw_forms.specs.ValueFormats.{attribute_value}
-use Rattle.dw_lines.specs.declared.content.Content.{Content}
+use Rattle.dw_lines.specs.declared.entry.Content.{Content}
 use Rattle.dw_lines.specs.declared.files.Files.{Files}
 use Rattle.dw_lines.specs.declared.files.FileEntry.{FileEntry}
-use Rattle.dw_lines.specs.declared.path.LinePath.{LinePath}
-use Rattle.dw_lines.specs.declared.path.LinePath.TheVariants as paths
+use Rattle.dw_lines.specs.declared.files.LinePath.{LinePath}
+use Rattle.dw_lines.specs.declared.files.LinePath.TheVariants as paths
 use Rattle.dw_lines.specs.declared.rule.LineRule.{LineRule}
 use Rattle.dw_lines.specs.declared.rule.LineRule.TheVariants.{LineCut, LineForm, LineString, LineDirectory, LineNumber}
 use Rattle.dw_lines.specs.declared.sections.LineSections.{LineSections}

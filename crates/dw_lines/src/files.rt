@@ -1,11 +1,35 @@
-//! The files of a line program (DWARF 5, 6.2.4 and 6.2.4.1; DWARF 4, 6.2.4).
+//! The files of a line program and their paths (DWARF 5, 6.2.4 and 6.2.4.1; DWARF 4, 6.2.4).
 
 ghost use Rattle.std.specs.Prelude.{◌≡◌, ℕ, List};
 ghost use Rattle.dw_forms.specs.ValueReading.{Gives};
-ghost use Rattle.dw_lines.specs.Files.{has_file, in_directory as directory_format};
+ghost use Rattle.dw_lines.specs.Files.{has_file, in_directory as directory_format, path_view};
 
-use crate::path::LinePath;
 use crate::rule::LineRule;
+use memchr::memchr;
+
+/// A path, by the bytes that it is in.
+#[derive(Clone, Copy, Debug)]
+pub enum LinePath<'a> {
+    /// In the header: these bytes, without the zero byte after them.
+    Header(&'a [u8]),
+    /// In another section: the bytes from its start on. The first zero byte of them ends it.
+    Section(&'a [u8]),
+}
+
+impl<'a> LinePath<'a> {
+    /// The bytes of the path. In another section its end is looked for.
+    pub fn bytes(self) -> &'a [u8]
+        ensures { result.now ≡ path_view self.entry }
+    {
+        match self {
+            LinePath::Header(path) => path,
+            LinePath::Section(rest) => match memchr(0, rest) {
+                Some(len) => &rest[..len],
+                None => rest,
+            },
+        }
+    }
+}
 
 /// A file: its path, the number of its directory, and its MD5 sum.
 #[derive(Clone, Copy, Debug)]

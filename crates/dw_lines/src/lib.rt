@@ -1,31 +1,27 @@
 //! Line programs (DWARF 5, 6.2; DWARF 4, 6.2): their headers, the files that they name, and the rows that they make.
 #![tactic(auto)]
 
-mod content;
+mod entry;
 mod fault;
 mod fields;
 mod files;
 mod header;
-mod item;
 mod laws;
 mod machine;
 mod opcode;
 mod parameters;
-mod path;
 mod program;
 mod program_reader;
 mod row;
 mod rows;
 mod rule;
 mod sections;
-mod tables4;
-mod tables5;
+mod tables;
 
 pub use fault::LineFault;
-pub use files::{FileEntry, Files};
+pub use files::{FileEntry, Files, LinePath};
 pub use laws::{programs_are_apart, rows_obey_the_rules};
 pub use parameters::Parameters;
-pub use path::LinePath;
 pub use program::{LineHeader, Program};
 pub use program_reader::read_program;
 pub use row::Row;

@@ -79,8 +79,7 @@ pub(crate) fn skip_others<'a>(
     ensures { Gives (λ x. (Other, x.now)) result ((operands (count_in lengths.now code)).read bytes.now) }
 {
     let count = lengths.get(usize::from(code) - 1).copied().unwrap_or(0);
-    let rest = skip_operands(count, bytes)?;
-    Ok(rest)
+    skip_operands(count, bytes)
 }
 
 /// The content of an extended opcode, and the bytes of it that are left.

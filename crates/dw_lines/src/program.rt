@@ -2,9 +2,8 @@
 
 ghost use Rattle.std.specs.Prelude.{◌+◌, ◌<◌, ◌^◌, length};
 
-use crate::files::Files;
+use crate::files::{Files, LinePath};
 use crate::parameters::Parameters;
-use crate::path::LinePath;
 
 /// What the header of a line program says.
 #[derive(Debug, Drop)]

@@ -1,9 +1,8 @@
 //! Reading a line program: its header, and the bytes of its opcodes (DWARF 5, 6.2.4; DWARF 4, 6.2.4).
 
-ghost use Rattle.std.specs.Prelude.{◌≡◌, ◌+◌, ◌≤◌, ◌<◌, ◌⊎◌, ℕ, length, map, take, drop, IfOk, IfErr};
+ghost use Rattle.std.specs.Prelude.{◌≡◌, ◌+◌, ◌≤◌, ◌<◌, ◌⊎◌, ℕ, length, take, drop, IfOk, IfErr};
 ghost use Rattle.dw_forms.specs.Front.{BeginsWith, BeginsWithNone};
 ghost use Rattle.dw_forms.specs.Stops.{IfFault, GivesOrMemory};
-ghost use Rattle.dw_lines.specs.Files.{tables as tables_format, path_view, file_view};
 ghost use Rattle.dw_lines.specs.Header.{length_end};
 ghost use Rattle.dw_lines.specs.Programs.{fields_of, program_view, after_length as after_format};
 ghost use Rattle.dw_lines.specs.Programs.{header as header_format, program_alone as alone, program_end};
@@ -12,43 +11,13 @@ ghost use Rattle.dw_lines.specs.Programs.{SpellsProgram, ProgramFails};
 
 use crate::fault::LineFault;
 use crate::fields::fixed;
-use crate::files::Files;
 use crate::header::{address_size, content, parameters, standard_opcode_lengths, version};
-use crate::path::LinePath;
 use crate::program::{LineHeader, Program};
 use crate::rule::LineRule;
 use crate::sections::LineSections;
-use crate::{tables4, tables5};
+use crate::tables::tables;
 use dw_forms::Stop;
 use std::alloc::Global;
-
-/// The tables of directories and files, and the bytes after them.
-#[tactic(auto, unfolding(crate::specs::Files::tables4, crate::specs::Files::tables5))]
-fn tables<'a>(
-    alloc: Global,
-    sections: &LineSections<'a>,
-    version: u16,
-    bytes: &'a [u8],
-) -> Result<(Vec<LinePath<'a>>, Files<'a>, &'a [u8]), Stop<LineRule>>
-    requires { length bytes.now < length_end }
-    ensures { GivesOrMemory (λ x. (
-      record {
-        directories = map path_view x.0.items;
-        files = map file_view x.1.entries.items;
-        first_file = x.1.first;
-      },
-      x.2.now,
-    )) result ((tables_format sections.now version).read bytes.now) }
-{
-    if version < 5 {
-        let (directories, rest) = tables4::directories(alloc, bytes)?;
-        let (entries, rest) = tables4::files(alloc, directories.len(), rest)?;
-        return Ok((directories, Files { entries, first: 1 }, rest));
-    }
-    let (directories, rest) = tables5::directories(alloc, sections, bytes)?;
-    let (entries, rest) = tables5::files(alloc, sections, directories.len(), rest)?;
-    Ok((directories, Files { entries, first: 0 }, rest))
-}
 
 /// The fields after header_length, and the bytes after them.
 #[tactic(auto, unfolding(crate::specs::Programs::after_length))]

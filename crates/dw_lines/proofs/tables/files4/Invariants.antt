@@ -2,7 +2,7 @@ use Rattle.std.proofs.Common.{length, map}
 use Rattle.dw_lines.specs.declared.rule.LineRule.TheVariants.{LineCut}
 use Rattle.dw_lines.specs.Files.{file_or_end, file_view, files4}
 use Rattle.dw_lines.proofs.RepeatLaws.{ReadsOn}
-use Rattle.dw_lines.proofs.tables4.files.Given as goal
+use Rattle.dw_lines.proofs.tables.files4.Given as goal
 
 abbrev pub invariant-loop-files : goal.invariant-loop-files
 invariant-loop-files l =

@@ -2,7 +2,7 @@ use Rattle.std.proofs.Common.{◌-◌}
 use Rattle.dw_lines.specs.Files.{content_format}
 use Rattle.dw_lines.specs.Repeats.{times}
 use Rattle.dw_lines.proofs.RepeatLaws.{ReadsTimes}
-use Rattle.dw_lines.proofs.tables5.contents.Given as goal
+use Rattle.dw_lines.proofs.tables.contents.Given as goal
 
 abbrev pub invariant-loop : goal.invariant-loop
 invariant-loop l =

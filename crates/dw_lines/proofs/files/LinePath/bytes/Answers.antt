@@ -1,5 +1,5 @@
 use Rattle.dw_elf.proofs.NameLemmas.{take_before_first, all_before_first}
-use Rattle.dw_lines.proofs.path.LinePath.bytes.Goals as goal
+use Rattle.dw_lines.proofs.files.LinePath.bytes.Goals as goal
 
 pub returns-in-Some : goal.returns-in-Some
 returns-in-Some c = rw c.in-Section.is (take_before_first _ _ c.in-Some.ensures.0 c.in-Some.ensures.1)

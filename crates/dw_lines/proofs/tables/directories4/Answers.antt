@@ -5,7 +5,7 @@ use Rattle.dw_forms.specs.declared.fault.Stop.TheVariants as stops
 use Rattle.dw_lines.specs.Files.{path_view, directories4}
 use Rattle.dw_lines.specs.Header.{length_end}
 use Rattle.dw_lines.proofs.RepeatLaws.{goes_to_end, goes_further, goes_wrong}
-use Rattle.dw_lines.proofs.tables4.directories.Goals as goal
+use Rattle.dw_lines.proofs.tables.directories4.Goals as goal
 
 pub loop-paths-init : goal.loop-paths-init
 unfolding directories4

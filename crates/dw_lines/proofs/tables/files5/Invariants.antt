@@ -2,7 +2,7 @@ use Rattle.std.proofs.Common.{◌-◌, map}
 use Rattle.dw_lines.specs.Files.{file_entry, file_view}
 use Rattle.dw_lines.specs.Repeats.{times}
 use Rattle.dw_lines.proofs.RepeatLaws.{ReadsTimes}
-use Rattle.dw_lines.proofs.tables5.files.Given as goal
+use Rattle.dw_lines.proofs.tables.files5.Given as goal
 
 abbrev pub invariant-loop : goal.invariant-loop
 invariant-loop l = let value = file_entry l.sections l.contents.items l.directories in

@@ -3,7 +3,7 @@ use Rattle.dw_forms.specs.Formats.{mapped}
 use Rattle.dw_lines.specs.Files.{path_of, path_view, entry}
 use Rattle.dw_lines.specs.Repeats.{times}
 use Rattle.dw_lines.proofs.RepeatLaws.{ReadsTimes}
-use Rattle.dw_lines.proofs.tables5.directories.Given as goal
+use Rattle.dw_lines.proofs.tables.directories5.Given as goal
 
 abbrev pub invariant-loop : goal.invariant-loop
 invariant-loop l = let value = mapped path_of (entry l.sections l.contents.items) in

@@ -2,7 +2,7 @@ use Rattle.std.proofs.Common.{◌≤◌, length, map}
 use Rattle.dw_lines.specs.declared.rule.LineRule.TheVariants.{LineCut}
 use Rattle.dw_lines.specs.Files.{path_or_end, path_view, directories4}
 use Rattle.dw_lines.proofs.RepeatLaws.{ReadsOn}
-use Rattle.dw_lines.proofs.tables4.directories.Given as goal
+use Rattle.dw_lines.proofs.tables.directories4.Given as goal
 
 abbrev pub invariant-loop-paths : goal.invariant-loop-paths
 invariant-loop-paths l = record {

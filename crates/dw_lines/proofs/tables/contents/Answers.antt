@@ -2,7 +2,7 @@ use Rattle.std.proofs.Common.{arith}
 use Rattle.std.proofs.lemmas.Result.{err_from_is_err_and}
 use Rattle.dw_forms.specs.declared.fault.Stop.TheVariants as stops
 use Rattle.dw_lines.proofs.RepeatLaws.{times_begin, times_all, times_more, times_fault}
-use Rattle.dw_lines.proofs.tables5.contents.Goals as goal
+use Rattle.dw_lines.proofs.tables.contents.Goals as goal
 
 pub loop-init : goal.loop-init
 loop-init c = times_begin _ _ _ _ _ (omega arith) c.new-contents.ensures.items
