@@ -35,29 +35,20 @@ pub(crate) struct Content {
 fn may_have(kind: u64, form: Form) -> bool
     ensures { result ≡ may_have_form kind form }
 {
-    match kind {
-        DW_LNCT_path => matches!(form, Form::Text | Form::Strp | Form::LineStrp),
-        DW_LNCT_directory_index => matches!(form, Form::Data1 | Form::Data2 | Form::Udata),
-        DW_LNCT_timestamp => matches!(form, Form::Udata | Form::Data4 | Form::Data8 | Form::Block),
-        DW_LNCT_size => matches!(
-            form,
-            Form::Udata | Form::Data1 | Form::Data2 | Form::Data4 | Form::Data8
-        ),
-        DW_LNCT_MD5 => matches!(form, Form::Data16),
-        // Of a content that the standard does not name, the form alone says how long it is.
-        _ => matches!(
-            form,
-            Form::Text
-                | Form::Strp
-                | Form::LineStrp
-                | Form::Data1
-                | Form::Data2
-                | Form::Data4
-                | Form::Data8
-                | Form::Data16
-                | Form::Udata
-                | Form::Block
-        ),
+    // Of a content that the standard does not name, the form alone says how long it is.
+    let is_named = kind >= DW_LNCT_path && kind <= DW_LNCT_MD5;
+    match form {
+        Form::Text | Form::Strp | Form::LineStrp => kind == DW_LNCT_path || !is_named,
+        Form::Data1 | Form::Data2 => {
+            kind == DW_LNCT_directory_index || kind == DW_LNCT_size || !is_named
+        }
+        Form::Data4 | Form::Data8 => {
+            kind == DW_LNCT_timestamp || kind == DW_LNCT_size || !is_named
+        }
+        Form::Udata => kind != DW_LNCT_path && kind != DW_LNCT_MD5,
+        Form::Block => kind == DW_LNCT_timestamp || !is_named,
+        Form::Data16 => kind == DW_LNCT_MD5 || !is_named,
+        _ => false,
     }
 }
 

@@ -100,10 +100,8 @@ impl<'a> Machine<'a> {
         let (opcode, rest) = read_extended(parameters.address_size, bytes)?;
         match opcode {
             Extended::EndSequence => {
-                let row = Row {
-                    end_sequence: true,
-                    ..self.registers
-                };
+                let mut row = self.registers;
+                row.end_sequence = true;
                 return self.append(files, row, rest);
             }
             Extended::SetAddress(address) => {
