@@ -1,5 +1,5 @@
 -- Which rules a group of failures has, and that one of them is named at a place.
-use Rattle.std.proofs.Common.{rules, ◌≡◌, ℕ, List, refl, ap, ◌∙◌, arith, ◌+◌, ◌<◌, ◌≤◌}
+use Rattle.std.proofs.Common.{rules, ◌≡◌, ℕ, List, refl, ap, ◌∙◌, arith, ◌+◌, ◌≤◌}
 use Rattle.dw_elf.specs.declared.sections.Sections.{Sections}
 use Rattle.dw_entries.specs.declared.fault.PlainFault.{PlainFault}
 use Rattle.dw_entries.specs.declared.fault.Fault.{Fault}
@@ -11,6 +11,7 @@ use Rattle.dw_entries.proofs.EntryFacts.{entries_rise}
 use Rattle.dw_links.proofs.RuleGroups.{string_failures, reference_failures}
 use Rattle.dw_image.specs.FirstFault.{Group, classes, strings, references, shapes, cycles, sizes, turn_of, failures_of}
 use Rattle.dw_image.specs.FirstFault.{IsFirstIn}
+use Rattle.dw_image.specs.GroupsBefore.{HoldBefore}
 use Rattle.dw_image.proofs.RuleLemmas.{one_rule}
 use Rattle.dw_entries.proofs.NumberOrder.{three_ways}
 use Rattle.dw_image.proofs.OneFirst.{AreOneAtPlace, one_attribute}
@@ -76,10 +77,6 @@ one_group shapes shapes same = refl
 one_group cycles cycles same = refl
 one_group sizes sizes same = refl
 one_group _ _ same = absurd (omega (arith, same))
-
--- no rule fails of the groups before a turn
-abbrev pub HoldBefore : Sections → List DebugUnit → ℕ → Type 0
-HoldBefore s us turn = (earlier : Group) → turn_of earlier < turn → HasNone (failures_of s us earlier)
 
 pub none_before : (s : Sections) (us : List DebugUnit) → HoldBefore s us 2
 none_before s us earlier less = absurd (let p = second_or_later earlier in omega (arith, p, less))

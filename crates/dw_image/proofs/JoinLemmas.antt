@@ -1,5 +1,6 @@
--- The groups of rules join: valid sections have no fault, and others have one.
-use Rattle.std.proofs.Common.{rules, ◌≡◌, ◌<◌, List, drop, sym, ◌∙◌, subst, inl, inr}
+-- The groups of rules join: valid sections have no fault, and others have one; and the groups in their order, as they
+-- are asked.
+use Rattle.std.proofs.Common.{rules, ◌≡◌, ℕ, ◌<◌, ◌≤◌, List, drop, sym, ◌∙◌, subst, arith, inl, inr}
 use Rattle.dw_elf.specs.declared.sections.Sections.{Sections}
 use Rattle.dw_entries.specs.declared.fault.Fault.{Fault}
 use Rattle.dw_entries.specs.Units.{DebugUnit}
@@ -16,17 +17,24 @@ use Rattle.dw_links.specs.Classes.{ClassFailures}
 use Rattle.dw_links.specs.LinkFaults.{IsFirstOfLinks}
 use Rattle.dw_links.specs.Strings.{StringFailures}
 use Rattle.dw_links.specs.declared.links.Links.{Links}
+use Rattle.dw_forms.specs.Rules.{group_of}
 use Rattle.dw_types.specs.Graphs.{HasNoCycle}
+use Rattle.dw_types.specs.Orders.{Ranking}
 use Rattle.dw_types.specs.Shapes.{ShapeFailures}
 use Rattle.dw_types.specs.SizeFaults.{IsFirstSizeFault}
+use Rattle.dw_types.specs.SizeTables.{Size, size_at}
+use Rattle.dw_types.specs.Sizes.{IsSizeTable}
 use Rattle.dw_types.specs.Steps.{by_value}
+use Rattle.dw_types.proofs.SizeFaultLemmas.{sizes_by_rank, is-size_table, exact-lines}
 use Rattle.dw_image.specs.declared.image.Image.{Image}
 use Rattle.dw_image.specs.Images.{sections_in, units_in, size_table_in}
 use Rattle.dw_image.specs.Valid.{SpellsInfo, HasSizes, IsValidBy, IsValid}
 use Rattle.dw_image.specs.FirstFault.{Group, classes, strings, references, shapes, cycles, sizes, turn_of, failures_of, FailsInTrees, NamesCycle, IsFirstIn, FailsInGroup, IsFirstFault, in_trees, in_group, IsOneFault}
 use Rattle.dw_image.specs.Headline.{IsSpelled, IsSoundBy, IsImageOf, IsFaultOf}
 use Rattle.dw_image.proofs.OneFirst.{one_first}
-use Rattle.dw_image.proofs.GroupLemmas.{HoldBefore, one_group, one_at_place, none_before, one_more}
+use Rattle.dw_image.specs.GroupsBefore.{HoldBefore, PassBefore}
+use Rattle.dw_image.specs.StepsAndSizes.{AreOrdered, AreMeasures}
+use Rattle.dw_image.proofs.GroupLemmas.{one_group, one_at_place, rank_of, none_before, one_more}
 use Rattle.dw_image.proofs.MeasureLemmas.{none_by_size, first_by_size, no_cycle_holds, cycle_failure, cycle_fails, contained_of}
 use Rattle.dw_links.proofs.HeldTexts.{texts_of}
 use Rattle.dw_image.proofs.HeadlineLemmas.{classes_of, references_of}
@@ -176,14 +184,19 @@ before_references : (entries : Entries) → HasNone (ClassFailures (units_of ent
 before_references entries none nor =
     one_more (sections_of entries) (units_of entries) strings (before_strings entries none) nor
 
+-- the first value whose class is wrong
+pub wrong_class : (entries : Entries) (fault : Fault)
+    → IsPlainFault (IsFirst (ClassFailures (units_of entries))) fault → IsFaultOf (sections_of entries) fault
+wrong_class entries fault first =
+    faulty entries classes fault (none_before (sections_of entries) (units_of entries)) first
+
 -- of the groups on the values of attributes the first that fails
 pub wrong_link : (entries : Entries) (fault : Fault)
     → IsPlainFault (IsFirstOfLinks (sections_of entries) (units_of entries)) fault
     → IsFaultOf (sections_of entries) fault
 wrong_link entries fault first =
     elim first.holds [
-      | inl class ↦ faulty entries classes fault (none_before (sections_of entries) (units_of entries))
-          (record { holds = class; cycle = first.cycle })
+      | inl class ↦ wrong_class entries fault (record { holds = class; cycle = first.cycle })
       | inr targets ↦ elim targets.1 [
         | inl string ↦ faulty entries strings fault (before_strings entries targets.0)
             (record { holds = string; cycle = first.cycle })
@@ -191,6 +204,47 @@ wrong_link entries fault first =
             (record { holds = reference.1; cycle = first.cycle })
       ]
     ]
+
+-- no rule of the groups before a turn fails, where those of the groups before a later one do not
+pass_early : (s : Sections) (us : List DebugUnit) (turn bound : ℕ) → turn ≤ bound → bound ≤ 6 → HoldBefore s us bound
+    → PassBefore s us turn
+pass_early s us turn bound le few hold = record {
+  hold = λ earlier less. hold earlier (omega (arith, less, le));
+  measured = λ late. absurd (omega (arith, late, le, few));
+}
+
+pub pass_classes : (entries : Entries) (turn : ℕ) → turn ≤ 3 → HasNone (ClassFailures (units_of entries))
+    → PassBefore (sections_of entries) (units_of entries) turn
+pass_classes entries turn le none =
+    pass_early (sections_of entries) (units_of entries) turn 3 le (omega arith) (before_strings entries none)
+
+-- the size table by which a rule of the last group fails
+table_of : (s : Sections) (us : List DebugUnit) (group : Group) (fault : Fault) → IsFirstIn s us group fault
+    → 6 < turn_of group → (table : ℕ → Size) × IsSizeTable us table
+table_of s us sizes fault first late = (first.holds.fails.table, first.holds.fails.one)
+table_of s us group fault first late = absurd (omega (arith, late))
+
+pass_group : (entries : Entries) (fault : Fault) (turn : ℕ) (group : Group)
+    → FailsInGroup (sections_of entries) group fault → turn ≤ group_of fault.rule
+    → PassBefore (sections_of entries) (units_of entries) turn
+pass_group entries fault turn group fails late =
+    let s = sections_of entries in
+    let rank = rank_of s fails.units group fault fails.first in
+    let same = one_list_of s fails.units (units_of entries) fails.spelled
+    (record { spells = entries.scanned.1.spells; are_from = entries.scanned.1.are_from }) in
+    subst (λ us. PassBefore s us turn) same (record {
+      hold = λ earlier less. fails.before earlier (omega (arith, less, late, rank));
+      measured = λ more. table_of s fails.units group fault fails.first (omega (arith, more, late, rank));
+    })
+
+-- the first fault is of no group before a turn
+pub pass_fault : (entries : Entries) (fault : Fault) (turn : ℕ) → IsFirstFault (sections_of entries) fault
+    → turn ≤ group_of fault.rule → PassBefore (sections_of entries) (units_of entries) turn
+pass_fault entries fault turn (in_trees fails cycle) late =
+    let s = sections_of entries in
+    absurd (no_list s.«abbrev».now s.base (drop s.base s.info.now) (units_of entries) (plain_fault_of fault)
+    entries.scanned.1.spells fails)
+pass_fault entries fault turn (in_group group fails) late = pass_group entries fault turn group fails late
 
 -- and of those on types, where none on values fails
 module _ (links : Links) where
@@ -219,3 +273,34 @@ module _ (links : Links) where
       faulty links.entries.now sizes fault
       (one_more (sections_of links.entries.now) us cycles (before_cycles none) (no_cycle_holds us nor))
       (record { holds = first_by_size us _ first.holds; cycle = first.cycle })
+
+  pub pass_links : (turn : ℕ) → turn ≤ 5 → PassBefore (sections_of links.entries.now) us turn
+  pass_links turn le = pass_early (sections_of links.entries.now) us turn 5 le (omega arith) before_shapes
+
+  pub pass_ordered : (turn : ℕ) (order : Ranking) → turn ≤ 7 → AreOrdered us order
+      → PassBefore (sections_of links.entries.now) us turn
+  pass_ordered turn order le are =
+      let falls = are.ordered.falls in
+      let before =
+      one_more (sections_of links.entries.now) us cycles (before_cycles are.shapes) (no_cycle_holds us are.contained) in
+      record {
+        hold = λ earlier less. before earlier (omega (arith, less, le));
+        measured = λ late. (
+          sizes_by_rank us order.ranks falls,
+          is-size_table us order.ranks falls (sizes_by_rank us order.ranks falls) (exact-lines us order.ranks falls),
+        );
+      }
+
+  holds_all : (table : List Size) → AreMeasures us table → (group : Group)
+      → HasNone (failures_of (sections_of links.entries.now) us group)
+  holds_all table are classes = links.classes
+  holds_all table are strings = links.strings
+  holds_all table are references = links.references
+  holds_all table are shapes = are.shapes
+  holds_all table are cycles = no_cycle_holds us are.contained
+  holds_all table are sizes = none_by_size us (size_at table) are.sizes.one are.sizes.none
+
+  pub pass_all : (turn : ℕ) (table : List Size) → AreMeasures us table
+      → PassBefore (sections_of links.entries.now) us turn
+  pass_all turn table are =
+      record { hold = λ earlier less. holds_all table are earlier; measured = λ late. (size_at table, are.sizes.one) }

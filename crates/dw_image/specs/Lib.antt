@@ -2,6 +2,7 @@
 pub mod Headline
 pub mod Valid
 pub mod FirstFault
+pub mod GroupsBefore
 pub mod Lookups
 pub mod Images
 -- What dw_links says of declarations, numbers and strings, for the crates above.

@@ -16,4 +16,4 @@ pub use laws::{images_are_sound, one_first_fault, one_list, valid_has_no_fault};
 pub use strings::{StringSpan, Strings};
 pub use types::TypeId;
 pub use unit_at_hand::UnitAtHand;
-pub use verifying::{Verdict, verify, verify_scanned};
+pub use verifying::{Verdict, verify, verify_before, verify_scanned};

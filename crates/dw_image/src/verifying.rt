@@ -1,19 +1,21 @@
 //! The verdict on six sections: the groups of rules in their order, the last of them on types: shapes, containment and
 //! sizes.
 
-ghost use Rattle.std.specs.Prelude.{◌≡◌, ◌<◌, length, map, IfOk, IfErr};
+ghost use Rattle.std.specs.Prelude.{◌≡◌, ◌<◌, ◌≤◌, length, map, IfOk, IfErr, IfSome, IfNone, OnOk};
+ghost use Rattle.dw_forms.specs.Rules.{group_of};
 ghost use Rattle.dw_forms.specs.Stops.{IfFault};
 ghost use Rattle.dw_entries.specs.Views.{sections_of, all_entries, units_of};
 ghost use Rattle.dw_types.specs.Graphs.{IsCycle};
 ghost use Rattle.dw_types.specs.Steps.{by_value};
 ghost use Rattle.dw_image.specs.FirstFault.{offset_at, NamesCycle};
+ghost use Rattle.dw_image.specs.GroupsBefore.{PassBefore, IsVerdictBefore};
 ghost use Rattle.dw_image.specs.Headline.{IsImageOf, IsFaultOf, IsVerdictOf};
 ghost use Rattle.dw_image.specs.StepsAndSizes.{AreOrdered, AreSteps};
 
 use crate::image::Image;
 use dw_elf::Sections;
 use dw_entries::{Entries, Fault, Rule, Section, Stop, scan};
-use dw_links::{Links, link};
+use dw_links::{Links, check_classes, link};
 use dw_types::{ByValue, NoMemory, Order, OrderFault, order, sizes};
 use std::alloc::{AllocError, Global};
 
@@ -84,31 +86,75 @@ fn order_types(alloc: Global, links: &Links<'_, '_>) -> Result<(ByValue, Order),
     }
 }
 
-/// Checks the groups of rules on entries in their order.
-fn image_of<'a>(alloc: Global, entries: Entries<'a>) -> Result<Image<'a>, Stop<Fault>>
-    ensures sound { IfOk result (IsImageOf (sections_of entries.entry)) }
+/// A number after those of all groups of rules.
+const ALL: u8 = 8;
+
+/// Checks the groups of rules on entries before a group, in their order. There is an image if these are all.
+fn image_of<'a>(
+    alloc: Global,
+    entries: Entries<'a>,
+    group: u8,
+) -> Result<Option<Image<'a>>, Stop<Fault>>
+    ensures sound { IfOk result (λ found. IfSome found (IsImageOf (sections_of entries.entry))) }
+    ensures passed { OnOk result (PassBefore (sections_of entries.entry) (units_of entries.entry) group) }
+    ensures whole { IfOk result (λ found. IfNone found (group < 8)) }
     ensures fault { IfErr result (IfFault (IsFaultOf (sections_of entries.entry))) }
 {
+    if group <= 2 {
+        return Ok(None);
+    }
+    if group == 3 {
+        check_classes(alloc, &entries)?;
+        return Ok(None);
+    }
     let links = link(alloc, &entries)?;
+    if group <= 5 {
+        return Ok(None);
+    }
     let (steps, order) = order_types(alloc, &links)?;
+    if group <= 7 {
+        return Ok(None);
+    }
     let sizes = sizes(alloc, links.entries, &links, &order)?;
     let tables = links.into_tables();
-    Ok(Image {
+    Ok(Some(Image {
         entries,
         tables,
         steps,
         order,
         sizes,
-    })
+    }))
 }
 
 /// Whether sections whose entries were scanned are valid: their image, or the first fault.
 pub fn verify_scanned<'a>(alloc: Global, entries: Entries<'a>) -> Result<Verdict<'a>, NoMemory>
     ensures { IfOk result (IsVerdictOf (sections_of entries.entry)) }
 {
-    match image_of(alloc, entries) {
-        Ok(image) => Ok(Verdict::Sound(image)),
+    match image_of(alloc, entries, ALL) {
+        Ok(Some(image)) => Ok(Verdict::Sound(image)),
+        Ok(None) => unreachable!(),
         Err(Stop::Fault(fault)) => Ok(Verdict::Fault(fault)),
+        Err(Stop::Memory) => Err(NoMemory),
+    }
+}
+
+/// The first fault of scanned entries, if it is of a group of rules before the rule's own. None if no rule of these
+/// groups fails; the others are not checked.
+pub fn verify_before(
+    alloc: Global,
+    entries: Entries<'_>,
+    rule: Rule,
+) -> Result<Option<Fault>, NoMemory>
+    ensures { IfOk result (IsVerdictBefore (sections_of entries.entry) (units_of entries.entry) (group_of rule)) }
+{
+    match image_of(alloc, entries, rule.group()) {
+        Ok(_) => Ok(None),
+        Err(Stop::Fault(fault)) => {
+            if fault.rule.group() < rule.group() {
+                return Ok(Some(fault));
+            }
+            Ok(None)
+        }
         Err(Stop::Memory) => Err(NoMemory),
     }
 }

@@ -1,11 +1,12 @@
 -- One batch alone: its bytes as the whole .debug_info, beside the other sections.
-use Rattle.std.proofs.Common.{rules, ◌≡◌, ℕ, suc, ◌+◌, ◌<◌, List, [], ◌∷◌, length, take, drop, Option, None}
-use Rattle.std.proofs.Common.{refl, subst, arith}
+use Rattle.std.proofs.Common.{rules, ◌≡◌, ℕ, suc, ◌+◌, ◌<◌, List, [], ◌∷◌, length, take, drop, Option, None, Bor}
+use Rattle.std.proofs.Common.{refl, sym, ap, subst, ◌∙◌, arith}
 use Rattle.std.specs.Prelude.{slice_get, IfSome}
 use Rattle.std.proofs.lemmas.List.{drop-take}
 use Rattle.dw_elf.specs.declared.sections.Sections.{Sections}
 use Rattle.dw_elf.specs.Sections.{IsPart}
 use Rattle.dw_forms.specs.Value.{Datum}
+use Rattle.dw_forms.specs.Codes.{DW_AT_str_offsets_base, DW_AT_addr_base}
 use Rattle.dw_entries.specs.declared.header.UnitHeader.{UnitHeader}
 use Rattle.dw_forms.specs.declared.rule.Rule.{Rule}
 use Rattle.dw_entries.specs.declared.entry.EntryHead.{EntryHead}
@@ -13,9 +14,12 @@ use Rattle.dw_entries.specs.Units.{DebugUnit, AreUnits, AreFrom, SpellsInfo, uni
 use Rattle.dw_entries.specs.Entries.{Entry, entries_of, node_count, start_of, placed_from, placed}
 use Rattle.dw_entries.specs.Failures.{Failure, HasNone, plain_fault_of}
 use Rattle.dw_entries.specs.Faults.{Fails}
+use Rattle.dw_links.specs.Bases.{base_in}
+use Rattle.dw_entries.specs.Lookups.{entry_head}
 use Rattle.dw_links.specs.Strings.{StringIndexFails, AddressIndexFails, BaseFails, StringFailsIn, StringFailures}
+use Rattle.dw_units.specs.declared.counts.Counts.{Counts}
 use Rattle.dw_entries.specs.EntryRules.{EachEntry}
-use Rattle.dw_image.specs.Valid.{IsValid, IsValidBy}
+use Rattle.dw_image.specs.Valid.{IsValidBy}
 use Rattle.dw_links.specs.Signatures.{type_unit_of}
 use Rattle.dw_forms.specs.Rules.{group_of}
 use Rattle.dw_entries.specs.declared.fault.Fault.{Fault}
@@ -24,11 +28,13 @@ use Rattle.dw_image.specs.FirstFault.{Group, strings, sizes, turn_of, failures_o
 use Rattle.dw_image.specs.FirstFault.{IsFirstIn, IsFirstFault, in_trees, in_group}
 use Rattle.dw_image.specs.Headline.{IsFaultOf}
 use Rattle.dw_image.proofs.GroupLemmas.{rank_of}
-use Rattle.dw_units.specs.ByUnit.{IsMeasured, PassesBelow, StaysAlone}
+use Rattle.dw_image.specs.GroupsBefore.{PassBefore}
+use Rattle.dw_units.specs.ByUnit.{FailsAlone, IsMeasured, IsFirm, StaysAlone}
 use Rattle.dw_units.specs.declared.batches.Elsewhere.{Elsewhere}
 use Rattle.dw_units.specs.declared.batches.Elsewhere.TheVariants.{Never, ByOffset, BySignature}
 use Rattle.dw_units.specs.BatchSections.{Refer}
 use Rattle.dw_units.specs.IndependentBatches.{StaysInside, HaveNoTypeUnit, StandsAlone}
+use Rattle.dw_units.specs.Counts.{AreCounts}
 use Rattle.dw_forms.specs.declared.fault.Stop.{Stop}
 use Rattle.dw_entries.specs.Stopped.{IfPlainFault}
 
@@ -62,13 +68,44 @@ module _ (s own : Sections) (shares : Shares s own) where
       search (rules, string_index_in, address_index_in, base_in_own)
 
   strings_own : (us : List DebugUnit) (f : Failure) → StringFailures s us f → StringFailures own us f
-  strings_own us f fails = search (rules, string_in_own)
+  strings_own us f fails = record {
+    number = fails.number;
+    item = fails.item;
+    is_item = fails.is_item;
+    fails = record {
+      position = fails.fails.position;
+      value = fails.fails.value;
+      has = fails.fails.has;
+      place = fails.fails.place;
+      fails = record {
+        unit = fails.fails.fails.unit;
+        in_unit = fails.fails.fails.in_unit;
+        fails =
+            string_in_own fails.fails.fails.unit.unit.header
+            (base_in (entries_of us) fails.fails.fails.unit DW_AT_str_offsets_base)
+            (base_in (entries_of us) fails.fails.fails.unit DW_AT_addr_base) (entry_head fails.item) f.attribute
+            fails.fails.value f.rule fails.fails.fails.fails;
+      };
+    };
+  }
 
 shares_of : (s own : Sections) (from to : ℕ) → IsPart s from to own → Shares s own
-shares_of s own from to part = search (rules)
+shares_of s own from to part = record {
+  abbrev_same = ap (λ (bytes : Bor (List ℕ)). bytes.now) part.abbrev_is;
+  str_same = ap (λ (bytes : Bor (List ℕ)). bytes.now) part.str_is;
+  line_str_same = ap (λ (bytes : Bor (List ℕ)). bytes.now) part.line_str_is;
+  str_offsets_same = ap (λ (bytes : Bor (List ℕ)). bytes.now) part.str_offsets_is;
+  addr_same = ap (λ (bytes : Bor (List ℕ)). bytes.now) part.addr_is;
+}
 
 shares_back : (s own : Sections) → Shares s own → Shares own s
-shares_back s own shares = search (rules)
+shares_back s own shares = record {
+  abbrev_same = sym shares.abbrev_same;
+  str_same = sym shares.str_same;
+  line_str_same = sym shares.line_str_same;
+  str_offsets_same = sym shares.str_offsets_same;
+  addr_same = sym shares.addr_same;
+}
 
 measured_by : (s : Sections) (group : Group) (fault : Fault) (units : List DebugUnit) → IsFirstIn s units group fault
     → IsMeasured group units
@@ -122,8 +159,7 @@ pub record IsBatch (s own : Sections) (at size : ℕ) (units : List DebugUnit) :
 -- the group of the fault of a batch
 pub record IsOfGroup (s : Sections) (units : List DebugUnit) (fault : Fault) : Type 0 where
   pub group : Group
-  pub below : PassesBelow s group units
-  pub first : IsFirstIn s units group fault
+  pub fails : FailsAlone s units group fault
   pub measured : IsMeasured group units
   pub rank : group_of fault.rule ≡ turn_of group
 
@@ -132,7 +168,7 @@ module _ (s own : Sections) (at size : ℕ) (units : List DebugUnit) (batch : Is
   shares = shares_of s own at (at + size) batch.part
 
   pub are_from : AreFrom at units
-  are_from = search (rules)
+  are_from = subst (λ (n : ℕ). AreFrom n units) batch.part.base_is batch.spelled.are_from
 
   pub stays : StaysAlone s units
   stays = record {
@@ -142,11 +178,12 @@ module _ (s own : Sections) (at size : ℕ) (units : List DebugUnit) (batch : Is
   }
 
   pub bytes : take size (drop at s.info.now) ≡ units_bytes units
-  bytes = search (rules, bytes_of)
+  bytes = sym (bytes_of s own at size batch.part) ∙ batch.spelled.spells.parts
 
   -- the part is sound
-  pub stands : IsValid own → StandsAlone s units
-  stands whole =
+  pub stands : (c : Counts) → AreCounts own c → StandsAlone s units
+  stands c counts =
+      let whole = counts.sound.valid in
       let valid = subst (IsValidBy own) (batch.only whole.0 whole.1.trees) whole.1 in
       record {
         are = stays.are;
@@ -160,9 +197,16 @@ module _ (s own : Sections) (at size : ℕ) (units : List DebugUnit) (batch : Is
         stays = batch.stays_inside;
       }
 
+  -- no rule of the groups before a turn fails
+  pub passed : (turn : ℕ) → PassBefore own units turn → PassBefore s units turn
+  passed turn passes = record {
+    hold = λ earlier less. none_own s own shares units earlier (passes.hold earlier less);
+    measured = passes.measured;
+  }
+
   -- a rule fails
-  pub failed : (fault : Fault) → IsFaultOf own fault → IsOfGroup s units fault
-  failed fault is = go is.first
+  pub failed : (fault : Fault) → IsFirm units fault.rule → IsFaultOf own fault → IsOfGroup s units fault
+  failed fault firm is = go is.first
     where
       go : IsFirstFault own fault → IsOfGroup s units fault
       go (in_trees fails cycle) = absurd
@@ -176,8 +220,11 @@ module _ (s own : Sections) (at size : ℕ) (units : List DebugUnit) (batch : Is
           (subst (λ (us : List DebugUnit). IsFirstIn own us group fault) same fails.first) in
           record {
             group = group;
-            below = λ earlier less. none_own s own shares units earlier (before earlier less);
-            first = first;
+            fails = record {
+              below = λ earlier less. none_own s own shares units earlier (before earlier less);
+              first = first;
+              firm = firm;
+            };
             measured = measured_by s group fault units first;
             rank = rank_of s units group fault first;
           }

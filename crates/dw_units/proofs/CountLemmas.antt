@@ -1,18 +1,17 @@
 -- One more batch after those so far: what is found of them then, and after the last one.
 use Rattle.std.proofs.Common.{rules, ◌≡◌, ℕ, ◌+◌, ◌<◌, ◌≤◌, List, [], ◌∷◌, ◌++◌, length, map, take, drop, Option}
-use Rattle.std.proofs.Common.{Some, None, IfSome, refl, sym, ap, subst, ◌∙◌, inl, inr, arith, append_assoc}
+use Rattle.std.proofs.Common.{Some, None, IfSome, refl, sym, ap, subst, ◌∙◌, arith, append_assoc}
 use Rattle.std.proofs.Common.{append-nil, drop-drop, length-append, take-append-drop}
 use Rattle.std.specs.Prelude.{cond}
 use Rattle.std.specs.List.{AllByRecursion, count_by}
 use Rattle.std.proofs.lemmas.List.Sums.{sum_by-append, sum_by-cons}
-use Rattle.std.proofs.lemmas.Bool.{cases_lt}
 use Rattle.std.proofs.lemmas.Grind.{flat_map-append}
 use Rattle.std.proofs.lemmas.List.{drop_all, length-drop, length-map, length-take-le}
 use Rattle.dw_elf.specs.declared.sections.Sections.{Sections}
 use Rattle.dw_elf.specs.Sections.{IsPart}
 use Rattle.dw_entries.specs.declared.entries.Entries.{Entries}
 use Rattle.dw_entries.specs.EntryRules.{EachEntry}
-use Rattle.dw_entries.specs.Units.{DebugUnit, AreFrom, SpellsInfo, units_bytes}
+use Rattle.dw_entries.specs.Units.{DebugUnit, AreFrom, SpellsInfo, unit_bytes, units_bytes}
 use Rattle.dw_entries.specs.Views.{sections_of, units_of}
 use Rattle.dw_entries.specs.Entries.{Entry, entries_from, entries_of}
 use Rattle.dw_entries.specs.Failures.{plain_fault_of, IsPlainFault}
@@ -25,9 +24,8 @@ use Rattle.dw_forms.specs.declared.rule.Rule.TheVariants.{UnitCut}
 use Rattle.dw_entries.specs.declared.fault.Fault.{Fault}
 use Rattle.dw_image.specs.FirstFault.{Group, sizes, turn_of}
 use Rattle.dw_image.specs.FirstFault.{in_trees}
-use Rattle.dw_image.specs.Headline.{IsFaultOf, IsVerdictOf}
-use Rattle.dw_image.specs.declared.verifying.Verdict.{Verdict}
-use Rattle.dw_image.specs.declared.verifying.Verdict.TheVariants as verdict
+use Rattle.dw_image.specs.GroupsBefore.{PassBefore}
+use Rattle.dw_image.specs.Headline.{IsFaultOf}
 use Rattle.dw_units.specs.declared.batches.Elsewhere.{Elsewhere}
 use Rattle.dw_units.specs.declared.batches.FirstUnit.{FirstUnit}
 use Rattle.dw_units.specs.declared.checking.Found.{Found}
@@ -36,10 +34,10 @@ use Rattle.dw_units.specs.declared.counts.Counts.{Counts}
 use Rattle.dw_units.specs.IndependentBatches.{joined, HaveNoTypeUnit, StandsAlone, StaysInside}
 use Rattle.dw_units.specs.ByUnit.{AreBatches, PassesBelow, PassesThrough, IsMeasured, StaysAlone}
 use Rattle.dw_units.specs.Counts.{IsFoundIn, sums}
-use Rattle.dw_units.specs.BatchSections.{AreCounted, AreSizes, HasLeast, HasNoLess, IsFirmlyFound}
+use Rattle.dw_units.specs.BatchSections.{AreCounted, AreSizes, HasLeast, IsFirmlyFound}
 use Rattle.dw_units.specs.BatchSections.{IsFoundAfter, IsFoundOf, IsFoundUpTo, IsLess, IsWhollyFound, Refer}
 use Rattle.dw_units.specs.BatchSections.{fails, passes, sound}
-use Rattle.dw_units.proofs.AloneLemmas.{IsBatch, IsOfGroup, are_from, bytes, failed, stands, stays}
+use Rattle.dw_units.proofs.AloneLemmas.{IsBatch, IsOfGroup, are_from, bytes, failed, passed, stands, stays}
 use Rattle.dw_units.proofs.BatchLemmas.{entries_there, from_both}
 use Rattle.dw_units.proofs.TreeLemmas.{trees_first, fails_with_more}
 use Rattle.dw_units.proofs.TextLemmas.{units_joined, each_of}
@@ -51,11 +49,13 @@ use Rattle.dw_units.proofs.JoinLemmas.{trees_join}
 
 joined_more : (bs : List (List DebugUnit)) (units : List DebugUnit)
     → joined (bs ++ units ∷ []) ≡ joined bs ++ units
-joined_more bs units = search (rules, flat_map-append, append-nil)
+joined_more bs units =
+    flat_map-append (λ (batch : List DebugUnit). batch) bs (units ∷ [])
+    ∙ ap (λ (xs : List DebugUnit). joined bs ++ xs) (append-nil units)
 
 bytes_more : (bs : List (List DebugUnit)) (units : List DebugUnit)
     → units_bytes (joined (bs ++ units ∷ [])) ≡ units_bytes (joined bs) ++ units_bytes units
-bytes_more bs units = search (rules, joined_more, flat_map-append)
+bytes_more bs units = ap units_bytes (joined_more bs units) ∙ flat_map-append unit_bytes (joined bs) units
 
 -- the entries of one batch more come after the others
 entries_more : (at : ℕ) (bs : List (List DebugUnit)) (units : List DebugUnit) → AreFrom at (joined bs)
@@ -119,12 +119,10 @@ counted_more s bs units a b from more are alone its_units its_entries its_types 
 
 -- ---- one batch more
 
--- what is asked of sizes up to a group is asked up to a later one
-measured_up : (group later : Group) (units : List DebugUnit) → turn_of group ≤ turn_of later → IsMeasured later units
-    → IsMeasured group units
-measured_up sizes sizes units le is = is
-measured_up sizes later units le is = absurd (omega (arith, le))
-measured_up group later units le is = tt
+measured_by : (s : Sections) (group : Group) (turn : ℕ) (units : List DebugUnit) → turn ≡ turn_of group
+    → PassBefore s units turn → IsMeasured group units
+measured_by s sizes turn units is pass = pass.measured (omega (arith, is))
+measured_by s _ turn units is pass = tt
 
 -- no rule of the least fault's group, nor of an earlier one, fails at the batches before
 abbrev HavePassed : Sections → Group → List (List DebugUnit) → Type 0
@@ -157,32 +155,21 @@ module _ (s own : Sections) (at size : ℕ) (units : List DebugUnit) (batch : Is
   -- the units begin where those before them end
   follow : (so_far : Found) (up : IsFoundUpTo s at so_far)
       → AreFrom (s.base + length (units_bytes (joined up.batches))) units
-  follow so_far up = search (rules, are_from)
-
-  -- a batch without a fault that is less than one of a group passes the earlier groups
-  kept : (group : Group) (least : Fault) → group_of least.rule ≡ turn_of group → (it : Verdict) → IsVerdictOf own it
-      → HasNoLess least it → PassesBelow s group units × IsMeasured group units
-  kept group least rank (verdict.Sound image) is none =
-      let one = stands s own at size units batch is.sound.valid in
-      (λ earlier less. passes_all s earlier units one, measured_all s group units one)
-  kept group least rank (verdict.Fault fault) is none =
-      let one : IsOfGroup s units fault = failed s own at size units batch fault is in
-      let its_rank = one.rank in
-      let up : turn_of group ≤ turn_of one.group = omega (arith, rank, its_rank, none) in
-      (λ earlier less. one.below earlier (omega (arith, less, up)), measured_up group one.group units up one.measured)
+  follow so_far up = subst (λ (n : ℕ). AreFrom n units) up.at_is (are_from s own at size units batch)
 
   found_more : (so_far : Found) (up : IsFoundUpTo s at so_far) (more : Found)
       → IsFoundAfter own units so_far more → IsFoundOf s (up.batches ++ units ∷ []) more
   found_more so_far up _ (sound a b counts) =
       let only = batch.only counts.units counts.sound.trees.spelled in
       counted_more s up.batches units a b up.apart.follow (follow so_far up) up.of_batches
-      (stands s own at size units batch counts.sound.valid)
+      (stands s own at size units batch b counts)
       (counts.unit_count ∙ ap length only)
       (counts.entry_count ∙ ap (λ (us : List DebugUnit). length (entries_of us)) only)
       (counts.type_count ∙ ap (λ (us : List DebugUnit). count_by is_type_entry (entries_of us)) only)
-  found_more so_far up _ (passes fault it is none) =
+  found_more so_far up _ (passes fault pass) =
       let least : HasLeast s up.batches fault = up.of_batches in
-      let here = kept least.group fault least.rank it is none in
+      let rank = least.rank in
+      let there = passed s own at size units batch (group_of fault.rule) pass in
       record {
         before = least.before;
         units = least.units;
@@ -192,15 +179,15 @@ module _ (s own : Sections) (at size : ℕ) (units : List DebugUnit) (batch : Is
             ap (λ (xs : List (List DebugUnit)). xs ++ units ∷ []) least.are
             ∙ append_assoc least.before (least.units ∷ least.behind) (units ∷ []);
         measured = all-append (IsMeasured least.group) up.batches (units ∷ []) least.measured
-            (here.1, tt);
+            (measured_by s least.group (group_of fault.rule) units rank there, tt);
         passed = least.passed;
         fails = least.fails;
         below = all-append (PassesBelow s least.group) least.behind (units ∷ []) least.below
-            (here.0, tt);
+            (λ earlier less. there.hold earlier (omega (arith, less, rank)), tt);
         rank = least.rank;
       }
   found_more _ up _ (fails so_far fault less is_fault firm) =
-      let one : IsOfGroup s units fault = failed s own at size units batch fault is_fault in
+      let one : IsOfGroup s units fault = failed s own at size units batch fault firm is_fault in
       let before = passed_before s up.batches so_far one.group fault one.rank less up.of_batches in
       record {
         before = up.batches;
@@ -210,7 +197,7 @@ module _ (s own : Sections) (at size : ℕ) (units : List DebugUnit) (batch : Is
         are = refl;
         measured = all-append (IsMeasured one.group) up.batches (units ∷ []) before.1 (one.measured, tt);
         passed = before.0;
-        fails = record { below = one.below; first = one.first; firm = firm };
+        fails = one.fails;
         below = tt;
         rank = one.rank;
       }
@@ -330,29 +317,21 @@ module _ (s : Sections) (at : ℕ) (so_far : Found) (up : IsFoundUpTo s at so_fa
     found_by_trees (Some it) (same, uncut) = subst (IsFoundIn s) (sym same) (found_in_trees uncut)
     found_by_trees None is = tt
 
--- a batch whose fault is not less than what is found so far
-pub not_less : (own : Sections) (units : List DebugUnit) (so_far : Found) (fault : Fault) → IsFaultOf own fault
-    → (IsLess so_far fault.rule → ⊥) → IsFoundAfter own units so_far so_far
-not_less own units (found.Sound c) fault is not = absurd (not tt)
-not_less own units (found.Fault least) fault is not =
-    elim (cases_lt (group_of fault.rule) (group_of least.rule)) [
-      | inl less ↦ absurd (not less)
-      | inr no_less ↦ passes least (verdict.Fault fault) is no_less
-    ]
-
 -- ---- the sizes of the batches
 
 -- one batch more
 pub size_more : (some all rest : List ℕ) (size : ℕ) → AreSizes some all rest → size ≤ length rest
     → AreSizes (some ++ size ∷ []) all (drop size rest)
-size_more [] all rest size is within = search (rules)
+size_more [] all rest size is within =
+    subst (λ (xs : List ℕ). AreSizes (size ∷ []) xs (drop size rest)) (sym is) (within, refl)
 size_more (one ∷ some) all rest size (fits, more) within =
     (fits, size_more some (drop one all) rest size more within)
 
 -- no batch is left
 pub none_left : (s : Sections) (at : ℕ) (some : List ℕ) (k : ℕ) → length some ≤ k
     → AreSizes (drop k some) (drop at s.info.now) [] → drop at s.info.now ≡ []
-none_left s at some k past are = search (rules, drop_all)
+none_left s at some k past are =
+    subst (λ (others : List ℕ). AreSizes others (drop at s.info.now) []) (drop_all k some past) are
 
 -- the unit after a batch is at the front of the bytes after it
 pub next_fits : (bytes : List ℕ) (size : ℕ) (next : Option FirstUnit)

@@ -10,10 +10,9 @@ use Rattle.dw_entries.specs.declared.fault.Fault.{Fault}
 use Rattle.dw_forms.specs.declared.rule.Rule.{Rule}
 use Rattle.dw_forms.specs.declared.rule.Rule.TheVariants.{UnitCut}
 use Rattle.dw_forms.specs.Rules.{group_of}
-use Rattle.dw_image.specs.declared.verifying.Verdict.{Verdict}
-use Rattle.dw_image.specs.declared.verifying.Verdict.TheVariants as verdict
+use Rattle.dw_image.specs.GroupsBefore.{PassBefore}
 use Rattle.dw_image.specs.FirstFault.{Group, turn_of}
-use Rattle.dw_image.specs.Headline.{IsFaultOf, IsVerdictOf}
+use Rattle.dw_image.specs.Headline.{IsFaultOf}
 use Rattle.dw_units.specs.declared.counts.Counts.{Counts}
 use Rattle.dw_units.specs.declared.checking.Found.{Found}
 use Rattle.dw_units.specs.declared.checking.Found.TheVariants as found
@@ -55,16 +54,11 @@ abbrev pub IsLess : Found → Rule → Type 0
 IsLess (found.Sound c) rule = Unit {0}
 IsLess (found.Fault least) rule = group_of rule < group_of least.rule
 
--- a verdict has no fault that is less than this one
-abbrev pub HasNoLess : Fault → Verdict → Type 0
-HasNoLess least (verdict.Sound image) = Unit {0}
-HasNoLess least (verdict.Fault fault) = group_of least.rule ≤ group_of fault.rule
-
 -- what is found after one batch more, which is sections of its own: it is sound like those before it; it has no fault
 -- that is less than theirs; or it has one
 pub data IsFoundAfter (own : Sections) (units : List DebugUnit) : (so_far more : Found) → Type 0 where
   sound : (a b : Counts) → AreCounts own b → IsFoundAfter own units (found.Sound a) (found.Sound (sums a b))
-  passes : (least : Fault) (it : Verdict) → IsVerdictOf own it → HasNoLess least it
+  passes : (least : Fault) → PassBefore own units (group_of least.rule)
       → IsFoundAfter own units (found.Fault least) (found.Fault least)
   fails : (so_far : Found) (fault : Fault) → IsLess so_far fault.rule → IsFaultOf own fault → IsFirm units fault.rule
       → IsFoundAfter own units so_far (found.Fault fault)

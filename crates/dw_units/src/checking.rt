@@ -2,7 +2,7 @@
 //! batch.
 
 ghost use Rattle.std.specs.Prelude.{◌+◌, ◌≤◌, List, length, take, drop, IfErr, IfOk, IfSome};
-ghost use Rattle.std.specs.Bool.{OnTrue, OnFalse};
+ghost use Rattle.std.specs.Bool.{OnTrue};
 ghost use Rattle.dw_entries.specs.Entries.{entries_of};
 ghost use Rattle.dw_entries.specs.Faults.{Fails};
 ghost use Rattle.dw_entries.specs.Stopped.{IfPlainFault};
@@ -12,13 +12,13 @@ ghost use Rattle.dw_units.specs.IndependentBatches.{JoinsUnits};
 ghost use Rattle.dw_units.specs.ByUnit.{FirstOfUnits, TreesOfUnits, IsFirm};
 ghost use Rattle.dw_units.specs.Counts.{IsFoundIn};
 ghost use Rattle.dw_units.specs.BatchSections.{IsFirmlyFound, IsFoundAfter, IsFoundUpTo};
-ghost use Rattle.dw_units.specs.BatchSections.{IsLess, IsWhollyFound, Refer};
+ghost use Rattle.dw_units.specs.BatchSections.{IsWhollyFound, Refer};
 
 use crate::batches::{Elsewhere, elsewhere_of, have_no_type_unit, separate_batches};
 use crate::counts::Counts;
 use dw_elf::Sections;
 use dw_entries::{Entries, Fault, Rule, Stop, scan};
-use dw_image::{NoMemory, Verdict, verify, verify_scanned};
+use dw_image::{NoMemory, Verdict, verify, verify_before, verify_scanned};
 use std::alloc::Global;
 
 /// How many bytes of memory `keep_memory` asks for.
@@ -72,18 +72,7 @@ fn firmly_found(fault: Fault, elsewhere: Elsewhere) -> Option<Found>
     Some(Found::Fault(fault))
 }
 
-/// Whether a fault of a rule is less than what is found so far: there is no fault, or one of a later group.
-fn is_less(rule: Rule, so_far: &Found) -> bool
-    ensures less { OnTrue result (IsLess so_far.now rule) }
-    ensures not { OnFalse result (IsLess so_far.now rule → ⊥) }
-{
-    match so_far {
-        Found::Sound(_) => true,
-        Found::Fault(least) => rule.group() < least.rule.group(),
-    }
-}
-
-/// Verifies the entries of one batch more. If there is a fault so far, only one of an earlier group takes its place.
+/// Verifies the entries of one batch more. If there is a least fault so far, only by the groups before its rule's.
 fn verify_entries(
     alloc: Global,
     so_far: Found,
@@ -94,20 +83,18 @@ fn verify_entries(
     ensures { IfOk result (λ found. IfSome found
         (IsFoundAfter (sections_of entries.entry) (units_of entries.entry) so_far)) }
 {
-    match verify_scanned(alloc, entries)? {
-        Verdict::Sound(image) => match so_far {
-            Found::Sound(counts) => match counts.plus(Counts::of(&image)) {
+    match so_far {
+        Found::Sound(counts) => match verify_scanned(alloc, entries)? {
+            Verdict::Sound(image) => match counts.plus(Counts::of(&image)) {
                 Some(sums) => Ok(Some(Found::Sound(sums))),
                 None => Ok(None),
             },
-            Found::Fault(least) => Ok(Some(Found::Fault(least))),
+            Verdict::Fault(fault) => Ok(firmly_found(fault, elsewhere)),
         },
-        Verdict::Fault(fault) => {
-            if !is_less(fault.rule, &so_far) {
-                return Ok(Some(so_far));
-            }
-            Ok(firmly_found(fault, elsewhere))
-        }
+        Found::Fault(least) => match verify_before(alloc, entries, least.rule)? {
+            Some(fault) => Ok(firmly_found(fault, elsewhere)),
+            None => Ok(Some(Found::Fault(least))),
+        },
     }
 }
 
