@@ -117,6 +117,7 @@ pub struct ByValue {
 impl ByValue {
     /// The graph of the steps by value of entries, by their links, or the first fault of their shapes. The nodes are
     /// the numbers of the entries.
+    #[inline(never)]
     pub fn new(
         alloc: Global,
         entries: &Entries<'_>,
