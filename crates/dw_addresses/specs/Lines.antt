@@ -1,6 +1,7 @@
 -- Chapter: the lines of a file: the line program of each unit, and the files that entries name (DWARF 5, 2.14 and
 -- 3.3.8.2).
-use Rattle.std.specs.Prelude.{◌≡◌, ℕ, pos, ◌<◌, ◌⊎◌, List, length, Option, Some, None, Bool, true, false, not, ◌==◌, ◌&&◌, ◌||◌}
+use Rattle.std.specs.Prelude.{◌≡◌, ℕ, pos, ◌<◌, ◌⊎◌, List, length, Option, Some, None}
+use Rattle.std.specs.Prelude.{Bool, true, false, not, ◌==◌, ◌&&◌, ◌||◌}
 use Rattle.std.specs.Prelude.{option_and_then, slice_get, slice_index_or, if◌then◌else◌}
 use Rattle.dw_entries.specs.ByNumber.{entry_of}
 use Rattle.dw_entries.specs.Entries.{Entry}

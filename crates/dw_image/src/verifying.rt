@@ -139,7 +139,7 @@ pub fn verify_scanned<'a>(alloc: Global, entries: Entries<'a>) -> Result<Verdict
 }
 
 /// The first fault of scanned entries, if it is of a group of rules before the rule's own. None if no rule of these
-/// groups fails; the others are not checked.
+/// groups fails. Of the other groups at most the rule's own is checked.
 pub fn verify_before(
     alloc: Global,
     entries: Entries<'_>,
