@@ -181,15 +181,16 @@ def with_lines(text, rules, form):
 
 
 def with_arms(text, rules, enum):
-    """A file of the code in which a `match` on a rule for its code, its name or its group has an arm for each."""
-    for value in ('"{code}"', '"{name}"', "{group}"):
+    """A file of the code in which a `match` on a rule for its code, its name, both or its group has an arm for each."""
+    for value in ('"{code}"', '"{name}"', '("{code}", "{name}")', "{group}"):
         text = with_lines(text, rules, f"            {enum}::{{name}} => {value},")
     return text
 
 
 def with_equations(text, rules, enum):
     """A chapter of specs/ that says each rule's code, name, group and number, and takes their names from the enum."""
-    for word, value in (("code_text", 'codes "{code}"'), ("name_text", 'codes "{name}"'), ("group_of", "{group}"),
+    for word, value in (("code_text", 'codes "{code}"'), ("name_text", 'codes "{name}"'),
+                        ("texts", '(codes "{code}", codes "{name}")'), ("group_of", "{group}"),
                         ("number_of", "{number}")):
         text = with_lines(text, rules, f"{word} {{name}} = {value}")
     return with_names(text, [rule.name for rule in rules], enum)

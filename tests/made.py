@@ -21,10 +21,10 @@ PAGES = [*TOP.glob("*.md"), *TOP.glob("docs/*.md"), *TOP.glob("crates/*/CALLING.
 
 def codes():
     """The code and the name of each rule and each refusal, as specs/ has them."""
-    texts = [path.read_text() for path in TOP.glob("crates/*/specs/*.antt")]
-    found = {what: dict(re.findall(rf'(?m)^{what}_text (\w+) = codes "(\w+)"$', "\n".join(texts)))
-             for what in ("code", "name")}
-    return sorted((code, found["name"].get(variant)) for variant, code in found["code"].items())
+    texts = "\n".join(path.read_text() for path in TOP.glob("crates/*/specs/*.antt"))
+    found = {what: dict(re.findall(rf'(?m)^{what}_text (\w+) = codes "(\w+)"$', texts)) for what in ("code", "name")}
+    pairs = re.findall(r'(?m)^texts \w+ = \(codes "(\w+)", codes "(\w+)"\)$', texts)
+    return sorted([*pairs, *((code, found["name"].get(variant)) for variant, code in found["code"].items())])
 
 
 def unknown_names():

@@ -12,7 +12,7 @@ use Rattle.dw_lines.specs.Rows.{Run, with_row, at_end, turn_at, after_turn, run_
 use Rattle.dw_lines.specs.Sequences.{HasFile, Ascend, AllEnd}
 use Rattle.dw_lines.specs.declared.fault.LineFault.{LineFault}
 use Rattle.dw_lines.specs.declared.files.Files.{Files}
-use Rattle.dw_lines.specs.declared.parameters.Parameters.{Parameters}
+use Rattle.dw_lines.specs.declared.program.Parameters.{Parameters}
 use Rattle.dw_lines.specs.declared.program.Program.{Program}
 use Rattle.dw_lines.specs.declared.row.Row.{Row}
 use Rattle.dw_lines.proofs.RunSteps.{all_ok, turn_says, turn_shorter}

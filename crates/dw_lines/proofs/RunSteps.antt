@@ -14,10 +14,10 @@ use Rattle.dw_lines.specs.Opcodes.{Opcode, opcode, opcode_after}
 use Rattle.dw_lines.specs.Rows.{Run, failed, with_row, at_end, turn_at, after_turn, run_of, run}
 use Rattle.dw_lines.specs.Sequences.{HasFile}
 use Rattle.dw_lines.specs.Turns.{Turns}
-use Rattle.dw_lines.specs.declared.machine.Machine.{Machine}
+use Rattle.dw_lines.specs.declared.rows.Machine.{Machine}
 use Rattle.dw_lines.specs.declared.fault.LineFault.{LineFault}
 use Rattle.dw_lines.specs.declared.files.Files.{Files}
-use Rattle.dw_lines.specs.declared.parameters.Parameters.{Parameters}
+use Rattle.dw_lines.specs.declared.program.Parameters.{Parameters}
 use Rattle.dw_lines.specs.declared.row.Row.{Row}
 use Rattle.dw_lines.specs.declared.rule.LineRule.{LineRule}
 
@@ -88,7 +88,7 @@ module _ (p : Parameters) (lengths : List ℕ) (files : Files) (end : ℕ) where
   same_run (suc n) (suc m) (b ∷ bytes) h k registers last =
       same_after (run_of p lengths files end n) (run_of p lengths files end m)
       (turn_at p lengths files end registers last (b ∷ bytes))
-      (IfOk-weaker (turn_at p lengths files end registers last (b ∷ bytes)) (λ t. length t.rest < length (b ∷ bytes)) _
+      (IfOk-weaker _ (λ t. length t.rest < length (b ∷ bytes)) _
       (λ t short. same_run n m t.rest (omega arith) (omega arith))
       (turn_shorter registers last (b ∷ bytes)))
 
@@ -103,8 +103,7 @@ module _ (p : Parameters) (lengths : List ℕ) (files : Files) (end : ℕ) where
       ap (λ (n : ℕ). run_of p lengths files end n registers last (code ∷ bytes)) one
       ∙ same_after (run_of p lengths files end (length bytes)) (run p lengths files end)
       (turn_at p lengths files end registers last (code ∷ bytes))
-      (IfOk-weaker (turn_at p lengths files end registers last (code ∷ bytes))
-      (λ t. length t.rest < length (code ∷ bytes)) _
+      (IfOk-weaker _ (λ t. length t.rest < length (code ∷ bytes)) _
       (λ t short. same_run (length bytes) (length t.rest) t.rest (omega arith) (omega arith))
       (turn_shorter registers last (code ∷ bytes)))
 

@@ -10,7 +10,7 @@ use Rattle.dw_forms.specs.Formats.{Format, and_then, nothing, failing, mapped, i
 use Rattle.dw_forms.specs.FormCodes.{form_of}
 use Rattle.dw_forms.specs.Value.{Datum, text, str, line_str, unsigned, wide}
 use Rattle.dw_forms.specs.ValueFormats.{attribute_value}
-use Rattle.dw_lines.specs.declared.entry.Content.{Content}
+use Rattle.dw_lines.specs.declared.tables.Content.{Content}
 use Rattle.dw_lines.specs.declared.files.Files.{Files}
 use Rattle.dw_lines.specs.declared.files.FileEntry.{FileEntry}
 use Rattle.dw_lines.specs.declared.files.LinePath.{LinePath}

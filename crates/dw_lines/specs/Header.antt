@@ -1,12 +1,12 @@
 -- Chapter: the fields of a header of a line program (DWARF 5, 6.2.4; DWARF 4, 6.2.4).
-use Rattle.std.specs.Prelude.{ℕ, ◌-◌, Bool, ℤ, pos, ◌-ℤ◌, List, [], ◌∷◌, nat_lt, nat_le, ◌==◌, ◌&&◌, ◌||◌, take}
-use Rattle.std.specs.Prelude.{if◌then◌else◌}
+use Rattle.std.specs.Prelude.{ℕ, ◌-◌, Bool, ℤ, List, [], ◌∷◌, nat_lt, nat_le, ◌==◌, ◌&&◌, ◌||◌, take}
+use Rattle.std.specs.Int.{cast_signed, w8}
 use Rattle.std.specs.List.{starts_with}
 use Rattle.dw_forms.specs.BaseFormats.{byte as any_byte, so_many, fixed_number, uleb, zero_ended}
 use Rattle.dw_forms.specs.Formats.{Format, and_then, nothing, failing, choose, tested, renamed}
 use Rattle.dw_forms.specs.declared.leb.NumberFault.{NumberFault}
 use Rattle.dw_forms.specs.declared.leb.NumberFault.TheVariants as faults
-use Rattle.dw_lines.specs.declared.parameters.Parameters.{Parameters}
+use Rattle.dw_lines.specs.declared.program.Parameters.{Parameters}
 use Rattle.dw_lines.specs.declared.rule.LineRule.{LineRule}
 use Rattle.dw_lines.specs.declared.rule.LineRule.TheVariants.{LineCut, LineNumber, Line64, LineVersion}
 use Rattle.dw_lines.specs.declared.rule.LineRule.TheVariants.{LineAddressSize, LineParameter, OpcodeLength}
@@ -71,10 +71,6 @@ numbers_of p = record {
   opcode_base = p.opcode_base;
 }
 
--- the number in two's complement in a byte
-abbrev pub signed_byte : ℕ → ℤ
-signed_byte b = if nat_lt b 128 then pos b else pos b -ℤ pos 256
-
 -- maximum_operations_per_instruction, which versions before 4 don't have
 unfoldable pub maximum_operations : ℕ → Format ℕ LineRule
 maximum_operations version = choose (nat_lt version 4) (nothing 1) byte
@@ -89,7 +85,7 @@ parameters version size =
       minimum_instruction_length = min;
       maximum_operations_per_instruction = max;
       default_is_stmt = is_stmt == 1;
-      line_base = signed_byte base;
+      line_base = cast_signed w8 base;
       line_range = range;
       opcode_base = opcodes;
     }))))))))

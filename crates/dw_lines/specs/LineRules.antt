@@ -8,52 +8,35 @@ use Rattle.dw_lines.specs.declared.rule.LineRule.TheVariants.{LineString, LineDi
 use Rattle.dw_lines.specs.declared.rule.LineRule.TheVariants.{OpcodeCut, OpcodeNumber, ExtendedLength, RowFile}
 use Rattle.dw_lines.specs.declared.rule.LineRule.TheVariants.{RowDescends, RowAddress, RowLine, NotEnded, NoFile}
 
--- the code of a rule: the letter of its group and a number
-unfoldable pub code_text : LineRule → List ℕ
-code_text LineOffset = codes "L1"
-code_text LineCut = codes "L2"
-code_text Line64 = codes "L3"
-code_text LineVersion = codes "L4"
-code_text LineAddressSize = codes "L5"
-code_text LineHeaderLength = codes "L6"
-code_text LineParameter = codes "L7"
-code_text OpcodeLength = codes "L8"
-code_text LineForm = codes "L9"
-code_text LineString = codes "L10"
-code_text LineDirectory = codes "L11"
-code_text LineNumber = codes "L12"
-code_text ProgramsMeet = codes "L13"
-code_text OpcodeCut = codes "M1"
-code_text OpcodeNumber = codes "M2"
-code_text ExtendedLength = codes "M3"
-code_text RowFile = codes "M4"
-code_text RowDescends = codes "M5"
-code_text RowAddress = codes "M6"
-code_text RowLine = codes "M7"
-code_text NotEnded = codes "M8"
-code_text NoFile = codes "F1"
+-- the code of a rule, which is the letter of its group and a number, and its name, which is its variant's
+abbrev pub texts : LineRule → List ℕ × List ℕ
+texts LineOffset = (codes "L1", codes "LineOffset")
+texts LineCut = (codes "L2", codes "LineCut")
+texts Line64 = (codes "L3", codes "Line64")
+texts LineVersion = (codes "L4", codes "LineVersion")
+texts LineAddressSize = (codes "L5", codes "LineAddressSize")
+texts LineHeaderLength = (codes "L6", codes "LineHeaderLength")
+texts LineParameter = (codes "L7", codes "LineParameter")
+texts OpcodeLength = (codes "L8", codes "OpcodeLength")
+texts LineForm = (codes "L9", codes "LineForm")
+texts LineString = (codes "L10", codes "LineString")
+texts LineDirectory = (codes "L11", codes "LineDirectory")
+texts LineNumber = (codes "L12", codes "LineNumber")
+texts ProgramsMeet = (codes "L13", codes "ProgramsMeet")
+texts OpcodeCut = (codes "M1", codes "OpcodeCut")
+texts OpcodeNumber = (codes "M2", codes "OpcodeNumber")
+texts ExtendedLength = (codes "M3", codes "ExtendedLength")
+texts RowFile = (codes "M4", codes "RowFile")
+texts RowDescends = (codes "M5", codes "RowDescends")
+texts RowAddress = (codes "M6", codes "RowAddress")
+texts RowLine = (codes "M7", codes "RowLine")
+texts NotEnded = (codes "M8", codes "NotEnded")
+texts NoFile = (codes "F1", codes "NoFile")
 
--- the name of a rule, which is its variant's
+-- the code of a rule
+unfoldable pub code_text : LineRule → List ℕ
+code_text rule = (texts rule).0
+
+-- the name of a rule
 unfoldable pub name_text : LineRule → List ℕ
-name_text LineOffset = codes "LineOffset"
-name_text LineCut = codes "LineCut"
-name_text Line64 = codes "Line64"
-name_text LineVersion = codes "LineVersion"
-name_text LineAddressSize = codes "LineAddressSize"
-name_text LineHeaderLength = codes "LineHeaderLength"
-name_text LineParameter = codes "LineParameter"
-name_text OpcodeLength = codes "OpcodeLength"
-name_text LineForm = codes "LineForm"
-name_text LineString = codes "LineString"
-name_text LineDirectory = codes "LineDirectory"
-name_text LineNumber = codes "LineNumber"
-name_text ProgramsMeet = codes "ProgramsMeet"
-name_text OpcodeCut = codes "OpcodeCut"
-name_text OpcodeNumber = codes "OpcodeNumber"
-name_text ExtendedLength = codes "ExtendedLength"
-name_text RowFile = codes "RowFile"
-name_text RowDescends = codes "RowDescends"
-name_text RowAddress = codes "RowAddress"
-name_text RowLine = codes "RowLine"
-name_text NotEnded = codes "NotEnded"
-name_text NoFile = codes "NoFile"
+name_text rule = (texts rule).1

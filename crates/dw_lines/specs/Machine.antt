@@ -6,7 +6,7 @@ use Rattle.dw_forms.specs.Formats.{Format}
 use Rattle.dw_forms.specs.Steps.{◌>>=◌, on_option}
 use Rattle.dw_lines.specs.Files.{has_file}
 use Rattle.dw_lines.specs.declared.files.Files.{Files}
-use Rattle.dw_lines.specs.declared.parameters.Parameters.{Parameters}
+use Rattle.dw_lines.specs.declared.program.Parameters.{Parameters}
 use Rattle.dw_lines.specs.declared.row.Row.{Row}
 use Rattle.dw_lines.specs.declared.rule.LineRule.{LineRule}
 use Rattle.dw_lines.specs.declared.rule.LineRule.TheVariants.{RowAddress, RowLine, RowDescends, RowFile}

@@ -6,7 +6,7 @@ use Rattle.dw_forms.specs.declared.leb.NumberFault.{NumberFault}
 use Rattle.dw_forms.specs.declared.leb.NumberFault.TheVariants as faults
 use Rattle.dw_lines.specs.declared.opcode.Extended.{Extended}
 use Rattle.dw_lines.specs.declared.opcode.Extended.TheVariants as kinds
-use Rattle.dw_lines.specs.declared.parameters.Parameters.{Parameters}
+use Rattle.dw_lines.specs.declared.program.Parameters.{Parameters}
 use Rattle.dw_lines.specs.declared.rule.LineRule.{LineRule}
 use Rattle.dw_lines.specs.declared.rule.LineRule.TheVariants.{OpcodeCut, OpcodeNumber, ExtendedLength}
 

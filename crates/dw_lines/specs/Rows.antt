@@ -5,7 +5,7 @@ use Rattle.dw_lines.specs.Machine.{start, Turn, then_turn}
 use Rattle.dw_lines.specs.Opcodes.{opcode}
 use Rattle.dw_lines.specs.declared.fault.LineFault.{LineFault}
 use Rattle.dw_lines.specs.declared.files.Files.{Files}
-use Rattle.dw_lines.specs.declared.parameters.Parameters.{Parameters}
+use Rattle.dw_lines.specs.declared.program.Parameters.{Parameters}
 use Rattle.dw_lines.specs.declared.program.Program.{Program}
 use Rattle.dw_lines.specs.declared.row.Row.{Row}
 use Rattle.dw_lines.specs.declared.rule.LineRule.TheVariants.{NotEnded}

@@ -1,8 +1,8 @@
 -- State: the registers and the machine after an opcode.
 use Rattle.std.specs.Prelude.{◌≡◌, Bool, true, false, List, ℕ, Option, Some, None, Result, Ok, Err}
 use Rattle.dw_lines.specs.Machine.{Turn, cleared, last_after}
-use Rattle.dw_lines.specs.declared.machine.Machine.{Machine}
-use Rattle.dw_lines.specs.declared.parameters.Parameters.{Parameters}
+use Rattle.dw_lines.specs.declared.rows.Machine.{Machine}
+use Rattle.dw_lines.specs.declared.program.Parameters.{Parameters}
 use Rattle.dw_lines.specs.declared.row.Row.{Row}
 use Rattle.dw_lines.specs.declared.rule.LineRule.{LineRule}
 

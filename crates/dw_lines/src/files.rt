@@ -2,7 +2,7 @@
 
 ghost use Rattle.std.specs.Prelude.{◌≡◌, ℕ, List};
 ghost use Rattle.dw_forms.specs.ValueReading.{Gives};
-ghost use Rattle.dw_lines.specs.Files.{has_file, in_directory as directory_format, path_view};
+ghost use Rattle.dw_lines.specs.Files.{has_file, path_view, in_directory as directory_format};
 
 use crate::rule::LineRule;
 use memchr::memchr;

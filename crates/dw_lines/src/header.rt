@@ -1,15 +1,64 @@
-//! The fields of a header before its tables (DWARF 5, 6.2.4; DWARF 4, 6.2.4).
+//! The fields of a header before its tables (DWARF 5, 6.2.4; DWARF 4, 6.2.4), and the numbers and paths in it.
 
 ghost use Rattle.std.specs.Prelude.{◌≡◌, ◌+◌, ◌≤◌, ◌<◌, ◌⊎◌, length, take, drop, IfOk};
+ghost use Rattle.dw_forms.specs.BaseFormats.{fixed_number};
 ghost use Rattle.dw_forms.specs.ValueReading.{Gives};
-ghost use Rattle.dw_lines.specs.Header.{content as content_format, version as version_format, signed_byte as signed};
-ghost use Rattle.dw_lines.specs.Header.{address_size as size_format, maximum_operations as maximum_format, length_end};
-ghost use Rattle.dw_lines.specs.Header.{parameters as parameters_format, numbers_of, are_standard as are_standard_in};
-ghost use Rattle.dw_lines.specs.Header.{standard_opcode_lengths as lengths_format};
+ghost use Rattle.dw_lines.specs.Header.{byte as byte_format, number as number_format, path as path_format, numbers_of};
+ghost use Rattle.dw_lines.specs.Header.{content as content_format, version as version_format, length_end};
+ghost use Rattle.dw_lines.specs.Header.{address_size as size_format, maximum_operations as maximum_format};
+ghost use Rattle.dw_lines.specs.Header.{parameters as parameters_format, standard_opcode_lengths as lengths_format};
 
-use crate::fields::{byte, fixed};
-use crate::parameters::Parameters;
+use crate::program::Parameters;
 use crate::rule::LineRule;
+use byteorder::{ByteOrder, LittleEndian};
+use dw_forms::read_uleb;
+use memchr::memchr;
+
+/// A number of so many bytes, the lowest first, and the bytes after it. `cut` is the rule that is violated if the bytes
+/// end in it.
+#[inline(always)]
+#[tactic(auto, unfolding(dw_forms::specs::BaseFormats::taken_at))]
+pub(crate) fn fixed(cut: LineRule, size: usize, bytes: &[u8]) -> Result<(u64, &[u8]), LineRule>
+    requires some { 1 ≤ size }
+    requires few { size ≤ 8 }
+    ensures { Gives (λ x. (x.0, x.1.now)) result ((fixed_number cut size).read bytes.now) }
+{
+    if bytes.len() < size {
+        return Err(cut);
+    }
+    let (front, rest) = bytes.split_at(size);
+    Ok((LittleEndian::read_uint(front, size), rest))
+}
+
+/// A byte, and the bytes after it.
+pub(crate) fn byte(bytes: &[u8]) -> Result<(u8, &[u8]), LineRule>
+    ensures { Gives (λ x. (x.0, x.1.now)) result (byte_format.read bytes.now) }
+{
+    match bytes {
+        [byte, rest @ ..] => Ok((*byte, rest)),
+        [] => Err(LineRule::LineCut),
+    }
+}
+
+/// An unsigned LEB128 number, and the bytes after it.
+pub(crate) fn number(bytes: &[u8]) -> Result<(u64, &[u8]), LineRule>
+    ensures exact { Gives (λ x. (x.0, x.1.now)) result (number_format.read bytes.now) }
+    ensures shorter { IfOk result (λ x. length x.1.now < length bytes.now) }
+{
+    let (number, len) = read_uleb(bytes)?;
+    Ok((number, &bytes[len..]))
+}
+
+/// A path up to a zero byte, and the bytes after that.
+pub(crate) fn path(bytes: &[u8]) -> Result<(&[u8], &[u8]), LineRule>
+    ensures exact { Gives (λ x. (x.0.now, x.1.now)) result (path_format.read bytes.now) }
+    ensures shorter { IfOk result (λ x. length x.1.now < length bytes.now) }
+{
+    let Some(len) = memchr(0, bytes) else {
+        return Err(LineRule::LineCut);
+    };
+    Ok((&bytes[..len], &bytes[len + 1..]))
+}
 
 /// The bytes of a program after its length, and the bytes after the program.
 #[tactic(auto, unfolding(crate::specs::Header::content, dw_forms::specs::BaseFormats::taken_at))]
@@ -58,17 +107,6 @@ pub(crate) fn address_size(version: u16, size: u8, bytes: &[u8]) -> Result<&[u8]
     Err(LineRule::LineAddressSize)
 }
 
-/// The number in two's complement in a byte.
-fn signed_byte(byte: u8) -> i8
-    ensures { result ≡ signed byte }
-{
-    if byte < 128 {
-        byte as i8
-    } else {
-        (i16::from(byte) - 256) as i8
-    }
-}
-
 /// The field maximum_operations_per_instruction, which versions before 4 don't have.
 #[tactic(auto, unfolding(crate::specs::Header::maximum_operations))]
 fn maximum_operations(version: u16, bytes: &[u8]) -> Result<(u8, &[u8]), LineRule>
@@ -104,7 +142,7 @@ pub(crate) fn parameters(
         minimum_instruction_length: minimum,
         maximum_operations_per_instruction: maximum,
         default_is_stmt: default_is_stmt == 1,
-        line_base: signed_byte(line_base),
+        line_base: line_base.cast_signed(),
         line_range,
         opcode_base,
     };
@@ -114,18 +152,8 @@ pub(crate) fn parameters(
 /// The counts of operands of the opcodes 1 to 12 (DWARF 5, 6.2.5.2).
 const OPERAND_COUNTS: [u8; 12] = [0, 1, 1, 1, 1, 0, 0, 0, 1, 0, 0, 1];
 
-/// Whether the counts of operands of the standard opcodes are those of the standard.
-fn are_standard(lengths: &[u8]) -> bool
-    ensures { result ≡ are_standard_in lengths.now }
-{
-    if lengths.len() < 12 {
-        return OPERAND_COUNTS.starts_with(lengths);
-    }
-    OPERAND_COUNTS.starts_with(&lengths[..12])
-}
-
 /// The counts of operands of the opcodes below opcode_base.
-#[tactic(auto, unfolding(crate::specs::Header::standard_opcode_lengths, dw_forms::specs::BaseFormats::taken_at))]
+#[tactic(auto, unfolding(crate::specs::Header::standard_opcode_lengths, dw_forms::specs::BaseFormats::taken_at), using(std::proofs::lemmas::List::take_min))]
 pub(crate) fn standard_opcode_lengths(
     opcode_base: u8,
     bytes: &[u8],
@@ -138,7 +166,7 @@ pub(crate) fn standard_opcode_lengths(
         return Err(LineRule::LineCut);
     }
     let (lengths, rest) = bytes.split_at(count);
-    if are_standard(lengths) {
+    if OPERAND_COUNTS.starts_with(&lengths[..12_usize.min(lengths.len())]) {
         return Ok((lengths, rest));
     }
     Err(LineRule::OpcodeLength)

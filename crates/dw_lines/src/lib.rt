@@ -1,15 +1,11 @@
 //! Line programs (DWARF 5, 6.2; DWARF 4, 6.2): their headers, the files that they name, and the rows that they make.
 #![tactic(auto)]
 
-mod entry;
 mod fault;
-mod fields;
 mod files;
 mod header;
 mod laws;
-mod machine;
 mod opcode;
-mod parameters;
 mod program;
 mod program_reader;
 mod row;
@@ -21,8 +17,7 @@ mod tables;
 pub use fault::LineFault;
 pub use files::{FileEntry, Files, LinePath};
 pub use laws::{programs_are_apart, rows_obey_the_rules};
-pub use parameters::Parameters;
-pub use program::{LineHeader, Program};
+pub use program::{LineHeader, Parameters, Program};
 pub use program_reader::read_program;
 pub use row::Row;
 pub use rows::Rows;

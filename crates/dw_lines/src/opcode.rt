@@ -5,18 +5,15 @@ ghost use Rattle.dw_forms.specs.ValueReading.{Gives};
 ghost use Rattle.dw_lines.specs.Opcodes.{Other, operand_rule, unsigned_operand, signed_operand, operands};
 ghost use Rattle.dw_lines.specs.Opcodes.{opcode_of, extended_content, extended_opcode, count_in};
 
-use crate::fields::fixed;
+use crate::header::fixed;
 use crate::rule::LineRule;
 use dw_forms::{NumberFault, read_sleb, read_uleb};
 
 /// An extended opcode with its operand (DWARF 5, 6.2.5.3).
 #[derive(Clone, Copy, Debug)]
 pub(crate) enum Extended {
-    /// DW_LNE_end_sequence
     EndSequence,
-    /// DW_LNE_set_address
     SetAddress(u64),
-    /// DW_LNE_set_discriminator
     SetDiscriminator(u64),
     /// One that this version of the standard does not define. It does nothing.
     Other,
@@ -37,10 +34,8 @@ fn rule_of(cut: LineRule, fault: NumberFault) -> LineRule
 pub(crate) fn unsigned(cut: LineRule, bytes: &[u8]) -> Result<(u64, &[u8]), LineRule>
     ensures { Gives (λ x. (x.0, x.1.now)) result ((unsigned_operand cut).read bytes.now) }
 {
-    match read_uleb(bytes) {
-        Ok((number, len)) => Ok((number, &bytes[len..])),
-        Err(fault) => Err(rule_of(cut, fault)),
-    }
+    let (number, len) = read_uleb(bytes).map_err(|fault| rule_of(cut, fault))?;
+    Ok((number, &bytes[len..]))
 }
 
 /// A signed operand, and the bytes after it.
@@ -48,10 +43,8 @@ pub(crate) fn unsigned(cut: LineRule, bytes: &[u8]) -> Result<(u64, &[u8]), Line
 pub(crate) fn signed(bytes: &[u8]) -> Result<(i64, &[u8]), LineRule>
     ensures { Gives (λ x. (x.0, x.1.now)) result (signed_operand.read bytes.now) }
 {
-    match read_sleb(bytes) {
-        Ok((number, len)) => Ok((number, &bytes[len..])),
-        Err(fault) => Err(rule_of(LineRule::OpcodeCut, fault)),
-    }
+    let (number, len) = read_sleb(bytes).map_err(|fault| rule_of(LineRule::OpcodeCut, fault))?;
+    Ok((number, &bytes[len..]))
 }
 
 /// Skips this many operands. Returns the bytes after them.
@@ -90,20 +83,18 @@ fn extended_content_of(address_size: u8, bytes: &[u8]) -> Result<(Extended, &[u8
     ensures { Gives (λ x. (opcode_of x.0, x.1.now)) result
         ((extended_content address_size (length bytes.now)).read bytes.now) }
 {
-    let Some((code, rest)) = bytes.split_first() else {
-        return Err(LineRule::ExtendedLength);
-    };
-    match *code {
-        1 => Ok((Extended::EndSequence, rest)),
-        2 => {
+    match bytes {
+        [] => Err(LineRule::ExtendedLength),
+        [1, rest @ ..] => Ok((Extended::EndSequence, rest)),
+        [2, rest @ ..] => {
             let (address, rest) = fixed(LineRule::ExtendedLength, usize::from(address_size), rest)?;
             Ok((Extended::SetAddress(address), rest))
         }
-        4 => {
+        [4, rest @ ..] => {
             let (discriminator, rest) = unsigned(LineRule::ExtendedLength, rest)?;
             Ok((Extended::SetDiscriminator(discriminator), rest))
         }
-        _ => Ok((Extended::Other, &rest[rest.len()..])),
+        [_, rest @ ..] => Ok((Extended::Other, &rest[rest.len()..])),
     }
 }
 

@@ -1,9 +1,27 @@
 //! Line programs: what their headers say, and the bytes of their opcodes (DWARF 5, 6.2.4; DWARF 4, 6.2.4).
 
-ghost use Rattle.std.specs.Prelude.{◌+◌, ◌<◌, ◌^◌, length};
+ghost use Rattle.std.specs.Prelude.{◌+◌, ◌≤◌, ◌<◌, ◌^◌, length};
 
 use crate::files::{Files, LinePath};
-use crate::parameters::Parameters;
+
+/// The fields of a header that say what opcodes mean, under their names there.
+#[derive(Clone, Copy, Debug)]
+pub struct Parameters {
+    /// 4 or 8.
+    pub address_size: u8,
+    pub minimum_instruction_length: u8,
+    /// 1 before version 4.
+    pub maximum_operations_per_instruction: u8,
+    pub default_is_stmt: bool,
+    pub line_base: i8,
+    pub line_range: u8,
+    pub opcode_base: u8,
+    ghost operations: { 1 ≤ maximum_operations_per_instruction },
+    ghost range: { 1 ≤ line_range },
+    ghost base: { 1 ≤ opcode_base },
+    ghost size: { 4 ≤ address_size },
+    ghost width: { address_size ≤ 8 },
+}
 
 /// What the header of a line program says.
 #[derive(Debug, Drop)]

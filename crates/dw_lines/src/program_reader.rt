@@ -4,14 +4,11 @@ ghost use Rattle.std.specs.Prelude.{◌≡◌, ◌+◌, ◌≤◌, ◌<◌, ◌�
 ghost use Rattle.dw_forms.specs.Front.{BeginsWith, BeginsWithNone};
 ghost use Rattle.dw_forms.specs.Stops.{IfFault, GivesOrMemory};
 ghost use Rattle.dw_lines.specs.Header.{length_end};
-ghost use Rattle.dw_lines.specs.Programs.{fields_of, program_view, after_length as after_format};
-ghost use Rattle.dw_lines.specs.Programs.{header as header_format, program_alone as alone, program_end};
-ghost use Rattle.dw_lines.specs.Programs.{program_from};
-ghost use Rattle.dw_lines.specs.Programs.{SpellsProgram, ProgramFails};
+ghost use Rattle.dw_lines.specs.Programs.{fields_of, header as header_format, program_alone as alone, program_view};
+ghost use Rattle.dw_lines.specs.Programs.{program_from, program_end, SpellsProgram, ProgramFails};
 
 use crate::fault::LineFault;
-use crate::fields::fixed;
-use crate::header::{address_size, content, parameters, standard_opcode_lengths, version};
+use crate::header::{address_size, content, fixed, parameters, standard_opcode_lengths, version};
 use crate::program::{LineHeader, Program};
 use crate::rule::LineRule;
 use crate::sections::LineSections;
@@ -19,36 +16,8 @@ use crate::tables::tables;
 use dw_forms::Stop;
 use std::alloc::Global;
 
-/// The fields after header_length, and the bytes after them.
-#[tactic(auto, unfolding(crate::specs::Programs::after_length))]
-fn after_length<'a>(
-    alloc: Global,
-    sections: &LineSections<'a>,
-    size: u8,
-    version: u16,
-    bytes: &'a [u8],
-) -> Result<(LineHeader<'a>, &'a [u8]), Stop<LineRule>>
-    requires size { (size ≡ 4) ⊎ (size ≡ 8) }
-    requires short { length bytes.now < length_end }
-    ensures exact { GivesOrMemory (λ x. (fields_of x.0, x.1.now)) result
-        ((after_format sections.now size version).read bytes.now) }
-    ensures within { IfOk result (λ x. length x.1.now ≤ length bytes.now) }
-{
-    let (parameters, rest) = parameters(version, size, bytes)?;
-    let (standard_opcode_lengths, rest) = standard_opcode_lengths(parameters.opcode_base, rest)?;
-    let (directories, files, rest) = tables(alloc, sections, version, rest)?;
-    let header = LineHeader {
-        version,
-        parameters,
-        standard_opcode_lengths,
-        directories,
-        files,
-    };
-    Ok((header, rest))
-}
-
 /// The header of a program that has these bytes after its length, and the bytes of the opcodes.
-#[tactic(auto, unfolding(crate::specs::Programs::header))]
+#[tactic(auto, unfolding(crate::specs::Programs::header, crate::specs::Programs::after_length))]
 fn header<'a>(
     alloc: Global,
     sections: &LineSections<'a>,
@@ -62,9 +31,18 @@ fn header<'a>(
 {
     let (version, rest) = version(bytes)?;
     let rest = address_size(version, size, rest)?;
-    let (header_length, rest) = fixed(LineRule::LineCut, 4, rest)?;
-    let (header, opcodes) = after_length(alloc, sections, size, version, rest)?;
-    if (rest.len() - opcodes.len()) as u64 == header_length {
+    let (header_length, fields) = fixed(LineRule::LineCut, 4, rest)?;
+    let (parameters, rest) = parameters(version, size, fields)?;
+    let (standard_opcode_lengths, rest) = standard_opcode_lengths(parameters.opcode_base, rest)?;
+    let (directories, files, opcodes) = tables(alloc, sections, version, rest)?;
+    if (fields.len() - opcodes.len()) as u64 == header_length {
+        let header = LineHeader {
+            version,
+            parameters,
+            standard_opcode_lengths,
+            directories,
+            files,
+        };
         return Ok((header, opcodes));
     }
     Err(Stop::Fault(LineRule::LineHeaderLength))

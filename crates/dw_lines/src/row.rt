@@ -7,9 +7,9 @@ ghost use Rattle.dw_lines.specs.Opcodes.{count_in, standard_opcode};
 ghost use Rattle.dw_lines.specs.Turns.{Changes, Passes};
 ghost use Rattle.dw_lines.specs.declared.files.Files.{Files as AnyFiles};
 
-use crate::fields::fixed;
+use crate::header::fixed;
 use crate::opcode::{signed, skip_others, unsigned};
-use crate::parameters::Parameters;
+use crate::program::Parameters;
 use crate::rule::LineRule;
 
 /// A row of the line number table, which is what the machine's registers hold when the row is appended. The fields have
@@ -30,20 +30,6 @@ pub struct Row {
     pub end_sequence: bool,
     pub prologue_end: bool,
     pub epilogue_begin: bool,
-}
-
-/// So many operations in instructions of `most` operations, and the operations that are left.
-#[inline(always)]
-fn divided(operations: u128, most: u8) -> (u128, u8)
-    requires { 0 < most }
-    ensures instructions { result.0 ≡ operations / most }
-    ensures left { result.1 ≡ operations % most }
-{
-    if most == 1 {
-        return (operations, 0);
-    }
-    let most = u128::from(most);
-    (operations / most, (operations % most) as u8)
 }
 
 impl Row {
@@ -97,8 +83,11 @@ impl Row {
     {
         let least = u128::from(parameters.minimum_instruction_length);
         let sum = u128::from(self.op_index) + u128::from(operations);
-        let (instructions, op_index) = divided(sum, parameters.maximum_operations_per_instruction);
-        self.add_bytes(least * instructions, op_index)
+        let most = u128::from(parameters.maximum_operations_per_instruction);
+        if most == 1 {
+            return self.add_bytes(least * sum, 0);
+        }
+        self.add_bytes(least * (sum / most), (sum % most) as u8)
     }
 
     /// Makes the line this much greater.
@@ -184,7 +173,7 @@ impl Row {
                 self.isa = isa;
                 return Ok(rest);
             }
-            // One that the standard does not define does nothing.
+            // One that the standard does not define does nothing. The header says how many operands it has.
             _ => return skip_others(lengths, code, bytes),
         }
         Ok(bytes)

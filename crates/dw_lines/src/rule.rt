@@ -1,5 +1,5 @@
 //! The rules on line programs, each with its code and its name.
-//! Its variants, and the arms of its functions, are made by docs/make-rules.py from docs/rules.tsv.
+//! Its variants, and the arms of its table, are made by docs/make-rules.py from docs/rules.tsv.
 
 ghost use Rattle.std.specs.Prelude.{◌≡◌};
 ghost use Rattle.dw_lines.specs.LineRules.{code_text, name_text};
@@ -54,65 +54,49 @@ pub enum LineRule {
 }
 
 impl LineRule {
-    /// The code of the rule: the letter of its group and a number.
-    #[tactic(auto, unfolding(crate::specs::LineRules::code_text))]
-    pub fn code(self) -> &'static str
-        ensures { result.now ≡ code_text self }
+    /// The code of the rule, and its name.
+    #[tactic(auto, unfolding(crate::specs::LineRules::code_text, crate::specs::LineRules::name_text))]
+    fn texts(self) -> (&'static str, &'static str)
+        ensures code { result.0.now ≡ code_text self }
+        ensures name { result.1.now ≡ name_text self }
     {
         match self {
-            LineRule::LineOffset => "L1",
-            LineRule::LineCut => "L2",
-            LineRule::Line64 => "L3",
-            LineRule::LineVersion => "L4",
-            LineRule::LineAddressSize => "L5",
-            LineRule::LineHeaderLength => "L6",
-            LineRule::LineParameter => "L7",
-            LineRule::OpcodeLength => "L8",
-            LineRule::LineForm => "L9",
-            LineRule::LineString => "L10",
-            LineRule::LineDirectory => "L11",
-            LineRule::LineNumber => "L12",
-            LineRule::ProgramsMeet => "L13",
-            LineRule::OpcodeCut => "M1",
-            LineRule::OpcodeNumber => "M2",
-            LineRule::ExtendedLength => "M3",
-            LineRule::RowFile => "M4",
-            LineRule::RowDescends => "M5",
-            LineRule::RowAddress => "M6",
-            LineRule::RowLine => "M7",
-            LineRule::NotEnded => "M8",
-            LineRule::NoFile => "F1",
+            LineRule::LineOffset => ("L1", "LineOffset"),
+            LineRule::LineCut => ("L2", "LineCut"),
+            LineRule::Line64 => ("L3", "Line64"),
+            LineRule::LineVersion => ("L4", "LineVersion"),
+            LineRule::LineAddressSize => ("L5", "LineAddressSize"),
+            LineRule::LineHeaderLength => ("L6", "LineHeaderLength"),
+            LineRule::LineParameter => ("L7", "LineParameter"),
+            LineRule::OpcodeLength => ("L8", "OpcodeLength"),
+            LineRule::LineForm => ("L9", "LineForm"),
+            LineRule::LineString => ("L10", "LineString"),
+            LineRule::LineDirectory => ("L11", "LineDirectory"),
+            LineRule::LineNumber => ("L12", "LineNumber"),
+            LineRule::ProgramsMeet => ("L13", "ProgramsMeet"),
+            LineRule::OpcodeCut => ("M1", "OpcodeCut"),
+            LineRule::OpcodeNumber => ("M2", "OpcodeNumber"),
+            LineRule::ExtendedLength => ("M3", "ExtendedLength"),
+            LineRule::RowFile => ("M4", "RowFile"),
+            LineRule::RowDescends => ("M5", "RowDescends"),
+            LineRule::RowAddress => ("M6", "RowAddress"),
+            LineRule::RowLine => ("M7", "RowLine"),
+            LineRule::NotEnded => ("M8", "NotEnded"),
+            LineRule::NoFile => ("F1", "NoFile"),
         }
     }
 
-    /// The name of the rule, which is its variant's.
-    #[tactic(auto, unfolding(crate::specs::LineRules::name_text))]
+    /// The letter of the rule's group and a number.
+    pub fn code(self) -> &'static str
+        ensures { result.now ≡ code_text self }
+    {
+        self.texts().0
+    }
+
+    /// The name of the rule's variant.
     pub fn name(self) -> &'static str
         ensures { result.now ≡ name_text self }
     {
-        match self {
-            LineRule::LineOffset => "LineOffset",
-            LineRule::LineCut => "LineCut",
-            LineRule::Line64 => "Line64",
-            LineRule::LineVersion => "LineVersion",
-            LineRule::LineAddressSize => "LineAddressSize",
-            LineRule::LineHeaderLength => "LineHeaderLength",
-            LineRule::LineParameter => "LineParameter",
-            LineRule::OpcodeLength => "OpcodeLength",
-            LineRule::LineForm => "LineForm",
-            LineRule::LineString => "LineString",
-            LineRule::LineDirectory => "LineDirectory",
-            LineRule::LineNumber => "LineNumber",
-            LineRule::ProgramsMeet => "ProgramsMeet",
-            LineRule::OpcodeCut => "OpcodeCut",
-            LineRule::OpcodeNumber => "OpcodeNumber",
-            LineRule::ExtendedLength => "ExtendedLength",
-            LineRule::RowFile => "RowFile",
-            LineRule::RowDescends => "RowDescends",
-            LineRule::RowAddress => "RowAddress",
-            LineRule::RowLine => "RowLine",
-            LineRule::NotEnded => "NotEnded",
-            LineRule::NoFile => "NoFile",
-        }
+        self.texts().1
     }
 }

@@ -1,22 +1,24 @@
 //! The tables of directories and files (DWARF 5, 6.2.4 and 6.2.4.1; DWARF 4, 6.2.4).
 
-ghost use Rattle.std.specs.Prelude.{◌≡◌, ◌≤◌, ◌<◌, length, map, option_map, IfOk};
+ghost use Rattle.std.specs.Prelude.{◌≡◌, ◌≤◌, ◌<◌, ℕ, List, length, map, option_map, IfOk};
+ghost use Rattle.dw_elf.specs.Elf.{IsAfterLastZero};
 ghost use Rattle.dw_forms.specs.Stops.{GivesOrMemory};
+ghost use Rattle.dw_forms.specs.Value.{view};
 ghost use Rattle.dw_forms.specs.ValueReading.{Gives};
-ghost use Rattle.dw_lines.specs.Files.{path_or_end as path_format, file_or_end as file4_format, path_view, file_view};
-ghost use Rattle.dw_lines.specs.Files.{directories4 as directories4_format, files4 as files4_format};
-ghost use Rattle.dw_lines.specs.Files.{content_format, table_head as head_format, file_entry as file5_format};
-ghost use Rattle.dw_lines.specs.Files.{directories5 as directories5_format, files5 as files5_format};
-ghost use Rattle.dw_lines.specs.Files.{tables as tables_format};
+ghost use Rattle.dw_lines.specs.Files.{path_or_end as path_format, string_at as string_format, files4 as files4_format};
+ghost use Rattle.dw_lines.specs.Files.{file_or_end as file4_format, content_format};
+ghost use Rattle.dw_lines.specs.Files.{directories4 as directories4_format, directories5 as directories5_format};
+ghost use Rattle.dw_lines.specs.Files.{table_head as head_format, has_kind as has_kind_in, files5 as files5_format};
+ghost use Rattle.dw_lines.specs.Files.{with_value as value_format, may_have as may_have_form, entry as entry_format_of};
+ghost use Rattle.dw_lines.specs.Files.{tables as tables_format, are_contents, path_view, file_view};
 ghost use Rattle.dw_lines.specs.Header.{length_end};
 ghost use Rattle.dw_lines.specs.Repeats.{times};
 
-use crate::entry::{Content, DW_LNCT_path, are_valid, entry, has_kind};
-use crate::fields::{byte, number, path};
 use crate::files::{FileEntry, Files, LinePath, NO_FILE, in_directory};
+use crate::header::{byte, number, path};
 use crate::rule::LineRule;
 use crate::sections::LineSections;
-use dw_forms::{Form, Stop};
+use dw_forms::{Form, Stop, Value, read_value};
 use std::alloc::Global;
 
 /// A path in versions 2 to 4, or none where an empty one ends a table; and the bytes after it.
@@ -98,9 +100,69 @@ fn files4<'a>(
     }
 }
 
+/// The codes of contents (DWARF 5, 7.22).
+const DW_LNCT_path: u64 = 1;
+
+const DW_LNCT_directory_index: u64 = 2;
+
+const DW_LNCT_timestamp: u64 = 3;
+
+const DW_LNCT_size: u64 = 4;
+
+const DW_LNCT_MD5: u64 = 5;
+
+/// A content of an entry, and its form.
+#[derive(Clone, Copy, Debug)]
+pub(crate) struct Content {
+    pub(crate) kind: u64,
+    pub(crate) form: Form,
+}
+
+/// Whether a content of this kind may have a form. The forms of strings by index are left out: they need the unit.
+fn may_have(kind: u64, form: Form) -> bool
+    ensures { result ≡ may_have_form kind form }
+{
+    // Of a content that the standard does not name, the form alone says how long it is.
+    let is_named = kind >= DW_LNCT_path && kind <= DW_LNCT_MD5;
+    match form {
+        Form::Text | Form::Strp | Form::LineStrp => kind == DW_LNCT_path || !is_named,
+        Form::Data1 | Form::Data2 => {
+            kind == DW_LNCT_directory_index || kind == DW_LNCT_size || !is_named
+        }
+        Form::Data4 | Form::Data8 => {
+            kind == DW_LNCT_timestamp || kind == DW_LNCT_size || !is_named
+        }
+        Form::Udata => kind != DW_LNCT_path && kind != DW_LNCT_MD5,
+        Form::Block => kind == DW_LNCT_timestamp || !is_named,
+        Form::Data16 => kind == DW_LNCT_MD5 || !is_named,
+        _ => false,
+    }
+}
+
+/// Whether one of the contents is of this kind.
+fn has_kind(contents: &[Content], kind: u64) -> bool
+    ensures { result ≡ has_kind_in kind contents.now }
+{
+    contents.iter().any(|content| content.kind == kind)
+}
+
+/// Whether each content has a form that it may have, and none is there twice.
+fn are_valid(contents: &[Content]) -> bool
+    ensures { result ≡ are_contents contents.now }
+{
+    let mut left = contents;
+    while let [content, others @ ..] = left {
+        if !may_have(content.kind, content.form) || has_kind(others, content.kind) {
+            return false;
+        }
+        left = others;
+    }
+    true
+}
+
 /// A content of version 5 and its form, and the bytes after them.
 #[tactic(auto, unfolding(crate::specs::Files::content_format))]
-fn content(bytes: &[u8]) -> Result<(Content, &[u8]), LineRule>
+fn read_content(bytes: &[u8]) -> Result<(Content, &[u8]), LineRule>
     ensures { Gives (λ x. (x.0, x.1.now)) result (content_format.read bytes.now) }
 {
     let (kind, rest) = number(bytes)?;
@@ -118,7 +180,7 @@ fn contents(alloc: Global, count: u8, bytes: &[u8]) -> Result<(Vec<Content>, &[u
     let mut contents = Vec::new(alloc);
     let mut rest = bytes;
     for _ in 0..count {
-        let (content, after) = content(rest)?;
+        let (content, after) = read_content(rest)?;
         contents.push(content)?;
         rest = after;
     }
@@ -143,6 +205,71 @@ fn table_head(alloc: Global, bytes: &[u8]) -> Result<(Vec<Content>, u64, &[u8]),
     Err(Stop::Fault(LineRule::LineForm))
 }
 
+/// The string at an offset of a section, whose last zero byte is just before `end`. Where the string ends is not looked
+/// for, because any number of entries may have it.
+fn string_at(section: &[u8], end: usize, offset: u32) -> Result<LinePath<'_>, LineRule>
+    requires { IsAfterLastZero section.now end }
+    ensures { (bytes : List ℕ) → Gives (λ p. (path_view p, bytes)) result
+        ((string_format section.now offset).read bytes) }
+{
+    if (offset as usize) < end {
+        return Ok(LinePath::Section(&section[offset as usize..]));
+    }
+    Err(LineRule::LineString)
+}
+
+/// The entry that has a content of this kind more, with this value.
+fn with_value<'a>(
+    sections: &LineSections<'a>,
+    kind: u64,
+    entry: FileEntry<'a>,
+    value: Value<'a>,
+) -> Result<FileEntry<'a>, LineRule>
+    ensures { (bytes : List ℕ) → Gives (λ e. (file_view e, bytes)) result
+        ((value_format sections.now kind (file_view entry.entry) (view value.entry)).read bytes) }
+{
+    let path = match value {
+        Value::Text(string) => LinePath::Header(string),
+        Value::Str(offset) => string_at(sections.str, sections.str_end, offset)?,
+        Value::LineStr(offset) => string_at(sections.line_str, sections.line_str_end, offset)?,
+        Value::Unsigned(number) if kind == DW_LNCT_directory_index => {
+            let directory = number as usize;
+            return Ok(FileEntry { directory, ..entry });
+        }
+        Value::Wide(sum) if kind == DW_LNCT_MD5 => {
+            let md5 = Some(sum);
+            return Ok(FileEntry { md5, ..entry });
+        }
+        _ => return Ok(entry),
+    };
+    if kind == DW_LNCT_path {
+        return Ok(FileEntry { path, ..entry });
+    }
+    Ok(entry)
+}
+
+/// An entry with these contents, and the bytes after it. It has directory 0 where none is given.
+#[tactic(auto, unfolding(crate::specs::Files::entry_from))]
+fn entry<'a>(
+    sections: &LineSections<'a>,
+    contents: &[Content],
+    bytes: &'a [u8],
+) -> Result<(FileEntry<'a>, &'a [u8]), LineRule>
+    ensures { Gives (λ x. (file_view x.0, x.1.now)) result
+        ((entry_format_of sections.now contents.now).read bytes.now) }
+{
+    let mut entry = NO_FILE;
+    let mut rest = bytes;
+    let mut left = contents;
+    while let [content, others @ ..] = left {
+        let (value, len) = read_value(5, content.form, 8, rest)?;
+        entry = with_value(sections, content.kind, entry, value)?;
+        rest = &rest[len..];
+        left = others;
+    }
+    Ok((entry, rest))
+}
+
 /// The directories of version 5, and the bytes after their table.
 #[tactic(auto, unfolding(crate::specs::Files::directories5))]
 fn directories5<'a>(
@@ -164,24 +291,8 @@ fn directories5<'a>(
     Ok((paths, rest))
 }
 
-/// A file after so many directories, and the bytes after it.
-#[tactic(auto, unfolding(crate::specs::Files::file_entry))]
-fn file<'a>(
-    sections: &LineSections<'a>,
-    contents: &[Content],
-    count: usize,
-    bytes: &'a [u8],
-) -> Result<(FileEntry<'a>, &'a [u8]), LineRule>
-    ensures { Gives (λ x. (file_view x.0, x.1.now)) result
-        ((file5_format sections.now contents.now count).read bytes.now) }
-{
-    let (entry, rest) = entry(sections, contents, bytes)?;
-    in_directory(count, entry.directory as u64)?;
-    Ok((entry, rest))
-}
-
 /// The files of version 5 after so many directories, and the bytes after their table.
-#[tactic(auto, unfolding(crate::specs::Files::files5))]
+#[tactic(auto, unfolding(crate::specs::Files::files5, crate::specs::Files::file_entry))]
 fn files5<'a>(
     alloc: Global,
     sections: &LineSections<'a>,
@@ -195,7 +306,8 @@ fn files5<'a>(
     let mut files = Vec::new(alloc);
     let mut rest = rest;
     for _ in 0..count {
-        let (file, after) = file(sections, &contents, directories, rest)?;
+        let (file, after) = entry(sections, &contents, rest)?;
+        in_directory(directories, file.directory as u64)?;
         files.push(file)?;
         rest = after;
     }

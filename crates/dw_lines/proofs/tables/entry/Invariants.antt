@@ -1,6 +1,6 @@
 use Rattle.std.proofs.Common.{◌≡◌, length}
 use Rattle.dw_lines.specs.Files.{entry, entry_from, file_view}
-use Rattle.dw_lines.proofs.entry.entry.Given as goal
+use Rattle.dw_lines.proofs.tables.entry.Given as goal
 
 abbrev pub invariant-loop-left : goal.invariant-loop-left
 invariant-loop-left l =

@@ -6,7 +6,7 @@ use Rattle.dw_lines.specs.Files.{string_at}
 use Rattle.dw_lines.specs.declared.rule.LineRule.{LineRule}
 use Rattle.dw_lines.specs.declared.rule.LineRule.TheVariants.{LineCut, LineString}
 use Rattle.dw_lines.proofs.StringLaws.{string_found, string_none}
-use Rattle.dw_lines.proofs.entry.string_at.Goals as goal
+use Rattle.dw_lines.proofs.tables.string_at.Goals as goal
 
 pub returns-then-offset-end : goal.returns-then-offset-end
 unfolding string_at

@@ -5,7 +5,7 @@ use Rattle.std.proofs.Math.Numerals.{add-one}
 use Rattle.dw_forms.proofs.Texts.{text_none, text_found}
 use Rattle.dw_forms.specs.BaseFormats.{null_terminated_at}
 use Rattle.dw_lines.specs.declared.rule.LineRule.TheVariants.{LineCut}
-use Rattle.dw_lines.proofs.fields.path.Goals as goal
+use Rattle.dw_lines.proofs.header.path.Goals as goal
 
 pub returns-in_default-clause-exact : goal.returns-in_default-clause-exact
 returns-in_default-clause-exact c =
