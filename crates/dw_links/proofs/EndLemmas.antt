@@ -1,6 +1,10 @@
--- Where a string begins: that can be decided, and a string is within its section.
-use Rattle.std.proofs.Common.{get_or, ◌≡◌, List, ◌∷◌, ℕ, zero, suc, ◌+◌, ◌-◌, ◌<◌, ◌≤◌, length, length-append, length-drop, sym, ap, ◌∙◌, arith, inl, inr, ◌⊎◌, Option, None, Some, IfSome}
+-- Where a string begins: that can be decided, and a string is within its section. The bytes before the first zero byte,
+-- and those in the value of an attribute.
+use Rattle.std.proofs.Common.{rules, get_or, drop, ◌≡◌, ◌==◌, List, ◌∷◌, ℕ, Bool, true, false, ◌+◌, ◌-◌, ◌<◌, ◌≤◌, length, length-append, length-drop, sym, ap, ◌∙◌, arith, inl, inr, ◌⊎◌, Option, None, Some, IfSome, eq-eqb, zero, suc, [], ◌++◌, All, refl, append_assoc, drop_at}
 use Rattle.std.specs.Prelude.{slice_index}
+use Rattle.std.specs.List.{position_or_len, before_first}
+use Rattle.std.proofs.lemmas.Bool.{cases_lt, eqb-true, ne_eqb}
+use Rattle.std.proofs.lemmas.List.Sums.{passes_at_first, fails_before_first}
 use Rattle.std.proofs.Math.Seq.{get_or-append_seam}
 use Rattle.std.proofs.lemmas.List.{get_or-drop}
 use Rattle.dw_elf.specs.declared.sections.Sections.{Sections}
@@ -8,9 +12,30 @@ use Rattle.dw_forms.specs.Value.{text}
 use Rattle.dw_entries.specs.OwnBytes.{EndsAt}
 use Rattle.dw_links.specs.declared.texts.TextPlace.{TextPlace}
 use Rattle.dw_links.specs.declared.texts.TextPlace.TheVariants.{Info, Str, LineStr}
-use Rattle.dw_links.specs.Contributions.{HasZeroFrom}
+use Rattle.dw_links.specs.Contributions.{HasZeroFrom, string_at}
 use Rattle.dw_links.specs.Slots.{IsTextPlace, BeginsString}
-use Rattle.dw_links.proofs.TextLemmas.{text_parts}
+use Rattle.std.proofs.lemmas.List.Elements.{All-head, All-tail}
+
+before_zero : (t rest : List ℕ) → All (λ byte. 0 < byte) t → before_first (λ byte. byte == 0) (t ++ 0 ∷ rest) ≡ t
+before_zero [] rest none = refl
+before_zero (zero ∷ t) rest none = absurd (omega (arith, All-head (λ byte. 0 < byte) zero t none))
+before_zero (suc b ∷ t) rest none =
+    let other : (suc b == 0) ≡ false = ne_eqb (suc b) 0 (λ same. omega (arith, same)) in
+    let m : ℕ = position_or_len (λ byte. byte == 0) (t ++ 0 ∷ rest) in
+    let next : 1 + m ≡ suc m = omega arith in
+    rw (other, next) (ap (λ (l : List ℕ). suc b ∷ l) (before_zero t rest (All-tail (λ byte. 0 < byte) (suc b) t none)))
+
+-- a text whose bytes end at an offset
+module _ (section : List ℕ) (end : ℕ) (t : List ℕ) (is : EndsAt section (text t) end) where
+  pub text_before : length t + 1 ≤ end
+  text_before = omega (arith, is.end_is, length-append t (0 ∷ []))
+
+  -- it starts there, and its zero byte follows
+  pub text_parts : drop (end - (length t + 1)) section ≡ t ++ 0 ∷ is.rest
+  text_parts = search (rules, drop_at, length-append, append_assoc)
+
+  pub text_is : string_at section (end - (length t + 1)) ≡ t
+  text_is = ap (before_first (λ byte. byte == 0)) text_parts ∙ before_zero t is.rest is.no_zero
 
 -- a fact holds, or it does not
 abbrev pub Decided : Type 0 → Type 0
@@ -25,41 +50,30 @@ decide_lt a b = grind arith
 pub decide_eq : (a b : ℕ) → Decided (a ≡ b)
 decide_eq a b = grind arith
 
--- a string begins at the offset, or none does; so many bytes are left there
-decide_ends : (section : List ℕ) (left offset : ℕ) → offset + left ≡ length section
-    → Decided (HasZeroFrom section offset)
-decide_ends section zero offset at = inr (λ e. let p = e.behind in let q = e.within in omega (arith, at, p, q))
-decide_ends section (suc left) offset at =
-    elim (decide_eq (slice_index section offset) 0) [
-      | inl is ↦ inl (record { last = offset; behind = omega arith; within = omega (arith, at); is_zero = is })
-      | inr other ↦ elim (decide_ends section left (suc offset) (omega (arith, at))) [
-        | inl e ↦ inl (record {
-          last = e.last;
-          behind = let p = e.behind in omega (arith, p);
-          within = e.within;
-          is_zero = e.is_zero;
-        })
-        | inr none ↦ inr (λ e. elim (decide_eq e.last offset) [
-          | inl same ↦ other (ap (slice_index section) (sym same) ∙ e.is_zero)
-          | inr more ↦ none (record {
-            last = e.last;
-            behind = let p = e.behind in
-                let q = not_eq_lt offset e.last p (λ s. more (sym s)) in q;
-            within = e.within;
-            is_zero = e.is_zero;
-          })
-        ])
-      ]
-    ]
-  where
-    not_eq_lt : (a b : ℕ) → a ≤ b → (a ≡ b → ⊥) → suc a ≤ b
-    not_eq_lt a b le other = grind (arith, le, other)
-
+-- a string begins at the offset, or none does
 pub ends_or_not : (section : List ℕ) (offset : ℕ) → Decided (HasZeroFrom section offset)
 ends_or_not section offset =
-    elim (decide_le offset (length section)) [
-      | inl le ↦ decide_ends section (length section - offset) offset (omega (arith, le))
-      | inr more ↦ inr (λ e. let p = e.behind in let q = e.within in more (omega (arith, p, q)))
+    let Z : ℕ → Bool = λ byte. byte == 0 in
+    let left = drop offset section in
+    let first : ℕ = position_or_len Z left in
+    let long = length-drop offset section in
+    elim (cases_lt first (length left)) [
+      | inl here ↦
+          inl (record {
+            last = offset + first;
+            behind = omega arith;
+            within = omega (arith, here, long);
+            is_zero =
+                sym (get_or-drop offset section first 0)
+                ∙ eqb-true (get_or left first 0) 0 (passes_at_first Z left 0 here);
+          })
+      | inr past ↦ inr (λ e.
+          let p = e.behind in
+          let q = e.within in
+          let at : offset + (e.last - offset) ≡ e.last = omega (arith, p) in
+          let byte = get_or-drop offset section (e.last - offset) 0 ∙ ap (slice_index section) at ∙ e.is_zero in
+          let both : true ≡ false = sym (eq-eqb (get_or left (e.last - offset) 0) 0 byte)
+          ∙ fails_before_first Z left (e.last - offset) 0 (omega (arith, past, p, q, long)) in cc)
     ]
 
 -- what can be decided and is not refuted holds

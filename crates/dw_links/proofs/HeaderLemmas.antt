@@ -26,17 +26,18 @@ use Rattle.dw_links.specs.References.{IsSignedBefore, HasType, TypeUnitFails, He
 use Rattle.dw_links.specs.Signatures.{type_unit_of, HasSignature, HaveDistinctSignatures}
 use Rattle.dw_links.specs.SignedTypes.{IsSignedType, AreSignedBelow}
 use Rattle.dw_links.specs.Targets.{type_of_unit}
+use Rattle.dw_links.proofs.TargetLemmas.{at_first_signed, first_signed_is}
 
 -- a unit more changes nothing where it hasn't the signature
 kept : (entries : List Entry) (units : List PlacedUnit) (s n : ℕ) (o : Option ℕ) → IsSignedType entries units s n o
     → (HasSignature units s n → ⊥) → IsSignedType entries units s (n + 1) o
 kept entries units s n None none other = search (rules, eq-or-lt_of_le)
 kept entries units s n (Some id) found other =
-    let first = found.1 in (found.0, (let p = first.0 in omega arith, first.1, first.2), found.2)
+    let less = found.1 in (found.0, omega arith, found.2, found.3)
 
 begun : (entries : List Entry) (units : List PlacedUnit) (s n id : ℕ) → IsSignedType entries units s n None
     → HasSignature units s n → type_of_unit entries units n ≡ Some id → IsSignedType entries units s (n + 1) (Some id)
-begun entries units s n id none has type = (n, (omega arith, has, none), type)
+begun entries units s n id none has type = (n, omega arith, first_signed_is units s n has none, type)
 
 signed_so : (units : List PlacedUnit) (s n k t : ℕ) (u : PlacedUnit) → slice_get units n ≡ Some u
     → type_unit_of u.unit.header.kind ≡ Some (k, t) → HasSignature units s n → k ≡ s
@@ -63,7 +64,7 @@ pub signed_before : (entries : List Entry) (units : List PlacedUnit) (s n : ℕ)
     → IsSignedType entries units s n o → is_some o ≡ true → IsSignedBefore units n s
 signed_before entries units s n None none known = absurd cc
 signed_before entries units s n (Some id) found known =
-    let first = found.1 in record { earlier = found.0; before = first.0; has = first.1 }
+    record { earlier = found.0; before = found.1; has = at_first_signed units s found.0 found.2 }
 
 pub not_before : (entries : List Entry) (units : List PlacedUnit) (s n : ℕ) (o : Option ℕ)
     → IsSignedType entries units s n o → is_some o ≡ false → IsSignedBefore units n s → ⊥

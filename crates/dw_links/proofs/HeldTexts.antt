@@ -1,101 +1,190 @@
 -- Where no rule on strings and addresses fails, each string and each address is there.
-use Rattle.std.proofs.Common.{rules, ◌≡◌, List, refl, ℕ, ◌<◌, ◌≤◌, Option, None, Some, arith, inl, inr}
+use Rattle.std.proofs.Common.{rules, ◌≡◌, ◌≢◌, ℕ, suc, ◌<◌, ◌==◌, Bool, true, false, List, [], ◌∷◌, Some, refl, sym, ap, ◌∙◌, Option, None, IfSome, arith, inl, inr}
 use Rattle.std.specs.Prelude.{slice_get}
+use Rattle.std.proofs.lemmas.Option.{option_and_then_some}
+use Rattle.std.proofs.lemmas.Bool.Decides.{nat_tests}
 use Rattle.dw_elf.specs.declared.sections.Sections.{Sections}
 use Rattle.dw_forms.specs.Codes.{DW_AT_str_offsets_base, DW_AT_addr_base}
-use Rattle.dw_forms.specs.Value.{Datum, str, line_str, str_index, addr_index}
+use Rattle.dw_forms.specs.Value.{Datum, sec_offset, str, line_str, str_index, addr_index}
 use Rattle.dw_forms.specs.declared.rule.Rule.{Rule}
-use Rattle.dw_forms.specs.declared.rule.Rule.TheVariants.{BadStrBase, StrIndex, StringEnd, BadAddrBase, AddrIndex}
+use Rattle.dw_entries.specs.Header.{version_of}
 use Rattle.dw_entries.specs.Units.{DebugUnit}
+use Rattle.dw_entries.specs.Entries.{Entry, PlacedUnit, entries_of, placed}
+use Rattle.dw_entries.specs.Places.{at_attribute}
 use Rattle.dw_entries.specs.Failures.{HasNone}
-use Rattle.dw_entries.specs.Entries.{Entry, entries_of, PlacedUnit, placed}
-use Rattle.dw_entries.specs.Lookups.{entry_head}
+use Rattle.dw_entries.specs.EntryRules.{values_of, HasAttribute}
+use Rattle.dw_entries.specs.Lookups.{entry_head, value_in, value_at_entry}
+use Rattle.dw_entries.proofs.EntryFacts.{first_entry}
+use Rattle.dw_entries.proofs.Firsts.{same_some}
 use Rattle.dw_links.specs.Contributions.{IsContribution, slot_count, slot_at}
-use Rattle.dw_links.specs.Bases.{base_in}
-use Rattle.dw_links.specs.Strings.{IsStringContribution, IsAddressContribution, StringFailsIn, StringFailures}
+use Rattle.dw_links.specs.Bases.{section_offset_in, base_in}
+use Rattle.dw_links.specs.Strings.{BaseFails, StringFailsIn, StringFailures, IsStringContribution, IsAddressContribution, StringIndexFails, AddressIndexFails}
+use Rattle.dw_forms.specs.declared.rule.Rule.TheVariants.{BadStrBase, StrIndex, StringEnd, BadAddrBase, AddrIndex}
+use Rattle.dw_entries.specs.declared.header.UnitHeader.{UnitHeader}
+use Rattle.dw_links.specs.Slots.{TextLies, AddressLies}
 use Rattle.dw_links.specs.LinkLaws.{HasStringAt, HasAddressAt, HasItsText, HasTexts}
 use Rattle.dw_links.proofs.EndLemmas.{Decided, decide_le, decide_lt, decide_eq, ends_or_not, sure}
-use Rattle.dw_links.proofs.SlotLemmas.{passes_at, sound}
+
+-- ---- the attribute that a value is found at
+
+-- at a position is an attribute with this code and value
+abbrev pub At : List (ℕ × Datum) → ℕ → Datum → Type 0
+At values attribute v = (position : ℕ) × (slice_get values position ≡ Some (attribute, v))
+
+found_here : (x : ℕ × Datum) (xs : List (ℕ × Datum)) (attribute : ℕ) (v : Datum) → value_in (x ∷ xs) attribute ≡ Some v
+    → (value_in xs attribute ≡ Some v → At xs attribute v)
+    → (b : Bool) → (x.0 == attribute) ≡ b → At (x ∷ xs) attribute v
+found_here x xs attribute v is more true here = search (rules, nat_tests)
+found_here x xs attribute v is more false here =
+    let behind = more (rw here at is) in
+    (suc behind.0, behind.1)
+
+-- an attribute that has a value is at a position
+pub found_value : (values : List (ℕ × Datum)) (attribute : ℕ) (v : Datum) → value_in values attribute ≡ Some v
+    → At values attribute v
+found_value [] attribute v is = absurd cc
+found_value (x ∷ values) attribute v is =
+    found_here x values attribute v is (found_value values attribute v) (x.0 == attribute) refl
+
+-- ---- what no failure says
+
+-- no rule fails at an attribute
+pub passes_at : (sections : Sections) (us : List DebugUnit) (id : ℕ) (e : Entry) (p : PlacedUnit)
+    (position attribute : ℕ) (v : Datum) → HasNone (StringFailures sections us) → slice_get (entries_of us) id ≡ Some e
+    → slice_get (placed us) e.unit ≡ Some p
+    → HasAttribute e position attribute v → (rule : Rule)
+    → StringFailsIn sections p.unit.header (base_in (entries_of us) p DW_AT_str_offsets_base)
+    (base_in (entries_of us) p DW_AT_addr_base) (entry_head e) attribute v rule → ⊥
+passes_at sections us id e p position attribute v none is is_unit has rule fails =
+    none (record { rule = rule; place = at_attribute e.at position; attribute = attribute })
+    (record {
+      number = id;
+      item = e;
+      is_item = is;
+      fails =
+          record {
+            position = position;
+            value = v;
+            has = has;
+            place = refl;
+            fails = record { unit = p; in_unit = is_unit; fails = fails };
+          };
+    })
+
+pub passes_string : (sections : Sections) (us : List DebugUnit) (id : ℕ) (e : Entry) (p : PlacedUnit) (attribute : ℕ)
+    (v : Datum) → HasNone (StringFailures sections us) → slice_get (entries_of us) id ≡ Some e
+    → slice_get (placed us) e.unit ≡ Some p
+    → value_at_entry e attribute ≡ Some v → (rule : Rule)
+    → StringFailsIn sections p.unit.header (base_in (entries_of us) p DW_AT_str_offsets_base)
+    (base_in (entries_of us) p DW_AT_addr_base) (entry_head e) attribute v rule → ⊥
+passes_string sections us id e p attribute v none is is_unit value =
+    let (position, here) = found_value (values_of e.head) attribute v value in
+    passes_at sections us id e p position attribute v none is is_unit here
+
+-- a base is what the first entry of a unit of version 5 says
+pub record SaysBase (es : List Entry) (p : PlacedUnit) (attribute base : ℕ) : Type 0 where
+  pub version : version_of p.unit.header.kind ≢ 4
+  pub first : Entry
+  pub is_first : slice_get es p.first ≡ Some first
+  pub value : value_at_entry first attribute ≡ Some (sec_offset base)
+
+offset_said : (v : Datum) (base : ℕ) → section_offset_in v ≡ Some base → v ≡ sec_offset base
+offset_said (sec_offset n) base is = ap sec_offset (same_some (Some n) n base refl is)
+offset_said _ base is = absurd cc
+
+base_said : (es : List Entry) (p : PlacedUnit) (attribute base : ℕ) → base_in es p attribute ≡ Some base
+    → SaysBase es p attribute base
+base_said es p attribute base is = search (rules, option_and_then_some, offset_said)
+
+-- so no rule on bases fails at it
+pub sound : (sections : Sections) (us : List DebugUnit) (k : ℕ) (p : PlacedUnit) (attribute base : ℕ) (rule : Rule)
+    → HasNone (StringFailures sections us) → slice_get (placed us) k ≡ Some p
+    → base_in (entries_of us) p attribute ≡ Some base
+    → BaseFails sections p.unit.header attribute base rule → ⊥
+sound sections us k p attribute base rule none is said fails =
+    let says = base_said (entries_of us) p attribute base said in
+    let has = first_entry us k p is in
+    let same = same_some (slice_get (entries_of us) p.first) has.entry says.first has.is_entry says.is_first in
+    let unit = sym (ap (λ (e : Entry). e.unit) same) ∙ has.is_first.unit in
+    passes_string sections us p.first says.first p attribute (sec_offset base) none says.is_first
+    (ap (slice_get (placed us)) unit ∙ is) says.value rule
+    (sym (ap (λ (e : Entry). e.parent) same) ∙ has.is_first.parent, says.version, fails)
 
 -- a contribution is at the base, or none is
 contribution_or_not : (section : List ℕ) (slot mark base : ℕ) → Decided (IsContribution section slot mark base)
 contribution_or_not section slot mark base = search (rules, decide_le, decide_lt, decide_eq)
 
+if_each : (o : Option ℕ) (P : ℕ → Type 0) → ((n : ℕ) → o ≡ Some n → P n) → IfSome o P
+if_each None P each = tt
+if_each (Some n) P each = each n refl
+
 -- ---- what no failure means
 
--- no rule fails at a value of an entry
-abbrev PassesIn : Sections → List Entry → PlacedUnit → Entry → ℕ → Datum → Type 0
-PassesIn s entries unit e attribute v =
-    (rule : Rule) → StringFailsIn s unit.unit.header (base_in entries unit DW_AT_str_offsets_base)
-    (base_in entries unit DW_AT_addr_base) (entry_head e) attribute v rule → ⊥
+string_held : (s : Sections) (base : Option ℕ) (index : ℕ) → IfSome base (IsStringContribution s)
+    → ((rule : Rule) → StringIndexFails s base index rule → ⊥) → HasStringAt s base index
+string_held s None index holds passes = passes BadStrBase tt
+string_held s (Some base) index holds passes =
+    let below : index < slot_count s.str_offsets.now 4 base =
+    sure (decide_lt index (slot_count s.str_offsets.now 4 base))
+    (λ above. passes StrIndex (holds, grind (arith, above))) in (
+      holds,
+      below,
+      sure (ends_or_not s.str.now (slot_at s.str_offsets.now 4 base index))
+          (λ endless. passes StringEnd (holds, below, endless)),
+    )
 
-string_base_holds : (s : Sections) (units : List DebugUnit) → HasNone (StringFailures s units)
-    → (number : ℕ) (unit : PlacedUnit) (base : ℕ) → slice_get (placed units) number ≡ Some unit
-    → base_in (entries_of units) unit DW_AT_str_offsets_base ≡ Some base → IsStringContribution s base
-string_base_holds s units none number unit base in_unit named =
-    sure (contribution_or_not s.str_offsets.now 4 0 base)
-    (λ broken. sound s units number unit DW_AT_str_offsets_base base BadStrBase none in_unit named
-    (inl (refl, refl, broken)))
+address_held : (s : Sections) (header : UnitHeader) (base : Option ℕ) (index : ℕ)
+    → IfSome base (IsAddressContribution s header)
+    → ((rule : Rule) → AddressIndexFails s header base index rule → ⊥) → HasAddressAt s header base index
+address_held s header None index holds passes = passes BadAddrBase tt
+address_held s header (Some base) index holds passes = (
+  holds,
+  sure (decide_lt index (slot_count s.addr.now header.address_size base))
+      (λ above. passes AddrIndex (holds, grind (arith, above))),
+)
 
-address_base_holds : (s : Sections) (units : List DebugUnit) → HasNone (StringFailures s units)
-    → (number : ℕ) (unit : PlacedUnit) (base : ℕ) → slice_get (placed units) number ≡ Some unit
-    → base_in (entries_of units) unit DW_AT_addr_base ≡ Some base → IsAddressContribution s unit.unit.header base
-address_base_holds s units none number unit base in_unit named =
-    let size : ℕ = unit.unit.header.address_size in
-    sure (contribution_or_not s.addr.now size size base)
-    (λ broken. sound s units number unit DW_AT_addr_base base BadAddrBase none in_unit named
-    (inr (refl, refl, broken)))
-
-indexed_string : (s : Sections) (units : List DebugUnit) → HasNone (StringFailures s units)
-    → (unit : PlacedUnit) (e : Entry) (attribute index : ℕ) → slice_get (placed units) e.unit ≡ Some unit
-    → PassesIn s (entries_of units) unit e attribute (str_index index)
-    → HasStringAt s (base_in (entries_of units) unit DW_AT_str_offsets_base) index
-indexed_string s units none unit e attribute index in_unit passes =
-    go (base_in (entries_of units) unit DW_AT_str_offsets_base) refl
+module _ (s : Sections) (us : List DebugUnit) (none : HasNone (StringFailures s us)) (id : ℕ) (e : Entry)
+    (p : PlacedUnit) (is : slice_get (entries_of us) id ≡ Some e) (in_unit : slice_get (placed us) e.unit ≡ Some p)
   where
-    go : (o : Option ℕ) → base_in (entries_of units) unit DW_AT_str_offsets_base ≡ o → HasStringAt s o index
-    go None here = passes BadStrBase (rw here tt)
-    go (Some base) here =
-        let holds = string_base_holds s units none e.unit unit base in_unit here in
-        let below : index < slot_count s.str_offsets.now 4 base =
-        sure (decide_lt index (slot_count s.str_offsets.now 4 base))
-        (λ above. let le : slot_count s.str_offsets.now 4 base ≤ index = grind (arith, above) in
-        passes StrIndex (rw here (holds, le))) in (
-          holds,
-          below,
-          sure (ends_or_not s.str.now (slot_at s.str_offsets.now 4 base index))
-              (λ endless. passes StringEnd (rw here (holds, below, endless))),
-        )
+    held : (position attribute : ℕ) (v : Datum) → slice_get (values_of e.head) position ≡ Some (attribute, v)
+        → HasItsText s (entries_of us) p v
+    held position attribute (str offset) has =
+        sure (ends_or_not s.str.now offset) (passes_at s us id e p position attribute _ none is in_unit has StringEnd)
+    held position attribute (line_str offset) has =
+        sure (ends_or_not s.line_str.now offset)
+        (passes_at s us id e p position attribute _ none is in_unit has StringEnd)
+    held position attribute (str_index index) has =
+        string_held s (base_in (entries_of us) p DW_AT_str_offsets_base) index
+        (if_each _ _ (λ base named. sure (contribution_or_not s.str_offsets.now 4 0 base)
+        (λ broken. sound s us e.unit p DW_AT_str_offsets_base base BadStrBase none in_unit named
+        (inl (refl, refl, broken)))))
+        (passes_at s us id e p position attribute _ none is in_unit has)
+    held position attribute (addr_index index) has =
+        let size : ℕ = p.unit.header.address_size in
+        address_held s p.unit.header (base_in (entries_of us) p DW_AT_addr_base) index
+        (if_each _ _ (λ base named. sure (contribution_or_not s.addr.now size size base)
+        (λ broken. sound s us e.unit p DW_AT_addr_base base BadAddrBase none in_unit named
+        (inr (refl, refl, broken)))))
+        (passes_at s us id e p position attribute _ none is in_unit has)
+    held position attribute _ has = tt
 
-indexed_address : (s : Sections) (units : List DebugUnit) → HasNone (StringFailures s units)
-    → (unit : PlacedUnit) (e : Entry) (attribute index : ℕ) → slice_get (placed units) e.unit ≡ Some unit
-    → PassesIn s (entries_of units) unit e attribute (addr_index index)
-    → HasAddressAt s unit.unit.header (base_in (entries_of units) unit DW_AT_addr_base) index
-indexed_address s units none unit e attribute index in_unit passes =
-    go (base_in (entries_of units) unit DW_AT_addr_base) refl
-  where
-    go : (o : Option ℕ) → base_in (entries_of units) unit DW_AT_addr_base ≡ o → HasAddressAt s unit.unit.header o index
-    go None here = passes BadAddrBase (rw here tt)
-    go (Some base) here =
-        let holds = address_base_holds s units none e.unit unit base in_unit here in
-        let count : ℕ = slot_count s.addr.now unit.unit.header.address_size base in (
-          holds,
-          sure (decide_lt index count)
-              (λ above. let le : count ≤ index = grind (arith, above) in passes AddrIndex (rw here (holds, le))),
-        )
+    its_text : (attribute : ℕ) (v : Datum) → value_at_entry e attribute ≡ Some v → HasItsText s (entries_of us) p v
+    its_text attribute v value =
+        let (position, here) = found_value (values_of e.head) attribute v value in held position attribute v here
 
-leads : (s : Sections) (units : List DebugUnit) → HasNone (StringFailures s units)
-    → (unit : PlacedUnit) (e : Entry) (attribute : ℕ) (v : Datum) → slice_get (placed units) e.unit ≡ Some unit
-    → PassesIn s (entries_of units) unit e attribute v → HasItsText s (entries_of units) unit v
-leads s units none unit e attribute (str offset) in_unit passes = sure (ends_or_not s.str.now offset) (passes StringEnd)
-leads s units none unit e attribute (line_str offset) in_unit passes =
-    sure (ends_or_not s.line_str.now offset) (passes StringEnd)
-leads s units none unit e attribute (str_index index) in_unit passes =
-    indexed_string s units none unit e attribute index in_unit passes
-leads s units none unit e attribute (addr_index index) in_unit passes =
-    indexed_address s units none unit e attribute index in_unit passes
-leads s units none unit e attribute _ in_unit passes = tt
+    -- a text and an address of an entry
+    pub text_lies : (attribute : ℕ) (v : Datum) → value_at_entry e attribute ≡ Some v
+        → TextLies s (base_in (entries_of us) p DW_AT_str_offsets_base) v
+    text_lies attribute (str offset) value = its_text attribute (str offset) value
+    text_lies attribute (line_str offset) value = its_text attribute (line_str offset) value
+    text_lies attribute (str_index index) value = its_text attribute (str_index index) value
+    text_lies attribute _ value = tt
+
+    pub address_lies : (attribute : ℕ) (v : Datum) → value_at_entry e attribute ≡ Some v
+        → AddressLies s p.unit.header (base_in (entries_of us) p DW_AT_addr_base) v
+    address_lies attribute (addr_index index) value = its_text attribute (addr_index index) value
+    address_lies attribute _ value = tt
 
 pub texts_of : (s : Sections) (units : List DebugUnit) → HasNone (StringFailures s units) → HasTexts s units
 texts_of s units none id e is position attribute v has unit in_unit =
-    leads s units none unit e attribute v in_unit (passes_at s units id e unit position attribute v none is in_unit has)
+    held s units none id e unit is in_unit position attribute v has

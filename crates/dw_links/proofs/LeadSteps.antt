@@ -1,6 +1,6 @@
 -- What is kept of an entry after a value: that no rule fails there, by what the value leads to.
-use Rattle.std.proofs.Common.{◌≡◌, ◌≢◌, ℕ, Bool, true, false, List, [], ◌∷◌, Option, Some, None, Result, refl, sym, ap, ◌∙◌, subst, map, inl, inr, arith}
-use Rattle.std.specs.Prelude.{◌==◌, ◌&&◌, ◌<◌, length, not, IfOk, IfErr}
+use Rattle.std.proofs.Common.{rules, ◌≡◌, ◌≢◌, ℕ, Bool, true, false, List, [], ◌∷◌, Option, Some, None, refl, sym, ap, ◌∙◌, map, arith}
+use Rattle.std.specs.Prelude.{◌==◌, ◌&&◌, ◌<◌, length, not}
 use Rattle.std.proofs.lemmas.Bool.{ne_eqb}
 use Rattle.std.proofs.lemmas.Option.{slice_get-get_or}
 use mathlib.Core.Logic.{∥∥₁_elim}
@@ -16,9 +16,8 @@ use Rattle.dw_forms.specs.ValueFormats.{Val, laid_out}
 use Rattle.dw_forms.specs.LeadingWalks.{lead_of}
 use Rattle.dw_forms.proofs.LeadLaws.{lead_says}
 use Rattle.dw_entries.specs.declared.entries.Entries.{Entries}
-use Rattle.dw_entries.specs.declared.fault.PlainFault.{PlainFault}
 use Rattle.dw_entries.specs.declared.entry.EntryHead.{EntryHead}
-use Rattle.dw_entries.specs.EntryRules.{value_of, OffsetsRise}
+use Rattle.dw_entries.specs.EntryRules.{value_of}
 use Rattle.dw_entries.specs.Entries.{Entry}
 use Rattle.dw_entries.specs.ByNumber.{no_entry, entry_of, unit_of}
 use Rattle.dw_entries.specs.Failures.{IsLeast}
@@ -31,10 +30,10 @@ use Rattle.dw_entries.specs.Units.{context_of}
 use Rattle.dw_entries.specs.Views.{all_entries, all_units, units_of}
 use Rattle.dw_entries.proofs.EntryFacts.{entries_rise}
 use Rattle.dw_entries.proofs.HeadLaws.{head_fits}
-use Rattle.dw_entries.proofs.NumberOrder.{three_ways}
+use Rattle.dw_entries.proofs.RunLaws.{one_at}
 use Rattle.dw_links.specs.declared.references.UnitLinks.{UnitLinks}
 use Rattle.dw_links.specs.UnitAtHand.{target_by, entries_followed, entry_with, entry_after, MayLink, IsTypeAfter, IsSiblingAfter, IsDeclaredAfter, LeadsWell}
-use Rattle.dw_links.specs.EntryLinks.{kept_after, KeepsAt, HasFailedAt}
+use Rattle.dw_links.specs.EntryLinks.{kept_after, KeepsAt}
 use Rattle.dw_links.specs.UnitContributions.{FailsByTexts}
 use Rattle.dw_links.specs.References.{is_declared, is_true, is_reference_value, permits, permits_form}
 use Rattle.dw_links.specs.Targets.{reach_in_unit}
@@ -99,20 +98,6 @@ declared_entry entries t below known =
 
 -- ---- usual values, at which no rule fails
 
--- two entries begin at two offsets
-other_offset : (entries : List Entry) → OffsetsRise entries → (i j : ℕ) → i < length entries → j < length entries
-    → i ≢ j → (entry_of entries i).at ≢ (entry_of entries j).at
-other_offset entries rise i j below_i below_j other same =
-    let d = entry_of entries i in
-    let e = entry_of entries j in
-    let is_d = slice_get-get_or entries i no_entry below_i in
-    let is_e = slice_get-get_or entries j no_entry below_j in
-    elim (three_ways i j) [
-      | inl (inl less) ↦ omega (arith, rise i j d e less is_d is_e, same)
-      | inl (inr equal) ↦ other equal
-      | inr more ↦ omega (arith, rise j i e d more is_e is_d, same)
-    ]
-
 both_true : (a b : Bool) → a ≡ false → b ≡ true → true ≡ (not a && b)
 both_true false true is_a is_b = refl
 both_true false false is_a is_b = absurd cc
@@ -120,7 +105,7 @@ both_true true b is_a is_b = absurd cc
 
 module _ (it : UnitLinks) (id : ℕ) (may : MayLink it id) (before : Option (Option ℕ)) where
   -- a string or an address
-  pub text_keeps : (attribute : ℕ) (v : Datum)
+  text_keeps : (attribute : ℕ) (v : Datum)
       → ((head : EntryHead) → IsLeast (FailsByTexts it.texts head attribute v) None) → is_reference_value v ≡ false
       → attribute ≢ DW_AT_type → KeepsAt it id attribute v before before
   text_keeps attribute v none no_reference other =
@@ -159,93 +144,57 @@ module _ (it : UnitLinks) (id : ℕ) (may : MayLink it id) (before : Option (Opt
         is_kept = kept ∙ ap (kept_after before attribute) (sym there);
       }
 
-  pub type_keeps : (attribute offset t : ℕ) (after : Option (Option ℕ)) → attribute ≡ DW_AT_type
-      → IsTypeAfter it offset t → after ≡ kept_after before DW_AT_type (Some t)
-      → KeepsAt it id attribute (ref_unit offset) before after
-  type_keeps attribute offset t after same has kept =
-      let P : ℕ → Type 0 = λ a. KeepsAt it id a (ref_unit offset) before after in
-      subst P (sym same) (reference_keeps DW_AT_type offset t after has.reaches kept refl (sym has.is_type)
-      (λ no. absurd (omega (arith, no))))
+  pub type_keeps : (offset t : ℕ) (after : Option (Option ℕ)) → IsTypeAfter it offset t
+      → after ≡ kept_after before DW_AT_type (Some t) → KeepsAt it id DW_AT_type (ref_unit offset) before after
+  type_keeps offset t after has kept =
+      reference_keeps DW_AT_type offset t after has.reaches kept refl (sym has.is_type)
+      (λ no. absurd (omega (arith, no)))
 
-  pub sibling_keeps : (attribute offset : ℕ) → attribute ≡ DW_AT_sibling → IsSiblingAfter it id offset
-      → KeepsAt it id attribute (ref_unit offset) before before
-  sibling_keeps attribute offset same has =
-      let P : ℕ → Type 0 = λ a. KeepsAt it id a (ref_unit offset) before before in
-      subst P (sym same) (reference_keeps DW_AT_sibling offset has.target before has.reaches
-      (kept_same before DW_AT_sibling (Some has.target) (λ no. omega (arith, no))) refl refl (λ no. has.is_next))
+  sibling_keeps : (offset : ℕ) → IsSiblingAfter it id offset
+      → KeepsAt it id DW_AT_sibling (ref_unit offset) before before
+  sibling_keeps offset has =
+      reference_keeps DW_AT_sibling offset has.target before has.reaches
+      (kept_same before DW_AT_sibling (Some has.target) (λ no. omega (arith, no))) refl refl (λ no. has.is_next)
 
-  pub specification_keeps : (attribute offset : ℕ) → attribute ≡ DW_AT_specification → IsDeclaredAfter it id offset
-      → KeepsAt it id attribute (ref_unit offset) before before
-  specification_keeps attribute offset same has =
-      let P : ℕ → Type 0 = λ a. KeepsAt it id a (ref_unit offset) before before in
+  specification_keeps : (offset : ℕ) → IsDeclaredAfter it id offset
+      → KeepsAt it id DW_AT_specification (ref_unit offset) before before
+  specification_keeps offset has =
+      let es = all_entries (entries_followed it) in
       let rise = entries_rise _ (units_of (entries_followed it)) (entries_followed it).scanned.1.spells.are in
-      subst P (sym same) (reference_keeps DW_AT_specification offset has.target before has.reaches
+      let within = reached_within _ _ it.texts.unit (ref_unit offset) has.target has.reaches in
+      reference_keeps DW_AT_specification offset has.target before has.reaches
       (kept_same before DW_AT_specification (Some has.target) (λ no. omega (arith, no))) refl
       (both_true ((entry_with it has.target).at == (entry_with it id).at) (is_declared (entry_with it has.target))
-      (ne_eqb (entry_with it has.target).at (entry_with it id).at (other_offset (all_entries (entries_followed it)) rise
-      has.target id (reached_within _ _ it.texts.unit (ref_unit offset) has.target has.reaches) may.within has.other))
+      (ne_eqb (entry_with it has.target).at (entry_with it id).at
+      (λ same. has.other (one_at es (entry_with it id).at has.target id rise
+      (record { within = within; begins = same }) (record { within = may.within; begins = refl }))))
       has.declared)
-      (λ no. absurd (omega (arith, no))))
+      (λ no. absurd (omega (arith, no)))
 
-  pub entry_keeps : (attribute offset t : ℕ) → attribute ≢ DW_AT_type → attribute ≢ DW_AT_sibling
+  entry_keeps : (attribute offset t : ℕ) → attribute ≢ DW_AT_type → attribute ≢ DW_AT_sibling
       → attribute ≢ DW_AT_specification → attribute ≢ DW_AT_import → attribute ≢ DW_AT_signature
       → entry_after it offset ≡ Some t
       → KeepsAt it id attribute (ref_unit offset) before before
   entry_keeps attribute offset t no_type no_sibling no_specification no_import no_signature reaches =
-      reference_keeps attribute offset t before reaches (kept_same before attribute (Some t) no_type)
-      (rw (ne_eqb attribute DW_AT_signature no_signature) refl)
-      (rw (
-        ne_eqb attribute DW_AT_type no_type,
-        ne_eqb attribute DW_AT_specification no_specification,
-        ne_eqb attribute DW_AT_signature no_signature,
-        ne_eqb attribute DW_AT_import no_import,
-      ) refl)
-      (λ sibling. absurd (no_sibling sibling))
+      search (rules, reference_keeps, kept_same, ne_eqb)
 
   -- a value at which no rule fails
   pub well_keeps : (it_leads : Led) (spec : AttributeSpec) → IsLedBy it_leads spec → LeadsWell it id it_leads
       → KeepsAt it id (item_of it_leads).0 (item_of it_leads).1 before before
-  well_keeps (led.Sibling offset) spec is well = sibling_keeps DW_AT_sibling offset refl well
-  well_keeps (led.Specification offset) spec is well = specification_keeps DW_AT_specification offset refl well
+  well_keeps (led.Sibling offset) spec is well = sibling_keeps offset well
+  well_keeps (led.Specification offset) spec is well = specification_keeps offset well
   well_keeps (led.Entry attribute offset) spec is well =
-      let P : ℕ → Type 0 = λ a. KeepsAt it id a (ref_unit offset) before before in
       let (is_form, no_type, no_sibling, no_specification, no_import, no_signature) =
       lead_says spec lead.Entry is.has_lead in
-      subst P is.has_code (entry_keeps spec.attribute offset well.0 no_type no_sibling no_specification no_import
+      rw (← is.has_code) (entry_keeps spec.attribute offset well.0 no_type no_sibling no_specification no_import
       no_signature well.1)
   well_keeps (led.Text attribute offset) spec is well =
-      let P : ℕ → Type 0 = λ a. KeepsAt it id a (str offset) before before in
-      subst P is.has_code (text_keeps spec.attribute (str offset) (λ head. well) refl
+      rw (← is.has_code) (text_keeps spec.attribute (str offset) (λ head. well) refl
       (lead_says spec lead.Text is.has_lead).1)
   well_keeps (led.Index attribute index) spec is well =
-      let P : ℕ → Type 0 = λ a. KeepsAt it id a (str_index index) before before in
-      subst P is.has_code (text_keeps spec.attribute (str_index index) (λ head. well) refl
+      rw (← is.has_code) (text_keeps spec.attribute (str_index index) (λ head. well) refl
       (index_says spec (lead_of spec) refl is.has_lead))
   well_keeps (led.Address attribute index) spec is well =
-      let P : ℕ → Type 0 = λ a. KeepsAt it id a (addr_index index) before before in
-      subst P is.has_code (text_keeps spec.attribute (addr_index index) (λ head. well) refl
+      rw (← is.has_code) (text_keeps spec.attribute (addr_index index) (λ head. well) refl
       (lead_says spec lead.Address is.has_lead).1)
   well_keeps _ spec is well = absurd well
-
-  -- a reference to a type
-  pub type_led : (it_leads : Led) (offset t : ℕ) (after : Option (Option ℕ)) → it_leads ≡ led.Type offset
-      → IsTypeAfter it offset t → after ≡ kept_after before DW_AT_type (Some t)
-      → KeepsAt it id (item_of it_leads).0 (item_of it_leads).1 before after
-  type_led it_leads offset t after is has kept =
-      let P : Led → Type 0 = λ l. KeepsAt it id (item_of l).0 (item_of l).1 before after in
-      subst P (sym is) (type_keeps DW_AT_type offset t after refl has kept)
-
-  -- a value that is judged by all rules
-  pub judged_keeps : (it_leads : Led) (item : ℕ × Datum) (result : Result (Option (Option ℕ)) PlainFault)
-      → item ≡ item_of it_leads → IfOk result (KeepsAt it id item.0 item.1 before)
-      → IfOk result (KeepsAt it id (item_of it_leads).0 (item_of it_leads).1 before)
-  judged_keeps it_leads item result same =
-      subst (λ (x : ℕ × Datum). IfOk result (KeepsAt it id item.0 item.1 before)
-      → IfOk result (KeepsAt it id x.0 x.1 before)) same (λ k. k)
-
-  pub judged_fails : (it_leads : Led) (item : ℕ × Datum) (result : Result (Option (Option ℕ)) PlainFault)
-      → item ≡ item_of it_leads → IfErr result (HasFailedAt it id item.0 item.1)
-      → IfErr result (HasFailedAt it id (item_of it_leads).0 (item_of it_leads).1)
-  judged_fails it_leads item result same =
-      subst (λ (x : ℕ × Datum). IfErr result (HasFailedAt it id item.0 item.1)
-      → IfErr result (HasFailedAt it id x.0 x.1)) same (λ k. k)

@@ -18,7 +18,7 @@ use Rattle.dw_entries.proofs.EntryFacts.{entries_rise}
 use Rattle.dw_forms.specs.declared.class.Class.TheVariants.{Reference}
 use Rattle.dw_links.specs.Classes.{class_of}
 use Rattle.dw_links.specs.LinkLaws.{HaveTargets, HaveTypes}
-use Rattle.dw_links.proofs.SlotLemmas.{found_value}
+use Rattle.dw_links.proofs.HeldTexts.{found_value}
 use Rattle.dw_links.specs.References.{permits, permits_form, IsOtherThan, is_reference_value, ReferenceFailsBy, TypeUnitFails, ReferenceFailures}
 use Rattle.dw_links.specs.Signatures.{type_unit_of, HasSignature, first_signed}
 use Rattle.dw_links.specs.Targets.{entry_at, reach_in_unit, reach_of, target_of}
@@ -97,7 +97,7 @@ by_signature : (us : List DebugUnit) (e : Entry) (signature : ℕ) (o : Option �
     → (((number : ℕ) → HasSignature (placed us) signature number → ⊥) → ⊥) → Reached us e (ref_sig signature)
 by_signature us e signature None is rise none never = search (rules, none_signed)
 by_signature us e signature (Some number) is rise none never =
-    let has = (at_first_signed (placed us) signature number is).1 in
+    let has = at_first_signed (placed us) signature number is in
     let (id, reached) = type_reached us number signature has.type_offset has.unit rise none has.is_unit has.signed in (
       id,
       rw is (type_of_unit_is (entries_of us) (placed us) number signature has.type_offset has.unit (Some id)

@@ -1,6 +1,9 @@
 -- The attributes of an entry that rules are asked of, one after the other.
-use Rattle.std.proofs.Common.{◌≡◌, ℕ, zero, suc, ◌<◌, List, [], ◌∷◌, ◌++◌, length, None, Some, refl, sym, ap, ◌∙◌, subst, arith, append_assoc, length-append}
-use Rattle.std.specs.Prelude.{slice_get}
+-- And those at which no rule fails, with the entry that the entry's type reaches.
+use Rattle.std.proofs.Common.{get_or, ◌≡◌, ℕ, ◌<◌, List, [], ◌∷◌, ◌++◌, length, None, Some, refl, sym, ap, ◌∙◌, subst, arith, append_assoc, length-append, rules, suc, Bool, true, false, Option, append-nil, inl, inr}
+use Rattle.std.specs.Prelude.{All, slice_get, ◌==◌}
+use Rattle.std.proofs.lemmas.List.Elements.{All-append, All-nil, All-push}
+use Rattle.std.proofs.lemmas.Option.{get_or_from_slice_get, slice_get-get_or, slice_get_within}
 use Rattle.dw_forms.specs.declared.abbrev.AttributeSpec.{AttributeSpec}
 use Rattle.dw_forms.specs.Value.{Datum}
 use Rattle.dw_entries.specs.declared.entry.EntryHead.{EntryHead}
@@ -11,18 +14,20 @@ use Rattle.dw_entries.specs.EntryRules.{values_of}
 use Rattle.dw_entries.specs.PassedAttributes.{ArePassed, IsNextOf}
 use Rattle.dw_entries.specs.Entries.{Entry}
 use Rattle.dw_entries.specs.Failures.{HasNone, IsFirst, IsLeast}
-use Rattle.dw_entries.specs.Lookups.{entry_head}
+use Rattle.dw_entries.specs.Lookups.{entry_head, value_in}
 use Rattle.dw_entries.proofs.Firsts.{first_of_attributes, none_of_attributes}
+use Rattle.dw_entries.proofs.UnitRanges.{get_front}
 use Rattle.dw_links.specs.RulesOfAttributes.{Rules, AtHead, NeverFailsAt}
+use Rattle.std.specs.Option.{unwrap_or, option_and_then}
+use Rattle.dw_forms.specs.Codes.{DW_AT_type}
+use Rattle.dw_entries.specs.declared.entries.Entries.{Entries}
+use Rattle.dw_entries.specs.Leading.{DoesNotLead}
+use Rattle.dw_links.specs.EntryLinks.{kept_after, Keeps, HasFailedAs, IsEntryLinked, IsFirstAtEntry}
+use Rattle.dw_links.specs.UnitAtHand.{FailsByText, FailsByTarget, target_by}
+use Rattle.dw_links.specs.Targets.{target_of}
+use Rattle.dw_links.proofs.ClassLemmas.{leads, passes_texts, passes_targets}
 
 -- ---- lists
-
--- what is in the front of joined lists
-pub front_get : {X : Type 0} (xs ys : List X) (j : ℕ) (x : X) → j < length xs → slice_get (xs ++ ys) j ≡ Some x
-    → slice_get xs j ≡ Some x
-front_get [] ys j x lt is = absurd (omega (arith, lt))
-front_get (y ∷ xs) ys zero x lt is = is
-front_get (y ∷ xs) ys (suc j) x lt is = front_get xs ys j x (omega (arith, lt)) is
 
 -- what is between them
 pub between_get : {X : Type 0} (xs ys : List X) (x : X) → slice_get (xs ++ x ∷ ys) (length xs) ≡ Some x
@@ -31,24 +36,18 @@ between_get (y ∷ xs) ys x = between_get xs ys x
 
 -- ---- the rules
 
--- no rule fails at these attributes of an entry
+-- no rule fails at an attribute of an entry, nor at these
+abbrev pub Passes : Rules → EntryHead → ℕ × Datum → Type 0
+Passes Fails head item = (r : Rule) → Fails head item.0 item.1 r → ⊥
+
 abbrev pub NoneFails : Rules → EntryHead → List (ℕ × Datum) → Type 0
-NoneFails Fails head items =
-    (k : ℕ) (item : ℕ × Datum) → slice_get items k ≡ Some item → (r : Rule) → Fails head item.0 item.1 r → ⊥
+NoneFails Fails head = All (Passes Fails head)
 
-pub none_both : (Fails : Rules) (head : EntryHead) (xs ys : List (ℕ × Datum)) → NoneFails Fails head xs
-    → NoneFails Fails head ys → NoneFails Fails head (xs ++ ys)
-none_both Fails head [] ys before behind k item is = behind k item is
-none_both Fails head (x ∷ xs) ys before behind zero item is = before zero item is
-none_both Fails head (x ∷ xs) ys before behind (suc k) item is =
-    none_both Fails head xs ys (λ j y e. before (suc j) y e) behind k item is
-
-pub none_one : (Fails : Rules) (head : EntryHead) (x : ℕ × Datum) → ((r : Rule) → Fails head x.0 x.1 r → ⊥)
-    → NoneFails Fails head (x ∷ [])
-none_one Fails head x here zero item is =
-    let e : Some x ≡ Some item = is in let same : x ≡ item = cc in
-    subst (λ (y : ℕ × Datum). (r : Rule) → Fails head y.0 y.1 r → ⊥) same here
-none_one Fails head x here (suc k) item is = absurd cc
+none_at : (Fails : Rules) (head : EntryHead) (items : List (ℕ × Datum)) (k : ℕ) (item : ℕ × Datum)
+    → NoneFails Fails head items → slice_get items k ≡ Some item → Passes Fails head item
+none_at Fails head items k item none is =
+    subst (Passes Fails head) (get_or_from_slice_get items k item item is)
+    (none k item (slice_get_within items k item is))
 
 -- ---- the loop
 
@@ -60,7 +59,7 @@ pub record Checked (Fails : Rules) (head : EntryHead) (items left : List (ℕ ×
 
 pub none_checked : (Fails : Rules) (head : EntryHead) (items left : List (ℕ × Datum)) → left ≡ items
     → Checked Fails head items left
-none_checked Fails head items left same = record { done = []; parts = sym same; none = λ k item is. absurd cc }
+none_checked Fails head items left same = record { done = []; parts = sym same; none = All-nil (Passes Fails head) }
 
 -- fewer are left
 pub fewer : (Pass : AttributeSpec → Type 0) (left : List (ℕ × Datum)) (x : ℕ × Datum) (behind : List (ℕ × Datum))
@@ -72,8 +71,8 @@ module _ (Fails : Rules) (Pass : AttributeSpec → Type 0)
     (over : (spec : AttributeSpec) → Pass spec → NeverFailsAt Fails spec)
   where
     passed_none : (head : EntryHead) (items : List (ℕ × Datum)) → ArePassed Pass items → NoneFails Fails head items
-    passed_none head items passed k item is r fails =
-        let p = passed k item is in
+    passed_none head items passed k d below r fails =
+        let p = passed k (get_or items k d) (slice_get-get_or items k d below) in
         over p.spec p.passes p.context p.declared p.is_attribute head r
         (subst (λ (y : ℕ × Datum). Fails head y.0 y.1 r) (sym p.is_item) fails)
 
@@ -82,9 +81,9 @@ module _ (Fails : Rules) (Pass : AttributeSpec → Type 0)
         → ArePassed Pass left → HasNone (AtHead Fails e)
     checked_all e left l passed =
         none_of_attributes (λ x. Fails (entry_head x)) e
-        (λ j a v below has r fails. none_both Fails (entry_head e) l.done left l.none
-        (passed_none (entry_head e) left passed) j (a, v)
-        (ap (λ (xs : List (ℕ × Datum)). slice_get xs j) (sym l.parts) ∙ has) r fails)
+        (λ j a v below has. none_at Fails (entry_head e) (l.done ++ left) j (a, v)
+        (All-append (Passes Fails (entry_head e)) l.done left l.none (passed_none (entry_head e) left passed))
+        (ap (λ xs. slice_get xs j) (sym l.parts) ∙ has))
 
     module _ (e : Entry) (left behind : List (ℕ × Datum)) (a : ℕ) (v : Datum)
         (l : Checked Fails (entry_head e) (values_of e.head) left) (n : IsNextOf Pass left (a, v) behind)
@@ -96,7 +95,8 @@ module _ (Fails : Rules) (Pass : AttributeSpec → Type 0)
 
       before_none : NoneFails Fails (entry_head e) (l.done ++ n.passed)
       before_none =
-          none_both Fails (entry_head e) l.done n.passed l.none (passed_none (entry_head e) n.passed n.are_passed)
+          All-append (Passes Fails (entry_head e)) l.done n.passed l.none
+          (passed_none (entry_head e) n.passed n.are_passed)
 
       -- where a rule fails, that is the first failure
       pub checked_fails : (rule : Rule) (broken : PlainFault) → IsLeast (Fails head a v) (Some rule)
@@ -108,9 +108,9 @@ module _ (Fails : Rules) (Pass : AttributeSpec → Type 0)
           ∙ between_get (l.done ++ n.passed) behind (a, v) in
           let P : EntryHead → Type 0 = λ h. IsLeast (Fails h a v) (Some rule) in
           first_of_attributes (λ x. Fails (entry_head x)) e (length (l.done ++ n.passed)) a v rule broken stands
-          (λ j b w lt has. before_none j (b, w)
-          (front_get (l.done ++ n.passed) ((a, v) ∷ behind) j (b, w) lt
-          (ap (λ (xs : List (ℕ × Datum)). slice_get xs j) (sym joined) ∙ has))) (subst P same least)
+          (λ j b w lt has. none_at Fails (entry_head e) (l.done ++ n.passed) j (b, w) before_none
+          (sym (get_front (l.done ++ n.passed) ((a, v) ∷ behind) j lt) ∙ ap (λ xs. slice_get xs j) (sym joined) ∙ has))
+          (subst P same least)
           (record {
             rule = ap (λ (b : PlainFault). b.rule) is;
             section = ap (λ (b : PlainFault). b.section) is;
@@ -125,6 +125,99 @@ module _ (Fails : Rules) (Pass : AttributeSpec → Type 0)
         parts = joined ∙ sym (append_assoc (l.done ++ n.passed) ((a, v) ∷ []) behind);
         none =
             let P : EntryHead → Type 0 = λ h. (r : Rule) → Fails h a v r → ⊥ in
-            none_both Fails (entry_head e) (l.done ++ n.passed) ((a, v) ∷ []) before_none
-            (none_one Fails (entry_head e) (a, v) (subst P same none));
+            All-push (Passes Fails (entry_head e)) (l.done ++ n.passed) (a, v) before_none (subst P same none);
       }
+
+-- ---- the first type
+
+-- what is passed has no type
+passed_type : (passed rest : List (ℕ × Datum)) → ArePassed DoesNotLead passed
+    → value_in (passed ++ rest) DW_AT_type ≡ value_in rest DW_AT_type
+passed_type [] rest are = refl
+passed_type (x ∷ passed) rest are =
+    let p = are 0 x refl in
+    let code : p.spec.attribute ≡ x.0 = sym p.is_attribute.code ∙ ap (λ (y : ℕ × Datum). y.0) p.is_item in
+    let other : (x.0 == DW_AT_type)
+    ≡ false = ap (λ (n : ℕ). n == DW_AT_type) (sym code) ∙ (leads p.spec p.passes).no_type in
+    rw other (passed_type passed rest (λ k y is. are (suc k) y is))
+
+-- the first type reaches what is kept, or where nothing is, what the first type of those left reaches
+abbrev pub IsKept : (Datum → Option ℕ) → (items left : List (ℕ × Datum)) → Option (Option ℕ) → Type 0
+IsKept reach items left kept = option_and_then reach (value_in items DW_AT_type)
+    ≡ unwrap_or kept (option_and_then reach (value_in left DW_AT_type))
+
+-- after one attribute more
+keeps_more : (reach : Datum → Option ℕ) (items left behind : List (ℕ × Datum)) (kept : Option (Option ℕ)) (a : ℕ)
+    (v : Datum) → IsKept reach items left kept → IsNextOf DoesNotLead left (a, v) behind
+    → IsKept reach items behind (kept_after kept a (reach v))
+keeps_more reach items left behind kept a v k n =
+    k
+    ∙ ap (λ (o : Option Datum). unwrap_or kept (option_and_then reach o))
+    (ap (λ (xs : List (ℕ × Datum)). value_in xs DW_AT_type) n.parts
+    ∙ passed_type n.passed ((a, v) ∷ behind) n.are_passed)
+    ∙ after kept (a == DW_AT_type) refl
+  where
+    after : (o : Option (Option ℕ)) (b : Bool) → (a == DW_AT_type) ≡ b
+        → unwrap_or o (option_and_then reach (value_in ((a, v) ∷ behind) DW_AT_type))
+        ≡ unwrap_or (kept_after o a (reach v)) (option_and_then reach (value_in behind DW_AT_type))
+    after (Some target) b is = refl
+    after None true is = rw is refl
+    after None false is = rw is refl
+
+-- at the end it is that of the entry's type
+keeps_all : (reach : Datum → Option ℕ) (items left : List (ℕ × Datum)) (kept : Option (Option ℕ))
+    → IsKept reach items left kept → ArePassed DoesNotLead left
+    → unwrap_or kept None ≡ option_and_then reach (value_in items DW_AT_type)
+keeps_all reach items left kept k passed =
+    sym (k ∙ ap (λ (o : Option Datum). unwrap_or kept (option_and_then reach o))
+    (ap (λ (xs : List (ℕ × Datum)). value_in xs DW_AT_type) (sym (append-nil left)) ∙ passed_type left [] passed))
+
+-- ---- the loop
+
+-- no rule fails so far, and this is kept of the first type
+pub record SoFar (entries : Entries) (e : Entry) (left : List (ℕ × Datum)) (kept : Option (Option ℕ)) : Type 0 where
+  pub strings : Checked (FailsByText entries) (entry_head e) (values_of e.head) left
+  pub references : Checked (FailsByTarget entries) (entry_head e) (values_of e.head) left
+  pub keeps : IsKept (target_by entries (entry_head e)) (values_of e.head) left kept
+
+module _ (entries : Entries) (e : Entry) (left : List (ℕ × Datum)) where
+  pub none_so_far : left ≡ values_of e.head → SoFar entries e left None
+  none_so_far same = search (rules, none_checked)
+
+  -- at the end
+  pub linked_at_end : (kept : Option (Option ℕ)) (target : Option ℕ) → target ≡ unwrap_or kept None
+      → SoFar entries e left kept → ArePassed DoesNotLead left → IsEntryLinked entries e target
+  unfolding target_of
+  linked_at_end kept target is s passed = record {
+    strings = checked_all (FailsByText entries) DoesNotLead (passes_texts entries) e left s.strings passed;
+    references = checked_all (FailsByTarget entries) DoesNotLead (passes_targets entries) e left s.references passed;
+    is_target = is ∙ keeps_all (target_by entries (entry_head e)) (values_of e.head) left kept s.keeps passed;
+  }
+
+  -- one attribute more
+  module _ (kept : Option (Option ℕ)) (s : SoFar entries e left kept) (item : ℕ × Datum) (behind : List (ℕ × Datum))
+      (next : IsNextOf DoesNotLead left item behind) where
+    pub more_so_far : (after : Option (Option ℕ)) → Keeps entries item.0 item.1 kept after (entry_head e)
+        → SoFar entries e behind after
+    more_so_far after k = record {
+      strings =
+          checked_more (FailsByText entries) DoesNotLead (passes_texts entries) e left behind item.0 item.1
+          s.strings next (entry_head e) refl k.passes.strings;
+      references =
+          checked_more (FailsByTarget entries) DoesNotLead (passes_targets entries) e left behind item.0 item.1
+          s.references next (entry_head e) refl k.passes.references;
+      keeps =
+          rw k.is_kept (keeps_more (target_by entries (entry_head e)) (values_of e.head) left behind kept
+          item.0 item.1 s.keeps next);
+    }
+
+    -- where a rule fails, that is the first failure of its group
+    pub fails_so_far : (broken : PlainFault) → HasFailedAs entries (entry_head e) item.0 item.1 broken
+        → IsFirstAtEntry entries e broken
+    fails_so_far broken fails =
+        elim fails [
+          | inl f ↦ inl (checked_fails (FailsByText entries) DoesNotLead (passes_texts entries) e left behind
+              item.0 item.1 s.strings next (entry_head e) refl f.rule broken f.least f.named)
+          | inr f ↦ inr (checked_fails (FailsByTarget entries) DoesNotLead (passes_targets entries) e left behind
+              item.0 item.1 s.references next (entry_head e) refl f.rule broken f.least f.named)
+        ]

@@ -9,7 +9,7 @@ use Rattle.dw_forms.specs.declared.value.Value.{Value}
 use Rattle.dw_forms.specs.Value.{view}
 use Rattle.dw_entries.specs.declared.entries.Entries.{Entries}
 use Rattle.dw_entries.specs.Entries.{Entry, PlacedUnit, entries_of, placed}
-use Rattle.dw_entries.specs.ByNumber.{no_entry, no_placed, no_unit, entry_of, placed_of, unit_of}
+use Rattle.dw_entries.specs.ByNumber.{no_entry, entry_of, placed_of, unit_of}
 use Rattle.dw_entries.specs.Views.{all_entries, all_units, units_of}
 use Rattle.dw_entries.specs.Lookups.{value_at_entry, value_in, unit_head}
 use Rattle.dw_entries.specs.Units.{DebugUnit, Spells}
@@ -53,10 +53,7 @@ pub kept_target : (entries : Entries) (tables : LinkTables) (id number : ℕ) (f
     → AreTables entries tables → id < length (all_entries entries) → number ≡ id
     → found ≡ get_or tables.types.items number found
     → found ≡ target_of_type (all_entries entries) (all_units entries) (entry_of (all_entries entries) id)
-kept_target entries tables id number found are below same read =
-    mapped (target_of_type (all_entries entries) (all_units entries)) (all_entries entries) tables.types.items id
-    (entry_of (all_entries entries) id) found are.types (slice_get-get_or (all_entries entries) id no_entry below)
-    (read ∙ ap (λ (n : ℕ). get_or tables.types.items n found) same)
+kept_target entries tables id number found are below same read = search (rules, mapped, slice_get-get_or)
 
 -- the base that is kept of a unit
 pub kept_is : (entries : List Entry) (units : List PlacedUnit) (attribute : ℕ) (bases : List (Option ℕ)) (number : ℕ)
@@ -89,6 +86,14 @@ entry_unit entries id below =
     (in_units _ _ (units_of entries) id e entries.scanned.1.spells
     (slice_get-get_or (all_entries entries) id no_entry below))
 
+-- the base that is kept of it
+pub kept_at : (entries : Entries) (id attribute : ℕ) (bases : List (Option ℕ)) → id < length (all_entries entries)
+    → bases ≡ bases_in (all_entries entries) (all_units entries) attribute
+    → kept_base bases (entry_of (all_entries entries) id).unit
+    ≡ base_in (all_entries entries) (placed_of (all_units entries) (entry_of (all_entries entries) id).unit) attribute
+kept_at entries id attribute bases below all =
+    kept_is (all_entries entries) (all_units entries) attribute bases _ _ all (entry_unit entries id below)
+
 -- the size of an address in a unit
 pub sized : («abbrev» info : List ℕ) (us : List DebugUnit) (number : ℕ) (p : PlacedUnit) → Spells «abbrev» us info
     → number < length us → slice_get (placed us) number ≡ Some p → IsSize p.unit.header.address_size
@@ -106,10 +111,7 @@ size_above size is = elim is [ inl four ↦ omega (arith, four) | inr eight ↦ 
 -- its header is that of the unit
 pub unit_header : (us : List DebugUnit) (number : ℕ) → number < length us
     → (placed_of (placed us) number).unit.header ≡ (unit_of us number).header
-unit_header us number below =
-    let (q, is_q, same) = unit_placed us number (unit_of us number) (slice_get-get_or us number no_unit below) in
-    ap (λ (x : PlacedUnit). x.unit.header) (get_or_from_slice_get (placed us) number q no_placed is_q)
-    ∙ ap (λ (x : DebugUnit). x.header) same
+unit_header us number below = search (rules, unit_placed, slice_get-get_or, get_or_from_slice_get)
 
 -- a unit's first entry
 pub first_within : (us : List DebugUnit) (number : ℕ) (told : UnitHead) → number < length us

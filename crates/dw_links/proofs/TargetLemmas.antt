@@ -1,7 +1,6 @@
 -- The first item of a list that passes a test, and the entry that a value reaches.
-use Rattle.std.proofs.Common.{rules, ltb, get_or, ◌≤◌, ◌≡◌, ℕ, ◌+◌, ◌<◌, Bool, true, false, cond, List, Option, Some, None, IfSome, IfNone, refl, sym, ap, ◌∙◌, arith, ◌==◌, ◌&&◌, length, IsSome, option_and_then, subst, eq-eqb, ne_eqb}
+use Rattle.std.proofs.Common.{rules, ltb, get_or, ◌≤◌, ◌≡◌, ℕ, ◌+◌, ◌<◌, Bool, true, false, cond, List, Option, Some, None, IfSome, IfNone, refl, sym, ap, ◌∙◌, arith, ◌==◌, ◌&&◌, length, IsSome, option_and_then, subst, eq-eqb}
 use Rattle.std.specs.Prelude.{slice_get, All, ◌≢◌}
-use Rattle.std.proofs.Math.Bool.{and-false}
 use Rattle.std.specs.List.{position_from, position_or_len}
 use Rattle.std.proofs.lemmas.Option.{slice_get_within, slice_get-get_or, get_or_from_slice_get, option_and_then_some}
 use Rattle.std.proofs.lemmas.Bool.{eqb-true, ltb-true, ltb-false, lt-ltb}
@@ -12,11 +11,10 @@ use Rattle.dw_entries.specs.EntryRules.{OffsetsRise}
 use Rattle.dw_entries.specs.Entries.{Entry, PlacedUnit}
 use Rattle.dw_entries.specs.ByNumber.{no_entry, no_placed, entry_of, placed_of}
 use Rattle.dw_entries.specs.EntriesAt.{IsEntryAt, IsEntryIn, ReachesInUnit}
-use Rattle.dw_links.proofs.TypeUnitLemmas.{none_there}
 use Rattle.dw_links.proofs.ListLookups.{there}
 use Rattle.dw_links.specs.LinkLaws.{ReachesBySignature}
 use Rattle.dw_links.specs.Signatures.{type_unit_of, HasSignature, is_signature_of, first_signed, HaveDistinctSignatures}
-use Rattle.dw_links.specs.SignedTypes.{IsFirstSigned, IsSignedType}
+use Rattle.dw_links.specs.SignedTypes.{IsSignedType}
 use Rattle.dw_links.specs.Targets.{entry_at, entry_number_at, reach_in_unit, type_of_unit, signed_type}
 use Rattle.dw_links.specs.Targets.{reach_of}
 
@@ -85,31 +83,48 @@ answer_is Is (Some k) None back over some none = absurd (none k (back k refl))
 
 -- ---- entries by their offsets
 
+false_unless : (b : Bool) → (b ≡ true → ⊥) → b ≡ false
+false_unless true never = absurd (never refl)
+false_unless false never = refl
+
+-- an entry that passes a test on its offset is the first that does
+at_offset : (test : Entry → Bool) (entries : List Entry) (offset id : ℕ) → OffsetsRise entries
+    → ((e : Entry) → test e ≡ true → e.at ≡ offset) → id < length entries → test (entry_of entries id) ≡ true
+    → position_from test 0 entries ≡ Some id
+at_offset test entries offset id rise at within passes =
+    let e = entry_of entries id in
+    let is = slice_get-get_or entries id no_entry within in
+    position_is test entries id
+    (record {
+      item = e;
+      is_item = is;
+      passes = passes;
+      before =
+          λ j d lt is_d. false_unless (test d)
+          (λ also. omega (arith, rise j id d e lt is_d is, at d also, at e passes));
+    })
+
+found_entry : (test : Entry → Bool) (entries : List Entry) (id : ℕ) → position_from test 0 entries ≡ Some id
+    → (id < length entries) × (test (entry_of entries id) ≡ true)
+found_entry test entries id is =
+    let first = place_is test entries id is in (
+      slice_get_within entries id first.item first.is_item,
+      ap test (get_or_from_slice_get entries id first.item no_entry first.is_item) ∙ first.passes,
+    )
+
 pub entry_at_is : (entries : List Entry) (offset id : ℕ) → OffsetsRise entries
     → IsEntryAt entries offset id → entry_at entries offset ≡ Some id
 unfolding entry_at
 entry_at_is entries offset id rise found =
-    let e = entry_of entries id in
-    let is = slice_get-get_or entries id no_entry found.within in
-    let begins = found.begins in
-    position_is (λ (e : Entry). e.at == offset) entries id
-    (record {
-      item = e;
-      is_item = is;
-      passes = eq-eqb e.at offset begins;
-      before = λ j d lt at. ne_eqb d.at offset (λ same. omega (arith, rise j id d e lt at is, same, begins));
-    })
+    at_offset (λ (e : Entry). e.at == offset) entries offset id rise (λ e. eqb-true e.at offset) found.within
+    (eq-eqb (entry_of entries id).at offset found.begins)
 
 pub there_is : (entries : List Entry) (offset id : ℕ) → entry_at entries offset ≡ Some id
     → IsEntryAt entries offset id
 unfolding entry_at
 there_is entries offset id is =
-    let first = place_is (λ (e : Entry). e.at == offset) entries id is in
-    let same = get_or_from_slice_get entries id first.item no_entry first.is_item in
-    record {
-      within = slice_get_within entries id first.item first.is_item;
-      begins = ap (λ (e : Entry). e.at) same ∙ eqb-true first.item.at offset first.passes;
-    }
+    let found = found_entry (λ (e : Entry). e.at == offset) entries id is in
+    record { within = found.0; begins = eqb-true (entry_of entries id).at offset found.1 }
 
 each_true : (a b : Bool) → (a && b) ≡ true → (a ≡ true) × (b ≡ true)
 each_true true b is = (refl, is)
@@ -121,29 +136,21 @@ pub entry_number_is : (entries : List Entry) (unit offset id : ℕ) → OffsetsR
 unfolding entry_number_at
 entry_number_is entries unit offset id rise found =
     let e = entry_of entries id in
-    let is = slice_get-get_or entries id no_entry found.within in
-    let begins = found.begins in
-    position_is (λ (e : Entry). e.unit == unit && e.at == offset) entries id
-    (record {
-      item = e;
-      is_item = is;
-      passes = rw (eq-eqb e.unit unit found.in_unit, eq-eqb e.at offset begins) refl;
-      before =
-          λ j d lt at. rw (ne_eqb d.at offset (λ same. omega (arith, rise j id d e lt at is, same, begins)))
-          (and-false (d.unit == unit));
-    })
+    at_offset (λ (e : Entry). e.unit == unit && e.at == offset) entries offset id rise
+    (λ e is. eqb-true e.at offset (each_true (e.unit == unit) (e.at == offset) is).1) found.within
+    (rw (eq-eqb e.unit unit found.in_unit, eq-eqb e.at offset found.begins) refl)
 
 pub at_entry_number : (entries : List Entry) (unit offset id : ℕ) → entry_number_at entries unit offset ≡ Some id
     → IsEntryIn entries unit offset id
 unfolding entry_number_at
 at_entry_number entries unit offset id is =
-    let first = place_is (λ (e : Entry). e.unit == unit && e.at == offset) entries id is in
-    let both = each_true (first.item.unit == unit) (first.item.at == offset) first.passes in
-    let same = get_or_from_slice_get entries id first.item no_entry first.is_item in
+    let e = entry_of entries id in
+    let found = found_entry (λ (e : Entry). e.unit == unit && e.at == offset) entries id is in
+    let both = each_true (e.unit == unit) (e.at == offset) found.1 in
     record {
-      within = slice_get_within entries id first.item first.is_item;
-      begins = ap (λ (e : Entry). e.at) same ∙ eqb-true first.item.at offset both.1;
-      in_unit = ap (λ (e : Entry). e.unit) same ∙ eqb-true first.item.unit unit both.0;
+      within = found.0;
+      begins = eqb-true e.at offset both.1;
+      in_unit = eqb-true e.unit unit both.0;
     }
 
 -- what a search by offset answers
@@ -153,7 +160,7 @@ pub entry_found : (entries : List Entry) (offset : ℕ) (answer : Option ℕ)
     → IfNone answer (All (λ e. e.at ≢ offset) entries) → answer ≡ entry_at entries offset
 entry_found entries offset None rise found within none =
     answer_is (IsEntryAt entries offset) (entry_at entries offset) None (there_is entries offset)
-    (λ id. entry_at_is entries offset id rise) tt (none_there entries offset none)
+    (λ id. entry_at_is entries offset id rise) tt (λ id found. none id no_entry found.within found.begins)
 entry_found entries offset (Some id) rise found within none =
     sym (entry_at_is entries offset id rise (record { within = within; begins = found }))
 
@@ -204,44 +211,20 @@ signature_here : (units : List PlacedUnit) (signature number : ℕ) (u : PlacedU
     → signs signature u ≡ true → HasSignature units signature number
 signature_here units signature number u is passes = search (rules, signed_with)
 
--- the first unit that is found has the signature, and none before it
+-- the first unit that is found has the signature
 pub at_first_signed : (units : List PlacedUnit) (signature number : ℕ) → first_signed units signature ≡ Some number
-    → IsFirstSigned units signature (length units) (Some number)
+    → HasSignature units signature number
 unfolding first_signed
 at_first_signed units signature number is =
-    let first = place_is (signs signature) units number is in (
-      slice_get_within units number first.item first.is_item,
-      signature_here units signature number first.item
-          first.is_item first.passes,
-      λ j less has. none_before j first less has,
-    )
-  where
-    none_before : (j : ℕ) → IsFirstAt (signs signature) units number → j < number → HasSignature units signature j → ⊥
-    none_before j first less has =
-        let both : true ≡ false = sym (is_signed signature has.type_offset (type_unit_of has.unit.unit.header.kind)
-        has.signed) ∙ first.before j has.unit less has.is_unit in cc
+    let first = place_is (signs signature) units number is in
+    signature_here units signature number first.item first.is_item first.passes
 
-false_unless : (b : Bool) → (b ≡ true → ⊥) → b ≡ false
-false_unless true never = absurd (never refl)
-false_unless false never = refl
-
-pub first_signed_is : (units : List PlacedUnit) (signature below number : ℕ)
-    → IsFirstSigned units signature below (Some number) → first_signed units signature ≡ Some number
+-- a unit that has it, and none before it has, is found first
+pub first_signed_is : (units : List PlacedUnit) (signature number : ℕ) → HasSignature units signature number
+    → ((j : ℕ) → j < number → HasSignature units signature j → ⊥) → first_signed units signature ≡ Some number
 unfolding first_signed
-first_signed_is units signature below number (within, has, none) =
+first_signed_is units signature number has none =
     search (rules, position_is, is_signed, false_unless, signature_here)
-
--- the first unit of those that have a signature, of all units
-first_signed_answer : (units : List PlacedUnit) (signature below : ℕ) (answer : Option ℕ) → below ≡ length units
-    → IsFirstSigned units signature below answer → answer ≡ first_signed units signature
-first_signed_answer units signature below (Some number) all is = sym (first_signed_is units signature below number is)
-first_signed_answer units signature below None all none = go (first_signed units signature) refl
-  where
-    go : (o : Option ℕ) → first_signed units signature ≡ o → None ≡ first_signed units signature
-    go None is = sym is
-    go (Some number) is =
-        let found = at_first_signed units signature number is in
-        absurd (none number (omega (arith, found.0, all)) found.1)
 
 -- where none is found, none has the signature
 pub none_signed : (units : List PlacedUnit) (signature : ℕ) → first_signed units signature ≡ None → (number : ℕ)
@@ -264,7 +247,7 @@ pub at_type : (entries : List Entry) (units : List PlacedUnit) (signature id : �
 at_type entries units signature id is =
     option_and_then_some (type_of_unit entries units) (first_signed units signature) id is
     (λ number found typed.
-    let has = (at_first_signed units signature number found).1 in
+    let has = at_first_signed units signature number found in
     let reached = at_reach_in_unit entries units number has.type_offset id
     (sym (type_of_unit_is entries units number signature has.type_offset has.unit
     (reach_in_unit entries units number has.type_offset) has.is_unit has.signed refl) ∙ typed) in
@@ -281,12 +264,8 @@ pub type_is : (entries : List Entry) (units : List PlacedUnit) (signature id : �
 type_is entries units signature id rise distinct reached =
     let within = slice_get_within units reached.number reached.has.unit reached.has.is_unit in
     let same = get_or_from_slice_get units reached.number reached.has.unit no_placed reached.has.is_unit in
-    let first : IsFirstSigned units signature (length units) (Some reached.number) = (
-      within,
-      reached.has,
-      λ j less has. let same = distinct signature j reached.number has reached.has in omega (arith, same, less),
-    ) in
-    rw (first_signed_is units signature (length units) reached.number first)
+    rw (first_signed_is units signature reached.number reached.has
+    (λ j less has. let one = distinct signature j reached.number has reached.has in omega (arith, one, less)))
     (type_of_unit_is entries units reached.number signature reached.has.type_offset reached.has.unit (Some id)
     reached.has.is_unit reached.has.signed
     (reach_in_unit_is entries units reached.number reached.has.type_offset id rise
@@ -302,9 +281,11 @@ pub signed_type_is : (entries : List Entry) (units : List PlacedUnit) (signature
     → IsSignedType entries units signature (length units) o → o ≡ signed_type entries units signature
 signed_type_is entries units signature None none =
     ap (option_and_then (type_of_unit entries units))
-    (first_signed_answer units signature (length units) None refl none)
+    (answer_is (λ i. first_signed units signature ≡ Some i) (first_signed units signature) None (λ i is. is)
+    (λ i is. is) tt (λ i is. let has = at_first_signed units signature i is in
+    none i (slice_get_within units i has.unit has.is_unit) has))
 signed_type_is entries units signature (Some id) found =
-    sym (rw (first_signed_is units signature (length units) found.0 found.1) found.2)
+    sym (rw found.2 found.3)
 
 -- each signature has a type
 pub signed_some : (entries : List Entry) (units : List PlacedUnit) (signature number : ℕ) (o : Option ℕ)

@@ -44,12 +44,6 @@ HasFailedAs entries head attribute value broken =
     FailsAtValue (FailsByText entries) head attribute value broken
     ⊎ FailsAtValue (FailsByTarget entries) head attribute value broken
 
--- no rule fails at an attribute, and this is its target, if any
-pub record Reaches (entries : Entries) (attribute : ℕ) (value : Datum) (reached : Option ℕ) (head : EntryHead)
-    : Type 0 where
-  pub passes : PassesAs entries head attribute value
-  pub is_reached : reached ≡ target_by entries head value
-
 -- no rule fails at an attribute, and after it this is kept of the target of the first type
 pub record Keeps (entries : Entries) (attribute : ℕ) (value : Datum) (before after : Option (Option ℕ))
     (head : EntryHead) : Type 0 where
@@ -58,22 +52,20 @@ pub record Keeps (entries : Entries) (attribute : ℕ) (value : Datum) (before a
 
 -- ---- the same, of an entry by its number
 
--- this is so of what is told of the entry
-abbrev pub OfEntry : UnitLinks → (id : ℕ) → (EntryHead → Type 0) → Type 0
-OfEntry it id P = P (entry_head (entry_with it id))
+-- a rule fails at its attribute
+abbrev pub HasFailedAt : UnitLinks → (id attribute : ℕ) → Datum → PlainFault → Type 0
+HasFailedAt it id = HasFailedAs (entries_followed it) (entry_head (entry_with it id))
 
 -- no rule fails at its attribute, and this is the target
 abbrev pub ReachesAt : UnitLinks → (id attribute : ℕ) → Datum → (reached : Option ℕ) → Type 0
-ReachesAt it id attribute value reached = OfEntry it id (Reaches (entries_followed it) attribute value reached)
-
--- a rule fails at its attribute
-abbrev pub HasFailedAt : UnitLinks → (id attribute : ℕ) → Datum → PlainFault → Type 0
-HasFailedAt it id attribute value broken =
-    OfEntry it id (λ head. HasFailedAs (entries_followed it) head attribute value broken)
+ReachesAt it id attribute value reached =
+    PassesAs (entries_followed it) (entry_head (entry_with it id)) attribute value
+    × (reached ≡ target_by (entries_followed it) (entry_head (entry_with it id)) value)
 
 -- no rule fails at its attribute, and this is kept
 abbrev pub KeepsAt : UnitLinks → (id attribute : ℕ) → Datum → (before after : Option (Option ℕ)) → Type 0
-KeepsAt it id attribute value before after = OfEntry it id (Keeps (entries_followed it) attribute value before after)
+KeepsAt it id attribute value before after =
+    Keeps (entries_followed it) attribute value before after (entry_head (entry_with it id))
 
 -- no rule fails at an entry, and its type has this target
 pub record IsEntryLinked (entries : Entries) (e : Entry) (target : Option ℕ) : Type 0 where

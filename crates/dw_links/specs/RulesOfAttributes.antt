@@ -1,5 +1,5 @@
 -- Chapter: rules on the attributes of entries, and the declarations at which none of them can fail.
-use Rattle.std.specs.Prelude.{◌≡◌, ℕ, List, Some, slice_get}
+use Rattle.std.specs.Prelude.{ℕ}
 use Rattle.dw_forms.specs.Value.{Datum}
 use Rattle.dw_forms.specs.declared.abbrev.AttributeSpec.{AttributeSpec}
 use Rattle.dw_forms.specs.declared.rule.Rule.{Rule}
@@ -22,7 +22,3 @@ AtHead Fails = AtAttributes (λ e. Fails (entry_head e))
 abbrev pub NeverFailsAt : Rules → AttributeSpec → Type 0
 NeverFailsAt Fails spec = (x : Context) (a : Attribute) → IsAttribute x spec a → (head : EntryHead) (rule : Rule)
     → Fails head a.code a.value rule → ⊥
-
--- nor at any of a declaration
-abbrev pub AllPass : Rules → List AttributeSpec → Type 0
-AllPass Fails specs = (k : ℕ) (spec : AttributeSpec) → slice_get specs k ≡ Some spec → NeverFailsAt Fails spec

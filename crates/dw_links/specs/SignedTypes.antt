@@ -5,21 +5,16 @@ use Rattle.std.specs.BTreeMap.{BTreeMap, get}
 use Rattle.dw_entries.specs.Entries.{Entry, PlacedUnit}
 use Rattle.dw_entries.specs.declared.entries.Entries.{Entries}
 use Rattle.dw_entries.specs.Views.{all_entries, all_units}
-use Rattle.dw_links.specs.Signatures.{HasSignature}
+use Rattle.dw_links.specs.Signatures.{HasSignature, first_signed}
 use Rattle.dw_links.specs.Targets.{type_of_unit, signed_type}
-
--- of the type units below a number, the first that has the signature; None where none has
-abbrev pub IsFirstSigned : List PlacedUnit → (signature below : ℕ) → Option ℕ → Type 0
-IsFirstSigned units signature below None = (number : ℕ) → number < below → HasSignature units signature number → ⊥
-IsFirstSigned units signature below (Some first) =
-    (first < below) × HasSignature units signature first
-    × ((number : ℕ) → number < first → HasSignature units signature number → ⊥)
 
 -- of the type units below a number, the type of the first that has the signature; None where none has
 abbrev pub IsSignedType : List Entry → List PlacedUnit → (signature below : ℕ) → Option ℕ → Type 0
-IsSignedType entries units signature below None = IsFirstSigned units signature below None
+IsSignedType entries units signature below None =
+    (number : ℕ) → number < below → HasSignature units signature number → ⊥
 IsSignedType entries units signature below (Some id) =
-    (first : ℕ) × IsFirstSigned units signature below (Some first) × (type_of_unit entries units first ≡ Some id)
+    (first : ℕ) × (first < below) × (first_signed units signature ≡ Some first)
+    × (type_of_unit entries units first ≡ Some id)
 
 -- the table has the type of each signature of the type units below a number
 abbrev pub AreSignedBelow : List Entry → List PlacedUnit → (below : ℕ) → BTreeMap ℕ ℕ → Type 0

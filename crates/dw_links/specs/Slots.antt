@@ -1,23 +1,18 @@
 -- State: strings that end, and addresses that are within their sections.
-use Rattle.std.specs.Prelude.{ℕ, ◌+◌, ◌*◌, ◌≤◌, length, Option, IfSome}
+use Rattle.std.specs.Prelude.{ℕ, ◌≤◌, length, Option}
 use Rattle.dw_elf.specs.declared.sections.Sections.{Sections}
 use Rattle.dw_forms.specs.Value.{Datum, str, line_str, str_index, addr_index}
 use Rattle.dw_entries.specs.declared.header.UnitHeader.{UnitHeader}
-use Rattle.dw_entries.specs.Header.{IsSize}
 use Rattle.dw_links.specs.declared.texts.TextPlace.{TextPlace}
 use Rattle.dw_links.specs.declared.texts.TextPlace.TheVariants.{Info, Str, LineStr}
-use Rattle.dw_links.specs.Contributions.{slot_at, HasZeroFrom}
-
--- the slot of an index is within .debug_str_offsets, and a string of .debug_str begins at the offset that is there
-pub record IsTextSlot (sections : Sections) (index base : ℕ) : Type 0 where
-  pub within : base + 4 * index + 4 ≤ length sections.str_offsets.now
-  pub leads : HasZeroFrom sections.str.now (slot_at sections.str_offsets.now 4 base index)
+use Rattle.dw_links.specs.Contributions.{HasZeroFrom}
+use Rattle.dw_links.specs.LinkLaws.{HasStringAt, HasAddressAt}
 
 -- a string begins where a value says, in a unit that has this base
 abbrev pub TextLies : Sections → (base : Option ℕ) → Datum → Type 0
 TextLies sections base (str offset) = HasZeroFrom sections.str.now offset
 TextLies sections base (line_str offset) = HasZeroFrom sections.line_str.now offset
-TextLies sections base (str_index index) = IfSome base (IsTextSlot sections index)
+TextLies sections base (str_index index) = HasStringAt sections base index
 TextLies sections base _ = Unit {0}
 
 -- a place is within its section
@@ -32,12 +27,7 @@ BeginsString sections (Info offset) = HasZeroFrom sections.info.now offset
 BeginsString sections (Str offset) = HasZeroFrom sections.str.now offset
 BeginsString sections (LineStr offset) = HasZeroFrom sections.line_str.now offset
 
--- the slot of an index lies within .debug_addr
-pub record IsAddressSlot (sections : Sections) (header : UnitHeader) (index base : ℕ) : Type 0 where
-  pub size : IsSize header.address_size
-  pub within : base + header.address_size * index + header.address_size ≤ length sections.addr.now
-
--- the address of a value lies within its section, in a unit that has this base
+-- the address of a value is there, in a unit that has this base
 abbrev pub AddressLies : Sections → UnitHeader → (base : Option ℕ) → Datum → Type 0
-AddressLies sections header base (addr_index index) = IfSome base (IsAddressSlot sections header index)
+AddressLies sections header base (addr_index index) = HasAddressAt sections header base index
 AddressLies sections header base _ = Unit {0}

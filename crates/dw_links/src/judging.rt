@@ -3,48 +3,22 @@
 ghost use Rattle.std.specs.Prelude.{IfOk, IfErr};
 ghost use Rattle.dw_forms.specs.Value.{view};
 ghost use Rattle.dw_links.specs.DeclaredEntries.{KeepsDeclared};
-ghost use Rattle.dw_links.specs.EntryLinks.{Reaches, HasFailedAs, ReachesAt, HasFailedAt, KeepsAt};
-ghost use Rattle.dw_links.specs.UnitAtHand.{entries_followed, MayAsk, MayLink};
+ghost use Rattle.dw_links.specs.EntryLinks.{HasFailedAt, KeepsAt, ReachesAt};
+ghost use Rattle.dw_links.specs.UnitAtHand.{entries_followed, MayLink};
 
 use crate::class::plain_fault_at;
 use crate::linking::{keep, number_of};
 use crate::references::UnitLinks;
-use dw_entries::{EntryHead, EntryId, OptionalId, PlainFault};
+use dw_entries::{EntryId, OptionalId, PlainFault};
 use dw_forms::{Attribute, Value};
 
 impl UnitLinks<'_, '_, '_> {
-    /// The target of a value, or the first rule that fails there.
-    #[inline(always)]
-    fn judge_by(
-        &self,
-        known: &mut [Option<bool>],
-        head: &EntryHead,
-        attribute: Attribute,
-        value: &Value<'_>,
-    ) -> Result<OptionalId, PlainFault>
-        requires may { MayAsk self.now head.now }
-        requires kept { KeepsDeclared (entries_followed self.now) known.old }
-        ensures kept { KeepsDeclared (entries_followed self.now) known.new }
-        ensures ok { IfOk result
-            (λ reached. Reaches (entries_followed self.now) attribute (view value.now) reached head.now) }
-        ensures err { IfErr result (HasFailedAs (entries_followed self.now) head.now attribute (view value.now)) }
-    {
-        if let Some(rule) = self.texts.ask(head, attribute, value) {
-            return Err(plain_fault_at(head, attribute, rule));
-        }
-        let reached = self.reach(head, value);
-        let target = number_of(self.entries, &reached);
-        match self.ask(known, head, attribute, value, reached) {
-            None => Ok(target),
-            Some(rule) => Err(plain_fault_at(head, attribute, rule)),
-        }
-    }
-
-    /// The same, of a value of the entry with this number, which is looked up. Few values of compiled programs come
-    /// here.
+    /// The target of a value of an entry, which is looked up, or the first rule that fails there. Few values of
+    /// compiled programs come here.
     #[cold]
     #[inline(never)]
-    fn judge(
+    #[tactic(auto, using(crate::proofs::AfterLemmas::may_ask))]
+    pub(crate) fn judge(
         &self,
         known: &mut [Option<bool>],
         id: EntryId,
@@ -58,7 +32,15 @@ impl UnitLinks<'_, '_, '_> {
         ensures err { IfErr result (HasFailedAt self.now id attribute (view value.now)) }
     {
         let head = self.entry(id, self.texts.head.header).head();
-        self.judge_by(known, &head, attribute, value)
+        if let Some(rule) = self.texts.ask(&head, attribute, value) {
+            return Err(plain_fault_at(&head, attribute, rule));
+        }
+        let reached = self.reach(&head, value);
+        let target = number_of(self.entries, &reached);
+        match self.ask(known, &head, attribute, value, reached) {
+            None => Ok(target),
+            Some(rule) => Err(plain_fault_at(&head, attribute, rule)),
+        }
     }
 
     /// What is kept of an entry's type after a value, or the rule that fails there.

@@ -4,6 +4,7 @@ ghost use Rattle.std.specs.Prelude.{◌≡◌, ℕ, ◌+◌, ◌*◌, ◌<◌, �
 ghost use Rattle.std.specs.Prelude.{option_map};
 ghost use Rattle.dw_forms.specs.Value.{view};
 ghost use Rattle.dw_entries.specs.ByNumber.{entry_of};
+ghost use Rattle.dw_entries.specs.Header.{IsSize};
 ghost use Rattle.dw_entries.specs.Lookups.{value_at_entry};
 ghost use Rattle.dw_entries.specs.ValuePlaces.{end_of};
 ghost use Rattle.dw_entries.specs.Views.{sections_of, all_entries, all_units, units_of};
@@ -82,6 +83,7 @@ fn base_of(bases: &[Option<u32>], entries: &Entries<'_>, id: EntryId) -> Option<
 /// Where the text of the value of an entry's attribute is, if that is a string. The base of the entry's unit, among
 /// those of all units, is looked up only for an index.
 #[inline(always)]
+#[tactic(auto, using(crate::proofs::SlotLemmas::slot_within))]
 fn place_of_value(
     entries: &Entries<'_>,
     id: EntryId,
@@ -117,13 +119,15 @@ fn place_of_value(
 }
 
 /// The address of a value, if that is an address.
+#[tactic(auto, using(crate::proofs::SlotLemmas::slot_within))]
 fn address_of_value(
     sections: &Sections<'_>,
     header: UnitHeader,
     base: Option<u32>,
     value: Value<'_>,
 ) -> Option<u64>
-    requires { AddressLies sections.now header base (view value) }
+    requires size { IsSize header.address_size }
+    requires lies { AddressLies sections.now header base (view value) }
     ensures { result ≡ address_of sections.now header base (view value.entry) }
 {
     match value {

@@ -8,7 +8,7 @@ pub returns-in-Err-clause-fault : goal.returns-in-Err-clause-fault
 returns-in-Err-clause-fault c = record {
   holds =
       rw c.into_fault.ensures.holds (first_here c.args.entries.now (ClassFails (all_units c.args.entries.now))
-      c.loop-number.number c.id.result c.id.ensures c.loop-number.invariant c.in-Err.broken (omega arith)
+      c.loop-number.number c.id.result c.id.ensures c.loop-number.invariant (omega arith) c.in-Err.broken
       c.in-Err.ensures.err);
   cycle = c.into_fault.ensures.cycle;
 }
@@ -16,7 +16,7 @@ returns-in-Err-clause-fault c = record {
 pub loop-number-preserved : goal.loop-number-preserved
 loop-number-preserved c =
     more_below c.args.entries.now (ClassFails (all_units c.args.entries.now)) c.loop-number.number c.id.result
-    c.id.ensures c.loop-number.invariant c.in_default.ensures.ok
+    c.id.ensures c.loop-number.invariant (omega arith) c.in_default.ensures.ok
 
 pub returns-clause-ok : goal.returns-clause-ok
 returns-clause-ok c =

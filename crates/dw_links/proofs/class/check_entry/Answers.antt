@@ -1,9 +1,7 @@
-use Rattle.std.proofs.Common.{ap, ◌∙◌}
+use Rattle.std.proofs.Common.{rules, ap, ◌∙◌}
 use Rattle.dw_entries.specs.declared.entry.EntryHead.{EntryHead}
-use Rattle.dw_entries.specs.EntryRules.{values_of}
 use Rattle.dw_entries.specs.ByNumber.{entry_of}
 use Rattle.dw_entries.specs.PassedAttributes.{IsNotOpen}
-use Rattle.dw_entries.specs.Entries.{Entry}
 use Rattle.dw_entries.specs.Lookups.{entry_head}
 use Rattle.dw_entries.specs.Views.{all_entries, all_units}
 use Rattle.dw_entries.specs.ValuesLeft.{values_left}
@@ -14,11 +12,7 @@ use Rattle.dw_links.proofs.UnitToAll.{unit_below}
 use Rattle.dw_links.proofs.class.check_entry.Goals as goal
 
 pub loop-item-init : goal.loop-item-init
-loop-item-init c =
-    let e = entry_of (all_entries c.args.entries.now) c.args.id in
-    none_checked (ClassFails (all_units c.args.entries.now)) (entry_head e) (values_of e.head)
-    (values_left c.values-values.result)
-    (c.values-values.ensures ∙ ap (λ (x : Entry). values_of x.head) c.at-entry.ensures)
+loop-item-init c = search (rules, none_checked)
 
 pub ask_class-requires : goal.ask_class-requires
 ask_class-requires c =

@@ -1,3 +1,4 @@
+use Rattle.std.proofs.Common.{rules}
 use Rattle.dw_entries.specs.Views.{units_of}
 use Rattle.dw_links.proofs.TableLemmas.{first_within, language_read}
 use Rattle.dw_links.proofs.constant.language_in_unit.Goals as goal
@@ -7,7 +8,4 @@ value-requires c =
     first_within (units_of c.args.entries.now) c.args.number c.unit-first.result c.requires c.unit-first.ensures
 
 pub returns : goal.returns
-returns c =
-    language_read (units_of c.args.entries.now) c.args.number c.unit-first.result c.value.result c.of_value.result
-    c.requires
-    c.unit-first.ensures c.value.ensures c.of_value.ensures
+returns c = search (rules, language_read)

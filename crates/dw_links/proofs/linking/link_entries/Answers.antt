@@ -1,4 +1,4 @@
-use Rattle.std.proofs.Common.{rules, ◌≡◌, ◌≤◌, ◌∙◌, ℕ, Some, length, take, arith, sym, subst}
+use Rattle.std.proofs.Common.{rules, ◌≡◌, ◌<◌, ◌≤◌, ◌∙◌, ℕ, Some, length, take, arith, sym, subst}
 use Rattle.std.specs.Prelude.{slice_get}
 use Rattle.std.proofs.lemmas.List.{length-set, take_all}
 use Rattle.std.proofs.lemmas.Option.{slice_get-get_or}
@@ -19,8 +19,7 @@ use Rattle.dw_links.proofs.AfterLemmas.{may_link}
 use Rattle.dw_links.proofs.DeclaredLemmas.{keeps_none, keeps_whole, only_none}
 use Rattle.dw_links.proofs.ClassLemmas.{unit_there}
 use Rattle.dw_links.proofs.TableLemmas.{map_one_more, map_all}
-use Rattle.dw_links.proofs.UnitToAll.{more_below, none_fails, failed_first}
-use Rattle.dw_links.proofs.UnitByUnit.{LinkedBelow, starts_first, starts_next, none_below, types_more, ends_within}
+use Rattle.dw_links.proofs.UnitToAll.{more_below, none_fails, failed_first, LinkedBelow, starts_first, starts_next, none_below, types_more, ends_within}
 use Rattle.dw_links.proofs.linking.link_entries.Goals as goal
 
 pub loop-unit-init : goal.loop-unit-init
@@ -48,9 +47,11 @@ loop-number-init c =
 
 pub id-id-requires : goal.id-id-requires
 id-id-requires c =
-    let us = units_of c.args.entries.now in
-    let is = unit_there us c.loop-unit.unit (omega arith) in
-    omega (arith, c.of_unit-references.ensures.end, ends_within us c.loop-unit.unit _ is)
+    omega (
+      arith,
+      c.of_unit-references.ensures.end,
+      ends_within (units_of c.args.entries.now) c.loop-unit.unit (omega arith),
+    )
 
 pub link_entry-requires-clause-may : goal.link_entry-requires-clause-may
 link_entry-requires-clause-may c =
@@ -64,23 +65,19 @@ pub first_fault-requires : goal.first_fault-requires
 first_fault-requires c =
     let entries = c.args.entries.now in
     let i = c.loop-number.invariant in
-    let us = units_of entries in
-    let is = unit_there us c.loop-unit.unit (omega arith) in
     let end = c.of_unit-references.ensures.end in
     let P : Entries → Type 0 = λ x. IsFirstAtEntry x (entry_of (all_entries x) c.id-id.result) c.in-Err.broken in
     failed_first entries c.loop-number.number c.id-id.result c.id-id.ensures c.in-Err.broken i.linked.strings
     i.linked.references c.requires.headers
-    (omega (arith, end, c.id-id.ensures, ends_within us c.loop-unit.unit _ is))
+    (omega (arith, end, c.id-id.ensures, ends_within (units_of entries) c.loop-unit.unit (omega arith)))
     (subst P c.of_unit-references.ensures.entries c.in-Err.ensures.err)
 
 pub index_mut-requires : goal.index_mut-requires
 index_mut-requires c =
-    let us = units_of c.args.entries.now in
-    let is = unit_there us c.loop-unit.unit (omega arith) in
     omega (
       arith,
       c.of_unit-references.ensures.end,
-      ends_within us c.loop-unit.unit _ is,
+      ends_within (units_of c.args.entries.now) c.loop-unit.unit (omega arith),
       c.loop-number.invariant.linked.long,
     )
 
@@ -92,11 +89,10 @@ loop-number-preserved c =
     let e = entry_of (all_entries entries) c.id-id.result in
     let P : Entries → Type 0 = λ x. IsEntryLinked x (entry_of (all_entries x) c.id-id.result) c.in-Ok.target in
     let linked : IsEntryLinked entries e c.in-Ok.target = subst P same c.in-Ok.ensures.ok in
-    let us = units_of entries in
-    let is_p = unit_there us c.loop-unit.unit (omega arith) in
     let end = c.of_unit-references.ensures.end in
-    let is = slice_get-get_or (all_entries entries) c.id-id.result no_entry
-    (omega (arith, end, c.id-id.ensures, ends_within us c.loop-unit.unit _ is_p)) in
+    let below : c.id-id.result < length (all_entries entries) =
+    omega (arith, end, c.id-id.ensures, ends_within (units_of entries) c.loop-unit.unit (omega arith)) in
+    let is = slice_get-get_or (all_entries entries) c.id-id.result no_entry below in
     record {
       kept =
           keeps_whole entries c.loop-number.known.items c.link_entry.new.known c.loop-number.known.len
@@ -104,10 +100,10 @@ loop-number-preserved c =
       linked = record {
         strings =
             more_below entries (FailsByText entries) c.loop-number.number c.id-id.result c.id-id.ensures
-            i.linked.strings linked.strings;
+            i.linked.strings below linked.strings;
         references =
             more_below entries (FailsByTarget entries) c.loop-number.number c.id-id.result c.id-id.ensures
-            i.linked.references linked.references;
+            i.linked.references below linked.references;
         long = length-set c.loop-number.types.items c.loop-number.number c.in-Ok.target ∙ i.linked.long;
         types_are =
             types_more entries c.loop-number.types.items c.loop-number.number e c.in-Ok.target

@@ -1,4 +1,4 @@
-use Rattle.std.proofs.Common.{◌+◌, ◌∙◌, ap, sym, arith}
+use Rattle.std.proofs.Common.{rules, ◌+◌, ◌∙◌, ap, sym}
 use Rattle.dw_entries.specs.Entries.{entries_of}
 use Rattle.dw_entries.specs.Views.{all_units, units_of}
 use Rattle.dw_entries.specs.ByNumber.{placed_of}
@@ -8,22 +8,13 @@ use Rattle.dw_links.proofs.HeaderLemmas.{not_typed}
 use Rattle.dw_links.proofs.references.find_type.Goals as goal
 
 pub returns-in_default-clause-none : goal.returns-in_default-clause-none
-returns-in_default-clause-none c = λ has.
-    c.in_default.ensures.none has.id
-    (record {
-      unit_within = omega (arith, c.requires, length-placed (units_of c.args.entries.now));
-      target = has.is_type;
-    })
+returns-in_default-clause-none c = search (rules, length-placed)
 
 pub tag-requires : goal.tag-requires
 tag-requires c = c.in-Some.ensures.found.target.within
 
 pub returns-then-is_type-clause-some : goal.returns-then-is_type-clause-some
-returns-then-is_type-clause-some c = record {
-  id = c.in-Some.id;
-  is_type = c.in-Some.ensures.found.target;
-  tag = ap is_type_tag (sym c.tag.ensures) ∙ sym c.if-is_type.ensures;
-}
+returns-then-is_type-clause-some c = search (rules)
 
 pub returns-clause-none : goal.returns-clause-none
 returns-clause-none c =

@@ -1,4 +1,4 @@
-use Rattle.std.proofs.Common.{ℕ, arith, ◌≡◌, length, subst}
+use Rattle.std.proofs.Common.{rules, ℕ, arith, ◌≡◌, length, subst}
 use Rattle.std.proofs.lemmas.Result.{err_from_is_err_and}
 use Rattle.dw_entries.specs.Entries.{entries_of, placed}
 use Rattle.dw_entries.specs.ByNumber.{placed_of}
@@ -62,14 +62,4 @@ returns-in_err-add_type-clause-fault c =
     c.in_err-add_type.ensures.fault)
 
 pub loop-number-preserved : goal.loop-number-preserved
-loop-number-preserved c =
-    let us = units_of c.args.entries.now in
-    let u = placed_of (placed us) c.loop-number.number in
-    let is = unit_there us c.loop-number.number
-    (omega (arith, c.loop-number-test.true, c.unit_count-number-end.ensures)) in
-    record {
-      none =
-          more_of_list (placed us) (AtHeader (entries_of us) (placed us)) c.loop-number.number u is
-          c.loop-number.invariant.none c.in_ok-add_type.ensures.ok;
-      types = c.in_ok-add_type.ensures.added;
-    }
+loop-number-preserved c = search (rules, unit_there, more_of_list)

@@ -1,9 +1,7 @@
-use Rattle.std.proofs.Common.{ℕ, None, Some, ap, subst, sym, ◌∙◌}
+use Rattle.std.proofs.Common.{rules, ℕ, None, Some, ap, subst, sym, ◌∙◌}
 use Rattle.dw_forms.specs.Value.{Datum, view}
 use Rattle.dw_entries.specs.declared.entry.EntryHead.{EntryHead}
-use Rattle.dw_entries.specs.EntryRules.{values_of}
 use Rattle.dw_entries.specs.Leading.{DoesNotLead, leading_left}
-use Rattle.dw_entries.specs.Lookups.{entry_head}
 use Rattle.dw_entries.specs.PassedAttributes.{IsNextOf}
 use Rattle.dw_links.specs.UnitAtHand.{FailsByText}
 use Rattle.dw_links.proofs.ClassLemmas.{passes_texts}
@@ -12,9 +10,7 @@ use Rattle.dw_links.proofs.UnitToAll.{least_by_texts}
 use Rattle.dw_links.proofs.strings.check_entry.Goals as goal
 
 pub loop-led-init : goal.loop-led-init
-loop-led-init c =
-    λ entries texts. none_checked (FailsByText entries) (entry_head c.args.entry.now) (values_of c.args.entry.now.head)
-    (leading_left c.leading-leading.result) c.leading-leading.ensures
+loop-led-init c = search (rules, none_checked)
 
 pub returns-in-Some-ask-clause-err : goal.returns-in-Some-ask-clause-err
 returns-in-Some-ask-clause-err c = λ entries texts.

@@ -13,7 +13,7 @@ pub returns-in-Err-clause-fault : goal.returns-in-Err-clause-fault
 returns-in-Err-clause-fault c = record {
   holds =
       rw c.into_fault.ensures.holds (first_here c.args.entries.now (FailsByText c.args.entries.now)
-      c.loop-number.number c.id.result c.id.ensures c.loop-number.invariant.passed c.in-Err.broken (omega arith)
+      c.loop-number.number c.id.result c.id.ensures c.loop-number.invariant.passed (omega arith) c.in-Err.broken
       (rw (← c.at-entry.ensures) (c.in-Err.ensures.err c.args.entries.now
       (c.keep_texts.ensures.texts, rw c.keep_texts.ensures.unit c.unit.ensures))));
   cycle = c.into_fault.ensures.cycle;
@@ -24,7 +24,7 @@ loop-number-preserved c = record {
   texts = c.keep_texts.ensures.texts;
   passed =
       more_below c.args.entries.now (FailsByText c.args.entries.now) c.loop-number.number c.id.result c.id.ensures
-      c.loop-number.invariant.passed
+      c.loop-number.invariant.passed (omega arith)
       (rw (← c.at-entry.ensures) (c.in_default.ensures.ok c.args.entries.now
       (c.keep_texts.ensures.texts, rw c.keep_texts.ensures.unit c.unit.ensures)));
 }

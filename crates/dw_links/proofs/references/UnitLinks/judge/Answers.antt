@@ -1,22 +1,45 @@
-use Rattle.std.proofs.Common.{◌∙◌, ap}
-use Rattle.dw_entries.specs.declared.entry.EntryHead.{EntryHead}
-use Rattle.dw_entries.specs.Lookups.{entry_head}
+use Rattle.std.proofs.Common.{rules, ap, inl, inr, None, Some, ◌∙◌}
 use Rattle.dw_forms.specs.Value.{view}
-use Rattle.dw_links.proofs.EntryByNumber.{reaches_at, failed_at}
+use Rattle.dw_entries.specs.declared.entry.EntryHead.{EntryHead}
+use Rattle.dw_links.specs.UnitAtHand.{entries_followed, target_by}
+use Rattle.dw_links.proofs.AfterLemmas.{may_ask}
+use Rattle.dw_links.proofs.TargetLemmas.{reach_within}
+use Rattle.dw_links.proofs.UnitToAll.{least_by_texts}
 use Rattle.dw_links.proofs.references.UnitLinks.judge.Goals as goal
 
-pub judge_by-requires-clause-may : goal.judge_by-requires-clause-may
-judge_by-requires-clause-may c =
-    let may = c.requires.may in
-    let head = c.head-head.ensures ∙ ap entry_head c.entry.ensures in
-    record { linkable = may.linkable; in_unit = ap (λ (h : EntryHead). h.unit) head ∙ may.in_unit }
+pub number_of-target-requires : goal.number_of-target-requires
+number_of-target-requires c = search (rules, reach_within)
 
-pub returns-clause-ok : goal.returns-clause-ok
-returns-clause-ok c =
-    reaches_at c.args.self.now c.args.id c.args.attribute (view c.args.value.now) c.entry.result c.head-head.result
-    c.entry.ensures c.head-head.ensures c.judge_by.result c.judge_by.ensures.ok
+pub returns-in-Some-clause-err : goal.returns-in-Some-clause-err
+returns-in-Some-clause-err c =
+    let may = may_ask _ _ _ _ c.requires.may c.entry.ensures c.head-head.ensures in
+    rw (← c.entry.ensures, ← c.head-head.ensures) (inl (record {
+      rule = c.in-Some.rule;
+      least =
+          least_by_texts (entries_followed c.args.self.now) c.args.self.now.texts c.head-head.result may.linkable.texts
+          may.in_unit c.args.attribute (view c.args.value.now) (Some c.in-Some.rule) c.in-Some.ensures;
+      named = c.plain_fault_at.ensures;
+    }))
 
-pub returns-clause-err : goal.returns-clause-err
-returns-clause-err c =
-    failed_at c.args.self.now c.args.id c.args.attribute (view c.args.value.now) c.entry.result c.head-head.result
-    c.entry.ensures c.head-head.ensures c.judge_by.result c.judge_by.ensures.err
+pub returns-in-None-clause-ok : goal.returns-in-None-clause-ok
+returns-in-None-clause-ok c =
+    let may = may_ask _ _ _ _ c.requires.may c.entry.ensures c.head-head.ensures in
+    rw (← c.entry.ensures, ← c.head-head.ensures) (
+      record {
+        strings =
+            least_by_texts (entries_followed c.args.self.now) c.args.self.now.texts c.head-head.result
+            may.linkable.texts may.in_unit c.args.attribute (view c.args.value.now) None c.in_default.ensures;
+        references = c.in-None.ensures.rule;
+      },
+      c.number_of-target.ensures ∙ c.reach-reached.ensures
+          ∙ ap (λ (h : EntryHead). target_by (entries_followed c.args.self.now) h (view c.args.value.now))
+          c.head-head.ensures,
+    )
+
+pub returns-in-Some-ask-clause-err : goal.returns-in-Some-ask-clause-err
+returns-in-Some-ask-clause-err c =
+    rw (← c.entry.ensures, ← c.head-head.ensures) (inr (record {
+      rule = c.in-Some-ask.rule;
+      least = c.in-Some-ask.ensures.rule;
+      named = c.plain_fault_at-in-Some-ask.ensures;
+    }))

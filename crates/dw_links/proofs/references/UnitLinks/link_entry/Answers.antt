@@ -6,8 +6,7 @@ use Rattle.dw_entries.specs.Entries.{Entry}
 use Rattle.dw_entries.specs.Led.{item_of}
 use Rattle.dw_entries.specs.Leading.{leading_left}
 use Rattle.dw_links.specs.UnitAtHand.{entries_followed, entry_with}
-use Rattle.dw_links.proofs.LinkSteps.{none_so_far, more_so_far, fails_so_far, linked_at_end}
-use Rattle.dw_links.proofs.RuleSteps.{fewer}
+use Rattle.dw_links.proofs.RuleSteps.{fewer, none_so_far, more_so_far, fails_so_far, linked_at_end}
 use Rattle.dw_links.proofs.references.UnitLinks.link_entry.Goals as goal
 
 pub loop-led-init : goal.loop-led-init

@@ -2,7 +2,7 @@ use Rattle.std.proofs.Common.{length}
 use Rattle.dw_entries.specs.Leading.{leading_left}
 use Rattle.dw_links.specs.DeclaredEntries.{KeepsDeclared}
 use Rattle.dw_links.specs.UnitAtHand.{entries_followed, entry_with}
-use Rattle.dw_links.proofs.LinkSteps.{SoFar}
+use Rattle.dw_links.proofs.RuleSteps.{SoFar}
 use Rattle.dw_links.proofs.references.UnitLinks.link_entry.Given as goal
 
 abbrev pub invariant-loop-led : goal.invariant-loop-led

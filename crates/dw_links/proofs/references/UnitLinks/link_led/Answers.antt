@@ -2,7 +2,7 @@ use Rattle.std.proofs.Common.{ap, ◌∙◌}
 use Rattle.dw_forms.specs.Codes.{DW_AT_type}
 use Rattle.dw_links.specs.EntryLinks.{kept_after}
 use Rattle.dw_links.proofs.AfterLemmas.{after_within}
-use Rattle.dw_links.proofs.LeadSteps.{well_keeps, type_led, judged_keeps, judged_fails}
+use Rattle.dw_links.proofs.LeadSteps.{well_keeps, type_keeps}
 use Rattle.dw_links.proofs.references.UnitLinks.link_led.Goals as goal
 
 pub number_of-target-requires : goal.number_of-target-requires
@@ -11,9 +11,9 @@ number_of-target-requires c =
 
 pub returns-in-Some-clause-ok : goal.returns-in-Some-clause-ok
 returns-in-Some-clause-ok c =
-    type_led c.args.self.now c.args.id c.requires.may c.args.kept c.args.led.now c.in-Type.offset c.in-Some.target
-    c.keep.result c.in-Type.is c.in-Some.ensures
-    (c.keep.ensures ∙ ap (kept_after c.args.kept DW_AT_type) c.number_of-target.ensures)
+    rw c.in-Type.is (type_keeps c.args.self.now c.args.id c.requires.may c.args.kept c.in-Type.offset c.in-Some.target
+    c.keep.result c.in-Some.ensures
+    (c.keep.ensures ∙ ap (kept_after c.args.kept DW_AT_type) c.number_of-target.ensures))
 
 pub returns-then-leads_well-clause-ok : goal.returns-then-leads_well-clause-ok
 returns-then-leads_well-clause-ok c =
@@ -21,11 +21,7 @@ returns-then-leads_well-clause-ok c =
     c.if-leads_well.ensures
 
 pub returns-clause-ok : goal.returns-clause-ok
-returns-clause-ok c =
-    judged_keeps c.args.self.now c.args.id c.requires.may c.args.kept c.args.led.now _ c.judge_next.result
-    c.item-attribute.ensures c.judge_next.ensures.ok
+returns-clause-ok c = rw (← c.item-attribute.ensures) c.judge_next.ensures.ok
 
 pub returns-clause-err : goal.returns-clause-err
-returns-clause-err c =
-    judged_fails c.args.self.now c.args.id c.requires.may c.args.kept c.args.led.now _ c.judge_next.result
-    c.item-attribute.ensures c.judge_next.ensures.err
+returns-clause-err c = rw (← c.item-attribute.ensures) c.judge_next.ensures.err

@@ -1,53 +1,49 @@
-use Rattle.std.proofs.Common.{rules, ◌≡◌, ◌∙◌, ℕ, Some, ap, sym}
+use Rattle.std.proofs.Common.{rules, ◌≡◌, ◌∙◌, Some, refl, ap, sym}
 use Rattle.std.proofs.lemmas.Option.{slice_get-get_or}
 use Rattle.dw_forms.specs.Codes.{DW_AT_addr_base}
 use Rattle.dw_forms.specs.Value.{view}
-use Rattle.dw_entries.specs.Entries.{entries_of, placed}
 use Rattle.dw_entries.specs.ByNumber.{no_entry, entry_of, placed_of}
-use Rattle.dw_entries.specs.Views.{sections_of, units_of}
+use Rattle.dw_entries.specs.Views.{sections_of, all_entries, all_units, units_of}
 use Rattle.dw_entries.specs.Lookups.{unit_head, value_at_entry}
 use Rattle.dw_links.specs.AttributeTexts.{address_at}
-use Rattle.dw_links.proofs.ClassLemmas.{in_units}
-use Rattle.dw_links.proofs.TableLemmas.{sized, entry_unit, kept_is}
+use Rattle.dw_links.proofs.TableLemmas.{sized, entry_unit, kept_at}
 use Rattle.dw_links.proofs.UnitToAll.{unit_below}
-use Rattle.dw_links.proofs.SlotLemmas.{address_lies}
+use Rattle.dw_links.proofs.HeldTexts.{address_lies}
 use Rattle.dw_links.proofs.tables.LinkTables.address.Goals as goal
 
 pub unit-requires : goal.unit-requires
 unit-requires c =
     unit_below c.args.entries.now c.args.id c.unit_of.result c.requires.id c.unit_of.ensures
 
-pub address_of_value-requires : goal.address_of_value-requires
-address_of_value-requires c =
-    let us = units_of c.args.entries.now in
-    let e = entry_of (entries_of us) c.args.id in
-    let p = placed_of (placed us) e.unit in
-    let is_p = entry_unit c.args.entries.now c.args.id c.requires.id in
-    let told : c.unit.result ≡ unit_head p =
-    c.unit.ensures ∙ ap (λ (n : ℕ). unit_head (placed_of (placed us) n)) c.unit_of.ensures in
-    let value : Some (view c.in_ok-value.value) ≡ value_at_entry e c.args.attribute = c.in_ok-value.ensures in
+pub address_of_value-requires-clause-size : goal.address_of_value-requires-clause-size
+address_of_value-requires-clause-size c =
+    let entries = c.args.entries.now in
+    let told = c.unit.ensures ∙ ap (λ n. unit_head (placed_of (all_units entries) n)) c.unit_of.ensures in
+    rw told (sized _ _ (units_of entries) _ _ entries.scanned.1.spells
+    (unit_below entries c.args.id _ c.requires.id refl) (entry_unit entries c.args.id c.requires.id))
+
+pub address_of_value-requires-clause-lies : goal.address_of_value-requires-clause-lies
+address_of_value-requires-clause-lies c =
+    let entries = c.args.entries.now in
+    let told = c.unit.ensures ∙ ap (λ n. unit_head (placed_of (all_units entries) n)) c.unit_of.ensures in
     let base = (rw c.as_slice.ensures.value at c.base_of-base.ensures)
-    ∙ kept_is (entries_of us) (placed us) DW_AT_addr_base _ e.unit p c.requires.tables.addr_bases is_p in
-    let is = slice_get-get_or (entries_of us) c.args.id no_entry c.requires.id in
-    let size = sized _ _ us e.unit p c.args.entries.now.scanned.1.spells
-    (in_units _ _ us c.args.id e c.args.entries.now.scanned.1.spells is) is_p in
-    let lies = address_lies (sections_of c.args.entries.now) us c.args.id e p c.args.attribute
-    (view c.in_ok-value.value) c.requires.strings is is_p size (sym value) in
-    rw (c.sections.ensures, told, base) lies
+    ∙ kept_at entries c.args.id DW_AT_addr_base _ c.requires.id c.requires.tables.addr_bases in
+    rw (c.sections.ensures, told, base) (address_lies (sections_of entries) (units_of entries) c.requires.strings
+    c.args.id _ _ (slice_get-get_or (all_entries entries) c.args.id no_entry c.requires.id)
+    (entry_unit entries c.args.id c.requires.id) c.args.attribute (view c.in_ok-value.value)
+    (sym c.in_ok-value.ensures))
 
 pub returns : goal.returns
 unfolding address_at
 returns c =
-    let us = units_of c.args.entries.now in
-    let e = entry_of (entries_of us) c.args.id in
-    let p = placed_of (placed us) e.unit in
-    let is_p = entry_unit c.args.entries.now c.args.id c.requires.id in
-    let told : c.unit.result ≡ unit_head p =
-    c.unit.ensures ∙ ap (λ (n : ℕ). unit_head (placed_of (placed us) n)) c.unit_of.ensures in
-    let value : Some (view c.in_ok-value.value) ≡ value_at_entry e c.args.attribute = c.in_ok-value.ensures in
+    let entries = c.args.entries.now in
+    let told = c.unit.ensures ∙ ap (λ n. unit_head (placed_of (all_units entries) n)) c.unit_of.ensures in
+    let value : Some (view c.in_ok-value.value) ≡ value_at_entry (entry_of (all_entries entries) c.args.id)
+    c.args.attribute = c.in_ok-value.ensures in
     let base = (rw c.as_slice.ensures.value at c.base_of-base.ensures)
-    ∙ kept_is (entries_of us) (placed us) DW_AT_addr_base _ e.unit p c.requires.tables.addr_bases is_p in
-    rw (is_p, ← value, ← base) (rw (c.sections.ensures, told) at c.address_of_value.ensures)
+    ∙ kept_at entries c.args.id DW_AT_addr_base _ c.requires.id c.requires.tables.addr_bases in
+    rw (entry_unit entries c.args.id c.requires.id, ← value, ← base)
+    (rw (c.sections.ensures, told) at c.address_of_value.ensures)
 
 pub returns-in_err-value : goal.returns-in_err-value
 unfolding address_at
