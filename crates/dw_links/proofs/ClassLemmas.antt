@@ -136,9 +136,9 @@ its_class : (class : Option Class) (a : ℕ) → is_open_in class a ≡ false
 its_class (Some c) a is = (c, refl, not-false (allows a c) is)
 its_class None a is = absurd (let both : true ≡ false = is in cc)
 
-pub others_pass : (spec : AttributeSpec) → IsNotOpen spec → (units : List PlacedUnit)
+pub others_pass : (units : List PlacedUnit) (spec : AttributeSpec) → IsNotOpen spec
     → NeverFailsAt (ClassFails units) spec
-others_pass spec is units =
+others_pass units spec is =
     let (c, class, ok) = its_class (form_class spec.form) spec.attribute is in
     class_passes units spec c class ok
 

@@ -1,10 +1,11 @@
--- What is kept of an entry after a value: that no rule fails there, by what the value leads to.
-use Rattle.std.proofs.Common.{rules, ◌≡◌, ◌≢◌, ℕ, Bool, true, false, List, [], ◌∷◌, Option, Some, None, refl, sym, ap, ◌∙◌, map, arith}
-use Rattle.std.specs.Prelude.{◌==◌, ◌&&◌, ◌<◌, length, not}
-use Rattle.std.proofs.lemmas.Bool.{ne_eqb}
+-- What is kept of an entry after a value: that no rule fails there, by what the value leads to. What is told of an entry
+-- by its number: of the unit at hand, by where it starts after the unit's header, and which entries are declarations.
+use Rattle.std.proofs.Common.{rules, ◌≡◌, ◌≢◌, ℕ, Bool, true, false, List, [], ◌∷◌, Option, Some, None, refl, sym, ap, ◌∙◌, map, arith, ◌==◌, ◌<◌, ◌≤◌, length, get_or, zero, suc, set, replicate, inl, inr, ◌⊎◌, ◌++◌, take, drop}
+use Rattle.std.specs.Prelude.{◌==◌, ◌&&◌, ◌<◌, length, not, is_some, slice_get}
+use Rattle.std.proofs.lemmas.Bool.{ne_eqb, eqb-true}
 use Rattle.std.proofs.lemmas.Option.{slice_get-get_or}
 use mathlib.Core.Logic.{∥∥₁_elim}
-use Rattle.dw_forms.specs.Codes.{DW_AT_type, DW_AT_sibling, DW_AT_specification, DW_AT_import, DW_AT_signature, DW_AT_declaration}
+use Rattle.dw_forms.specs.Codes.{DW_AT_type, DW_AT_sibling, DW_AT_specification, DW_AT_import, DW_AT_signature, DW_AT_declaration, is_type_tag}
 use Rattle.dw_forms.specs.declared.leading_steps.Lead.{Lead}
 use Rattle.dw_forms.specs.declared.leading_steps.Lead.TheVariants as lead
 use Rattle.dw_forms.specs.declared.abbrev.AttributeSpec.{AttributeSpec}
@@ -32,15 +33,23 @@ use Rattle.dw_entries.proofs.EntryFacts.{entries_rise}
 use Rattle.dw_entries.proofs.HeadLaws.{head_fits}
 use Rattle.dw_entries.proofs.RunLaws.{one_at}
 use Rattle.dw_links.specs.declared.references.UnitLinks.{UnitLinks}
-use Rattle.dw_links.specs.UnitAtHand.{target_by, entries_followed, entry_with, entry_after, MayLink, IsTypeAfter, IsSiblingAfter, IsDeclaredAfter, LeadsWell}
+use Rattle.dw_links.specs.UnitAtHand.{target_by, entries_followed, entry_with, entry_after, MayLink, IsTypeAfter, IsSiblingAfter, IsDeclaredAfter, LeadsWell, IsLinkable, MayAsk}
 use Rattle.dw_links.specs.EntryLinks.{kept_after, KeepsAt}
 use Rattle.dw_links.specs.UnitContributions.{FailsByTexts}
 use Rattle.dw_links.specs.References.{is_declared, is_true, is_reference_value, permits, permits_form}
 use Rattle.dw_links.specs.Targets.{reach_in_unit}
-use Rattle.dw_links.proofs.LeastRules.{least_none, right_sibling}
+use Rattle.dw_links.proofs.RuleGroups.{least_none, right_sibling}
 use Rattle.dw_links.proofs.LinkedEntries.{true_unless}
 use Rattle.dw_links.proofs.TargetLemmas.{reached_within}
-use Rattle.dw_links.proofs.UnitToAll.{least_by_texts}
+use Rattle.dw_links.proofs.UnitToAll.{least_by_texts, ends_within}
+use Rattle.std.specs.Bool.{OnTrue}
+use Rattle.std.specs.Option.{unwrap_or}
+use Rattle.dw_forms.specs.Abbrev.{Declaration}
+use Rattle.dw_entries.proofs.UnitRanges.{unit_in_range}
+use Rattle.dw_links.proofs.ClassLemmas.{unit_there}
+use Rattle.std.proofs.Math.Seq.{take-append_seam}
+use Rattle.std.proofs.lemmas.List.{length-set, length-replicate}
+use Rattle.dw_links.specs.DeclaredEntries.{KeepsDeclared}
 
 -- nothing is kept of an attribute that is no type
 kept_same : (before : Option (Option ℕ)) (attribute : ℕ) (reached : Option ℕ) → attribute ≢ DW_AT_type
@@ -109,16 +118,17 @@ module _ (it : UnitLinks) (id : ℕ) (may : MayLink it id) (before : Option (Opt
       → ((head : EntryHead) → IsLeast (FailsByTexts it.texts head attribute v) None) → is_reference_value v ≡ false
       → attribute ≢ DW_AT_type → KeepsAt it id attribute v before before
   text_keeps attribute v none no_reference other =
-      let head = entry_head (entry_with it id) in
-      record {
-        passes = record {
+      let head = entry_head (entry_with it id) in (
+        target_by (entries_followed it) head v,
+        record {
           strings =
               least_by_texts (entries_followed it) it.texts head may.linkable.texts may.in_unit attribute v None
               (none head);
           references = λ rule fails. let both : true ≡ false = sym fails.0 ∙ no_reference in cc;
-        };
-        is_kept = kept_same before attribute (target_by (entries_followed it) head v) other;
-      }
+          is_target = refl;
+        },
+        kept_same before attribute _ other,
+      )
 
   -- a reference to an entry that is permitted
   reference_keeps : (attribute offset t : ℕ) (after : Option (Option ℕ)) → entry_after it offset ≡ Some t
@@ -132,17 +142,18 @@ module _ (it : UnitLinks) (id : ℕ) (may : MayLink it id) (before : Option (Opt
       let e = entry_with it id in
       let there : target_by entries (entry_head e) (ref_unit offset)
       ≡ Some t = ap (λ (u : ℕ). reach_in_unit (all_entries entries) (all_units entries) u offset) may.in_unit
-      ∙ reaches in
-      record {
-        passes = record {
+      ∙ reaches in (
+        Some t,
+        record {
           strings = λ rule fails. fails.fails;
           references =
               least_none (all_entries entries) (all_units entries) (entry_head e) attribute (ref_unit offset) t there
               formed kind
               (λ p. right_sibling e.next (target_by entries (entry_head e) (ref_unit offset)) t there (next p.0) p.1);
-        };
-        is_kept = kept ∙ ap (kept_after before attribute) (sym there);
-      }
+          is_target = sym there;
+        },
+        kept,
+      )
 
   pub type_keeps : (offset t : ℕ) (after : Option (Option ℕ)) → IsTypeAfter it offset t
       → after ≡ kept_after before DW_AT_type (Some t) → KeepsAt it id DW_AT_type (ref_unit offset) before after
@@ -198,3 +209,113 @@ module _ (it : UnitLinks) (id : ℕ) (may : MayLink it id) (before : Option (Opt
       rw (← is.has_code) (text_keeps spec.attribute (addr_index index) (λ head. well) refl
       (lead_says spec lead.Address is.has_lead).1)
   well_keeps _ spec is well = absurd well
+
+-- the entry with a number is asked as its head says
+pub may_ask : (it : UnitLinks) (id : ℕ) (entry : Entry) (head : EntryHead) → MayLink it id → entry ≡ entry_with it id
+    → head ≡ entry_head entry → MayAsk it head
+may_ask it id entry head may found told = record {
+  linkable = may.linkable;
+  in_unit = ap (λ h. h.unit) told ∙ ap (λ e. e.unit) found ∙ may.in_unit;
+}
+
+pub after_within : (it : UnitLinks) (offset target : ℕ) → entry_after it offset ≡ Some target
+    → target < length (all_entries (entries_followed it))
+after_within it offset target reaches =
+    reached_within (all_entries (entries_followed it)) (all_units (entries_followed it)) it.texts.unit
+    (ref_unit offset) target reaches
+
+pub type_after : (it : UnitLinks) (offset target : ℕ) → entry_after it offset ≡ Some target → (d : Declaration)
+    → d ≡ (entry_with it target).head.decl → true ≡ is_type_tag d.tag → IsTypeAfter it offset target
+type_after it offset target reaches d told typed = record {
+  reaches = reaches;
+  is_type = ap (λ (x : Declaration). is_type_tag x.tag) (sym told) ∙ sym typed;
+}
+
+pub declared_after : (it : UnitLinks) (id offset target : ℕ) → entry_after it offset ≡ Some target → target ≢ id
+    → (d : Declaration) → d ≡ (entry_with it target).head.decl
+    → (known : Option Bool) → known ≡ flag_in DW_AT_declaration d.attributes
+    → OnTrue (unwrap_or known false) (IsDeclaredAfter it id offset)
+declared_after it id offset target reaches other d told (Some true) known =
+    search (rules, declared_entry, after_within)
+declared_after it id offset target reaches other d told (Some false) known = tt
+declared_after it id offset target reaches other d told None known = tt
+
+pub sibling_after : (it : UnitLinks) (id offset next target number other : ℕ) → Some next ≡ (entry_with it id).next
+    → Some target ≡ entry_after it offset → number ≡ target → other ≡ next
+    → OnTrue (number == other) (IsSiblingAfter it id offset)
+sibling_after it id offset next target number other told reaches is_target is_next = go (number == other) refl
+  where
+    go : (same : Bool) → (number == other) ≡ same → OnTrue same (IsSiblingAfter it id offset)
+    go false e = tt
+    go true e = record {
+      target = next;
+      reaches = sym reaches ∙ ap (λ (k : ℕ). Some k) (sym is_target ∙ eqb-true number other e ∙ is_next);
+      is_next = sym told;
+    }
+
+pub entry_is_after : (it : UnitLinks) (offset : ℕ) (found : Option ℕ) → found ≡ entry_after it offset
+    → OnTrue (is_some found) ((t : ℕ) × (entry_after it offset ≡ Some t))
+entry_is_after it offset (Some t) reaches = (t, sym reaches)
+entry_is_after it offset None reaches = tt
+
+-- an entry in the range of the unit at hand may be linked
+pub may_link : (it : UnitLinks) (id : ℕ) → IsLinkable it → it.range.0 ≤ id → id < it.range.1 → MayLink it id
+may_link it id linkable low high = search (rules, unit_there, ends_within, unit_in_range, slice_get-get_or)
+
+-- an item of a list of which one was set is the new one, or was there
+set_get : {X : Type 0} (xs : List X) (i j : ℕ) (x y : X) → slice_get (set xs i x) j ≡ Some y
+    → ((i ≡ j) × (x ≡ y)) ⊎ (slice_get xs j ≡ Some y)
+set_get [] i j x y is = inr is
+set_get (z ∷ xs) zero zero x y is = inl (refl, cc)
+set_get (z ∷ xs) zero (suc j) x y is = inr is
+set_get (z ∷ xs) (suc i) zero x y is = inr is
+set_get (z ∷ xs) (suc i) (suc j) x y is =
+    elim (set_get xs i j x y is) [ inl here ↦ inl (ap suc here.0, here.1) | inr there ↦ inr there ]
+
+-- one entry more is known
+pub one_more_known : (entries : Entries) (kept new : List (Option Bool)) (id number : ℕ) (declared : Bool)
+    → KeepsDeclared entries kept → id < length (all_entries entries) → number ≡ id
+    → declared ≡ is_declared (entry_of (all_entries entries) id)
+    → new ≡ set kept number (Some declared) → KeepsDeclared entries new
+one_more_known entries kept new id number declared keeps below is read same = record {
+  all = ap length same ∙ length-set kept number (Some declared) ∙ keeps.all;
+  right = λ j known at.
+      elim (set_get kept number j (Some declared) (Some known)
+      (ap (λ (xs : List (Option Bool)). slice_get xs j) (sym same) ∙ at)) [
+        | inl here ↦
+            let some : Some declared ≡ Some known = here.1 in
+            let known_is : known ≡ declared = cc in
+            known_is ∙ read ∙ ap (λ (n : ℕ). is_declared (entry_of (all_entries entries) n)) (sym is ∙ here.0)
+        | inr there ↦ keeps.right j known there
+      ];
+}
+
+-- what is known of an entry is true of it
+pub known_right : (entries : Entries) (kept : List (Option Bool)) (id number : ℕ) (declared : Bool)
+    → KeepsDeclared entries kept → id < length (all_entries entries) → number ≡ id
+    → get_or kept number None ≡ Some declared
+    → declared ≡ is_declared (entry_of (all_entries entries) id)
+known_right entries kept id number declared keeps below is read = search (rules, slice_get-get_or)
+
+-- none is known of any entry
+none_known : (n j : ℕ) (known : Bool) → slice_get (replicate n None) j ≡ Some (Some known) → ⊥
+none_known zero j known is = absurd cc
+none_known (suc n) zero known is = absurd cc
+none_known (suc n) (suc j) known is = none_known n j known is
+
+pub keeps_none : (entries : Entries) (kept : List (Option Bool)) (n : ℕ) → n ≡ length (all_entries entries)
+    → kept ≡ replicate n None → KeepsDeclared entries kept
+keeps_none entries kept n all same = search (rules, length-replicate, none_known)
+
+-- the list after its slice has changed
+pub keeps_whole : (entries : Entries) (old new : List (Option Bool)) (len : ℕ) → len ≡ length old
+    → KeepsDeclared entries old → KeepsDeclared entries new
+    → KeepsDeclared entries (take len (new ++ drop (length new) old))
+keeps_whole entries old new len is kept keeps =
+    let all : len ≡ length new = is ∙ kept.all ∙ sym keeps.all in
+    rw (all, take-append_seam new (drop (length new) old)) keeps
+
+-- a fact that holds of no Some holds of None alone
+pub only_none : (P : Option Bool → Type 0) → ((known : Bool) → P (Some known) → ⊥) → (o : Option Bool) → P o → o ≡ None
+only_none P never None p = refl
+only_none P never (Some known) p = absurd (never known p)

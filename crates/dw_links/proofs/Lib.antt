@@ -1,17 +1,11 @@
-pub mod HeaderLemmas
 pub mod ListLookups
 pub mod ClassLemmas
 pub mod TargetLemmas
-pub mod LeastRules
-pub mod EndLemmas
 pub mod SlotLemmas
 pub mod TableLemmas
 pub mod LinkedEntries
 pub mod RuleSteps
 pub mod UnitToAll
 pub mod LeadSteps
-pub mod AfterLemmas
 pub mod RuleGroups
-pub mod DeclaredLemmas
-pub mod TextPlaceLemmas
 pub mod HeldTexts

@@ -1,29 +1,186 @@
--- Where no rule on references fails, values lead to entries.
-use Rattle.std.proofs.Common.{rules, arith, ◌≡◌, ℕ, List, Option, Some, None, refl, sym, ◌+◌, Bool, true, false, ap, ◌∙◌, inl, inr, subst}
-use Rattle.std.specs.Prelude.{slice_get}
-use Rattle.std.proofs.lemmas.Option.{slice_get_within, slice_get-get_or, get_or_from_slice_get}
+-- The rules at the headers of type units, and the type of each signature. Where no rule on references fails, values lead
+-- to entries.
+use Rattle.std.proofs.Common.{rules, arith, ◌≡◌, ℕ, List, Option, Some, None, refl, sym, ◌+◌, Bool, true, false, ap, ◌∙◌, inl, inr, subst, cond, eq-or-lt_of_le, ◌⊎◌, ◌<◌}
+use Rattle.std.specs.Prelude.{slice_get, is_some}
+use Rattle.std.proofs.lemmas.Option.{none-some, slice_get_within, slice_get-get_or, get_or_from_slice_get}
 use Rattle.dw_forms.specs.Codes.{is_type_tag}
 use Rattle.dw_forms.specs.Value.{Datum, ref_info, ref_unit, ref_sig}
-use Rattle.dw_forms.specs.declared.rule.Rule.TheVariants.{NoEntry, WrongKind, NotNextSibling, NoSignature, BadTypeOffset}
+use Rattle.dw_forms.specs.declared.rule.Rule.TheVariants.{NoEntry, WrongKind, NotNextSibling, NoSignature, BadTypeOffset, SignatureTwice}
 use Rattle.dw_entries.specs.Units.{DebugUnit, Spells}
 use Rattle.dw_entries.specs.Entries.{Entry, PlacedUnit, entries_of, placed}
 use Rattle.dw_entries.specs.ByNumber.{no_entry, no_placed, entry_of}
 use Rattle.dw_entries.specs.EntriesAt.{IsEntryIn}
-use Rattle.dw_entries.specs.Failures.{HasNone}
+use Rattle.dw_entries.specs.Failures.{HasNone, Failure, Precedes, Names, IsFirst, IsLeast}
 use Rattle.dw_entries.specs.Lookups.{value_at_entry, entry_head}
 use Rattle.dw_forms.specs.declared.rule.Rule.{Rule}
 use Rattle.dw_entries.specs.Places.{at_header, at_attribute}
-use Rattle.dw_entries.specs.EntryRules.{OffsetsRise, values_of}
+use Rattle.dw_entries.specs.EntryRules.{OffsetsRise, values_of, AtPlace}
 use Rattle.dw_entries.proofs.EntryFacts.{entries_rise}
 use Rattle.dw_forms.specs.declared.class.Class.TheVariants.{Reference}
 use Rattle.dw_links.specs.Classes.{class_of}
 use Rattle.dw_links.specs.LinkLaws.{HaveTargets, HaveTypes}
 use Rattle.dw_links.proofs.HeldTexts.{found_value}
-use Rattle.dw_links.specs.References.{permits, permits_form, IsOtherThan, is_reference_value, ReferenceFailsBy, TypeUnitFails, ReferenceFailures}
-use Rattle.dw_links.specs.Signatures.{type_unit_of, HasSignature, first_signed}
-use Rattle.dw_links.specs.Targets.{entry_at, reach_in_unit, reach_of, target_of}
-use Rattle.dw_links.proofs.HeaderLemmas.{distinct_from, not_typed}
-use Rattle.dw_links.proofs.TargetLemmas.{reach_in_unit_is, at_reach_in_unit, at_first_signed, none_signed, type_of_unit_is, reached_within}
+use Rattle.dw_links.specs.References.{HeaderFailures, permits, permits_form, IsOtherThan, is_reference_value, ReferenceFailsBy, TypeUnitFails, ReferenceFailures, IsSignedBefore, HasType, HeaderFails, AttributeFailures}
+use Rattle.dw_links.specs.Signatures.{type_unit_of, HasSignature, first_signed, HaveDistinctSignatures}
+use Rattle.dw_links.specs.Targets.{entry_at, reach_in_unit, reach_of, target_of, type_of_unit}
+use Rattle.dw_links.proofs.TargetLemmas.{reach_in_unit_is, at_reach_in_unit, at_first_signed, none_signed, type_of_unit_is, reached_within, first_signed_is}
+use Rattle.std.proofs.lemmas.Bool.Decides.{nat_tests}
+use Rattle.std.specs.Ordering.{nat_cmp, is_eq}
+use Rattle.std.specs.BTreeMap.{BTreeMap, get, is_at}
+use Rattle.dw_entries.proofs.Firsts.{same_some}
+use Rattle.dw_entries.specs.declared.fault.PlainFault.{PlainFault}
+use Rattle.dw_entries.specs.declared.header.HeaderKind.{HeaderKind}
+use Rattle.dw_entries.specs.declared.header.HeaderKind.TheVariants.{TypeUnit}
+use Rattle.dw_entries.proofs.FirstPlaces.{first_at_place, none_at_place}
+use Rattle.dw_entries.proofs.RunLaws.{one_at, in_is_at}
+use Rattle.dw_entries.proofs.NumberOrder.{three_ways}
+use Rattle.dw_links.specs.SignedTypes.{IsSignedType, AreSignedBelow}
+
+-- a unit more changes nothing where it hasn't the signature
+kept : (entries : List Entry) (units : List PlacedUnit) (s n : ℕ) (o : Option ℕ) → IsSignedType entries units s n o
+    → (HasSignature units s n → ⊥) → IsSignedType entries units s (n + 1) o
+kept entries units s n None none other = search (rules, eq-or-lt_of_le)
+kept entries units s n (Some id) found other =
+    let less = found.1 in (found.0, omega arith, found.2, found.3)
+
+begun : (entries : List Entry) (units : List PlacedUnit) (s n id : ℕ) → IsSignedType entries units s n None
+    → HasSignature units s n → type_of_unit entries units n ≡ Some id → IsSignedType entries units s (n + 1) (Some id)
+begun entries units s n id none has type = (n, omega arith, first_signed_is units s n has none, type)
+
+signed_so : (units : List PlacedUnit) (s n k t : ℕ) (u : PlacedUnit) → slice_get units n ≡ Some u
+    → type_unit_of u.unit.header.kind ≡ Some (k, t) → HasSignature units s n → k ≡ s
+signed_so units s n k t u is kind has = search (rules, same_some)
+
+untyped_so : (units : List PlacedUnit) (s n : ℕ) (u : PlacedUnit) → slice_get units n ≡ Some u
+    → type_unit_of u.unit.header.kind ≡ None → HasSignature units s n → ⊥
+untyped_so units s n u is kind has = search (rules, same_some)
+
+-- a unit of another kind has no type
+pub no_type : (kind : HeaderKind) → ((signature type_offset : ℕ) → kind ≡ TypeUnit signature type_offset → ⊥)
+    → type_unit_of kind ≡ None
+no_type (TypeUnit signature type_offset) never = absurd (never signature type_offset refl)
+no_type _ never = refl
+
+pub other_unit : (entries : List Entry) (units : List PlacedUnit) (n : ℕ) (u : PlacedUnit) (table : BTreeMap ℕ ℕ)
+    → slice_get units n ≡ Some u → type_unit_of u.unit.header.kind ≡ None → AreSignedBelow entries units n table
+    → AreSignedBelow entries units (n + 1) table
+other_unit entries units n u table is untyped before s =
+    kept entries units s n (get nat_cmp table s) (before s) (untyped_so units s n u is untyped)
+
+-- whether an earlier unit has the signature, by the table
+pub signed_before : (entries : List Entry) (units : List PlacedUnit) (s n : ℕ) (o : Option ℕ)
+    → IsSignedType entries units s n o → is_some o ≡ true → IsSignedBefore units n s
+signed_before entries units s n None none known = absurd cc
+signed_before entries units s n (Some id) found known =
+    record { earlier = found.0; before = found.1; has = at_first_signed units s found.0 found.2 }
+
+pub not_before : (entries : List Entry) (units : List PlacedUnit) (s n : ℕ) (o : Option ℕ)
+    → IsSignedType entries units s n o → is_some o ≡ false → IsSignedBefore units n s → ⊥
+not_before entries units s n None none unknown before = none before.earlier before.before before.has
+not_before entries units s n (Some id) found unknown before = absurd cc
+
+none_known : (entries : List Entry) (units : List PlacedUnit) (s n : ℕ) (o : Option ℕ)
+    → IsSignedType entries units s n o → (IsSignedBefore units n s → ⊥) → o ≡ None
+none_known entries units s n None none never = refl
+none_known entries units s n (Some id) found never =
+    absurd (never (signed_before entries units s n (Some id) found refl))
+
+at_key : (k q : ℕ) → is_eq (nat_cmp k q) ≡ true → k ≡ q
+at_key k q is = grind (arith, nat_tests)
+
+own_key : (k : ℕ) → is_eq (nat_cmp k k) ≡ true
+own_key k = grind (arith, nat_tests)
+
+new_at : (entries : List Entry) (units : List PlacedUnit) (s k n id : ℕ) (b : Bool) (o p : Option ℕ)
+    → b ≡ is_eq (nat_cmp k s) → p ≡ cond b (Some id) o → IsSignedType entries units s n o → (b ≡ true → o ≡ None)
+    → (b ≡ true → HasSignature units s n)
+    → (b ≡ false → HasSignature units s n → ⊥) → type_of_unit entries units n ≡ Some id
+    → IsSignedType entries units s (n + 1) p
+new_at entries units s k n id true o p test is before none has other type = search (rules, begun)
+new_at entries units s k n id false o p test is before none has other type = search (rules, kept)
+
+pub new_signature : (entries : List Entry) (units : List PlacedUnit) (n k t id : ℕ) (u : PlacedUnit)
+    (old new : BTreeMap ℕ ℕ) → slice_get units n ≡ Some u → type_unit_of u.unit.header.kind ≡ Some (k, t)
+    → (IsSignedBefore units n k → ⊥)
+    → ((q : ℕ) → get nat_cmp new q ≡ cond (is_at (nat_cmp k) q) (Some id) (get nat_cmp old q))
+    → type_of_unit entries units n ≡ Some id
+    → AreSignedBelow entries units n old → AreSignedBelow entries units (n + 1) new
+new_signature entries units n k t id u old new is kind unknown after type before s =
+    search (rules, new_at, at_key, none_known, signed_so, own_key)
+
+-- no other entry at the offset is a type
+pub not_typed : (entries : List Entry) (number offset id : ℕ) → OffsetsRise entries
+    → IsEntryIn entries number offset id → is_type_tag (entry_of entries id).head.decl.tag ≡ false
+    → HasType entries number offset → ⊥
+not_typed entries number offset id rise found tag has =
+    let same = one_at entries offset has.id id rise (in_is_at entries number _ has.id has.is_type)
+    (in_is_at entries number _ id found) in
+    let both : true ≡ false = sym has.tag ∙ ap (λ (n : ℕ). is_type_tag (entry_of entries n).head.decl.tag) same ∙ tag
+    in cc
+
+signed_twice : (entries : List Entry) (units : List PlacedUnit) (s i j : ℕ) → HasNone (HeaderFailures entries units)
+    → i < j → HasSignature units s i → HasSignature units s j → ⊥
+signed_twice entries units s i j none less has_i has_j =
+    none (record { rule = SignatureTwice; place = at_header has_j.unit.at; attribute = 0 })
+    (record {
+      number = j;
+      item = has_j.unit;
+      is_item = has_j.is_unit;
+      fails = search (rules);
+    })
+
+pub distinct_from : (entries : List Entry) (units : List PlacedUnit) → HasNone (HeaderFailures entries units)
+    → HaveDistinctSignatures units
+distinct_from entries units none s i j has_i has_j =
+    elim (three_ways i j) [
+      | inl (inl less) ↦ absurd (signed_twice entries units s i j none less has_i has_j)
+      | inl (inr same) ↦ same
+      | inr more ↦ absurd (signed_twice entries units s j i none more has_j has_i)
+    ]
+
+-- a rule at the header of a type unit
+pub header_fails : (entries : List Entry) (units : List PlacedUnit) (number at signature t : ℕ) (o : Option (ℕ × ℕ))
+    (rule : Rule) (broken : PlainFault) → o ≡ Some (signature, t)
+    → IsLeast (TypeUnitFails entries units number at signature t) (Some rule)
+    → Names broken (record { rule = rule; place = at_header at; attribute = 0 })
+    → IsFirst (AtPlace (at_header at) (HeaderFails entries units number at o)) broken
+header_fails entries units number at signature t o rule broken is least named = search (rules, first_at_place)
+
+pub header_passes : (entries : List Entry) (units : List PlacedUnit) (number at signature t : ℕ) (o : Option (ℕ × ℕ))
+    → o ≡ Some (signature, t)
+    → IsLeast (TypeUnitFails entries units number at signature t) None
+    → HasNone (AtPlace (at_header at) (HeaderFails entries units number at o))
+header_passes entries units number at signature t o is least =
+    let P : Option (ℕ × ℕ) → Type 0 = λ x. HasNone (AtPlace (at_header at) (HeaderFails entries units number at x)) in
+    subst P (sym is) (none_at_place (at_header at) (HeaderFails entries units number at (Some (signature, t))) least)
+
+-- no type begins there, and no earlier unit has the signature
+pub least_type_offset : (entries : List Entry) (units : List PlacedUnit) (number at signature t : ℕ)
+    → (IsSignedBefore units number signature → ⊥) → (HasType entries number (at + t) → ⊥)
+    → IsLeast (TypeUnitFails entries units number at signature t) (Some BadTypeOffset)
+least_type_offset entries units number at signature t first untyped = search (rules)
+
+-- an earlier unit has the signature
+pub least_twice : (entries : List Entry) (units : List PlacedUnit) (number at signature t : ℕ)
+    → IsSignedBefore units number signature
+    → IsLeast (TypeUnitFails entries units number at signature t) (Some SignatureTwice)
+least_twice entries units number at signature t before = search (rules)
+
+-- a type begins there, and no earlier unit has the signature
+pub none_at_header : (entries : List Entry) (units : List PlacedUnit) (number at signature t : ℕ)
+    → (IsSignedBefore units number signature → ⊥) → HasType entries number (at + t)
+    → IsLeast (TypeUnitFails entries units number at signature t) None
+none_at_header entries units number at signature t first typed = search (rules, typed)
+
+-- headers come before entries
+header_before : (a at position : ℕ) (f g : Failure) → f.place ≡ at_header a → g.place ≡ at_attribute at position
+    → Precedes g f → ⊥
+header_before a at position f g f_at g_at precedes = search (rules)
+
+pub first_by_header : (entries : List Entry) (units : List PlacedUnit) (broken : PlainFault)
+    → IsFirst (HeaderFailures entries units) broken
+    → IsFirst (λ f. HeaderFailures entries units f ⊎ AttributeFailures entries units f) broken
+first_by_header entries units broken first = search (rules, header_before)
 
 is_told : (o : Option ℕ) → (o ≡ None → ⊥) → (n : ℕ) × (o ≡ Some n)
 is_told None never = absurd (never refl)
@@ -52,32 +209,24 @@ passes_reference us id e attribute v none is value reference rule fails =
 
 -- nor at the header of a type unit
 passes_header : (us : List DebugUnit) (number signature type_offset : ℕ) (p : PlacedUnit)
-    → HasNone (ReferenceFailures us) → slice_get (placed us) number ≡ Some p
+    → HasNone (HeaderFailures (entries_of us) (placed us)) → slice_get (placed us) number ≡ Some p
     → type_unit_of p.unit.header.kind ≡ Some (signature, type_offset)
     → (rule : Rule) → TypeUnitFails (entries_of us) (placed us) number p.at signature type_offset rule → ⊥
 passes_header us number signature type_offset p none is kind rule fails =
     none (record { rule = rule; place = at_header p.at; attribute = 0 })
-    (inl (record {
-      number = number;
-      item = p;
-      is_item = is;
-      fails = search (rules);
-    }))
-
-no_answer : (o : Option ℕ) (k : ℕ) → o ≡ None → o ≡ Some k → ⊥
-no_answer o k none some = let both : ◌≡◌ {A = Option ℕ} None (Some k) = sym none ∙ some in cc
+    (record { number = number; item = p; is_item = is; fails = search (rules) })
 
 -- the type of a type unit
 type_reached : (us : List DebugUnit) (number signature type_offset : ℕ) (p : PlacedUnit) → OffsetsRise (entries_of us)
-    → HasNone (ReferenceFailures us) → slice_get (placed us) number ≡ Some p
+    → HasNone (HeaderFailures (entries_of us) (placed us)) → slice_get (placed us) number ≡ Some p
     → type_unit_of p.unit.header.kind ≡ Some (signature, type_offset)
     → (id : ℕ) × (reach_in_unit (entries_of us) (placed us) number type_offset ≡ Some id)
 type_reached us number signature type_offset p rise none is kind =
     is_told (reach_in_unit (entries_of us) (placed us) number type_offset)
     (λ nowhere. passes_header us number signature type_offset p none is kind BadTypeOffset (inr (
       refl,
-      λ has. no_answer (reach_in_unit (entries_of us) (placed us) number type_offset) has.id nowhere
-          (reach_in_unit_is (entries_of us) (placed us) number type_offset has.id rise
+      λ has. none-some has.id
+          (sym nowhere ∙ reach_in_unit_is (entries_of us) (placed us) number type_offset has.id rise
           (record {
             unit_within = slice_get_within (placed us) number p is;
             target =
@@ -89,14 +238,14 @@ type_reached us number signature type_offset p rise none is kind =
 -- ---- each reference reaches an entry
 
 -- what reaches an entry
-abbrev Reached : List DebugUnit → Entry → Datum → Type 0
-Reached us e v = (id : ℕ) × (reach_of (entries_of us) (placed us) e.unit v ≡ Some id)
+abbrev pub Reached : List DebugUnit → (unit : ℕ) → Datum → Type 0
+Reached us unit v = (id : ℕ) × (reach_of (entries_of us) (placed us) unit v ≡ Some id)
 
-by_signature : (us : List DebugUnit) (e : Entry) (signature : ℕ) (o : Option ℕ) → first_signed (placed us) signature ≡ o
-    → OffsetsRise (entries_of us) → HasNone (ReferenceFailures us)
-    → (((number : ℕ) → HasSignature (placed us) signature number → ⊥) → ⊥) → Reached us e (ref_sig signature)
-by_signature us e signature None is rise none never = search (rules, none_signed)
-by_signature us e signature (Some number) is rise none never =
+pub by_signature : (us : List DebugUnit) (unit signature : ℕ) (o : Option ℕ) → first_signed (placed us) signature ≡ o
+    → OffsetsRise (entries_of us) → HasNone (HeaderFailures (entries_of us) (placed us))
+    → (((number : ℕ) → HasSignature (placed us) signature number → ⊥) → ⊥) → Reached us unit (ref_sig signature)
+by_signature us unit signature None is rise none never = search (rules, none_signed)
+by_signature us unit signature (Some number) is rise none never =
     let has = at_first_signed (placed us) signature number is in
     let (id, reached) = type_reached us number signature has.type_offset has.unit rise none has.is_unit has.signed in (
       id,
@@ -107,7 +256,7 @@ by_signature us e signature (Some number) is rise none never =
 reached : (us : List DebugUnit) (id : ℕ) (e : Entry) (attribute : ℕ) (v : Datum) → OffsetsRise (entries_of us)
     → HasNone (ReferenceFailures us) → slice_get (entries_of us) id ≡ Some e → value_at_entry e attribute ≡ Some v
     → class_of v ≡ Reference
-    → Reached us e v
+    → Reached us e.unit v
 reached us id e attribute (ref_info offset) rise none is value class =
     is_told (entry_at (entries_of us) offset)
     (λ nowhere. passes_reference us id e attribute (ref_info offset) none is value refl NoEntry (refl, nowhere))
@@ -115,7 +264,7 @@ reached us id e attribute (ref_unit offset) rise none is value class =
     is_told (reach_in_unit (entries_of us) (placed us) e.unit offset)
     (λ nowhere. passes_reference us id e attribute (ref_unit offset) none is value refl NoEntry (refl, nowhere))
 reached us id e attribute (ref_sig signature) rise none is value class =
-    by_signature us e signature (first_signed (placed us) signature) refl rise none
+    by_signature us e.unit signature (first_signed (placed us) signature) refl rise (λ f fails. none f (inl fails))
     (λ unsigned. passes_reference us id e attribute (ref_sig signature) none is value refl NoSignature unsigned)
 reached us id e attribute _ rise none is value class = absurd cc
 
@@ -159,20 +308,22 @@ have_targets «abbrev» info us spells none id e is attribute v value class =
 
 pub have_types : («abbrev» info : List ℕ) (us : List DebugUnit) → Spells «abbrev» us info
     → HasNone (ReferenceFailures us) → HaveTypes us
-have_types «abbrev» info us spells none = record {
-  distinct = distinct_from (entries_of us) (placed us) (λ f fails. none f (inl fails));
-  types = λ number signature type_offset p is kind.
-      let rise = entries_rise «abbrev» us spells.are in
-      let (id, gives) = type_reached us number signature type_offset p rise none is kind in
-      let found = subst (λ (u : PlacedUnit). IsEntryIn (entries_of us) number (u.at + type_offset) id)
-      (get_or_from_slice_get (placed us) number p no_placed is)
-      (at_reach_in_unit (entries_of us) (placed us) number type_offset id gives).target in
-      record {
-        id = id;
-        is_type = found;
-        tag =
-            true_unless (is_type_tag (entry_of (entries_of us) id).head.decl.tag)
-            (λ other. passes_header us number signature type_offset p none is kind BadTypeOffset
-            (inr (refl, not_typed (entries_of us) number (p.at + type_offset) id rise found other)));
-      };
-}
+have_types «abbrev» info us spells none =
+    let headers : HasNone (HeaderFailures (entries_of us) (placed us)) = λ f fails. none f (inl fails) in
+    record {
+      distinct = distinct_from (entries_of us) (placed us) headers;
+      types = λ number signature type_offset p is kind.
+          let rise = entries_rise «abbrev» us spells.are in
+          let (id, gives) = type_reached us number signature type_offset p rise headers is kind in
+          let found = subst (λ (u : PlacedUnit). IsEntryIn (entries_of us) number (u.at + type_offset) id)
+          (get_or_from_slice_get (placed us) number p no_placed is)
+          (at_reach_in_unit (entries_of us) (placed us) number type_offset id gives).target in
+          record {
+            id = id;
+            is_type = found;
+            tag =
+                true_unless (is_type_tag (entry_of (entries_of us) id).head.decl.tag)
+                (λ other. passes_header us number signature type_offset p headers is kind BadTypeOffset
+                (inr (refl, not_typed (entries_of us) number (p.at + type_offset) id rise found other)));
+          };
+    }

@@ -1,17 +1,29 @@
--- Which rules fail at strings and addresses, and which at references: they are of two groups.
-use Rattle.std.proofs.Common.{rules, ◌≡◌, ℕ, List, Option, ap, ◌∙◌, arith, inl, inr}
+-- The rules on strings, addresses and references: their groups, and which of those that fail has the least number.
+use Rattle.std.proofs.Common.{rules, ◌≡◌, ℕ, List, Option, ap, ◌∙◌, arith, inl, inr, false, Some, None, refl, ◌<◌, true, sym, subst}
 use Rattle.dw_elf.specs.declared.sections.Sections.{Sections}
-use Rattle.dw_forms.specs.Value.{Datum, str}
+use Rattle.dw_forms.specs.Value.{Datum, str, ref_sig}
 use Rattle.dw_entries.specs.declared.header.UnitHeader.{UnitHeader}
 use Rattle.dw_entries.specs.declared.fault.PlainFault.{PlainFault}
 use Rattle.dw_forms.specs.declared.rule.Rule.{Rule}
 use Rattle.dw_entries.specs.declared.entry.EntryHead.{EntryHead}
 use Rattle.dw_entries.specs.Units.{DebugUnit}
-use Rattle.dw_forms.specs.Rules.{group_of}
-use Rattle.dw_entries.specs.Failures.{Failure, IsFirst}
+use Rattle.dw_forms.specs.Rules.{group_of, number_of}
+use Rattle.dw_entries.specs.Failures.{Failure, IsFirst, HasNone, IsLeast}
 use Rattle.dw_links.specs.EntryLinks.{IsFirstOfGroup}
 use Rattle.dw_links.specs.Strings.{StringFailsIn, StringFailures}
-use Rattle.dw_links.specs.References.{ReferenceFailures}
+use Rattle.dw_links.specs.References.{ReferenceFailures, HeaderFailures, permits, permits_form, is_signature, is_reference_value, NoEntryThere, IsWrongKind, IsOtherThan, NoSignatureThere, ReferenceFails}
+use Rattle.std.specs.Prelude.{is_some}
+use Rattle.std.proofs.lemmas.Option.{get_or_from_slice_get, none-some}
+use Rattle.dw_forms.specs.declared.rule.Rule.TheVariants as rule
+use Rattle.dw_entries.specs.Entries.{Entry, PlacedUnit}
+use Rattle.dw_entries.specs.declared.entries.Entries.{Entries}
+use Rattle.dw_entries.specs.Views.{all_entries, all_units, units_of}
+use Rattle.dw_entries.specs.ByNumber.{no_entry, entry_of}
+use Rattle.dw_entries.proofs.EntryFacts.{entries_rise}
+use Rattle.dw_entries.proofs.Firsts.{same_some}
+use Rattle.dw_links.specs.Targets.{reach_of}
+use Rattle.dw_links.proofs.LinkedEntries.{by_signature}
+use Rattle.dw_links.proofs.TargetLemmas.{at_type}
 
 string_group : (s : Sections) (h : UnitHeader) (b c : Option ℕ) (head : EntryHead) (a : ℕ) (v : Datum) (rule : Rule)
     → StringFailsIn s h b c head a v rule → group_of rule ≡ 3
@@ -37,3 +49,94 @@ pub reference_first : (s : Sections) (us : List DebugUnit) (broken : PlainFault)
 reference_first s us broken (inl first) is =
     absurd (is (ap group_of first.named.rule ∙ string_failures s us first.failure first.fails))
 reference_first s us broken (inr first) is = first
+
+-- where a premise holds, the least rule is that of what comes under it
+pub least_under : (P Q : Type 0) (F : Rule → Type 0) (o : Option Rule) → P → Q → IsLeast F o
+    → IsLeast (λ r. P × Q × F r) o
+least_under P Q F None p q least = λ rule fails. least rule fails.2
+least_under P Q F (Some r) p q least = ((p, q, least.0), λ rule fails less. least.1 rule fails.2 less)
+
+pub none_of : (o : Option ℕ) → is_some o ≡ false → o ≡ None
+none_of None is = refl
+none_of (Some n) is = absurd cc
+
+-- a signature that reaches no entry is no unit's
+pub no_signature : (entries : Entries) (unit : ℕ) (v : Datum)
+    → HasNone (HeaderFailures (all_entries entries) (all_units entries)) → is_signature v ≡ true
+    → reach_of (all_entries entries) (all_units entries) unit v ≡ None → NoSignatureThere (all_units entries) v
+no_signature entries unit (ref_sig s) none is nowhere = λ number has.
+    let us = units_of entries in
+    let (id, reaches) = by_signature us unit s _ refl (entries_rise _ us entries.scanned.1.spells.are) none
+    (λ unsigned. unsigned number has) in
+    none-some id (sym nowhere ∙ reaches)
+no_signature entries unit _ none is nowhere = absurd cc
+
+-- a reference that reaches an entry has its signature
+not_unsigned : (entries : List Entry) (units : List PlacedUnit) (unit : ℕ) (v : Datum) (id : ℕ)
+    → reach_of entries units unit v ≡ Some id → NoSignatureThere units v → ⊥
+not_unsigned entries units unit (ref_sig s) id reaches none =
+    let found = at_type entries units s id reaches in none found.number found.has
+not_unsigned entries units unit _ id reaches none = none
+
+-- the kinds of its form and of its target are permitted
+not_wrong : (entries : List Entry) (head : EntryHead) (a : ℕ) (v : Datum) (id : ℕ) → true ≡ permits_form head a v
+    → true ≡ permits head a (entry_of entries id) → IsWrongKind entries head a v (Some id) → ⊥
+not_wrong entries head a v id form kind wrong =
+    elim wrong [
+      | inl other ↦ let both : true ≡ false = form ∙ other in cc
+      | inr other ↦
+          let some : Some id ≡ Some other.id = other.reaches in
+          let same : id ≡ other.id = cc in
+          let target : entry_of entries id ≡ other.target = ap (entry_of entries) same
+          ∙ get_or_from_slice_get entries other.id other.target no_entry other.is_target in
+          let both : true ≡ false = kind ∙ ap (permits head a) target ∙ other.wrong in cc
+    ]
+
+-- a sibling attribute reaches the next sibling
+pub right_sibling : (next reached : Option ℕ) (id : ℕ) → reached ≡ Some id → next ≡ Some id → IsOtherThan next reached
+    → ⊥
+right_sibling next reached id reaches is other = search (rules, same_some)
+
+pub other_sibling : (next reached : Option ℕ) (id : ℕ) → reached ≡ Some id → (next ≡ Some id → ⊥)
+    → IsOtherThan next reached
+other_sibling None reached id reaches other = tt
+other_sibling (Some n) reached id reaches other = (id, reaches, λ same. other (ap (λ (i : ℕ). Some i) (sym same)))
+
+no_entry_not : (entries : List Entry) (units : List PlacedUnit) (unit : ℕ) (v : Datum) (id : ℕ)
+    → reach_of entries units unit v ≡ Some id → NoEntryThere v (reach_of entries units unit v) → ⊥
+no_entry_not entries units unit v id reaches none = none-some id (sym none.1 ∙ reaches)
+
+-- four rules are asked of references
+by_rule : (entries : List Entry) (units : List PlacedUnit) (entry : EntryHead) (a : ℕ) (v : Datum) (P : Rule → Type 0)
+    → (ReferenceFails entries units entry a v rule.NoEntry → P rule.NoEntry)
+    → (ReferenceFails entries units entry a v rule.WrongKind → P rule.WrongKind)
+    → (ReferenceFails entries units entry a v rule.NotNextSibling → P rule.NotNextSibling)
+    → (ReferenceFails entries units entry a v rule.NoSignature → P rule.NoSignature)
+    → (r : Rule) → ReferenceFails entries units entry a v r → P r
+by_rule entries units entry a v P p q s t rule.NoEntry fails = p fails
+by_rule entries units entry a v P p q s t rule.WrongKind fails = q fails
+by_rule entries units entry a v P p q s t rule.NotNextSibling fails = s fails
+by_rule entries units entry a v P p q s t rule.NoSignature fails = t fails
+by_rule entries units entry a v P p q s t _ fails = absurd fails.1
+
+pub least_other : (entries : List Entry) (units : List PlacedUnit) (head : EntryHead) (a : ℕ) (v : Datum) (id : ℕ)
+    → reach_of entries units head.unit v ≡ Some id → true ≡ permits_form head a v
+    → true ≡ permits head a (entry_of entries id) → (r : Rule)
+    → ReferenceFails entries units head a v r → number_of r < 3 → ⊥
+least_other entries units head a v id reaches form kind =
+    let right = not_wrong entries head a v id form kind in search (rules, by_rule, no_entry_not)
+
+pub least_none : (entries : List Entry) (units : List PlacedUnit) (head : EntryHead) (a : ℕ) (v : Datum) (id : ℕ)
+    → reach_of entries units head.unit v ≡ Some id → true ≡ permits_form head a v
+    → true ≡ permits head a (entry_of entries id)
+    → ((a ≡ 1) × IsOtherThan head.next_sibling (reach_of entries units head.unit v) → ⊥)
+    → (r : Rule) → ReferenceFails entries units head a v r → ⊥
+least_none entries units head a v id reaches form kind next =
+    by_rule entries units head a v (λ r. ⊥) (λ f. no_entry_not entries units head.unit v id reaches f.1)
+    (λ f. not_wrong entries head a v id form kind (subst (IsWrongKind entries head a v) reaches f.1)) (λ f. next f.1)
+    (λ f. not_unsigned entries units head.unit v id reaches f.1)
+
+pub wrong_first : (entries : List Entry) (units : List PlacedUnit) (head : EntryHead) (a : ℕ) (v : Datum) (id : ℕ)
+    → is_reference_value v ≡ true → reach_of entries units head.unit v ≡ Some id
+    → IsWrongKind entries head a v (Some id) → IsLeast (ReferenceFails entries units head a v) (Some rule.WrongKind)
+wrong_first entries units head a v id reference reaches wrong = search (rules, by_rule, no_entry_not)

@@ -22,7 +22,7 @@ use Rattle.std.specs.Option.{unwrap_or, option_and_then}
 use Rattle.dw_forms.specs.Codes.{DW_AT_type}
 use Rattle.dw_entries.specs.declared.entries.Entries.{Entries}
 use Rattle.dw_entries.specs.Leading.{DoesNotLead}
-use Rattle.dw_links.specs.EntryLinks.{kept_after, Keeps, HasFailedAs, IsEntryLinked, IsFirstAtEntry}
+use Rattle.dw_links.specs.EntryLinks.{kept_after, Reaches, HasFailedAs, IsEntryLinked, IsFirstAtEntry}
 use Rattle.dw_links.specs.UnitAtHand.{FailsByText, FailsByTarget, target_by}
 use Rattle.dw_links.specs.Targets.{target_of}
 use Rattle.dw_links.proofs.ClassLemmas.{leads, passes_texts, passes_targets}
@@ -86,8 +86,7 @@ module _ (Fails : Rules) (Pass : AttributeSpec → Type 0)
         (ap (λ xs. slice_get xs j) (sym l.parts) ∙ has))
 
     module _ (e : Entry) (left behind : List (ℕ × Datum)) (a : ℕ) (v : Datum)
-        (l : Checked Fails (entry_head e) (values_of e.head) left) (n : IsNextOf Pass left (a, v) behind)
-        (head : EntryHead) (same : head ≡ entry_head e) where
+        (l : Checked Fails (entry_head e) (values_of e.head) left) (n : IsNextOf Pass left (a, v) behind) where
       joined : values_of e.head ≡ (l.done ++ n.passed) ++ (a, v) ∷ behind
       joined =
           l.parts ∙ ap (λ (xs : List (ℕ × Datum)). l.done ++ xs) n.parts
@@ -99,33 +98,24 @@ module _ (Fails : Rules) (Pass : AttributeSpec → Type 0)
           (passed_none (entry_head e) n.passed n.are_passed)
 
       -- where a rule fails, that is the first failure
-      pub checked_fails : (rule : Rule) (broken : PlainFault) → IsLeast (Fails head a v) (Some rule)
-          → broken ≡ record { rule = rule; section = Info; at = head.offset; attribute = a }
-          → IsFirst (AtHead Fails e) broken
+      pub checked_fails : (rule : Rule) (broken : PlainFault) → IsLeast (Fails (entry_head e) a v) (Some rule)
+          → broken ≡ record { rule = rule; section = Info; at = e.at; attribute = a } → IsFirst (AtHead Fails e) broken
       checked_fails rule broken least is =
           let stands : slice_get (values_of e.head) (length (l.done ++ n.passed))
           ≡ Some (a, v) = ap (λ (xs : List (ℕ × Datum)). slice_get xs (length (l.done ++ n.passed))) joined
           ∙ between_get (l.done ++ n.passed) behind (a, v) in
-          let P : EntryHead → Type 0 = λ h. IsLeast (Fails h a v) (Some rule) in
           first_of_attributes (λ x. Fails (entry_head x)) e (length (l.done ++ n.passed)) a v rule broken stands
           (λ j b w lt has. none_at Fails (entry_head e) (l.done ++ n.passed) j (b, w) before_none
           (sym (get_front (l.done ++ n.passed) ((a, v) ∷ behind) j lt) ∙ ap (λ xs. slice_get xs j) (sym joined) ∙ has))
-          (subst P same least)
-          (record {
-            rule = ap (λ (b : PlainFault). b.rule) is;
-            section = ap (λ (b : PlainFault). b.section) is;
-            at = ap (λ (b : PlainFault). b.at) is ∙ ap (λ (h : EntryHead). h.offset) same;
-            attribute = ap (λ (b : PlainFault). b.attribute) is;
-          })
+          least (rw is (record { rule = refl; section = refl; at = refl; attribute = refl }))
 
       -- one attribute more, where no rule fails
-      pub checked_more : IsLeast (Fails head a v) None → Checked Fails (entry_head e) (values_of e.head) behind
+      pub checked_more : IsLeast (Fails (entry_head e) a v) None
+          → Checked Fails (entry_head e) (values_of e.head) behind
       checked_more none = record {
         done = (l.done ++ n.passed) ++ (a, v) ∷ [];
         parts = joined ∙ sym (append_assoc (l.done ++ n.passed) ((a, v) ∷ []) behind);
-        none =
-            let P : EntryHead → Type 0 = λ h. (r : Rule) → Fails h a v r → ⊥ in
-            All-push (Passes Fails (entry_head e)) (l.done ++ n.passed) (a, v) before_none (subst P same none);
+        none = All-push (Passes Fails (entry_head e)) (l.done ++ n.passed) (a, v) before_none none;
       }
 
 -- ---- the first type
@@ -197,17 +187,18 @@ module _ (entries : Entries) (e : Entry) (left : List (ℕ × Datum)) where
   -- one attribute more
   module _ (kept : Option (Option ℕ)) (s : SoFar entries e left kept) (item : ℕ × Datum) (behind : List (ℕ × Datum))
       (next : IsNextOf DoesNotLead left item behind) where
-    pub more_so_far : (after : Option (Option ℕ)) → Keeps entries item.0 item.1 kept after (entry_head e)
+    pub more_so_far : (after : Option (Option ℕ)) (reached : Option ℕ)
+        → Reaches entries (entry_head e) item.0 item.1 reached → after ≡ kept_after kept item.0 reached
         → SoFar entries e behind after
-    more_so_far after k = record {
+    more_so_far after reached r is = record {
       strings =
           checked_more (FailsByText entries) DoesNotLead (passes_texts entries) e left behind item.0 item.1
-          s.strings next (entry_head e) refl k.passes.strings;
+          s.strings next r.strings;
       references =
           checked_more (FailsByTarget entries) DoesNotLead (passes_targets entries) e left behind item.0 item.1
-          s.references next (entry_head e) refl k.passes.references;
+          s.references next r.references;
       keeps =
-          rw k.is_kept (keeps_more (target_by entries (entry_head e)) (values_of e.head) left behind kept
+          rw (is, r.is_target) (keeps_more (target_by entries (entry_head e)) (values_of e.head) left behind kept
           item.0 item.1 s.keeps next);
     }
 
@@ -217,7 +208,7 @@ module _ (entries : Entries) (e : Entry) (left : List (ℕ × Datum)) where
     fails_so_far broken fails =
         elim fails [
           | inl f ↦ inl (checked_fails (FailsByText entries) DoesNotLead (passes_texts entries) e left behind
-              item.0 item.1 s.strings next (entry_head e) refl f.rule broken f.least f.named)
+              item.0 item.1 s.strings next f.rule broken f.least f.named)
           | inr f ↦ inr (checked_fails (FailsByTarget entries) DoesNotLead (passes_targets entries) e left behind
-              item.0 item.1 s.references next (entry_head e) refl f.rule broken f.least f.named)
+              item.0 item.1 s.references next f.rule broken f.least f.named)
         ]

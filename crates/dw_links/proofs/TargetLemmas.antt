@@ -1,8 +1,8 @@
 -- The first item of a list that passes a test, and the entry that a value reaches.
-use Rattle.std.proofs.Common.{rules, ltb, get_or, ◌≤◌, ◌≡◌, ℕ, ◌+◌, ◌<◌, Bool, true, false, cond, List, Option, Some, None, IfSome, IfNone, refl, sym, ap, ◌∙◌, arith, ◌==◌, ◌&&◌, length, IsSome, option_and_then, subst, eq-eqb}
+use Rattle.std.proofs.Common.{rules, ltb, get_or, ◌≤◌, ◌≡◌, ℕ, ◌+◌, ◌<◌, Bool, true, false, cond, List, Option, Some, None, IfSome, IfNone, refl, sym, ap, ◌∙◌, arith, ◌==◌, ◌&&◌, length, option_and_then, subst, eq-eqb}
 use Rattle.std.specs.Prelude.{slice_get, All, ◌≢◌}
 use Rattle.std.specs.List.{position_from, position_or_len}
-use Rattle.std.proofs.lemmas.Option.{slice_get_within, slice_get-get_or, get_or_from_slice_get, option_and_then_some}
+use Rattle.std.proofs.lemmas.Option.{slice_get_within, slice_get-get_or, get_or_from_slice_get, option_and_then_some, cond_some}
 use Rattle.std.proofs.lemmas.Bool.{eqb-true, ltb-true, ltb-false, lt-ltb}
 use Rattle.std.proofs.lemmas.Iterator.Adapters.{position_from-zero}
 use Rattle.std.proofs.lemmas.List.Sums.{position_or_len_is, passes_at_first, fails_before_first}
@@ -15,55 +15,36 @@ use Rattle.dw_links.proofs.ListLookups.{there}
 use Rattle.dw_links.specs.LinkLaws.{ReachesBySignature}
 use Rattle.dw_links.specs.Signatures.{type_unit_of, HasSignature, is_signature_of, first_signed, HaveDistinctSignatures}
 use Rattle.dw_links.specs.SignedTypes.{IsSignedType}
-use Rattle.dw_links.specs.Targets.{entry_at, entry_number_at, reach_in_unit, type_of_unit, signed_type}
-use Rattle.dw_links.specs.Targets.{reach_of}
-
--- no item before a place passes the test
-abbrev pub NoneBefore : {X : Type 0} → (X → Bool) → List X → ℕ → Type 0
-NoneBefore {X} test xs i = (j : ℕ) (y : X) → j < i → slice_get xs j ≡ Some y → test y ≡ false
-
--- the item at a place passes the test, and none before it does
-pub record IsFirstAt {X : Type 0} (test : X → Bool) (xs : List X) (i : ℕ) : Type 0 where
-  pub item : X
-  pub is_item : slice_get xs i ≡ Some item
-  pub passes : test item ≡ true
-  pub before : NoneBefore test xs i
-
-below : (b : Bool) (p n k : ℕ) → ltb p n ≡ b → cond b (Some p) None ≡ Some k → (p ≡ k) × (p < n)
-below true p n k q e = (cc, ltb-true p n q)
-below false p n k q e = absurd cc
+use Rattle.dw_links.specs.Targets.{entry_at, entry_number_at, reach_in_unit, type_of_unit, signed_type, reach_of}
 
 past : (b : Bool) (p n : ℕ) → ltb p n ≡ b → cond b (Some p) None ≡ None → n ≤ p
 past true p n q e = absurd cc
 past false p n q e = ltb-false p n q
 
--- the place of the first such item is the position
-pub position_is : {X : Type 0} (test : X → Bool) (xs : List X) (i : ℕ) → IsFirstAt test xs i
+-- the place of the first item that passes the test is the position
+pub position_is : {X : Type 0} (test : X → Bool) (xs : List X) (i : ℕ) (x : X) → slice_get xs i ≡ Some x
+    → test x ≡ true → ((j : ℕ) (y : X) → j < i → slice_get xs j ≡ Some y → test y ≡ false)
     → position_from test 0 xs ≡ Some i
-position_is test xs i first =
-    let within = slice_get_within xs i first.item first.is_item in
-    let is_i : position_or_len test xs ≡ i = position_or_len_is test xs i first.item (omega (arith, within))
-    (λ k lt. first.before k (get_or xs k first.item) lt (slice_get-get_or xs k first.item (omega (arith, within, lt))))
-    (λ _. ap test (get_or_from_slice_get xs i first.item first.item first.is_item) ∙ first.passes) in
+position_is test xs i x is passes before =
+    let within = slice_get_within xs i x is in
+    let is_i : position_or_len test xs ≡ i = position_or_len_is test xs i x (omega (arith, within))
+    (λ k lt. before k (get_or xs k x) lt (slice_get-get_or xs k x (omega (arith, within, lt))))
+    (λ _. ap test (get_or_from_slice_get xs i x x is) ∙ passes) in
     sym (position_from-zero test xs) ∙ rw (is_i, lt-ltb i (length xs) within) refl
 
 -- at the position is such an item
 pub place_is : {X : Type 0} (test : X → Bool) (xs : List X) (k : ℕ) → position_from test 0 xs ≡ Some k
-    → IsFirstAt test xs k
+    → (x : X) × (slice_get xs k ≡ Some x) × (test x ≡ true)
 place_is test xs k is =
-    let (same, within) = below (ltb (position_or_len test xs) (length xs)) (position_or_len test xs) (length xs) k refl
+    let (less, same) = cond_some (ltb (position_or_len test xs) (length xs)) (position_or_len test xs) k
     (position_from-zero test xs ∙ is) in
-    let (x, is_x) = there xs k (omega (arith, same, within)) in
-    record {
-      item = x;
-      is_item = is_x;
-      passes =
-          ap test (sym (get_or_from_slice_get xs k x x is_x) ∙ ap (λ (n : ℕ). get_or xs n x) (sym same))
-          ∙ passes_at_first test xs x within;
-      before =
-          λ j y lt at. ap test (sym (get_or_from_slice_get xs j y y at))
-          ∙ fails_before_first test xs j y (omega (arith, lt, same));
-    }
+    let within = ltb-true (position_or_len test xs) (length xs) less in
+    let (x, is_x) = there xs k (omega (arith, same, within)) in (
+      x,
+      is_x,
+      ap test (sym (get_or_from_slice_get xs k x x is_x) ∙ ap (λ (n : ℕ). get_or xs n x) (sym same))
+          ∙ passes_at_first test xs x within,
+    )
 
 -- where there is no position, no item passes
 pub none_passes : {X : Type 0} (test : X → Bool) (xs : List X) → position_from test 0 xs ≡ None → (j : ℕ) (y : X)
@@ -94,23 +75,14 @@ at_offset : (test : Entry → Bool) (entries : List Entry) (offset id : ℕ) →
 at_offset test entries offset id rise at within passes =
     let e = entry_of entries id in
     let is = slice_get-get_or entries id no_entry within in
-    position_is test entries id
-    (record {
-      item = e;
-      is_item = is;
-      passes = passes;
-      before =
-          λ j d lt is_d. false_unless (test d)
-          (λ also. omega (arith, rise j id d e lt is_d is, at d also, at e passes));
-    })
+    position_is test entries id e is passes
+    (λ j d lt is_d. false_unless (test d) (λ also. omega (arith, rise j id d e lt is_d is, at d also, at e passes)))
 
 found_entry : (test : Entry → Bool) (entries : List Entry) (id : ℕ) → position_from test 0 entries ≡ Some id
     → (id < length entries) × (test (entry_of entries id) ≡ true)
 found_entry test entries id is =
-    let first = place_is test entries id is in (
-      slice_get_within entries id first.item first.is_item,
-      ap test (get_or_from_slice_get entries id first.item no_entry first.is_item) ∙ first.passes,
-    )
+    let (e, is_e, passes) = place_is test entries id is in
+    (slice_get_within entries id e is_e, ap test (get_or_from_slice_get entries id e no_entry is_e) ∙ passes)
 
 pub entry_at_is : (entries : List Entry) (offset id : ℕ) → OffsetsRise entries
     → IsEntryAt entries offset id → entry_at entries offset ≡ Some id
@@ -216,8 +188,8 @@ pub at_first_signed : (units : List PlacedUnit) (signature number : ℕ) → fir
     → HasSignature units signature number
 unfolding first_signed
 at_first_signed units signature number is =
-    let first = place_is (signs signature) units number is in
-    signature_here units signature number first.item first.is_item first.passes
+    let (u, is_u, passes) = place_is (signs signature) units number is in
+    signature_here units signature number u is_u passes
 
 -- a unit that has it, and none before it has, is found first
 pub first_signed_is : (units : List PlacedUnit) (signature number : ℕ) → HasSignature units signature number
@@ -286,15 +258,6 @@ signed_type_is entries units signature None none =
     none i (slice_get_within units i has.unit has.is_unit) has))
 signed_type_is entries units signature (Some id) found =
     sym (rw found.2 found.3)
-
--- each signature has a type
-pub signed_some : (entries : List Entry) (units : List PlacedUnit) (signature number : ℕ) (o : Option ℕ)
-    → IsSignedType entries units signature (length units) o → HasSignature units signature number
-    → IsSome (signed_type entries units signature)
-signed_some entries units signature number None none has =
-    absurd (none number (slice_get_within units number has.unit has.is_unit) has)
-signed_some entries units signature number (Some id) found has =
-    subst (λ (o : Option ℕ). IsSome o) (signed_type_is entries units signature (Some id) found) refl
 
 -- ---- what a value reaches
 

@@ -1,6 +1,6 @@
 -- Rules by what was read of a unit are the rules among all entries; what holds of a fault, unless memory ran out; and
 -- one entry after the other, of one unit after another.
-use Rattle.std.proofs.Common.{rules, ◌≡◌, ℕ, ◌+◌, ◌<◌, ◌≤◌, length, Option, None, Some, ap, sym, ◌∙◌, arith, inl, inr, suc, List, [], ◌∷◌, map, take, set, refl}
+use Rattle.std.proofs.Common.{rules, ◌≡◌, ℕ, ◌+◌, ◌<◌, ◌≤◌, length, Option, None, Some, ap, sym, ◌∙◌, arith, inl, inr, suc, List, [], ◌∷◌, map, take, set, refl, zero}
 use Rattle.std.specs.Prelude.{slice_get}
 use Rattle.std.proofs.lemmas.Option.{slice_get-get_or, slice_get_cases, slice_get_within}
 use Rattle.dw_forms.specs.Value.{Datum}
@@ -12,23 +12,23 @@ use Rattle.dw_entries.specs.declared.entry.EntryHead.{EntryHead}
 use Rattle.dw_forms.specs.declared.fault.Stop.{Stop}
 use Rattle.dw_forms.specs.declared.fault.Stop.TheVariants.{Memory, Fault}
 use Rattle.dw_entries.specs.EntryRules.{AtEntries}
-use Rattle.dw_entries.specs.Entries.{Entry, entries_of, node_count, PlacedUnit, placed}
+use Rattle.dw_entries.specs.Entries.{Entry, entries_of, node_count, PlacedUnit, placed, start_of, placed_from}
 use Rattle.dw_entries.specs.ByNumber.{no_entry, entry_of, end_in, placed_of}
 use Rattle.dw_entries.specs.Failures.{plain_fault_of, HasNone, IsFirst, IsLeast}
 use Rattle.dw_entries.specs.Stopped.{IfPlainFault}
 use Rattle.dw_entries.specs.Views.{sections_of, all_entries, all_units, units_of}
 use Rattle.dw_entries.proofs.EntryFacts.{entries_rise, first_entry, length-placed}
-use Rattle.dw_entries.proofs.FirstPlaces.{first_by_right}
-use Rattle.dw_entries.proofs.Firsts.{same_some, first_of_entries, more_of_list, none_of_entries, attributes_stand}
+use Rattle.dw_entries.proofs.FirstPlaces.{first_by_right, header_precedes_le}
+use Rattle.dw_entries.proofs.Firsts.{same_some, first_of_entries, more_of_list, none_of_entries, attributes_stand, first_of_list}
 use Rattle.dw_links.specs.declared.strings.UnitContributions.{UnitContributions}
 use Rattle.dw_links.specs.RulesOfAttributes.{Rules, AtHead}
 use Rattle.dw_links.specs.UnitAtHand.{FailsByText, FailsByTarget}
 use Rattle.dw_links.specs.EntryLinks.{IsFirstAtEntry, IsFirstOfGroup}
-use Rattle.dw_links.specs.References.{HeaderFailures, AttributeFailures}
+use Rattle.dw_links.specs.References.{HeaderFailures, AttributeFailures, AtHeader}
 use Rattle.dw_links.specs.UnitContributions.{AreContributions, FailsByTexts}
 use Rattle.dw_links.proofs.ClassLemmas.{in_units, unit_there}
 use Rattle.std.proofs.lemmas.List.{take_more_set}
-use Rattle.dw_entries.specs.Units.{DebugUnit}
+use Rattle.dw_entries.specs.Units.{DebugUnit, unit_bytes, AreUnits}
 use Rattle.dw_entries.proofs.UnitRanges.{next_first, last_ends}
 use Rattle.dw_forms.specs.Codes.{DW_AT_str_offsets_base, DW_AT_addr_base}
 use Rattle.dw_links.specs.Bases.{base_in}
@@ -36,6 +36,7 @@ use Rattle.dw_links.specs.Constants.{language_of}
 use Rattle.dw_links.specs.declared.constant.Constant.{Constant}
 use Rattle.dw_links.specs.Tables.{target_of_type}
 use Rattle.dw_links.proofs.TableLemmas.{map_one_more}
+use Rattle.dw_entries.specs.UnitLaws.{unit_some}
 
 -- what follows from it holds too
 pub if_fault : {P Q : PlainFault → Type 0} → ((b : PlainFault) → P b → Q b) → (stop : Stop FaultOf)
@@ -186,3 +187,45 @@ pub types_more : (entries : Entries) (types : List (Option ℕ)) (number : ℕ) 
     ≡ map (target_of_type (all_entries entries) (all_units entries)) (take (number + 1) (all_entries entries))
 types_more entries types number e target is long before here =
     search (rules, take_more_set, slice_get_within, map_one_more)
+
+-- of the units, one after the other
+abbrev pub UnitsRise : List PlacedUnit → Type 0
+UnitsRise units =
+    (i j : ℕ) (a b : PlacedUnit) → i < j → slice_get units i ≡ Some a → slice_get units j ≡ Some b → a.at < b.at
+
+pub first_header : (entries : List Entry) (units : List PlacedUnit) (number : ℕ) (u : PlacedUnit) (broken : PlainFault)
+    → UnitsRise units → slice_get units number ≡ Some u
+    → ((j : ℕ) (v : PlacedUnit) → j < number → slice_get units j ≡ Some v → HasNone (AtHeader entries units j v))
+    → IsFirst (AtHeader entries units number u) broken
+    → IsFirst (HeaderFailures entries units) broken
+first_header entries units number u broken rise is passed first =
+    first_of_list units (λ u. u.at) (AtHeader entries units) number u broken rise
+    (λ i j a b f g f_fails g_fails. header_precedes_le a.at b.at f g f_fails.stands g_fails.stands) is passed first
+
+-- units stand in rising offset
+placed_least : (at first : ℕ) (us : List DebugUnit) (j : ℕ) (b : PlacedUnit)
+    → slice_get (placed_from at first us) j ≡ Some b → at ≤ b.at
+placed_least at first [] j b is = absurd cc
+placed_least at first (u ∷ us) zero b is = search (rules)
+placed_least at first (u ∷ us) (suc j) b is =
+    omega (arith, placed_least (at + length (unit_bytes u)) (first + node_count u.root) us j b is)
+
+placed_from_rise : («abbrev» : List ℕ) (at first : ℕ) (us : List DebugUnit) → AreUnits «abbrev» us
+    → (i j : ℕ) (a b : PlacedUnit) → i < j → slice_get (placed_from at first us) i ≡ Some a
+    → slice_get (placed_from at first us) j ≡ Some b → a.at < b.at
+placed_from_rise «abbrev» at first [] are i j a b lt is_a is_b = absurd cc
+placed_from_rise «abbrev» at first (u ∷ us) are i zero a b lt is_a is_b = absurd (omega arith)
+placed_from_rise «abbrev» at first (u ∷ us) are zero (suc j) a b lt is_a is_b =
+    let here : at ≡ a.at = search (rules) in
+    omega (
+      arith,
+      here,
+      placed_least (at + length (unit_bytes u)) (first + node_count u.root) us j b is_b,
+      unit_some «abbrev» u are.0,
+    )
+placed_from_rise «abbrev» at first (u ∷ us) are (suc i) (suc j) a b lt is_a is_b =
+    placed_from_rise «abbrev» (at + length (unit_bytes u)) (first + node_count u.root) us are.1 i j a b (omega arith)
+    is_a is_b
+
+pub placed_rise : («abbrev» : List ℕ) (us : List DebugUnit) → AreUnits «abbrev» us → UnitsRise (placed us)
+placed_rise «abbrev» us = placed_from_rise «abbrev» (start_of us) 0 us

@@ -24,16 +24,13 @@ constant_of (Some v) = constant_in v
 -- the entry has the attribute
 abbrev pub is_present : Constant → Bool
 is_present Absent = false
-is_present NotNumber = true
-is_present (Unsigned n) = true
-is_present (Signed n) = true
+is_present _ = true
 
 -- the number under an attribute
 abbrev pub number_of_constant : Constant → Option ℤ
-number_of_constant Absent = None
-number_of_constant NotNumber = None
 number_of_constant (Unsigned n) = Some (pos n)
 number_of_constant (Signed n) = Some n
+number_of_constant _ = None
 
 -- a number of 0 or more
 abbrev pub natural : ℤ → Option ℕ
@@ -42,10 +39,9 @@ natural (negsuc n) = None
 
 -- the number of 0 or more under an attribute
 abbrev pub natural_of : Constant → Option ℕ
-natural_of Absent = None
-natural_of NotNumber = None
 natural_of (Unsigned n) = Some n
 natural_of (Signed n) = natural n
+natural_of _ = None
 
 -- below 0
 abbrev pub is_below_zero : ℤ → Bool
@@ -54,10 +50,8 @@ is_below_zero (negsuc n) = true
 
 -- the attribute is a number below 0
 abbrev pub is_negative : Constant → Bool
-is_negative Absent = false
-is_negative NotNumber = false
-is_negative (Unsigned n) = false
 is_negative (Signed n) = is_below_zero n
+is_negative _ = false
 
 -- a number of 64 bits, with or without a sign
 abbrev pub IsOf64Bits : ℤ → Type 0

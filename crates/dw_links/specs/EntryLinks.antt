@@ -26,10 +26,12 @@ abbrev pub kept_after : Option (Option ℕ) → (attribute : ℕ) → (reached :
 kept_after (Some target) attribute reached = Some target
 kept_after None attribute reached = if attribute == DW_AT_type then Some reached else None
 
--- no rule fails at an attribute with this value
-pub record PassesAs (entries : Entries) (head : EntryHead) (attribute : ℕ) (value : Datum) : Type 0 where
+-- no rule fails at an attribute with this value, and this is the target
+pub record Reaches (entries : Entries) (head : EntryHead) (attribute : ℕ) (value : Datum) (reached : Option ℕ) : Type
+    0 where
   pub strings : IsLeast (FailsByText entries head attribute value) None
   pub references : IsLeast (FailsByTarget entries head attribute value) None
+  pub is_target : reached ≡ target_by entries head value
 
 -- a rule fails at an attribute with this value
 pub record FailsAtValue (Fails : Rules) (head : EntryHead) (attribute : ℕ) (value : Datum) (broken : PlainFault) : Type
@@ -44,12 +46,6 @@ HasFailedAs entries head attribute value broken =
     FailsAtValue (FailsByText entries) head attribute value broken
     ⊎ FailsAtValue (FailsByTarget entries) head attribute value broken
 
--- no rule fails at an attribute, and after it this is kept of the target of the first type
-pub record Keeps (entries : Entries) (attribute : ℕ) (value : Datum) (before after : Option (Option ℕ))
-    (head : EntryHead) : Type 0 where
-  pub passes : PassesAs entries head attribute value
-  pub is_kept : after ≡ kept_after before attribute (target_by entries head value)
-
 -- ---- the same, of an entry by its number
 
 -- a rule fails at its attribute
@@ -58,14 +54,12 @@ HasFailedAt it id = HasFailedAs (entries_followed it) (entry_head (entry_with it
 
 -- no rule fails at its attribute, and this is the target
 abbrev pub ReachesAt : UnitLinks → (id attribute : ℕ) → Datum → (reached : Option ℕ) → Type 0
-ReachesAt it id attribute value reached =
-    PassesAs (entries_followed it) (entry_head (entry_with it id)) attribute value
-    × (reached ≡ target_by (entries_followed it) (entry_head (entry_with it id)) value)
+ReachesAt it id = Reaches (entries_followed it) (entry_head (entry_with it id))
 
--- no rule fails at its attribute, and this is kept
+-- no rule fails at its attribute, and after it this is kept of the target of the first type
 abbrev pub KeepsAt : UnitLinks → (id attribute : ℕ) → Datum → (before after : Option (Option ℕ)) → Type 0
 KeepsAt it id attribute value before after =
-    Keeps (entries_followed it) attribute value before after (entry_head (entry_with it id))
+    (reached : Option ℕ) × ReachesAt it id attribute value reached × (after ≡ kept_after before attribute reached)
 
 -- no rule fails at an entry, and its type has this target
 pub record IsEntryLinked (entries : Entries) (e : Entry) (target : Option ℕ) : Type 0 where

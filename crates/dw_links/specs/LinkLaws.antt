@@ -10,7 +10,6 @@ use Rattle.dw_entries.specs.Entries.{Entry, PlacedUnit, entries_of, placed}
 use Rattle.dw_entries.specs.EntryRules.{EachEntry, HasAttribute}
 use Rattle.dw_entries.specs.Lookups.{entry_head, value_at_entry}
 use Rattle.dw_entries.specs.EntriesAt.{IsEntryIn}
-use Rattle.dw_forms.specs.declared.class.Class.{Class}
 use Rattle.dw_forms.specs.declared.class.Class.TheVariants.{Reference}
 use Rattle.dw_links.specs.Classes.{class_of}
 use Rattle.dw_links.specs.References.{permits, permits_form, HasType}
@@ -24,12 +23,6 @@ use Rattle.dw_links.specs.Strings.{IsStringContribution, IsAddressContribution}
 abbrev pub EachValue : (Entry → ℕ → Datum → Type 0) → List Entry → Type 0
 EachValue P =
     EachEntry (λ e. (position attribute : ℕ) (v : Datum) → HasAttribute e position attribute v → P e attribute v)
-
--- a fact of each attribute that has a value of a class
-abbrev pub EachValueOf : Class → (Entry → ℕ → Datum → Type 0) → List Entry → Type 0
-EachValueOf class P entries =
-    EachEntry (λ e. (attribute : ℕ) (v : Datum) → value_at_entry e attribute ≡ Some v → class_of v ≡ class
-    → P e attribute v) entries
 
 -- a signature refers to the entry at the type offset of a unit that has it
 pub record ReachesBySignature (entries : List Entry) (units : List PlacedUnit) (signature id : ℕ) : Type 0 where
@@ -52,7 +45,9 @@ pub record HasTarget (entries : List Entry) (units : List PlacedUnit) (e : Entry
 
 -- each value of class reference has a target
 abbrev pub HaveTargets : List DebugUnit → Type 0
-HaveTargets units = EachValueOf Reference (HasTarget (entries_of units) (placed units)) (entries_of units)
+HaveTargets units =
+    EachEntry (λ e. (attribute : ℕ) (v : Datum) → value_at_entry e attribute ≡ Some v → class_of v ≡ Reference
+    → HasTarget (entries_of units) (placed units) e attribute v) (entries_of units)
 
 -- no two type units have one signature, and a type begins at the type offset of each
 pub record HaveTypes (units : List DebugUnit) : Type 0 where

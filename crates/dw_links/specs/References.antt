@@ -9,7 +9,7 @@ use Rattle.dw_forms.specs.declared.rule.Rule.TheVariants.{SignatureTwice, BadTyp
 use Rattle.dw_entries.specs.declared.entry.EntryHead.{EntryHead}
 use Rattle.dw_entries.specs.Lookups.{value_at_entry}
 use Rattle.dw_entries.specs.Units.{DebugUnit}
-use Rattle.dw_entries.specs.Entries.{Entry, entries_of}
+use Rattle.dw_entries.specs.Entries.{Entry, PlacedUnit, entries_of, placed}
 use Rattle.dw_entries.specs.ByNumber.{entry_of}
 use Rattle.dw_entries.specs.EntriesAt.{IsEntryIn}
 use Rattle.dw_entries.specs.Places.{at_header}
@@ -18,7 +18,6 @@ use Rattle.dw_entries.specs.EntryRules.{AtPlace, AtEntries, InList}
 use Rattle.dw_forms.specs.Codes.{DW_AT_sibling, DW_AT_import, DW_AT_specification, DW_AT_type, DW_AT_signature}
 use Rattle.dw_forms.specs.Codes.{DW_AT_declaration, DW_TAG_imported_unit, DW_TAG_structure_type, DW_TAG_union_type}
 use Rattle.dw_forms.specs.Codes.{DW_TAG_enumeration_type, DW_TAG_compile_unit, DW_TAG_partial_unit, is_type_tag}
-use Rattle.dw_entries.specs.Entries.{PlacedUnit, placed}
 use Rattle.dw_links.specs.Classes.{is_one_of}
 use Rattle.dw_links.specs.RulesOfAttributes.{AtHead}
 use Rattle.dw_links.specs.Signatures.{type_unit_of, HasSignature}

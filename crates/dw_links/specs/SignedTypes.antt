@@ -1,5 +1,5 @@
 -- State: the type of each signature, while the headers of type units are read.
-use Rattle.std.specs.Prelude.{◌≡◌, ℕ, ◌<◌, List, Option, None, Some, IsSome}
+use Rattle.std.specs.Prelude.{◌≡◌, ℕ, ◌<◌, List, Option, None, Some}
 use Rattle.std.specs.Ordering.{nat_cmp}
 use Rattle.std.specs.BTreeMap.{BTreeMap, get}
 use Rattle.dw_entries.specs.Entries.{Entry, PlacedUnit}
@@ -25,8 +25,3 @@ AreSignedBelow entries units below table =
 abbrev pub HasSignedTypes : Entries → BTreeMap ℕ ℕ → Type 0
 HasSignedTypes entries table = (signature : ℕ) → get nat_cmp table signature
     ≡ signed_type (all_entries entries) (all_units entries) signature
-
--- each signature of a type unit has a type
-abbrev pub AreTyped : Entries → Type 0
-AreTyped entries = (signature number : ℕ) → HasSignature (all_units entries) signature number
-    → IsSome (signed_type (all_entries entries) (all_units entries) signature)

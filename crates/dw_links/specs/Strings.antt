@@ -8,12 +8,11 @@ use Rattle.dw_forms.specs.declared.rule.Rule.TheVariants.{BadStrBase, StrIndex, 
 use Rattle.dw_entries.specs.declared.entry.EntryHead.{EntryHead}
 use Rattle.dw_entries.specs.Header.{version_of}
 use Rattle.dw_entries.specs.Units.{DebugUnit}
-use Rattle.dw_entries.specs.Entries.{Entry, entries_of}
+use Rattle.dw_entries.specs.Entries.{Entry, PlacedUnit, entries_of, placed}
 use Rattle.dw_entries.specs.Failures.{Failure}
 use Rattle.dw_entries.specs.EntryRules.{AtEntries}
 use Rattle.dw_links.specs.RulesOfAttributes.{AtHead}
 use Rattle.dw_forms.specs.Codes.{DW_AT_str_offsets_base, DW_AT_addr_base}
-use Rattle.dw_entries.specs.Entries.{PlacedUnit, placed}
 use Rattle.dw_links.specs.Contributions.{IsContribution, slot_count, slot_at, HasZeroFrom}
 use Rattle.dw_links.specs.Bases.{base_in}
 

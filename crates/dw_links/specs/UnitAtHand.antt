@@ -8,13 +8,13 @@ use Rattle.dw_entries.specs.declared.led.Led.{Led}
 use Rattle.dw_entries.specs.declared.led.Led.TheVariants as led
 use Rattle.dw_entries.specs.Entries.{Entry}
 use Rattle.dw_entries.specs.ByNumber.{end_in, entry_of, placed_of}
-use Rattle.dw_entries.specs.Failures.{IsLeast}
+use Rattle.dw_entries.specs.Failures.{HasNone, IsLeast}
 use Rattle.dw_entries.specs.Views.{sections_of, all_entries, all_units}
 use Rattle.dw_links.specs.declared.references.UnitLinks.{UnitLinks}
 use Rattle.dw_links.specs.RulesOfAttributes.{Rules}
 use Rattle.dw_links.specs.UnitContributions.{AreContributions}
-use Rattle.dw_links.specs.References.{ReferenceFails, is_declared}
-use Rattle.dw_links.specs.SignedTypes.{HasSignedTypes, AreTyped}
+use Rattle.dw_links.specs.References.{HeaderFailures, ReferenceFails, is_declared}
+use Rattle.dw_links.specs.SignedTypes.{HasSignedTypes}
 use Rattle.dw_links.specs.Strings.{AddressIndexFails, OffsetFails, StringFails, StringIndexFails}
 use Rattle.dw_links.specs.Targets.{reach_in_unit, reach_of}
 
@@ -43,11 +43,11 @@ abbrev pub entry_after : UnitLinks → (offset : ℕ) → Option ℕ
 entry_after it offset =
     reach_in_unit (all_entries (entries_followed it)) (all_units (entries_followed it)) it.texts.unit offset
 
--- the table has the type of each signature, each signature of a type unit has one, what was read of the unit at hand
--- is right, its header starts so many bytes after the base, and this range is that of its entries
+-- the table has the type of each signature, no rule fails at the headers of type units, what was read of the unit at
+-- hand is right, its header starts so many bytes after the base, and this range is that of its entries
 pub record IsLinkable (it : UnitLinks) : Type 0 where
   pub types : HasSignedTypes (entries_followed it) it.signatures.now
-  pub typed : AreTyped (entries_followed it)
+  pub headers : HasNone (HeaderFailures (all_entries (entries_followed it)) (all_units (entries_followed it)))
   pub texts : AreContributions (entries_followed it) it.texts
   pub past : (sections_of (entries_followed it)).base + it.past
       ≡ (placed_of (all_units (entries_followed it)) it.texts.unit).at

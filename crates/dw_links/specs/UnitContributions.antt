@@ -2,7 +2,6 @@
 use Rattle.std.specs.Prelude.{◌≡◌, ◌<◌, length, IfSome}
 use Rattle.dw_forms.specs.Codes.{DW_AT_str_offsets_base, DW_AT_addr_base}
 use Rattle.dw_entries.specs.Header.{IsSize}
-use Rattle.dw_entries.specs.Entries.{Entry}
 use Rattle.dw_entries.specs.ByNumber.{placed_of}
 use Rattle.dw_entries.specs.declared.entries.Entries.{Entries}
 use Rattle.dw_entries.specs.Lookups.{unit_head}
@@ -36,7 +35,3 @@ pub record AreContributions (entries : Entries) (texts : UnitContributions) : Ty
       ≡ base_in (all_entries entries) (placed_of (all_units entries) texts.unit) DW_AT_str_offsets_base
   pub addr_base : texts.addr_base
       ≡ base_in (all_entries entries) (placed_of (all_units entries) texts.unit) DW_AT_addr_base
-
--- the same, and the entry that was looked up is in that unit
-abbrev pub AreContributionsAt : Entries → UnitContributions → Entry → Type 0
-AreContributionsAt entries texts entry = AreContributions entries texts × (texts.unit ≡ entry.unit)

@@ -7,18 +7,13 @@ use Rattle.dw_links.specs.declared.texts.TextPlace.{TextPlace}
 use Rattle.dw_links.specs.declared.texts.TextPlace.TheVariants.{Info, Str, LineStr}
 use Rattle.dw_links.specs.Contributions.{slot_at, string_at}
 
--- the text of an indexed string: the one whose offset is in its slot
-abbrev pub indexed_text : Sections → (base : Option ℕ) → ℕ → Option (List ℕ)
-indexed_text sections None index = None
-indexed_text sections (Some base) index =
-    Some (string_at sections.str.now (slot_at sections.str_offsets.now 4 base index))
-
--- the text of a value of class string, in a unit that has this base
+-- the text of a value of class string, in a unit that has this base; the slot of an index has the text's offset
 abbrev pub text_of_value : Sections → (base : Option ℕ) → Datum → Option (List ℕ)
 text_of_value sections base (text bytes) = Some bytes
 text_of_value sections base (str offset) = Some (string_at sections.str.now offset)
 text_of_value sections base (line_str offset) = Some (string_at sections.line_str.now offset)
-text_of_value sections base (str_index index) = indexed_text sections base index
+text_of_value sections base (str_index index) =
+    option_map (λ (b : ℕ). string_at sections.str.now (slot_at sections.str_offsets.now 4 b index)) base
 text_of_value sections base _ = None
 
 -- where the text of a value of class string is, in a unit that has this base: at the offset that the value or its slot
@@ -37,13 +32,9 @@ text_there sections (Info offset) = string_at sections.info.now offset
 text_there sections (Str offset) = string_at sections.str.now offset
 text_there sections (LineStr offset) = string_at sections.line_str.now offset
 
--- the number in the slot of an indexed address
-abbrev pub indexed_address : Sections → UnitHeader → (base : Option ℕ) → ℕ → Option ℕ
-indexed_address sections header None index = None
-indexed_address sections header (Some base) index = Some (slot_at sections.addr.now header.address_size base index)
-
--- the address of a value of class address
+-- the address of a value of class address; that of an index is the number in its slot
 abbrev pub address_of : Sections → UnitHeader → (base : Option ℕ) → Datum → Option ℕ
 address_of sections header base (address n) = Some n
-address_of sections header base (addr_index index) = indexed_address sections header base index
+address_of sections header base (addr_index index) =
+    option_map (λ (b : ℕ). slot_at sections.addr.now header.address_size b index) base
 address_of sections header base _ = None

@@ -3,17 +3,20 @@
 
 ghost use Rattle.std.specs.Prelude.{IfErr, IfOk, IfSome};
 ghost use Rattle.std.specs.Bool.{OnTrue};
+ghost use Rattle.dw_forms.specs.Value.{view};
 ghost use Rattle.dw_forms.specs.declared.abbrev.AttributeSpec.{AttributeSpec as SpecData};
 ghost use Rattle.dw_entries.specs.Led.{IsLedBy, item_of};
 ghost use Rattle.dw_links.specs.DeclaredEntries.{KeepsDeclared};
-ghost use Rattle.dw_links.specs.EntryLinks.{HasFailedAt, KeepsAt};
+ghost use Rattle.dw_links.specs.EntryLinks.{HasFailedAt, KeepsAt, ReachesAt};
 ghost use Rattle.dw_links.specs.UnitAtHand.{entries_followed, MayLink, IsLinkable, IsTypeAfter, IsSiblingAfter};
 ghost use Rattle.dw_links.specs.UnitAtHand.{IsDeclaredAfter, LeadsWell};
 
+use crate::class::plain_fault_at;
 use crate::linking::{keep, number_of};
 use crate::references::UnitLinks;
 use dw_entries::constants::*;
 use dw_entries::{EntryId, Led, OptionalId, PlainFault};
+use dw_forms::{Attribute, Value};
 
 impl UnitLinks<'_, '_, '_> {
     /// The type that starts so many bytes after the unit's header, if one does.
@@ -73,6 +76,59 @@ impl UnitLinks<'_, '_, '_> {
             Led::Index(_, index) => self.texts.ask_string(index).is_none(),
             Led::Address(_, index) => self.texts.ask_address(index).is_none(),
             Led::Type(_) | Led::Other(_, _) => false,
+        }
+    }
+
+    /// The target of a value of an entry, which is looked up, or the first rule that fails there. Few values of
+    /// compiled programs come here.
+    #[cold]
+    #[inline(never)]
+    #[tactic(auto, using(crate::proofs::LeadSteps::may_ask))]
+    fn judge(
+        &self,
+        known: &mut [Option<bool>],
+        id: EntryId,
+        attribute: Attribute,
+        value: &Value<'_>,
+    ) -> Result<OptionalId, PlainFault>
+        requires may { MayLink self.now id }
+        requires kept { KeepsDeclared (entries_followed self.now) known.old }
+        ensures kept { KeepsDeclared (entries_followed self.now) known.new }
+        ensures ok { IfOk result (ReachesAt self.now id attribute (view value.now)) }
+        ensures err { IfErr result (HasFailedAt self.now id attribute (view value.now)) }
+    {
+        let head = self.entry(id, self.texts.head.header).head();
+        if let Some(rule) = self.texts.ask(&head, attribute, value) {
+            return Err(plain_fault_at(&head, attribute, rule));
+        }
+        let reached = self.reach(&head, value);
+        let target = number_of(self.entries, &reached);
+        match self.ask(known, &head, attribute, value, reached) {
+            None => Ok(target),
+            Some(rule) => Err(plain_fault_at(&head, attribute, rule)),
+        }
+    }
+
+    /// What is kept of an entry's type after a value, or the rule that fails there.
+    #[inline(always)]
+    fn judge_next(
+        &self,
+        known: &mut [Option<bool>],
+        id: EntryId,
+        kept: Option<OptionalId>,
+        attribute: Attribute,
+        value: Value<'_>,
+    ) -> Result<Option<OptionalId>, PlainFault>
+        requires may { MayLink self.now id }
+        requires kept { KeepsDeclared (entries_followed self.now) known.old }
+        ensures kept { KeepsDeclared (entries_followed self.now) known.new }
+        ensures ok { IfOk result (KeepsAt self.now id attribute (view value.entry) kept) }
+        ensures err { IfErr result (HasFailedAt self.now id attribute (view value.entry)) }
+    {
+        let given = value;
+        match self.judge(known, id, attribute, &given) {
+            Ok(reached) => Ok(keep(kept, attribute, reached)),
+            Err(broken) => Err(broken),
         }
     }
 

@@ -5,7 +5,6 @@ mod class;
 mod constant;
 mod contribution;
 mod following;
-mod judging;
 mod laws;
 mod linking;
 mod links;

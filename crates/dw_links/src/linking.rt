@@ -11,7 +11,7 @@ ghost use Rattle.dw_links.specs.EntryLinks.{AreLinked};
 ghost use Rattle.dw_links.specs.UnitAtHand.{entries_followed, entry_with, MayLink};
 ghost use Rattle.dw_links.specs.LinkFaults.{IsFirstOfTargets};
 ghost use Rattle.dw_links.specs.References.{HeaderFailures, ReferenceFailures};
-ghost use Rattle.dw_links.specs.SignedTypes.{HasSignedTypes, AreTyped};
+ghost use Rattle.dw_links.specs.SignedTypes.{HasSignedTypes};
 
 use crate::constant::language_in_unit;
 use crate::contribution::end_of_strings;
@@ -111,7 +111,6 @@ pub(crate) fn link_entries(
     signatures: BTreeMap<u64, EntryId>,
 ) -> Result<LinkTables, Stop<Fault>>
     requires types { HasSignedTypes entries.now signatures }
-    requires typed { AreTyped entries.now }
     requires headers { HasNone (HeaderFailures (all_entries entries.now) (all_units entries.now)) }
     ensures ok { IfOk result (AreLinked entries.now) }
     ensures fault { IfErr result (IfPlainFault (IsFirstOfTargets (sections_of entries.now) (units_of entries.now))) }

@@ -1,8 +1,7 @@
 //! The rules at the headers of type units, and the rules on references (DWARF 5, section 7.5.5).
 
-ghost use Rattle.std.specs.Prelude.{true, ◌≡◌, None, Some, IfSome, ◌+◌, ◌<◌, length, IfNone, IfOk};
+ghost use Rattle.std.specs.Prelude.{true, ◌≡◌, None, Some, IfSome, ◌+◌, ◌<◌, ◌≤◌, length, IfNone, IfOk};
 ghost use Rattle.std.specs.Prelude.{OnOk, IfErr};
-ghost use Rattle.std.specs.Bool.{OnTrue, OnFalse};
 ghost use Rattle.dw_forms.specs.Value.{view};
 ghost use Rattle.dw_entries.specs.Failures.{IsLeast, HasNone, IsFirst};
 ghost use Rattle.dw_links.specs.Contributions.{IsEndOfStrings};
@@ -16,7 +15,7 @@ ghost use Rattle.dw_entries.specs.Views.{sections_of, all_entries, all_units, un
 ghost use Rattle.dw_entries.specs.EntriesAt.{ReachesInUnit};
 ghost use Rattle.dw_entries.specs.Stopped.{IfPlainFault};
 ghost use Rattle.dw_links.specs.Signatures.{HasSignature};
-ghost use Rattle.dw_links.specs.SignedTypes.{AreSignedBelow, HasSignedTypes, AreTyped};
+ghost use Rattle.dw_links.specs.SignedTypes.{AreSignedBelow, HasSignedTypes};
 
 use crate::strings::{UnitContributions, read_texts};
 use crate::targets::{is_permitted, is_permitted_form, is_reference, is_sig8, reach};
@@ -120,7 +119,6 @@ pub fn read_signatures(
     entries: &Entries<'_>,
 ) -> Result<BTreeMap<u64, EntryId>, Stop<Fault>>
     ensures types { IfOk result (HasSignedTypes entries.now) }
-    ensures typed { OnOk result (AreTyped entries.now) }
     ensures ok { OnOk result (HasNone (HeaderFailures (all_entries entries.now) (all_units entries.now))) }
     ensures fault { IfErr result
         (IfPlainFault (IsFirst (HeaderFailures (all_entries entries.now) (all_units entries.now)))) }
@@ -159,12 +157,13 @@ impl<'e, 'd, 't> UnitLinks<'e, 'd, 't> {
         requires line_str_end { IsEndOfStrings (sections_of entries.now).line_str.now ends.1 }
         requires unit { unit < length (units_of entries.now) }
         requires types { HasSignedTypes entries.now signatures.now }
-        requires typed { AreTyped entries.now }
+        requires headers { HasNone (HeaderFailures (all_entries entries.now) (all_units entries.now)) }
         ensures linkable { IsLinkable result }
         ensures entries { entries_followed result ≡ entries.now }
         ensures unit { result.texts.unit ≡ unit }
         ensures first { result.range.0 ≡ (placed_of (all_units entries.now) unit).first }
         ensures end { result.range.1 ≡ end_in (all_units entries.now) unit }
+        ensures within { result.range.1 ≤ length (all_entries entries.now) }
     {
         UnitLinks {
             entries,
@@ -207,7 +206,7 @@ impl<'e, 'd, 't> UnitLinks<'e, 'd, 't> {
     }
 
     /// The rule at a reference that has no target.
-    #[tactic(auto, using(crate::proofs::LeastRules::no_signature))]
+    #[tactic(auto, using(crate::proofs::RuleGroups::no_signature))]
     fn ask_unreached(
         &self,
         head: &EntryHead,

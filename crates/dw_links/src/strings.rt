@@ -4,19 +4,19 @@
 ghost use Rattle.std.specs.Prelude.{◌≡◌, ◌<◌, length, OnOk, IfErr};
 ghost use Rattle.dw_forms.specs.Value.{view};
 ghost use Rattle.dw_entries.specs.Failures.{HasNone, IsFirst, IsLeast, IsPlainFault};
-ghost use Rattle.dw_entries.specs.Views.{sections_of, units_of};
-ghost use Rattle.dw_entries.specs.declared.entries.Entries.{Entries};
+ghost use Rattle.dw_entries.specs.ByNumber.{entry_of};
+ghost use Rattle.dw_entries.specs.Views.{sections_of, all_entries, units_of};
 ghost use Rattle.dw_links.specs.Contributions.{IsEndOfStrings};
 ghost use Rattle.dw_links.specs.Strings.{OffsetFails, BaseFails, StringIndexFails, AddressIndexFails, StringFailures};
 ghost use Rattle.dw_links.specs.UnitAtHand.{FailsByText};
-ghost use Rattle.dw_links.specs.UnitContributions.{AreContributions, AreContributionsAt, IsReady, FailsByTexts};
+ghost use Rattle.dw_links.specs.UnitContributions.{AreContributions, IsReady, FailsByTexts};
 ghost use Rattle.dw_links.specs.RulesOfAttributes.{AtHead};
 
 use crate::class::plain_fault_at;
 use crate::contribution::{base_in_unit, count_named, count_slots, end_of_strings, number};
 use dw_elf::Sections;
 use dw_entries::constants::*;
-use dw_entries::{Entries, EntryAt, EntryHead, Fault, PlainFault, Rule, UnitHead};
+use dw_entries::{Entries, EntryHead, EntryId, Fault, PlainFault, Rule, UnitHead};
 use dw_forms::{Attribute, Value};
 use std::alloc::Global;
 
@@ -187,13 +187,18 @@ pub fn keep_texts<'a>(texts: &mut UnitContributions<'a>, entries: &Entries<'a>, 
 }
 
 /// The first failure of the rules on strings and addresses at an entry.
-fn check_entry(texts: &UnitContributions<'_>, entry: &EntryAt<'_, '_>) -> Result<(), PlainFault>
-    requires { IsReady texts.now }
-    ensures ok { OnOk result ((entries : Entries) → AreContributionsAt entries texts.now entry.now
-        → HasNone (AtHead (FailsByText entries) entry.now)) }
-    ensures err { IfErr result (λ broken. (entries : Entries) → AreContributionsAt entries texts.now entry.now
-        → IsFirst (AtHead (FailsByText entries) entry.now) broken) }
+fn check_entry(
+    texts: &UnitContributions<'_>,
+    entries: &Entries<'_>,
+    id: EntryId,
+) -> Result<(), PlainFault>
+    requires id { id < length (all_entries entries.now) }
+    requires texts { AreContributions entries.now texts.now }
+    requires unit { texts.now.unit ≡ (entry_of (all_entries entries.now) id).unit }
+    ensures ok { OnOk result (HasNone (AtHead (FailsByText entries.now) (entry_of (all_entries entries.now) id))) }
+    ensures err { IfErr result (IsFirst (AtHead (FailsByText entries.now) (entry_of (all_entries entries.now) id))) }
 {
+    let entry = entries.at(id);
     let head = entry.head();
     let mut leading = entry.leading();
     while let Some(led) = leading.take() {
@@ -221,9 +226,9 @@ pub fn check_strings(alloc: Global, entries: &Entries<'_>) -> Result<(), Fault>
     let line_str_end = end_of_strings(sections.line_str);
     let mut texts = read_texts(entries, str_end, line_str_end, 0);
     for number in 0..entries.count() {
-        let entry = entries.at(entries.id(number));
-        keep_texts(&mut texts, entries, entry.unit());
-        if let Err(broken) = check_entry(&texts, &entry) {
+        let id = entries.id(number);
+        keep_texts(&mut texts, entries, entries.unit_of(id));
+        if let Err(broken) = check_entry(&texts, entries, id) {
             return Err(broken.into_fault(alloc));
         }
     }

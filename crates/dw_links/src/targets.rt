@@ -9,28 +9,12 @@ ghost use Rattle.dw_links.specs.References.{is_declared, is_signed, is_signature
 ghost use Rattle.dw_links.specs.References.{permits_form};
 ghost use Rattle.dw_links.specs.DeclaredEntries.{KeepsDeclared};
 ghost use Rattle.dw_links.specs.SignedTypes.{HasSignedTypes};
-ghost use Rattle.dw_links.specs.Targets.{entry_at, reach_in_unit, signed_type, reach_of, target_of};
+ghost use Rattle.dw_links.specs.Targets.{signed_type, reach_of, target_of};
 
 use dw_entries::constants::*;
 use dw_entries::{Entries, EntryHead, EntryId};
 use dw_forms::{Attribute, Value};
 use std::collections::BTreeMap;
-
-/// The entry that begins at an offset of .debug_info.
-fn entry_from_start(entries: &Entries<'_>, offset: u32) -> Option<EntryId>
-    ensures { result ≡ entry_at (all_entries entries.now) offset }
-{
-    entries.find(offset)
-}
-
-/// The entry that begins so far after the first byte of a unit's header.
-#[inline(always)]
-fn entry_from_header(entries: &Entries<'_>, unit: usize, offset: u64) -> Option<EntryId>
-    requires { unit < length (units_of entries.now) }
-    ensures { result ≡ reach_in_unit (all_entries entries.now) (all_units entries.now) unit offset }
-{
-    entries.find_in_unit(unit, offset)
-}
 
 /// The type of a signature.
 fn type_by_signature(
@@ -58,8 +42,8 @@ pub fn reach(
     ensures { result ≡ reach_of (all_entries entries.now) (all_units entries.now) unit (view value.now) }
 {
     match *value {
-        Value::RefInfo(offset) => entry_from_start(entries, offset),
-        Value::RefUnit(offset) => entry_from_header(entries, unit, offset),
+        Value::RefInfo(offset) => entries.find(offset),
+        Value::RefUnit(offset) => entries.find_in_unit(unit, offset),
         Value::RefSig(signature) => type_by_signature(entries, signatures, signature),
         _ => None,
     }

@@ -1,5 +1,4 @@
 use Rattle.std.proofs.Common.{rules, ap, ◌∙◌}
-use Rattle.dw_entries.specs.declared.entry.EntryHead.{EntryHead}
 use Rattle.dw_entries.specs.ByNumber.{entry_of}
 use Rattle.dw_entries.specs.PassedAttributes.{IsNotOpen}
 use Rattle.dw_entries.specs.Lookups.{entry_head}
@@ -9,6 +8,7 @@ use Rattle.dw_links.specs.Classes.{ClassFails}
 use Rattle.dw_links.proofs.ClassLemmas.{others_pass}
 use Rattle.dw_links.proofs.RuleSteps.{none_checked, checked_fails, checked_more, checked_all, fewer}
 use Rattle.dw_links.proofs.UnitToAll.{unit_below}
+use Rattle.dw_entries.specs.declared.entry.EntryHead.{EntryHead}
 use Rattle.dw_links.proofs.class.check_entry.Goals as goal
 
 pub loop-item-init : goal.loop-item-init
@@ -22,25 +22,23 @@ ask_class-requires c =
 pub returns-in-Some-ask_class-clause-err : goal.returns-in-Some-ask_class-clause-err
 returns-in-Some-ask_class-clause-err c =
     let us = all_units c.args.entries.now in
-    checked_fails (ClassFails us) IsNotOpen (λ spec passed. others_pass spec passed us)
-    (entry_of (all_entries c.args.entries.now) c.args.id) _ _ _ _ c.loop-item.invariant c.in-Some.ensures.some
-    c.head-head.result (c.head-head.ensures ∙ ap entry_head c.at-entry.ensures) c.in-Some-ask_class.rule
-    c.plain_fault_at.result c.in-Some-ask_class.ensures c.plain_fault_at.ensures
+    let told = c.head-head.ensures ∙ ap entry_head c.at-entry.ensures in
+    checked_fails (ClassFails us) IsNotOpen (others_pass us) (entry_of (all_entries c.args.entries.now) c.args.id)
+    _ _ _ _ c.loop-item.invariant c.in-Some.ensures.some c.in-Some-ask_class.rule c.plain_fault_at.result
+    (rw told at c.in-Some-ask_class.ensures) (rw told at c.plain_fault_at.ensures)
 
 pub loop-item-preserved : goal.loop-item-preserved
 loop-item-preserved c =
     let us = all_units c.args.entries.now in
-    checked_more (ClassFails us) IsNotOpen (λ spec passed. others_pass spec passed us)
-    (entry_of (all_entries c.args.entries.now) c.args.id) _ _ _ _ c.loop-item.invariant c.in-Some.ensures.some
-    c.head-head.result (c.head-head.ensures ∙ ap entry_head c.at-entry.ensures) c.in_default-ask_class.ensures
+    let told = c.head-head.ensures ∙ ap entry_head c.at-entry.ensures in
+    checked_more (ClassFails us) IsNotOpen (others_pass us) (entry_of (all_entries c.args.entries.now) c.args.id)
+    _ _ _ _ c.loop-item.invariant c.in-Some.ensures.some (rw told at c.in_default-ask_class.ensures)
 
 pub loop-item-smaller : goal.loop-item-smaller
-loop-item-smaller c =
-    fewer _ (values_left c.loop-item.values) _ (values_left c.next_open.new.self) c.in-Some.ensures.some
+loop-item-smaller c = search (rules, fewer)
 
 pub returns-clause-ok : goal.returns-clause-ok
 returns-clause-ok c =
-    checked_all (ClassFails (all_units c.args.entries.now)) IsNotOpen
-    (λ spec passed. others_pass spec passed (all_units c.args.entries.now))
-    (entry_of (all_entries c.args.entries.now) c.args.id) (values_left c.loop-item.values) c.loop-item.invariant
-    c.in_default.ensures.none
+    let us = all_units c.args.entries.now in
+    checked_all (ClassFails us) IsNotOpen (others_pass us) (entry_of (all_entries c.args.entries.now) c.args.id)
+    (values_left c.loop-item.values) c.loop-item.invariant c.in_default.ensures.none

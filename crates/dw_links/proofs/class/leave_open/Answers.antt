@@ -15,7 +15,8 @@ pub loop-number-preserved : goal.loop-number-preserved
 loop-number-preserved c =
     let P : AttributeSpec → Type 0 = λ s. (units : List PlacedUnit) → NeverFailsAt (ClassFails units) s in
     one_more (map spec_of c.decls-decls.result.now.lists.nodes.items) P c.loop-number.number c.spec.result
-    c.spec.ensures c.loop-number.invariant (others_pass c.spec.result (sym c.if-is_open.ensures))
+    c.spec.ensures c.loop-number.invariant
+    (λ units. others_pass units c.spec.result (sym c.if-is_open.ensures))
 
 pub returns : goal.returns
 returns c =

@@ -15,11 +15,10 @@ use Rattle.dw_links.specs.UnitAtHand.{FailsByText, FailsByTarget}
 use Rattle.dw_links.specs.EntryLinks.{IsEntryLinked, IsFirstAtEntry}
 use Rattle.dw_links.specs.References.{HeaderFailures, AttributeFailures}
 use Rattle.dw_links.specs.Tables.{target_of_type}
-use Rattle.dw_links.proofs.AfterLemmas.{may_link}
-use Rattle.dw_links.proofs.DeclaredLemmas.{keeps_none, keeps_whole, only_none}
+use Rattle.dw_links.proofs.LeadSteps.{may_link, keeps_none, keeps_whole, only_none}
 use Rattle.dw_links.proofs.ClassLemmas.{unit_there}
 use Rattle.dw_links.proofs.TableLemmas.{map_one_more, map_all}
-use Rattle.dw_links.proofs.UnitToAll.{more_below, none_fails, failed_first, LinkedBelow, starts_first, starts_next, none_below, types_more, ends_within}
+use Rattle.dw_links.proofs.UnitToAll.{more_below, none_fails, failed_first, LinkedBelow, starts_first, starts_next, none_below, types_more}
 use Rattle.dw_links.proofs.linking.link_entries.Goals as goal
 
 pub loop-unit-init : goal.loop-unit-init
@@ -46,12 +45,7 @@ loop-number-init c =
     }
 
 pub id-id-requires : goal.id-id-requires
-id-id-requires c =
-    omega (
-      arith,
-      c.of_unit-references.ensures.end,
-      ends_within (units_of c.args.entries.now) c.loop-unit.unit (omega arith),
-    )
+id-id-requires c = omega arith
 
 pub link_entry-requires-clause-may : goal.link_entry-requires-clause-may
 link_entry-requires-clause-may c =
@@ -65,21 +59,14 @@ pub first_fault-requires : goal.first_fault-requires
 first_fault-requires c =
     let entries = c.args.entries.now in
     let i = c.loop-number.invariant in
-    let end = c.of_unit-references.ensures.end in
     let P : Entries → Type 0 = λ x. IsFirstAtEntry x (entry_of (all_entries x) c.id-id.result) c.in-Err.broken in
     failed_first entries c.loop-number.number c.id-id.result c.id-id.ensures c.in-Err.broken i.linked.strings
     i.linked.references c.requires.headers
-    (omega (arith, end, c.id-id.ensures, ends_within (units_of entries) c.loop-unit.unit (omega arith)))
+    (omega (arith, c.id-id.ensures))
     (subst P c.of_unit-references.ensures.entries c.in-Err.ensures.err)
 
 pub index_mut-requires : goal.index_mut-requires
-index_mut-requires c =
-    omega (
-      arith,
-      c.of_unit-references.ensures.end,
-      ends_within (units_of c.args.entries.now) c.loop-unit.unit (omega arith),
-      c.loop-number.invariant.linked.long,
-    )
+index_mut-requires c = omega (arith, c.loop-number.invariant.linked.long)
 
 pub loop-number-preserved : goal.loop-number-preserved
 loop-number-preserved c =
@@ -89,9 +76,7 @@ loop-number-preserved c =
     let e = entry_of (all_entries entries) c.id-id.result in
     let P : Entries → Type 0 = λ x. IsEntryLinked x (entry_of (all_entries x) c.id-id.result) c.in-Ok.target in
     let linked : IsEntryLinked entries e c.in-Ok.target = subst P same c.in-Ok.ensures.ok in
-    let end = c.of_unit-references.ensures.end in
-    let below : c.id-id.result < length (all_entries entries) =
-    omega (arith, end, c.id-id.ensures, ends_within (units_of entries) c.loop-unit.unit (omega arith)) in
+    let below : c.id-id.result < length (all_entries entries) = omega (arith, c.id-id.ensures) in
     let is = slice_get-get_or (all_entries entries) c.id-id.result no_entry below in
     record {
       kept =

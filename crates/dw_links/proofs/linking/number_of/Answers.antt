@@ -1,30 +1,22 @@
-use Rattle.std.proofs.Common.{arith}
+use Rattle.std.proofs.Common.{arith, ℕ, ◌≡◌, ◌<◌, length}
+use Rattle.dw_entries.specs.declared.entries.Entries.{Entries}
+use Rattle.dw_entries.specs.Views.{all_entries}
 use Rattle.dw_entries.proofs.FindLaws.{entries_counted}
 use Rattle.dw_entries.proofs.OrderLaws.{scanned_few}
 use Rattle.dw_links.proofs.linking.number_of.Goals as goal
 
-pub some-requires : goal.some-requires
-some-requires c =
-    let below = rw c.in-Some.is at c.requires in
+few : (entries : Entries) (id number : ℕ) → number ≡ id → id < length (all_entries entries) → number < 0xffffffff
+few entries id number same below =
     omega (
       arith,
-      c.number.ensures,
-      below,
-      entries_counted _ _ _ _ _ c.args.entries.now.scanned,
-      scanned_few _ _ _ _ _
-          c.args.entries.now.scanned,
-      c.args.entries.now.sections.info_fits,
+      entries_counted _ _ _ _ _ entries.scanned,
+      scanned_few _ _ _ _ _ entries.scanned,
+      entries.sections.info_fits,
     )
+
+pub some-requires : goal.some-requires
+some-requires c = few c.args.entries.now _ _ c.number.ensures (rw c.in-Some.is at c.requires)
 
 pub overflow_cast-number : goal.overflow_cast-number
 overflow_cast-number c =
-    let below = rw c.in-Some.is at c.requires in
-    omega (
-      arith,
-      c.number.ensures,
-      below,
-      entries_counted _ _ _ _ _ c.args.entries.now.scanned,
-      scanned_few _ _ _ _ _
-          c.args.entries.now.scanned,
-      c.args.entries.now.sections.info_fits,
-    )
+    omega (arith, few c.args.entries.now _ _ c.number.ensures (rw c.in-Some.is at c.requires))

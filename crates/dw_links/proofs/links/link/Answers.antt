@@ -6,7 +6,7 @@ use Rattle.dw_entries.specs.Failures.{plain_fault_of, IsFirst, IsPlainFault}
 use Rattle.dw_entries.specs.Stopped.{IfPlainFault}
 use Rattle.dw_entries.specs.Views.{units_of}
 use Rattle.dw_links.specs.References.{HeaderFailures}
-use Rattle.dw_links.proofs.HeaderLemmas.{first_by_header}
+use Rattle.dw_links.proofs.LinkedEntries.{first_by_header}
 use Rattle.dw_links.proofs.UnitToAll.{if_fault}
 use Rattle.dw_links.proofs.links.link.Goals as goal
 

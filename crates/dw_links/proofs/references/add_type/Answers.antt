@@ -9,7 +9,7 @@ use Rattle.dw_entries.proofs.EntryFacts.{entries_rise}
 use Rattle.dw_links.specs.References.{AtHeader}
 use Rattle.dw_links.specs.Signatures.{type_unit_of}
 use Rattle.dw_links.proofs.ClassLemmas.{unit_there}
-use Rattle.dw_links.proofs.HeaderLemmas.{no_type, header_fails, header_passes, other_unit, new_signature}
+use Rattle.dw_links.proofs.LinkedEntries.{no_type, header_fails, header_passes, other_unit, new_signature}
 use Rattle.dw_links.proofs.TargetLemmas.{type_of_unit_is, reach_in_unit_is}
 use Rattle.dw_links.proofs.references.add_type.Goals as goal
 

@@ -1,5 +1,5 @@
 use Rattle.std.proofs.Common.{rules}
-use Rattle.dw_links.proofs.HeaderLemmas.{least_type_offset, least_twice, none_at_header, signed_before, not_before}
+use Rattle.dw_links.proofs.LinkedEntries.{least_type_offset, least_twice, none_at_header, signed_before, not_before}
 use Rattle.dw_links.proofs.references.check_type.Goals as goal
 
 pub returns-then-contains_key-clause-err : goal.returns-then-contains_key-clause-err

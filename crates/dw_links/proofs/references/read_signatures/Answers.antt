@@ -4,13 +4,12 @@ use Rattle.dw_entries.specs.Entries.{entries_of, placed}
 use Rattle.dw_entries.specs.ByNumber.{placed_of}
 use Rattle.dw_entries.specs.Views.{units_of}
 use Rattle.dw_entries.proofs.Firsts.{more_of_list, none_of_list}
-use Rattle.dw_links.specs.References.{AtHeader}
 use Rattle.dw_entries.proofs.EntryFacts.{length-placed}
 use Rattle.dw_links.specs.SignedTypes.{AreSignedBelow}
 use Rattle.dw_links.proofs.ClassLemmas.{unit_there}
-use Rattle.dw_links.proofs.UnitToAll.{if_fault}
-use Rattle.dw_links.proofs.TargetLemmas.{signed_type_is, signed_some}
-use Rattle.dw_links.proofs.HeaderLemmas.{first_header, placed_rise}
+use Rattle.dw_links.proofs.UnitToAll.{if_fault, first_header, placed_rise}
+use Rattle.dw_links.proofs.TargetLemmas.{signed_type_is}
+use Rattle.dw_links.specs.References.{AtHeader}
 use Rattle.dw_links.proofs.references.read_signatures.Goals as goal
 
 pub returns-clause-ok : goal.returns-clause-ok
@@ -34,21 +33,6 @@ returns-clause-types c = λ s.
     signed_type_is (entries_of us) (placed us) s _
     (subst (λ (n : ℕ). AreSignedBelow (entries_of us) (placed us) n c.loop-number.signatures) all
     c.loop-number.invariant.types s)
-
-pub returns-clause-typed : goal.returns-clause-typed
-returns-clause-typed c = λ s number has.
-    let us = units_of c.args.entries.now in
-    let all : c.loop-number.number
-    ≡ length (placed us) = omega (
-      arith,
-      c.loop-number-test.false,
-      c.unit_count-number-end.ensures,
-      c.loop-number.auto,
-      length-placed us,
-    ) in
-    signed_some (entries_of us) (placed us) s number _
-    (subst (λ (n : ℕ). AreSignedBelow (entries_of us) (placed us) n c.loop-number.signatures) all
-    c.loop-number.invariant.types s) has
 
 pub returns-in_err-add_type-clause-fault : goal.returns-in_err-add_type-clause-fault
 returns-in_err-add_type-clause-fault c =

@@ -5,8 +5,7 @@ use Rattle.dw_links.proofs.TargetLemmas.{reach_within}
 use Rattle.dw_links.proofs.targets.find_target.Goals as goal
 
 pub reach-requires-clause-unit : goal.reach-requires-clause-unit
-reach-requires-clause-unit c =
-    unit_below c.args.entries.now c.args.id c.unit_of.result c.requires.id c.unit_of.ensures
+reach-requires-clause-unit c = search (rules, unit_below)
 
 pub returns-clause-exact : goal.returns-clause-exact
 unfolding target_of

@@ -7,7 +7,7 @@ use Rattle.dw_entries.specs.Views.{all_entries, sections_of}
 use Rattle.dw_entries.proofs.ValuePlaceLaws.{has_end}
 use Rattle.dw_links.specs.Bases.{kept_base}
 use Rattle.dw_links.specs.ValueTexts.{text_of_value}
-use Rattle.dw_links.proofs.EndLemmas.{text_begins, text_before, text_is}
+use Rattle.dw_links.proofs.HeldTexts.{text_begins, text_before, text_is}
 use Rattle.dw_links.proofs.texts.place_of_value.Goals as goal
 use Rattle.dw_links.proofs.texts.place_of_value.Goals.{In_ok-end-in-Text}
 

@@ -4,7 +4,7 @@ use Rattle.dw_forms.specs.Value.{view}
 use Rattle.dw_entries.specs.ByNumber.{no_entry, entry_of}
 use Rattle.dw_entries.specs.Views.{all_entries, all_units}
 use Rattle.dw_links.specs.UnitAtHand.{entries_followed}
-use Rattle.dw_links.proofs.LeastRules.{least_none, least_other, wrong_first, right_sibling, other_sibling}
+use Rattle.dw_links.proofs.RuleGroups.{least_none, least_other, wrong_first, right_sibling, other_sibling}
 use Rattle.dw_links.proofs.TargetLemmas.{reached_within}
 use Rattle.dw_links.proofs.references.UnitLinks.ask_reached.Goals as goal
 

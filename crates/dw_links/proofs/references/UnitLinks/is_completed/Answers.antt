@@ -1,10 +1,10 @@
-use Rattle.std.proofs.Common.{sym, arith}
+use Rattle.std.proofs.Common.{rules, sym, arith}
 use Rattle.dw_forms.specs.KeptDecls.{decl_view}
-use Rattle.dw_links.proofs.AfterLemmas.{after_within, declared_after}
+use Rattle.dw_links.proofs.LeadSteps.{after_within, declared_after}
 use Rattle.dw_links.proofs.references.UnitLinks.is_completed.Goals as goal
 
 pub decl-requires : goal.decl-requires
-decl-requires c = after_within c.args.self.now c.args.offset c.in-Some.target (sym c.in-Some.ensures)
+decl-requires c = search (rules, after_within)
 
 pub returns : goal.returns
 returns c =

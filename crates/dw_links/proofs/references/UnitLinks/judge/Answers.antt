@@ -1,8 +1,7 @@
-use Rattle.std.proofs.Common.{rules, ap, inl, inr, None, Some, ◌∙◌}
+use Rattle.std.proofs.Common.{rules, inl, None, Some, ◌∙◌, inr}
 use Rattle.dw_forms.specs.Value.{view}
-use Rattle.dw_entries.specs.declared.entry.EntryHead.{EntryHead}
-use Rattle.dw_links.specs.UnitAtHand.{entries_followed, target_by}
-use Rattle.dw_links.proofs.AfterLemmas.{may_ask}
+use Rattle.dw_links.specs.UnitAtHand.{entries_followed}
+use Rattle.dw_links.proofs.LeadSteps.{may_ask}
 use Rattle.dw_links.proofs.TargetLemmas.{reach_within}
 use Rattle.dw_links.proofs.UnitToAll.{least_by_texts}
 use Rattle.dw_links.proofs.references.UnitLinks.judge.Goals as goal
@@ -24,17 +23,13 @@ returns-in-Some-clause-err c =
 pub returns-in-None-clause-ok : goal.returns-in-None-clause-ok
 returns-in-None-clause-ok c =
     let may = may_ask _ _ _ _ c.requires.may c.entry.ensures c.head-head.ensures in
-    rw (← c.entry.ensures, ← c.head-head.ensures) (
-      record {
-        strings =
-            least_by_texts (entries_followed c.args.self.now) c.args.self.now.texts c.head-head.result
-            may.linkable.texts may.in_unit c.args.attribute (view c.args.value.now) None c.in_default.ensures;
-        references = c.in-None.ensures.rule;
-      },
-      c.number_of-target.ensures ∙ c.reach-reached.ensures
-          ∙ ap (λ (h : EntryHead). target_by (entries_followed c.args.self.now) h (view c.args.value.now))
-          c.head-head.ensures,
-    )
+    rw (← c.entry.ensures, ← c.head-head.ensures) (record {
+      strings =
+          least_by_texts (entries_followed c.args.self.now) c.args.self.now.texts c.head-head.result
+          may.linkable.texts may.in_unit c.args.attribute (view c.args.value.now) None c.in_default.ensures;
+      references = c.in-None.ensures.rule;
+      is_target = c.number_of-target.ensures ∙ c.reach-reached.ensures;
+    })
 
 pub returns-in-Some-ask-clause-err : goal.returns-in-Some-ask-clause-err
 returns-in-Some-ask-clause-err c =

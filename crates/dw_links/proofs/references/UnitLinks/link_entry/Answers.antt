@@ -1,12 +1,12 @@
-use Rattle.std.proofs.Common.{ap, ◌∙◌}
-use Rattle.std.specs.Option.{unwrap_or}
+use Rattle.std.proofs.Common.{rules, ap, ◌∙◌}
 use Rattle.std.proofs.lemmas.Result.{err_from_is_err_and}
-use Rattle.dw_entries.specs.EntryRules.{values_of}
-use Rattle.dw_entries.specs.Entries.{Entry}
 use Rattle.dw_entries.specs.Led.{item_of}
 use Rattle.dw_entries.specs.Leading.{leading_left}
 use Rattle.dw_links.specs.UnitAtHand.{entries_followed, entry_with}
 use Rattle.dw_links.proofs.RuleSteps.{fewer, none_so_far, more_so_far, fails_so_far, linked_at_end}
+use Rattle.dw_entries.specs.EntryRules.{values_of}
+use Rattle.dw_entries.specs.Entries.{Entry}
+use Rattle.std.specs.Option.{unwrap_or}
 use Rattle.dw_links.proofs.references.UnitLinks.link_entry.Goals as goal
 
 pub loop-led-init : goal.loop-led-init
@@ -33,13 +33,13 @@ loop-led-preserved c = record {
   so_far =
       more_so_far (entries_followed c.args.self.now) (entry_with c.args.self.now c.args.id)
       (leading_left c.loop-led.leading) c.loop-led.kept c.loop-led.invariant.so_far (item_of c.in-Some.led)
-      (leading_left c.take.new.self) c.in-Some.ensures.next c.in_ok-after.after c.in_ok-after.ensures.ok;
+      (leading_left c.take.new.self) c.in-Some.ensures.next c.in_ok-after.after c.in_ok-after.ensures.ok.0
+      c.in_ok-after.ensures.ok.1 c.in_ok-after.ensures.ok.2;
   kept = c.in_ok-after.ensures.kept;
 }
 
 pub loop-led-smaller : goal.loop-led-smaller
-loop-led-smaller c =
-    fewer _ (leading_left c.loop-led.leading) _ (leading_left c.take.new.self) c.in-Some.ensures.next
+loop-led-smaller c = search (rules, fewer)
 
 pub returns-clause-ok : goal.returns-clause-ok
 returns-clause-ok c =

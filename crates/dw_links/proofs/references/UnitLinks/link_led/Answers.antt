@@ -1,13 +1,11 @@
-use Rattle.std.proofs.Common.{ap, ◌∙◌}
+use Rattle.std.proofs.Common.{rules, ap, ◌∙◌}
 use Rattle.dw_forms.specs.Codes.{DW_AT_type}
 use Rattle.dw_links.specs.EntryLinks.{kept_after}
-use Rattle.dw_links.proofs.AfterLemmas.{after_within}
-use Rattle.dw_links.proofs.LeadSteps.{well_keeps, type_keeps}
+use Rattle.dw_links.proofs.LeadSteps.{after_within, well_keeps, type_keeps}
 use Rattle.dw_links.proofs.references.UnitLinks.link_led.Goals as goal
 
 pub number_of-target-requires : goal.number_of-target-requires
-number_of-target-requires c =
-    after_within c.args.self.now c.in-Type.offset c.in-Some.target c.in-Some.ensures.reaches
+number_of-target-requires c = search (rules, after_within)
 
 pub returns-in-Some-clause-ok : goal.returns-in-Some-clause-ok
 returns-in-Some-clause-ok c =

@@ -1,6 +1,7 @@
 use Rattle.std.proofs.Common.{ℕ, sym, ap, ◌∙◌}
+use Rattle.dw_entries.specs.Views.{units_of, all_units}
+use Rattle.dw_links.proofs.UnitToAll.{ends_within}
 use Rattle.dw_entries.specs.ByNumber.{end_in, placed_of}
-use Rattle.dw_entries.specs.Views.{all_units}
 use Rattle.dw_links.proofs.references.UnitLinks.of_unit.Goals as goal
 
 pub returns-clause-linkable : goal.returns-clause-linkable
@@ -9,9 +10,13 @@ returns-clause-linkable c =
     let same = sym c.read_texts.ensures.unit in
     record {
       types = c.requires.types;
-      typed = c.requires.typed;
+      headers = c.requires.headers;
       texts = c.read_texts.ensures.texts;
       past = c.past_base.ensures ∙ ap (λ (n : ℕ). (placed_of units n).at) same;
       first = c.range.ensures.first ∙ ap (λ (n : ℕ). (placed_of units n).first) same;
       end = c.range.ensures.end ∙ ap (end_in units) same;
     }
+
+pub returns-clause-within : goal.returns-clause-within
+returns-clause-within c =
+    rw c.range.ensures.end (ends_within (units_of c.args.entries.now) c.args.unit c.requires.unit)

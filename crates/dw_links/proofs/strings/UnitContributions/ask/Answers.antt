@@ -2,7 +2,7 @@ use Rattle.std.proofs.Common.{◌≡◌, ◌∙◌, None}
 use Rattle.std.specs.Prelude.{◌≢◌}
 use Rattle.dw_entries.specs.Header.{version_of}
 use Rattle.dw_links.specs.Strings.{BaseFails}
-use Rattle.dw_links.proofs.LeastRules.{least_under, none_of}
+use Rattle.dw_links.proofs.RuleGroups.{least_under, none_of}
 use Rattle.dw_links.proofs.strings.UnitContributions.ask.Goals as goal
 
 pub returns-in-SecOffset : goal.returns-in-SecOffset

@@ -12,8 +12,7 @@ use Rattle.dw_links.proofs.HeldTexts.{address_lies}
 use Rattle.dw_links.proofs.tables.LinkTables.address.Goals as goal
 
 pub unit-requires : goal.unit-requires
-unit-requires c =
-    unit_below c.args.entries.now c.args.id c.unit_of.result c.requires.id c.unit_of.ensures
+unit-requires c = search (rules, unit_below)
 
 pub address_of_value-requires-clause-size : goal.address_of_value-requires-clause-size
 address_of_value-requires-clause-size c =

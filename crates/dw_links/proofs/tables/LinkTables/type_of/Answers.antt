@@ -1,8 +1,8 @@
-use Rattle.std.proofs.Common.{ℕ, Some, sym, ap, ◌∙◌}
+use Rattle.std.proofs.Common.{rules, sym, ◌∙◌, ℕ, Some, ap}
+use Rattle.dw_links.proofs.TableLemmas.{target_within, kept_target}
 use Rattle.dw_forms.specs.Codes.{DW_AT_type}
 use Rattle.dw_entries.specs.ByNumber.{entry_of}
 use Rattle.dw_entries.specs.Views.{all_entries, all_units}
-use Rattle.dw_links.proofs.TableLemmas.{target_within, kept_target}
 use Rattle.dw_links.proofs.tables.LinkTables.type_of.Goals as goal
 
 pub id-requires : goal.id-requires
@@ -14,10 +14,7 @@ id-requires c =
     (sym (c.in_ok-number.ensures ∙ kept))
 
 pub returns-clause-exact : goal.returns-clause-exact
-returns-clause-exact c =
-    let kept = kept_target c.args.entries.now c.args.self.now c.args.id c.number.result c.index.result.now
-    c.requires.tables c.requires.id c.number.ensures c.index.ensures in
-    ap (λ (n : ℕ). Some n) c.id.ensures ∙ c.in_ok-number.ensures ∙ kept
+returns-clause-exact c = search (rules, kept_target)
 
 pub returns-clause-within : goal.returns-clause-within
 returns-clause-within c =
@@ -28,7 +25,4 @@ returns-clause-within c =
     (sym (ap (λ (n : ℕ). Some n) c.id.ensures ∙ c.in_ok-number.ensures ∙ kept))
 
 pub returns-in_err-number-clause-exact : goal.returns-in_err-number-clause-exact
-returns-in_err-number-clause-exact c =
-    let kept = kept_target c.args.entries.now c.args.self.now c.args.id c.number.result c.index.result.now
-    c.requires.tables c.requires.id c.number.ensures c.index.ensures in
-    c.from_residual.ensures ∙ c.in_err-number.ensures ∙ kept
+returns-in_err-number-clause-exact c = search (rules, kept_target)
