@@ -17,7 +17,7 @@ use Rattle.dw_entries.specs.Units.{nulls_bytes, head_of}
 use Rattle.dw_entries.specs.Faults.{Front, in_unit, BodyFails}
 use Rattle.dw_entries.specs.Walk.{Walk, walk_of, open_list, enter, leave, step, walk_along}
 use Rattle.dw_entries.specs.Stopped.{TreeOf}
-use Rattle.dw_entries.specs.Records.{node_records}
+use Rattle.dw_entries.specs.Records.{tree_records}
 use Rattle.dw_entries.specs.ItemLaws.{item_some, item_from, head_from}
 use Rattle.dw_forms.specs.WithBytes.{read_fails, read_takes}
 use Rattle.dw_entries.proofs.HeadLaws.{all-append}
@@ -162,9 +162,9 @@ along_end t numbers kind at body old rest w a e =
     let start : Walk = record { records = old; levels = [] } in
     let spelled : items_bytes (node_items n ++ map null zs)
     ≡ node_bytes n ++ nulls_bytes zs = search (rules, items_bytes-append, node_spelled, nulls_spelled) in
-    let end : walk_along numbers at (node_items n ++ map null zs) start
-    ≡ record { records = old ++ node_records numbers None None (length old) at n; levels = [] } =
-    search (rules, walk_along-append, along_root, along_nulls) in
+    let end : (unit : ℕ) → walk_along numbers at (node_items n ++ map null zs) start
+    ≡ record { records = old ++ tree_records numbers unit (length old) at n; levels = [] } =
+    λ unit. search (rules, walk_along-append, along_root, along_nulls) in
     record {
       root = n;
       is = is;
@@ -172,7 +172,7 @@ along_end t numbers kind at body old rest w a e =
       nulls = zs;
       are_nulls = nulls;
       parts = search rules;
-      records = search rules;
+      records = λ unit. let made = end unit in search rules;
     }
 
 pub first_fault : (t : Context) (numbers : ℕ → ℕ) (kind : HeaderKind) (header start : ℕ) (body : List ℕ) (f : Failing)

@@ -31,6 +31,10 @@ pub record HasParent (es : List Entry) (id k : ℕ) (e : Entry) : Type 0 where
 IsBelow : List Entry → ℕ → Option ℕ → ℕ → ℕ → Entry → Type 0
 IsBelow es id above depth k e = ((e.parent ≡ above) × (e.depth ≡ depth)) ⊎ HasParent es id k e
 
+-- the same of all of these entries
+AllBelow : ℕ → Option ℕ → ℕ → List Entry → Type 0
+AllBelow id above depth es = (k : ℕ) (e : Entry) → slice_get es k ≡ Some e → IsBelow es id above depth k e
+
 -- the same where there are more entries before and after
 in_front : (es fs : List Entry) (id : ℕ) (above : Option ℕ) (depth k : ℕ) (e : Entry) → k < length es
     → IsBelow es id above depth k e → IsBelow (es ++ fs) id above depth k e
@@ -55,40 +59,33 @@ in_back es fs id first above depth k e starts le (inr h) =
       depth = h.depth;
     })
 
-mutual
-  unfolding IsBelow
+below-append : (es fs : List Entry) (id first : ℕ) (above : Option ℕ) (depth : ℕ) → first ≡ id + length es
+    → AllBelow id above depth es → AllBelow first above depth fs → AllBelow id above depth (es ++ fs)
+unfolding AllBelow
+below-append es fs id first above depth starts p q k e is = elim (cases_lt k (length es)) [
+  | inl lt ↦ in_front es fs id above depth k e lt (p k e (sym (get_front es fs k lt) ∙ is))
+  | inr le ↦
+      in_back es fs id first above depth k e starts le (q (k - length es) e (sym (get_behind es fs k le) ∙ is))
+]
 
-  node_below : (unit : ℕ) (above : Option ℕ) (depth : ℕ) (next : Option ℕ) (id at : ℕ) (n : Node) (k : ℕ) (e : Entry)
-      → slice_get (node_entries unit above depth next id at n) k ≡ Some e
-      → IsBelow (node_entries unit above depth next id at n) id above depth k e
-  node_below unit above depth next id at (leaf h) zero e is =
-      let some : ◌≡◌ {A = Option Entry}
-      (Some (record { at = at; unit = unit; parent = above; depth = depth; next = next; head = h })) (Some e) = is
-      in
-      let same : ◌≡◌ {A = Entry} (record { at = at; unit = unit; parent = above; depth = depth; next = next; head = h })
-      e = cc in
-      inl (ap (λ (x : Entry). x.parent) (sym same), ap (λ (x : Entry). x.depth) (sym same))
+mutual
+  unfolding IsBelow AllBelow
+
+  node_below : (unit : ℕ) (above : Option ℕ) (depth : ℕ) (next : Option ℕ) (id at : ℕ) (n : Node)
+      → AllBelow id above depth (node_entries unit above depth next id at n)
+  node_below unit above depth next id at (leaf h) zero e is = inl (search rules)
   node_below unit above depth next id at (leaf h) (suc k) e is = absurd cc
-  node_below unit above depth next id at (parent h ns z) zero e is =
-      let some : ◌≡◌ {A = Option Entry}
-      (Some (record { at = at; unit = unit; parent = above; depth = depth; next = next; head = h })) (Some e) = is
-      in
-      let same : ◌≡◌ {A = Entry} (record { at = at; unit = unit; parent = above; depth = depth; next = next; head = h })
-      e = cc in
-      inl (ap (λ (x : Entry). x.parent) (sym same), ap (λ (x : Entry). x.depth) (sym same))
+  node_below unit above depth next id at (parent h ns z) zero e is = inl (search rules)
   node_below unit above depth next id at (parent h ns z) (suc k) e is =
       go (nodes_below unit id (suc depth) (suc id) (at + length (head_bytes h)) ns k e is)
     where
-      own : Entry
-      own = record { at = at; unit = unit; parent = above; depth = depth; next = next; head = h }
-
       go : IsBelow (nodes_entries unit id (suc depth) (suc id) (at + length (head_bytes h)) ns) (suc id) (Some id)
           (suc depth) k e
           → IsBelow (node_entries unit above depth next id at (parent h ns z)) id above depth (suc k) e
       go (inl outer) =
           inr (record {
             place = 0;
-            above = own;
+            above = _;
             before = omega arith;
             is_above = refl;
             parent = search rules;
@@ -105,49 +102,32 @@ mutual
             depth = h.depth;
           })
 
-  nodes_below : (unit above depth id at : ℕ) (ns : Nodes) (k : ℕ) (e : Entry)
-      → slice_get (nodes_entries unit above depth id at ns) k ≡ Some e
-      → IsBelow (nodes_entries unit above depth id at ns) id (Some above) depth k e
+  nodes_below : (unit above depth id at : ℕ) (ns : Nodes)
+      → AllBelow id (Some above) depth (nodes_entries unit above depth id at ns)
   nodes_below unit above depth id at none k e is = absurd cc
   nodes_below unit above depth id at (n then ns) k e is =
-      let es : List Entry = node_entries unit (Some above) depth (first_id ns (id + node_count n)) id at n in
-      let fs : List Entry = nodes_entries unit above depth (id + node_count n) (at + length (node_bytes n)) ns in
-      let count = length-node_entries unit (Some above) depth (first_id ns (id + node_count n)) id at n in
-      elim (cases_lt k (length es)) [
-        | inl lt ↦
-            in_front es fs id (Some above) depth k e lt
-            (node_below unit (Some above) depth (first_id ns (id + node_count n)) id at n k e
-            (sym (get_front es fs k lt) ∙ is))
-        | inr le ↦
-            in_back es fs id (id + node_count n) (Some above) depth k e (omega arith) le
-            (nodes_below unit above depth (id + node_count n) (at + length (node_bytes n)) ns (k - length es) e
-            (sym (get_behind es fs k le) ∙ is))
-      ]
+      below-append _ _ id (id + node_count n) (Some above) depth
+      (omega (
+        arith,
+        length-node_entries unit (Some above) depth (first_id ns (id + node_count n)) id at n,
+      ))
+      (node_below unit (Some above) depth (first_id ns (id + node_count n)) id at n)
+      (nodes_below unit above depth (id + node_count n) (at + length (node_bytes n)) ns) k e is
 
-units_below : (unit id at : ℕ) (us : List DebugUnit) (k : ℕ) (e : Entry)
-    → slice_get (entries_from unit id at us) k ≡ Some e
-    → IsBelow (entries_from unit id at us) id None 0 k e
-unfolding IsBelow
+units_below : (unit id at : ℕ) (us : List DebugUnit) → AllBelow id None 0 (entries_from unit id at us)
+unfolding AllBelow
 units_below unit id at [] k e is = absurd cc
 units_below unit id at (u ∷ us) k e is =
-    let es : List Entry = node_entries unit None 0 None id (at + unit_header_size u.header.kind) u.root in
-    let fs : List Entry = entries_from (suc unit) (id + node_count u.root) (at + length (unit_bytes u)) us in
-    let count = length-node_entries unit None 0 None id (at + unit_header_size u.header.kind) u.root in
-    elim (cases_lt k (length es)) [
-      | inl lt ↦
-          in_front es fs id None 0 k e lt
-          (node_below unit None 0 None id (at + unit_header_size u.header.kind) u.root k e
-          (sym (get_front es fs k lt) ∙ is))
-      | inr le ↦
-          in_back es fs id (id + node_count u.root) None 0 k e (omega arith) le
-          (units_below (suc unit) (id + node_count u.root) (at + length (unit_bytes u)) us (k - length es) e
-          (sym (get_behind es fs k le) ∙ is))
-    ]
+    let start : ℕ = at + unit_header_size u.header.kind in
+    below-append _ _ id (id + node_count u.root) None 0
+    (omega (arith, length-node_entries unit None 0 None id start u.root))
+    (node_below unit None 0 None id start u.root)
+    (units_below (suc unit) (id + node_count u.root) (at + length (unit_bytes u)) us) k e is
 
 -- an entry without a parent is not deep
 pub no_depth : (us : List DebugUnit) (k : ℕ) (e : Entry) → slice_get (entries_of us) k ≡ Some e → e.parent ≡ None
     → e.depth ≡ 0
-unfolding IsBelow
+unfolding IsBelow AllBelow
 no_depth us k e is top = go (units_below 0 0 (start_of us) us k e is)
   where
     go : IsBelow (entries_of us) 0 None 0 k e → e.depth ≡ 0
@@ -157,7 +137,7 @@ no_depth us k e is top = go (units_below 0 0 (start_of us) us k e is)
 -- an entry with a parent is one deeper than that
 pub one_deeper : (us : List DebugUnit) (k p : ℕ) (e : Entry) → slice_get (entries_of us) k ≡ Some e → e.parent ≡ Some p
     → (above : Entry) × (slice_get (entries_of us) p ≡ Some above) × (e.depth ≡ suc above.depth) × (p < k)
-unfolding IsBelow
+unfolding IsBelow AllBelow
 one_deeper us k p e is under = go (units_below 0 0 (start_of us) us k e is)
   where
     go : IsBelow (entries_of us) 0 None 0 k e

@@ -1,16 +1,18 @@
 -- What holds of the entries and of the units of a list: order, numbers in range, and where each unit begins.
-use Rattle.std.proofs.Common.{rules, ◌≡◌, ℕ, zero, suc, ◌+◌, ◌<◌, ◌≤◌, List, [], ◌∷◌, ◌++◌, length, Option, Some, None, refl, sym, ap, subst, ◌∙◌, arith, length-append}
+use Rattle.std.proofs.Common.{rules, ◌≡◌, ℕ, zero, suc, ◌+◌, ◌-◌, ◌<◌, ◌≤◌, List, [], ◌∷◌, ◌++◌, length, take, drop, Option, Some, None, refl, sym, ap, ◌∙◌, append_assoc, add-zero, arith, length-append, length-take-le, take-append-drop, drop-cons}
 use Rattle.std.specs.Prelude.{slice_get}
-use Rattle.std.proofs.lemmas.Option.{slice_get-map}
+use Rattle.std.specs.List.{AllByRecursion}
+use Rattle.std.proofs.lemmas.Option.{slice_get-map, slice_get-get_or, slice_get_within, get_or_from_slice_get}
 use Rattle.dw_entries.specs.declared.records.Record.{Record}
 use Rattle.dw_entries.specs.Grammar.{head_bytes}
 use Rattle.dw_entries.specs.Header.{unit_header_size}
 use Rattle.dw_entries.specs.Tree.{Node, Nodes, leaf, parent, none, ◌then◌, node_bytes}
 use Rattle.dw_entries.specs.Units.{DebugUnit, head_of, unit_bytes, AreUnits, units_bytes}
 use Rattle.dw_entries.specs.Entries.{Entry, node_count, nodes_count, first_id, node_entries, nodes_entries, entries_from, start_of, entries_of, PlacedUnit, placed_from, placed}
-use Rattle.dw_entries.specs.Records.{records_kept}
+use Rattle.dw_entries.specs.ByNumber.{placed_of}
 use Rattle.dw_entries.specs.Scanned.{record_of, records_of}
 use Rattle.dw_entries.specs.EntryRules.{OffsetsRise}
+use Rattle.dw_entries.proofs.HeadLaws.{all-append, get_behind}
 use Rattle.dw_entries.proofs.OrderLaws.{Rises, units_rise}
 
 -- ---- the entries stand in rising offset
@@ -36,19 +38,15 @@ kept_get numbers us i e is = search (rules, slice_get-map)
 pub entries_rise : (a : List ℕ) (us : List DebugUnit) → AreUnits a us → OffsetsRise (entries_of us)
 entries_rise a us are i j d e lt is_d is_e =
     let any : ℕ → ℕ → ℕ = λ unit code. 0 in
-    let at : ℕ = start_of us in
-    rises_get at (at + length (units_bytes us)) (records_of any us) i j (record_of any d) (record_of any e)
-    (subst (Rises at (at + length (units_bytes us))) (sym (records_kept any us)) (units_rise a any 0 0 at us are)) lt
-    (kept_get any us i d is_d) (kept_get any us j e is_e)
+    rises_get (start_of us) _ (records_of any us) i j (record_of any d) (record_of any e)
+    (units_rise a any 0 0 (start_of us) us are) lt (kept_get any us i d is_d) (kept_get any us j e is_e)
 
 -- no entry is before the first unit
 pub entry_past : (a : List ℕ) (us : List DebugUnit) → AreUnits a us → (i : ℕ) (e : Entry)
     → slice_get (entries_of us) i ≡ Some e → start_of us ≤ e.at
 entry_past a us are i e is =
     let any : ℕ → ℕ → ℕ = λ unit code. 0 in
-    let at : ℕ = start_of us in
-    rises_low at (at + length (units_bytes us)) (records_of any us) i (record_of any e)
-    (subst (Rises at (at + length (units_bytes us))) (sym (records_kept any us)) (units_rise a any 0 0 at us are))
+    rises_low (start_of us) _ (records_of any us) i (record_of any e) (units_rise a any 0 0 (start_of us) us are)
     (kept_get any us i e is)
 
 -- how many entries there are
@@ -70,39 +68,134 @@ mutual
         (length-nodes_entries unit above depth (id + node_count n) (at + length (node_bytes n)) ns),
       )
 
+-- and all are of its unit
+abbrev pub IsOfUnit : ℕ → Entry → Type 0
+IsOfUnit unit e = e.unit ≡ unit
+
+mutual
+  pub node_unit : (unit : ℕ) (above : Option ℕ) (depth : ℕ) (next : Option ℕ) (id at : ℕ) (n : Node)
+      → AllByRecursion (IsOfUnit unit) (node_entries unit above depth next id at n)
+  node_unit unit above depth next id at (leaf h) = (refl, tt)
+  node_unit unit above depth next id at (parent h ns z) =
+      (refl, nodes_unit unit id (suc depth) (suc id) (at + length (head_bytes h)) ns)
+
+  nodes_unit : (unit above depth id at : ℕ) (ns : Nodes)
+      → AllByRecursion (IsOfUnit unit) (nodes_entries unit above depth id at ns)
+  nodes_unit unit above depth id at none = tt
+  nodes_unit unit above depth id at (n then ns) =
+      search (
+        rules,
+        all-append,
+        (node_unit unit (Some above) depth (first_id ns (id + node_count n)) id at n),
+        (nodes_unit unit above depth (id + node_count n) (at + length (node_bytes n)) ns),
+      )
+
+-- how many entries units have
+abbrev pub units_count : List DebugUnit → ℕ
+units_count [] = 0
+units_count (u ∷ us) = node_count u.root + units_count us
+
+-- the entries of units, and of more
+pub entries_from-append : (unit id at : ℕ) (us vs : List DebugUnit) → entries_from unit id at (us ++ vs)
+    ≡ entries_from unit id at us
+    ++ entries_from (unit + length us) (id + units_count us) (at + length (units_bytes us)) vs
+entries_from-append unit id at [] vs = search (rules, add-zero)
+entries_from-append unit id at (u ∷ us) vs =
+    search (
+      rules,
+      length-append,
+      append_assoc,
+      (entries_from-append (suc unit) (id + node_count u.root) (at + length (unit_bytes u)) us vs),
+    )
+
+pub length-entries_from : (unit id at : ℕ) (us : List DebugUnit) → length (entries_from unit id at us) ≡ units_count us
+length-entries_from unit id at [] = refl
+length-entries_from unit id at (u ∷ us) =
+    search (
+      rules,
+      length-append,
+      length-node_entries,
+      (length-entries_from (suc unit) (id + node_count u.root) (at + length (unit_bytes u)) us),
+    )
+
 -- ---- the units, each at its offset
 
-placed_get : (at first : ℕ) (us : List DebugUnit) (k : ℕ) (u : DebugUnit) → slice_get us k ≡ Some u
-    → (p : PlacedUnit) × (slice_get (placed_from at first us) k ≡ Some p) × (p.unit ≡ u)
-placed_get at first [] k u is = absurd cc
-placed_get at first (v ∷ us) zero u is =
-    let e : Some v ≡ Some u = is in let same : v ≡ u = cc in (record { at = at; first = first; unit = v }, refl, same)
-placed_get at first (v ∷ us) (suc k) u is =
-    placed_get (at + length (unit_bytes v)) (first + node_count v.root) us k u is
+-- the unit of this number, and its place after the units before it, of which the first is at this offset
+pub record IsPlaceOf (at first : ℕ) (us : List DebugUnit) (n : ℕ) (p : PlacedUnit) : Type 0 where
+  pub is_unit : slice_get us n ≡ Some p.unit
+  pub starts : p.at ≡ at + length (units_bytes (take n us))
+  pub counts : p.first ≡ first + units_count (take n us)
+
+place_from : (at first : ℕ) (us : List DebugUnit) (n : ℕ) (p : PlacedUnit)
+    → slice_get (placed_from at first us) n ≡ Some p → IsPlaceOf at first us n p
+place_from at first [] n p is = absurd cc
+place_from at first (u ∷ us) zero p is = search (rules, add-zero)
+place_from at first (u ∷ us) (suc n) p is =
+    search (
+      rules,
+      length-append,
+      (place_from (at + length (unit_bytes u)) (first + node_count u.root) us n p is),
+    )
+
+pub place_of : (us : List DebugUnit) (n : ℕ) (p : PlacedUnit) → slice_get (placed us) n ≡ Some p
+    → IsPlaceOf (start_of us) 0 us n p
+place_of us = place_from (start_of us) 0 us
 
 length-placed_from : (at first : ℕ) (us : List DebugUnit) → length (placed_from at first us) ≡ length us
 length-placed_from at first [] = refl
 length-placed_from at first (u ∷ us) =
     ap suc (length-placed_from (at + length (unit_bytes u)) (first + node_count u.root) us)
 
-pub unit_placed : (us : List DebugUnit) (k : ℕ) (u : DebugUnit) → slice_get us k ≡ Some u
-    → (p : PlacedUnit) × (slice_get (placed us) k ≡ Some p) × (p.unit ≡ u)
-unit_placed us = placed_get (start_of us) 0 us
-
 pub length-placed : (us : List DebugUnit) → length (placed us) ≡ length us
 length-placed us = length-placed_from (start_of us) 0 us
 
-placed_low : (at first : ℕ) (us : List DebugUnit) (k : ℕ) (p : PlacedUnit)
-    → slice_get (placed_from at first us) k ≡ Some p → at ≤ p.at
-placed_low at first [] k p is = absurd cc
-placed_low at first (u ∷ us) zero p is = search (rules)
-placed_low at first (u ∷ us) (suc k) p is =
-    search (rules, (placed_low (at + length (unit_bytes u)) (first + node_count u.root) us k p is))
+pub unit_placed : (us : List DebugUnit) (k : ℕ) (u : DebugUnit) → slice_get us k ≡ Some u
+    → (p : PlacedUnit) × (slice_get (placed us) k ≡ Some p) × (p.unit ≡ u)
+unit_placed us k u is =
+    let p : PlacedUnit = placed_of (placed us) k in
+    let is_p : slice_get (placed us) k ≡ Some p =
+    search (rules, slice_get-get_or, length-placed, slice_get_within) in
+    let here = (place_of us k p is_p).is_unit in
+    (p, is_p, cc)
 
 -- no unit is before the first one
 pub placed_past : (us : List DebugUnit) (k : ℕ) (p : PlacedUnit) → slice_get (placed us) k ≡ Some p
     → start_of us ≤ p.at
-placed_past us = placed_low (start_of us) 0 us
+placed_past us k p is = search (rules, place_of)
+
+-- the entries of a unit
+abbrev pub unit_entries : ℕ → PlacedUnit → List Entry
+unit_entries n p = node_entries n None 0 None p.first (p.at + unit_header_size p.unit.header.kind) p.unit.root
+
+-- they are among these, after those of the units before it
+pub record HasUnit (es : List Entry) (n : ℕ) (p : PlacedUnit) : Type 0 where
+  pub before : List Entry
+  pub after : List Entry
+  pub long : length before ≡ p.first
+  pub parts : es ≡ before ++ (unit_entries n p ++ after)
+
+pub has_unit : (us : List DebugUnit) (n : ℕ) (p : PlacedUnit) → slice_get (placed us) n ≡ Some p
+    → HasUnit (entries_of us) n p
+has_unit us n p is =
+    let at : ℕ = start_of us in
+    let it = place_of us n p is in
+    let us_before : List DebugUnit = take n us in
+    let us_after : List DebugUnit = drop (suc n) us in
+    let within = slice_get_within us n p.unit it.is_unit in
+    let two : us ≡ us_before ++ p.unit ∷ us_after =
+    sym (take-append-drop n us)
+    ∙ (λ i. us_before ++ (drop-cons us n p.unit within
+    ∙ ap (λ (u : DebugUnit). u ∷ us_after) (get_or_from_slice_get us n p.unit p.unit it.is_unit)) i) in
+    let number : 0 + length us_before ≡ n = omega (arith, length-take-le n us (omega arith)) in
+    let first : 0 + units_count us_before ≡ p.first = sym it.counts in
+    let place : at + length (units_bytes us_before) ≡ p.at = sym it.starts in
+    record {
+      before = entries_from 0 0 at us_before;
+      after = entries_from (suc n) (p.first + node_count p.unit.root) (p.at + length (unit_bytes p.unit)) us_after;
+      long = omega (arith, length-entries_from 0 0 at us_before, it.counts);
+      parts = ap (entries_from 0 0 at) two ∙ entries_from-append 0 0 at us_before (p.unit ∷ us_after)
+          ∙ (λ i. entries_from 0 0 at us_before ++ entries_from (number i) (first i) (place i) (p.unit ∷ us_after));
+    }
 
 -- this entry is the first of the unit with this number and place
 pub record IsFirstEntry (number : ℕ) (p : PlacedUnit) (e : Entry) : Type 0 where
@@ -118,18 +211,11 @@ pub record HasFirst (entries : List Entry) (id number : ℕ) (p : PlacedUnit) : 
   pub is_entry : slice_get entries id ≡ Some entry
   pub is_first : IsFirstEntry number p entry
 
-behind_first : (es fs : List Entry) (k : ℕ) → slice_get (es ++ fs) (length es + k) ≡ slice_get fs k
-behind_first [] fs k = search (rules)
-behind_first (x ∷ es) fs k = search (rules, (behind_first es fs k))
-
-first_here : (unit id at : ℕ) (u : DebugUnit) (more : List Entry)
-    → HasFirst (node_entries unit None 0 None id (at + unit_header_size u.header.kind) u.root ++ more) 0 unit
-    (record { at = at; first = id; unit = u })
-first_here unit id at u more = go u.root refl
+first_here : (n : ℕ) (p : PlacedUnit) (more : List Entry) → HasFirst (unit_entries n p ++ more) 0 n p
+first_here n p more = go p.unit.root refl
   where
-    go : (n : Node) → u.root ≡ n → HasFirst
-        (node_entries unit None 0 None id (at + unit_header_size u.header.kind) n ++ more) 0 unit
-        (record { at = at; first = id; unit = u })
+    go : (root : Node) → p.unit.root ≡ root → HasFirst
+        (node_entries n None 0 None p.first (p.at + unit_header_size p.unit.header.kind) root ++ more) 0 n p
     go (leaf h) e =
         record {
           entry = _;
@@ -143,46 +229,18 @@ first_here unit id at u more = go u.root refl
           is_first = record { at = refl; unit = refl; parent = refl; depth = refl; head = sym (ap head_of e) };
         }
 
-first_from : (unit id at : ℕ) (us : List DebugUnit) (k : ℕ) (p : PlacedUnit)
-    → slice_get (placed_from at id us) k ≡ Some p
-    → (j : ℕ) × (p.first ≡ id + j) × HasFirst (entries_from unit id at us) j (unit + k) p
-first_from unit id at [] k p is = absurd cc
-first_from unit id at (u ∷ us) zero p is =
-    let e : ◌≡◌ {A = Option PlacedUnit} (Some (record { at = at; first = id; unit = u })) (Some p) = is in
-    let same : ◌≡◌ {A = PlacedUnit} (record { at = at; first = id; unit = u }) p = cc in
-    let number : unit ≡ unit + 0 = omega arith in
-    let here = first_here unit id at u
-    (entries_from (suc unit) (id + node_count u.root) (at + length (unit_bytes u)) us) in
-    let P : PlacedUnit → Type 0 = λ q. HasFirst (entries_from unit id at (u ∷ us)) 0 unit q in
-    let Q : ℕ → Type 0 = λ n. HasFirst (entries_from unit id at (u ∷ us)) 0 n p in (
-      0,
-      ap (λ (q : PlacedUnit). q.first) (sym same)
-          ∙ (let z : id ≡ id + 0 = omega arith in z),
-      subst Q number (subst P same here),
-    )
-first_from unit id at (u ∷ us) (suc k) p is =
-    let (j, first, has) = first_from (suc unit) (id + node_count u.root) (at + length (unit_bytes u)) us k p is in
-    let es : List Entry = node_entries unit None 0 None id (at + unit_header_size u.header.kind) u.root in
-    let fs : List Entry = entries_from (suc unit) (id + node_count u.root) (at + length (unit_bytes u)) us in
-    let count = length-node_entries unit None 0 None id (at + unit_header_size u.header.kind) u.root in
-    let number : suc unit + k ≡ unit + suc k = omega arith in
-    let P : ℕ → Type 0 = λ n. IsFirstEntry n p has.entry in (
-      length es + j,
-      omega arith,
-      record {
-        entry = has.entry;
-        is_entry = behind_first es fs j ∙ has.is_entry;
-        is_first = subst P number has.is_first;
-      },
-    )
-
 -- a unit's first entry
 pub first_entry : (us : List DebugUnit) (k : ℕ) (p : PlacedUnit) → slice_get (placed us) k ≡ Some p
     → HasFirst (entries_of us) p.first k p
 first_entry us k p is =
-    let (j, first, has) = first_from 0 0 (start_of us) us k p is in
-    let e : j ≡ p.first = omega arith in
-    let number : 0 + k ≡ k = omega arith in
-    let P : ℕ → Type 0 = λ i. HasFirst (entries_of us) i (0 + k) p in
-    let Q : ℕ → Type 0 = λ n. HasFirst (entries_of us) p.first n p in
-    subst Q number (subst P e has)
+    let s = has_unit us k p is in
+    let f = first_here k p s.after in
+    let zero_is : p.first - length s.before ≡ 0 = omega (arith, s.long) in
+    record {
+      entry = f.entry;
+      is_entry = ap (λ (es : List Entry). slice_get es p.first) s.parts
+          ∙ get_behind s.before (unit_entries k p ++ s.after) p.first (omega (arith, s.long))
+          ∙ ap (slice_get (unit_entries k p ++ s.after)) zero_is
+          ∙ f.is_entry;
+      is_first = f.is_first;
+    }

@@ -1,5 +1,5 @@
 -- At each entry's offset is its head, in the context of its unit.
-use Rattle.std.proofs.Common.{rules, ◌≡◌, ℕ, zero, suc, ◌+◌, ◌<◌, List, [], ◌∷◌, ◌++◌, length, drop, Option, Some, None, Ok, refl, sym, ap, ◌∙◌, arith, length-append, length-drop, subst, append_assoc, append-nil, drop_at, drop-drop, replicate}
+use Rattle.std.proofs.Common.{rules, ◌≡◌, ℕ, zero, suc, ◌+◌, ◌-◌, ◌<◌, ◌≤◌, List, [], ◌∷◌, ◌++◌, length, drop, Option, Some, None, Ok, refl, sym, ap, ◌∙◌, arith, length-append, length-drop, subst, append_assoc, append-nil, drop_at, drop-drop, replicate}
 use Rattle.std.specs.Prelude.{slice_get}
 use Rattle.std.specs.List.{flat_map, AllByRecursion}
 use Rattle.std.proofs.lemmas.List.{length-replicate}
@@ -44,6 +44,18 @@ pub all_get : {A : Type 0} (P : A → Type 0) (xs : List A) (k : ℕ) (x : A) �
 all_get P [] k x p is = absurd cc
 all_get P (y ∷ ys) zero x p is = search (rules)
 all_get P (y ∷ ys) (suc k) x p is = all_get P ys k x p.1 is
+
+-- an element of two lists, one after the other
+pub get_front : {A : Type 0} (xs ys : List A) (k : ℕ) → k < length xs → slice_get (xs ++ ys) k ≡ slice_get xs k
+get_front [] ys k lt = absurd (omega arith)
+get_front (x ∷ xs) ys zero lt = refl
+get_front (x ∷ xs) ys (suc k) lt = get_front xs ys k (omega arith)
+
+pub get_behind : {A : Type 0} (xs ys : List A) (k : ℕ) → length xs ≤ k
+    → slice_get (xs ++ ys) k ≡ slice_get ys (k - length xs)
+get_behind [] ys k le = search (rules)
+get_behind (x ∷ xs) ys zero le = absurd (omega arith)
+get_behind (x ∷ xs) ys (suc k) le = search (rules, (get_behind xs ys k (omega arith)))
 
 -- what comes after it
 behind : (info a b : List ℕ) (at : ℕ) → drop at info ≡ a ++ b → drop (at + length a) info ≡ b

@@ -1,7 +1,8 @@
 -- How far the scan of a section has come.
-use Rattle.std.proofs.Common.{rules, ◌≡◌, ℕ, zero, suc, ◌+◌, ◌-◌, ◌<◌, ◌≤◌, List, [], ◌∷◌, ◌++◌, length, take, drop, None, refl, sym, ap, ◌∙◌, append_assoc, append-nil, arith, length-append, length-drop, drop_at, drop-drop, drop_of_length-le, take_all, add-zero}
+use Rattle.std.proofs.Common.{rules, ◌≡◌, ℕ, zero, suc, ◌+◌, ◌-◌, ◌<◌, ◌≤◌, List, [], ◌∷◌, ◌++◌, length, map, take, drop, None, refl, sym, ap, ◌∙◌, append_assoc, append-nil, arith, length-append, length-drop, drop_at, drop-drop, drop_of_length-le, take_all, add-zero}
 use Rattle.std.proofs.lemmas.List.Concat.{flat_map-append}
-use Rattle.std.specs.List.{AllZip}
+use Rattle.std.specs.List.{AllByRecursion, AllZip}
+use Rattle.std.proofs.lemmas.List.{length-map, map-append}
 use Rattle.dw_entries.specs.declared.records.Record.{Record}
 use Rattle.dw_entries.specs.declared.records.UnitRecord.{UnitRecord}
 use Rattle.dw_entries.specs.declared.records.Kept.{Kept}
@@ -17,13 +18,13 @@ use Rattle.dw_forms.specs.Stops.{IfFault}
 use Rattle.dw_entries.specs.Header.{unit_header_size}
 use Rattle.dw_entries.specs.UnitLaws.{unit_some}
 use Rattle.dw_entries.specs.Units.{DebugUnit, unit_bytes, AreUnits, units_bytes, AreFrom}
-use Rattle.dw_entries.specs.Entries.{node_count, start_of, PlacedUnit, placed_from, placed}
-use Rattle.dw_entries.specs.Records.{node_records, records_from, records_kept}
-use Rattle.dw_entries.specs.Scanned.{table_of, numbers_of, IsRecordOfUnit, Scanned}
+use Rattle.dw_entries.specs.Entries.{Entry, node_count, node_entries, entries_from, start_of, PlacedUnit, placed_from, placed}
+use Rattle.dw_entries.specs.Records.{records_from}
+use Rattle.dw_entries.specs.Scanned.{table_of, numbers_of, record_of, IsRecordOfUnit, Scanned}
 use Rattle.dw_entries.specs.Stopped.{UnitTaken}
+use Rattle.dw_entries.proofs.EntryFacts.{IsOfUnit, entries_from-append, length-entries_from, node_unit, units_count}
 use Rattle.dw_entries.proofs.HeadLaws.{all-append}
 use Rattle.dw_entries.proofs.OrderLaws.{few_entries}
-use Rattle.dw_entries.proofs.WalkLaws.{length-node_records}
 
 -- some units were taken, from one offset up to another, and these are their entries
 pub record Upto (a info : List ℕ) (base header : ℕ) (kept : Kept) : Type 0 where
@@ -37,29 +38,25 @@ pub record Upto (a info : List ℕ) (base header : ℕ) (kept : Kept) : Type 0 w
   pub places : kept.records.items ≡ records_from (numbers_of (tables_in kept.tables) kept.units.items) 0 0 base units
   pub tables : AreTablesOf a kept.tables
 
-records_from-push : (numbers : ℕ → ℕ → ℕ) (unit id at : ℕ) (us : List DebugUnit) (u : DebugUnit)
-    → records_from numbers unit id at (us ++ u ∷ [])
-    ≡ records_from numbers unit id at us
-    ++ node_records (numbers (unit + length us)) None None (id + length (records_from numbers unit id at us))
-    ((at + length (units_bytes us)) + unit_header_size u.header.kind) u.root
-records_from-push numbers unit id at [] u = search (rules, add-zero, append-nil)
-records_from-push numbers unit id at (v ∷ us) u =
-    search (
-      rules,
-      length-append,
-      length-node_records,
-      append_assoc,
-      (records_from-push numbers (suc unit) (id + node_count v.root) (at + length (unit_bytes v)) us u),
-    )
-
 -- the records of units depend on the numbers of these units alone
+kept_in : (f g : ℕ → ℕ → ℕ) (unit : ℕ) (es : List Entry) → f unit ≡ g unit → AllByRecursion (IsOfUnit unit) es
+    → map (record_of f) es ≡ map (record_of g) es
+kept_in f g unit [] same of_unit = refl
+kept_in f g unit (e ∷ es) same of_unit = search (rules, (kept_in f g unit es same of_unit.1))
+
 records_same : (f g : ℕ → ℕ → ℕ) (unit id at : ℕ) (us : List DebugUnit) → ((n : ℕ) → n < unit + length us → f n ≡ g n)
     → records_from f unit id at us ≡ records_from g unit id at us
 records_same f g unit id at [] same = refl
 records_same f g unit id at (u ∷ us) same =
-    let rest = records_same f g (suc unit) (id + node_count u.root) (at + length (unit_bytes u)) us
-    (λ n less. same n (omega arith)) in
-    λ i. node_records (same unit (omega arith) i) None None id (at + unit_header_size u.header.kind) u.root ++ rest i
+    search (
+      rules,
+      map-append,
+      kept_in,
+      (node_unit unit None 0 None id (at + unit_header_size u.header.kind) u.root),
+      (same unit (omega arith)),
+      (records_same f g (suc unit) (id + node_count u.root) (at + length (unit_bytes u)) us
+      (λ n less. same n (omega arith))),
+    )
 
 units_bytes-push : (us : List DebugUnit) (u : DebugUnit) → units_bytes (us ++ u ∷ []) ≡ units_bytes us ++ unit_bytes u
 units_bytes-push us u = search (rules, flat_map-append, append-nil)
@@ -108,27 +105,15 @@ AllKept-push old new (s ∷ rs) (q ∷ ps) r p stay k one =
 abbrev placed_at : ℕ → ℕ → DebugUnit → PlacedUnit
 placed_at at first u = record { at = at; first = first; unit = u }
 
-placed_from-push : (numbers : ℕ → ℕ → ℕ) (unit at first : ℕ) (us : List DebugUnit) (u : DebugUnit)
-    → placed_from at first (us ++ u ∷ [])
-    ≡ placed_from at first us ++ record {
-      at = at + length (units_bytes us);
-      first = first + length (records_from numbers unit first at us);
-      unit = u;
-    } ∷ []
-placed_from-push numbers unit at first [] u = search (rules)
-placed_from-push numbers unit at first (v ∷ us) u =
-    let start : ℕ = at + unit_header_size v.header.kind in
-    let front : List Record = node_records (numbers unit) None None first start v.root in
-    let others : List Record = records_from numbers (suc unit) (first + node_count v.root) (at + length (unit_bytes v))
-    us in
-    let o : (at + length (unit_bytes v)) + length (units_bytes us)
-    ≡ at + length (units_bytes (v ∷ us)) = omega (arith, length-append (unit_bytes v) (units_bytes us)) in
-    let k : (first + node_count v.root) + length others
-    ≡ first + length (front ++ others) = omega
-    (arith, length-append front others, length-node_records (numbers unit) None None first start v.root) in
-    ap (λ (ps : List PlacedUnit). placed_at at first v ∷ ps)
-    (placed_from-push numbers (suc unit) (at + length (unit_bytes v)) (first + node_count v.root) us u
-    ∙ (λ i. placed_from (at + length (unit_bytes v)) (first + node_count v.root) us ++ placed_at (o i) (k i) u ∷ []))
+placed_from-append : (at first : ℕ) (us vs : List DebugUnit) → placed_from at first (us ++ vs)
+    ≡ placed_from at first us ++ placed_from (at + length (units_bytes us)) (first + units_count us) vs
+placed_from-append at first [] vs = search (rules, add-zero)
+placed_from-append at first (u ∷ us) vs =
+    search (
+      rules,
+      length-append,
+      (placed_from-append (at + length (unit_bytes u)) (first + node_count u.root) us vs),
+    )
 
 pub upto_start : (a info : List ℕ) (base : ℕ) (kept : Kept) → AreTablesOf a kept.tables → kept.units.items ≡ []
     → kept.records.items ≡ [] → Upto a info base base kept
@@ -162,8 +147,14 @@ upto_next a info base header old new len u t =
     t.stay
     u.unit_records (omega arith)) in
     let n : unit ≡ 0 + length u.units = omega arith in
-    let id : length records ≡ 0 + length (records_from numbers 0 0 base u.units) = omega (arith, ap length same) in
+    let es : List Entry = entries_from 0 0 base u.units in
+    let id : length records ≡ 0 + units_count u.units =
+    omega (arith, ap length u.places, length-map es (record_of before), length-entries_from 0 0 base u.units) in
     let at : header ≡ base + length (units_bytes u.units) = u.at in
+    let own : List Entry = node_entries unit None 0 None (length records) (header + size) v.root in
+    let more : es ++ own ≡ entries_from 0 0 base (u.units ++ v ∷ []) =
+    (λ i. es ++ node_entries (n i) None 0 None (id i) (at i + size) v.root)
+    ∙ ap (λ (fs : List Entry). es ++ fs) (sym (append-nil _)) ∙ sym (entries_from-append 0 0 base u.units (v ∷ [])) in
     record {
       units = u.units ++ v ∷ [];
       are = search (rules, all-append);
@@ -178,15 +169,15 @@ upto_next a info base header old new len u t =
             length-append old.units.items (t.record_is ∷ []),
             length-append u.units (v ∷ []),
           );
-      unit_records = rw (t.units, placed_from-push numbers 0 base 0 u.units v, ← at, ← id)
+      unit_records = rw (t.units, placed_from-append base 0 u.units (v ∷ []), ← at, ← id)
           (AllKept-push (tables_in old.tables) tables old.units.items (placed_from base 0 u.units) t.record_is
           (placed_at header (length records) v) t.stay u.unit_records t.kept);
       tables = t.tables;
       places = rw t.units (t.records
-          ∙ ap (λ (f : ℕ → ℕ). records ++ node_records f None None (length records) (header + size) v.root)
+          ∙ (λ i. same i ++ kept_in (λ _. decl_number_in (chain_in tables t.record_is.table)) numbers unit own
           (numbers_last tables old.units.items t.record_is unit refl)
-          ∙ (λ i. same i ++ node_records (numbers (n i)) None None (id i) (at i + size) v.root)
-          ∙ sym (records_from-push numbers 0 0 base u.units v));
+          (node_unit unit None 0 None (length records) (header + size) v.root) i)
+          ∙ sym (map-append (record_of numbers) es own) ∙ ap (map (record_of numbers)) more);
     }
 
 pub few_units : (a : List ℕ) (us : List DebugUnit) → AreUnits a us → length us ≤ length (units_bytes us)
@@ -218,7 +209,7 @@ upto_end a info base header kept u e =
         are_from = u.are_from;
         kept = search (rules, placed_there);
         entries =
-            u.places ∙ sym (records_kept numbers u.units ∙ records_there numbers base u.units u.are_from);
+            u.places ∙ sym (records_there numbers base u.units u.are_from);
       },
     )
 

@@ -110,7 +110,7 @@ module _ (a rest : List ℕ) (h : UnitHeader) (body : List ℕ) (read : header_a
         record_is = unit_record at h number first;
         kept = search (rules);
         units = units;
-        records = search rules;
+        records = let made = tree.records (length old.units.items) in search rules;
         tables = tables;
         stay = stay;
       }

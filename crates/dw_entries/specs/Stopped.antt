@@ -2,7 +2,7 @@
 use Rattle.dw_forms.specs.declared.fault.AbbrevFault.{AbbrevFault}
 use Rattle.dw_forms.specs.Abbrev.{Declaration}
 use Rattle.dw_entries.specs.Faults.{BeginsNoNull, in_table}
-use Rattle.std.specs.Prelude.{◌≡◌, ◌≢◌, ℕ, true, List, ◌+◌, ◌++◌, ◌∷◌, length, None, [], Result, Ok, Err}
+use Rattle.std.specs.Prelude.{◌≡◌, ◌≢◌, ℕ, true, List, ◌+◌, ◌++◌, ◌∷◌, length, [], Result, Ok, Err}
 use Rattle.dw_entries.specs.declared.records.Record.{Record}
 use Rattle.dw_entries.specs.declared.records.UnitRecord.{UnitRecord}
 use Rattle.dw_entries.specs.declared.records.Kept.{Kept}
@@ -19,7 +19,7 @@ use Rattle.dw_entries.specs.Grammar.{Context}
 use Rattle.dw_entries.specs.Header.{fits_tag, unit_header_size}
 use Rattle.dw_entries.specs.Tree.{Node, IsNode, node_bytes}
 use Rattle.dw_entries.specs.Units.{DebugUnit, IsUnit, unit_bytes, AreNulls, nulls_bytes, head_of}
-use Rattle.dw_entries.specs.Records.{node_records}
+use Rattle.dw_entries.specs.Records.{tree_records}
 use Rattle.dw_forms.specs.declared.fault.Stop.{Stop}
 use Rattle.dw_forms.specs.declared.fault.Stop.TheVariants as stops
 use Rattle.dw_forms.specs.Stops.{IfFault}
@@ -34,7 +34,7 @@ pub record TreeOf (x : Context) (numbers : ℕ → ℕ) (kind : HeaderKind) (bod
   pub nulls : List (List ℕ)
   pub are_nulls : AreNulls nulls
   pub parts : body ≡ (node_bytes root ++ nulls_bytes nulls) ++ rest
-  pub records : new ≡ old ++ node_records numbers None None (length old) at root
+  pub records : (unit : ℕ) → new ≡ old ++ tree_records numbers unit (length old) at root
 
 -- the bytes are nulls
 abbrev pub AreAllNulls : List ℕ → Type 0
@@ -80,7 +80,7 @@ pub record UnitTaken («abbrev» rest : List ℕ) (at : ℕ) (old new : Kept) (l
       (record { at = at; first = length old.records.items; unit = taken })
   pub units : new.units.items ≡ old.units.items ++ record_is ∷ []
   pub records : new.records.items ≡ old.records.items
-      ++ node_records (decl_number_in (chain_in (tables_in new.tables) record_is.table))
-      None None (length old.records.items) (at + unit_header_size taken.header.kind) taken.root
+      ++ tree_records (decl_number_in (chain_in (tables_in new.tables) record_is.table)) (length old.units.items)
+      (length old.records.items) (at + unit_header_size taken.header.kind) taken.root
   pub tables : AreTablesOf «abbrev» new.tables
   pub stay : Stay (tables_in old.tables) (tables_in new.tables)
