@@ -1,21 +1,17 @@
 -- How far the pass over a unit's body has come.
-use Rattle.std.proofs.Common.{rules, ◌≡◌, ◌≢◌, ℕ, suc, ◌+◌, ◌-◌, ◌<◌, ◌≤◌, Bool, map, true, false, cond, List, [], ◌∷◌, ◌++◌, length, Some, None, Ok, Err, refl, sym, ap, ◌∙◌, append_assoc, append-nil, arith, length-append, eqb, subst}
+use Rattle.std.proofs.Common.{rules, ◌≡◌, ◌≢◌, ℕ, suc, ◌+◌, ◌-◌, ◌<◌, ◌≤◌, Bool, map, true, false, cond, List, [], ◌∷◌, ◌++◌, length, Some, Ok, Err, refl, sym, ap, ◌∙◌, append_assoc, append-nil, arith, length-append, eqb, subst}
 use Rattle.std.proofs.lemmas.List.{length-reverse}
 use Rattle.dw_entries.specs.declared.records.Record.{Record}
-use Rattle.dw_entries.specs.declared.tree.Level.{Level}
 use Rattle.dw_entries.specs.declared.fault.PlainFault.{PlainFault}
-use Rattle.dw_entries.specs.declared.header.HeaderKind.{HeaderKind}
-use Rattle.dw_forms.specs.Abbrev.{Declaration}
-use Rattle.dw_entries.specs.Header.{fits_tag, unit_header_size}
-use Rattle.dw_entries.specs.declared.fault.Failing.{Failing}
-use Rattle.dw_entries.specs.Grammar.{Context, Head, head_bytes, IsHead, declared}
+use Rattle.dw_entries.specs.Header.{HeaderKind, fits_tag, unit_header_size}
+use Rattle.dw_entries.specs.Grammar.{Declaration, Context, Head, head_bytes, IsHead, declared}
 use Rattle.dw_entries.specs.Tree.{Node, node_bytes, leaf, parent}
 use Rattle.dw_entries.specs.Items.{IsItem, Item, entry, null, AreItems, entry_decl, item_bytes, items_bytes, node_items, depth_along, root_depth, tree_depth}
 use Rattle.dw_forms.specs.Formats.{mapped, choose, failing}
-use Rattle.dw_entries.specs.ItemFormats.{item, first_head, failing_by, head_by, fitting_head, code}
+use Rattle.dw_entries.specs.ItemFormats.{Failing, item, first_head, failing_by, head_by, fitting_head, code}
 use Rattle.dw_entries.specs.Units.{nulls_bytes, head_of}
 use Rattle.dw_entries.specs.Faults.{Front, in_unit, BodyFails}
-use Rattle.dw_entries.specs.Walk.{Walk, walk_of, open_list, enter, leave, step, walk_along}
+use Rattle.dw_entries.specs.Walk.{Level, Walk, walk_of, open_list, enter, leave, step, walk_along}
 use Rattle.dw_entries.specs.Stopped.{TreeOf}
 use Rattle.dw_entries.specs.Records.{tree_records}
 use Rattle.dw_entries.specs.ItemLaws.{item_some, item_from, head_from}
@@ -96,10 +92,10 @@ walk_along-append numbers at (i ∷ is) js w =
     search (rules, length-append, (walk_along-append numbers (at + length (item_bytes i)) is js (step numbers at i w)))
 
 -- how many bytes the items so far took
-pub taken : (t : Context) (numbers : ℕ → ℕ) (kind : HeaderKind) (at : ℕ) (body : List ℕ) (old : List Record)
-    (rest : List ℕ) (w : Walk) (a : Along t numbers kind at body old rest w)
+taken : {t : Context} {numbers : ℕ → ℕ} {kind : HeaderKind} {at : ℕ} {body : List ℕ} {old : List Record}
+    {rest : List ℕ} {w : Walk} (a : Along t numbers kind at body old rest w)
     → length (items_bytes (entry a.first ∷ a.others)) ≡ length body - length rest
-taken t numbers kind at body old rest w a = search (rules, length-append)
+taken a = search (rules, length-append)
 
 -- after one more item
 pub along_next : (t : Context) (numbers : ℕ → ℕ) (kind : HeaderKind) (at : ℕ) (body : List ℕ) (old : List Record)
@@ -152,10 +148,10 @@ along_nulls numbers at [] rs = refl
 along_nulls numbers at (z ∷ zs) rs = along_nulls numbers (at + length z) zs rs
 
 -- at the end of the tree and its nulls
-pub along_end : (t : Context) (numbers : ℕ → ℕ) (kind : HeaderKind) (at : ℕ) (body : List ℕ) (old : List Record)
-    (rest : List ℕ) (w : Walk) → Along t numbers kind at body old rest w → w.levels ≡ []
+pub along_end : {t : Context} {numbers : ℕ → ℕ} {kind : HeaderKind} {at : ℕ} {body : List ℕ} {old : List Record}
+    {rest : List ℕ} {w : Walk} → Along t numbers kind at body old rest w → w.levels ≡ []
     → TreeOf t numbers kind body rest at old w.records
-along_end t numbers kind at body old rest w a e =
+along_end {t} {numbers} {at = at} {old = old} a e =
     let deep : tree_depth (entry a.first ∷ a.others)
     ≡ Some 0 = search rules in
     let (n, zs, is, nulls, items) = node_of t a.first a.others a.front.are.0 a.front.are.1 deep in
@@ -189,13 +185,12 @@ first_fault t numbers kind header start body f fault s read e = record {
   is = search rules;
 }
 
-pub turn_fault : (t : Context) (numbers : ℕ → ℕ) (kind : HeaderKind) (header start : ℕ) (body : List ℕ)
-    (old : List Record) (rest : List ℕ) (records : List Record) (outer : List Level) (own : Level) (f : Failing)
+pub turn_fault : {t : Context} {numbers : ℕ → ℕ} {kind : HeaderKind} {start : ℕ} {body : List ℕ} {old : List Record}
+    {rest : List ℕ} (header : ℕ) (records : List Record) (outer : List Level) (own : Level) (f : Failing)
     (fault : PlainFault) → start ≡ header + unit_header_size kind
     → Along t numbers kind start body old rest (walk_of records outer (Some own)) → (item t).Fails rest f
     → fault ≡ in_unit f header (start + length body - length rest) → BodyFails t kind header body fault
-turn_fault t numbers kind header start body old rest records outer own f fault s a stops e =
-    search (rules, length-append)
+turn_fault header records outer own f fault s a stops e = search (rules, length-append)
 
 pub turn_shorter : {B : Type 0} (f : Item → B) (t : Context) (rest : List ℕ) (y : B) (after : List ℕ)
     → (mapped f (item t)).read rest ≡ Ok (y, after) → length after < length rest
@@ -235,13 +230,13 @@ walk_few t numbers at (i ∷ is) w p =
       (walk_few t numbers (at + length (item_bytes i)) is (step numbers at i w) p.1),
     )
 
-pub along_few : (t : Context) (numbers : ℕ → ℕ) (kind : HeaderKind) (at : ℕ) (body : List ℕ) (old : List Record)
-    (rest : List ℕ) (records : List Record) (outer : List Level) (own : Level)
+pub along_few : {t : Context} {numbers : ℕ → ℕ} {kind : HeaderKind} {at : ℕ} {body : List ℕ} {old : List Record}
+    {rest : List ℕ} (records : List Record) (outer : List Level) (own : Level)
     → Along t numbers kind at body old rest (walk_of records outer (Some own))
     → (length records ≤ length old + (length body - length rest)) × (length outer < length body - length rest)
-along_few t numbers kind at body old rest records outer own a =
+along_few {t} {numbers} {at = at} {old = old} records outer own a =
     let is : List Item = entry a.first ∷ a.others in
-    let bytes = taken t numbers kind at body old rest (walk_of records outer (Some own)) a in
+    let bytes = taken a in
     let (r, l) = walk_few t numbers at is (walk old []) a.front.are in (
       omega (arith, ap (λ (w : Walk). length w.records) a.walked),
       omega (arith, ap (λ (w : Walk). length w.levels) a.walked, length-reverse outer),

@@ -1,16 +1,13 @@
 -- The attributes that are passed, up to the first one that a test holds for.
-use Rattle.std.proofs.Common.{rules, ◌≡◌, ℕ, zero, suc, false, List, [], ◌∷◌, ◌++◌, map, length, take, drop, sym, ap, ◌∙◌, subst, append-nil}
-use Rattle.std.specs.Prelude.{Bool}
+use Rattle.std.proofs.Common.{rules, ◌≡◌, ℕ, zero, suc, false, List, [], ◌∷◌, ◌++◌, map, length, take, drop, sym, ap, ◌∙◌, subst, append-nil, Bool}
 use Rattle.std.specs.List.{list_any}
 use Rattle.std.proofs.lemmas.Bool.{or_parts}
 use Rattle.std.proofs.lemmas.List.{take-append-drop, length-map}
 use Rattle.dw_forms.specs.declared.attributes.Attributes.{Attributes}
-use Rattle.dw_forms.specs.declared.abbrev.AttributeSpec.{AttributeSpec}
 use Rattle.dw_forms.specs.Chains.{items_of}
 use Rattle.dw_forms.specs.Suffixes.{specs_in, IsFrom, Ends}
-use Rattle.dw_forms.specs.Value.{Datum}
 use Rattle.dw_forms.proofs.SuffixLaws.{specs_ends, first_specs, follow}
-use Rattle.dw_entries.specs.Grammar.{Context, Attribute, AreAttributes}
+use Rattle.dw_entries.specs.Grammar.{Datum, AttributeSpec, Context, Attribute, AreAttributes}
 use Rattle.dw_entries.specs.EntryRules.{value_of}
 use Rattle.dw_entries.specs.PassedAttributes.{ArePassed, IsNextOf, TakesFirst}
 

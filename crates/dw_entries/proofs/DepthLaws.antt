@@ -1,18 +1,14 @@
 -- How deep an entry is: one deeper than its parent, which is an earlier entry.
-use Rattle.std.proofs.Common.{rules, ◌≡◌, ℕ, zero, suc, ◌+◌, ◌-◌, ◌<◌, ◌≤◌, List, [], ◌∷◌, ◌++◌, length, get_or, Option, Some, None, refl, sym, ap, ◌∙◌, inl, inr, arith, subst}
-use Rattle.std.specs.Prelude.{◌⊎◌, slice_get}
+use Rattle.std.proofs.Common.{rules, ◌≡◌, ℕ, zero, suc, ◌+◌, ◌-◌, ◌<◌, ◌≤◌, List, [], ◌∷◌, ◌++◌, length, get_or, Option, Some, None, refl, sym, ◌∙◌, inl, inr, arith, ◌⊎◌, slice_get}
 use Rattle.std.proofs.lemmas.Bool.{cases_lt}
 use Rattle.std.proofs.lemmas.Option.{slice_get_within, slice_get-get_or}
-use Rattle.dw_forms.specs.KeptDecls.{Tables}
-use Rattle.dw_entries.specs.declared.records.Record.{Record}
-use Rattle.dw_entries.specs.declared.records.UnitRecord.{UnitRecord}
 use Rattle.dw_entries.specs.Grammar.{head_bytes}
 use Rattle.dw_entries.specs.Header.{unit_header_size}
 use Rattle.dw_entries.specs.Tree.{Node, Nodes, leaf, parent, none, ◌then◌, node_bytes}
 use Rattle.dw_entries.specs.Units.{DebugUnit, unit_bytes}
 use Rattle.dw_entries.specs.Entries.{Entry, node_count, first_id, node_entries, nodes_entries, entries_from, entries_of, start_of}
 use Rattle.dw_entries.specs.ByNumber.{entry_of}
-use Rattle.dw_entries.specs.Scanned.{found_units, Scanned}
+use Rattle.dw_entries.specs.Scanned.{Tables, UnitRecord, Record, found_units, Scanned}
 use Rattle.dw_entries.proofs.EntryFacts.{length-node_entries, kept_get}
 use Rattle.dw_entries.proofs.FindLaws.{entries_counted}
 use Rattle.dw_entries.proofs.KeptLaws.{found_entry, kept_entry, one_some}
@@ -132,7 +128,7 @@ no_depth us k e is top = go (units_below 0 0 (start_of us) us k e is)
   where
     go : IsBelow (entries_of us) 0 None 0 k e → e.depth ≡ 0
     go (inl outer) = outer.1
-    go (inr h) = absurd (let both : Some (0 + h.place) ≡ None = sym h.parent ∙ top in cc)
+    go (inr h) = absurd (search rules)
 
 -- an entry with a parent is one deeper than that
 pub one_deeper : (us : List DebugUnit) (k p : ℕ) (e : Entry) → slice_get (entries_of us) k ≡ Some e → e.parent ≡ Some p
@@ -142,13 +138,12 @@ one_deeper us k p e is under = go (units_below 0 0 (start_of us) us k e is)
   where
     go : IsBelow (entries_of us) 0 None 0 k e
         → (above : Entry) × (slice_get (entries_of us) p ≡ Some above) × (e.depth ≡ suc above.depth) × (p < k)
-    go (inl outer) = absurd (let both : Some p ≡ None = sym under ∙ outer.0 in cc)
+    go (inl outer) = absurd (search rules)
     go (inr h) =
         let both : Some (0 + h.place) ≡ Some p = sym h.parent ∙ under in
         let same : 0 + h.place ≡ p = cc in
         let place : h.place ≡ p = omega arith in
-        let P : ℕ → Type 0 = λ n. slice_get (entries_of us) n ≡ Some h.above in
-        (h.above, subst P place h.is_above, h.depth, omega arith)
+        search (rules, h)
 
 -- ---- steps up from an entry
 
@@ -176,15 +171,7 @@ module _ {base : ℕ} {a info : List ℕ} {tables : Tables} {rs : List UnitRecor
   pub starts : (id : ℕ) (r : Record) → id < length (entries_of (found_units s)) → slice_get records id ≡ Some r
       → Climbs (entries_of (found_units s)) id 0 r.parent
   starts id r within read =
-      let k = kept_entry s id within in
-      record {
-        place = id;
-        here = found_entry s id;
-        is_here = k.is_entry;
-        parent = search (rules, parent_kept);
-        sum = omega arith;
-        fewer = omega arith;
-      }
+      let k = kept_entry s id within in search (rules, parent_kept)
 
   module _ (id depth p : ℕ) (c : Climbs (entries_of (found_units s)) id depth (Some p)) where
     pub above_within : p < length records
@@ -206,16 +193,7 @@ module _ {base : ℕ} {a info : List ℕ} {tables : Tables} {rs : List UnitRecor
       pub climbs : Climbs (entries_of (found_units s)) id (depth + 1) r.parent
       climbs =
           let (above, is, deeper, less) = one_deeper (found_units s) c.place p c.here c.is_here c.parent in
-          let sum = c.sum in
-          let fewer = c.fewer in
-          record {
-            place = p;
-            here = above;
-            is_here = is;
-            parent = sym (parent_kept p r above stands is);
-            sum = omega arith;
-            fewer = omega arith;
-          }
+          search (rules, parent_kept, stands)
 
       pub lower : height r.parent < suc p
       lower = go r.parent refl

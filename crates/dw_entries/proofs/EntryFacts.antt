@@ -1,16 +1,14 @@
 -- What holds of the entries and of the units of a list: order, numbers in range, and where each unit begins.
-use Rattle.std.proofs.Common.{rules, ◌≡◌, ℕ, zero, suc, ◌+◌, ◌-◌, ◌<◌, ◌≤◌, List, [], ◌∷◌, ◌++◌, length, take, drop, Option, Some, None, refl, sym, ap, ◌∙◌, append_assoc, add-zero, arith, length-append, length-take-le, take-append-drop, drop-cons}
-use Rattle.std.specs.Prelude.{slice_get}
+use Rattle.std.proofs.Common.{rules, ◌≡◌, ℕ, zero, suc, ◌+◌, ◌-◌, ◌<◌, ◌≤◌, List, [], ◌∷◌, ◌++◌, length, take, drop, Option, Some, None, refl, sym, ap, ◌∙◌, append_assoc, add-zero, arith, length-append, length-take-le, take-append-drop, drop-cons, slice_get}
 use Rattle.std.specs.List.{AllByRecursion}
 use Rattle.std.proofs.lemmas.Option.{slice_get-map, slice_get-get_or, slice_get_within, get_or_from_slice_get}
-use Rattle.dw_entries.specs.declared.records.Record.{Record}
 use Rattle.dw_entries.specs.Grammar.{head_bytes}
 use Rattle.dw_entries.specs.Header.{unit_header_size}
 use Rattle.dw_entries.specs.Tree.{Node, Nodes, leaf, parent, none, ◌then◌, node_bytes}
 use Rattle.dw_entries.specs.Units.{DebugUnit, head_of, unit_bytes, AreUnits, units_bytes}
 use Rattle.dw_entries.specs.Entries.{Entry, node_count, nodes_count, first_id, node_entries, nodes_entries, entries_from, start_of, entries_of, PlacedUnit, placed_from, placed}
 use Rattle.dw_entries.specs.ByNumber.{placed_of}
-use Rattle.dw_entries.specs.Scanned.{record_of, records_of}
+use Rattle.dw_entries.specs.Scanned.{Record, record_of, records_of}
 use Rattle.dw_entries.specs.EntryRules.{OffsetsRise}
 use Rattle.dw_entries.proofs.HeadLaws.{all-append, get_behind}
 use Rattle.dw_entries.proofs.OrderLaws.{Rises, units_rise}
@@ -183,9 +181,12 @@ has_unit us n p is =
     let us_after : List DebugUnit = drop (suc n) us in
     let within = slice_get_within us n p.unit it.is_unit in
     let two : us ≡ us_before ++ p.unit ∷ us_after =
-    sym (take-append-drop n us)
-    ∙ (λ i. us_before ++ (drop-cons us n p.unit within
-    ∙ ap (λ (u : DebugUnit). u ∷ us_after) (get_or_from_slice_get us n p.unit p.unit it.is_unit)) i) in
+    search (
+      rules,
+      take-append-drop,
+      (drop-cons us n p.unit within),
+      (get_or_from_slice_get us n p.unit p.unit it.is_unit),
+    ) in
     let number : 0 + length us_before ≡ n = omega (arith, length-take-le n us (omega arith)) in
     let first : 0 + units_count us_before ≡ p.first = sym it.counts in
     let place : at + length (units_bytes us_before) ≡ p.at = sym it.starts in
@@ -235,12 +236,4 @@ pub first_entry : (us : List DebugUnit) (k : ℕ) (p : PlacedUnit) → slice_get
 first_entry us k p is =
     let s = has_unit us k p is in
     let f = first_here k p s.after in
-    let zero_is : p.first - length s.before ≡ 0 = omega (arith, s.long) in
-    record {
-      entry = f.entry;
-      is_entry = ap (λ (es : List Entry). slice_get es p.first) s.parts
-          ∙ get_behind s.before (unit_entries k p ++ s.after) p.first (omega (arith, s.long))
-          ∙ ap (slice_get (unit_entries k p ++ s.after)) zero_is
-          ∙ f.is_entry;
-      is_first = f.is_first;
-    }
+    record { entry = f.entry; is_entry = search (rules, get_behind); is_first = f.is_first }

@@ -1,15 +1,13 @@
 -- One list of units at most, one fault at most, and never both.
-use Rattle.std.proofs.Common.{rules, ◌≡◌, ℕ, zero, suc, ◌+◌, true, map, List, [], ◌∷◌, ◌++◌, length, Option, Some, inl, inr, refl, sym, ap, ◌∙◌, append_assoc, append-nil, arith, length-append, ◌⊎◌, Ok}
-use Rattle.std.specs.List.{AllByRecursion, flat_map}
-use Rattle.dw_entries.specs.declared.fault.Failing.{Failing}
+use Rattle.std.proofs.Common.{rules, ◌≡◌, ℕ, zero, suc, ◌+◌, true, map, List, [], ◌∷◌, ◌++◌, length, Option, Some, inl, inr, refl, sym, ap, ◌∙◌, append_assoc, append-nil, arith, length-append, ◌⊎◌, Ok, flat_map}
+use Rattle.std.specs.List.{AllByRecursion}
 use Rattle.dw_entries.specs.declared.fault.PlainFault.{PlainFault}
-use Rattle.dw_entries.specs.declared.header.HeaderKind.{HeaderKind}
 use Rattle.dw_entries.specs.Grammar.{Context, Head, head_bytes, IsHead, attribute_bytes}
-use Rattle.dw_entries.specs.Header.{fits_tag, header_at}
+use Rattle.dw_entries.specs.Header.{HeaderKind, fits_tag, header_at}
 use Rattle.dw_entries.specs.Tree.{Node, IsNode, node_bytes}
 use Rattle.dw_entries.specs.Items.{Item, entry, null, item_bytes, IsItem, AreItems, items_bytes, node_items, tree_depth}
 use Rattle.dw_forms.specs.Formats.{one_fault as one_fault_of}
-use Rattle.dw_entries.specs.ItemFormats.{next_item, first_head, fitting_head, code}
+use Rattle.dw_entries.specs.ItemFormats.{Failing, next_item, first_head, fitting_head, code}
 use Rattle.dw_forms.specs.WithBytes.{value_or_fault}
 use Rattle.dw_entries.specs.Units.{DebugUnit, head_of, nulls_bytes, AreNulls, unit_bytes, IsUnit, units_bytes, Spells, AreUnits, body_bytes}
 use Rattle.dw_entries.specs.Faults.{FitsUnit, Stops, BodyFails, FailsHere, Fails}
@@ -77,7 +75,7 @@ first_to x kind h p fit = record {
 -- the first of these items is the unit's first entry, or comes after others
 next_to : (t : Context) (kind : HeaderKind) (is : List Item) (i : Item) (js : List Item) → IsItem t i
     → FitsUnit kind (is ++ i ∷ js) → (next_item t kind is).Spells (item_bytes i) i
-next_to t kind [] (entry h) js p fits = (h, first_to t kind h p fits, refl)
+next_to t kind [] (entry h) js p fits = search (rules, first_to)
 next_to t kind [] (null z) js p fits = absurd fits
 next_to t kind (j ∷ is) i js p fits = item_to t i p
 
@@ -166,8 +164,7 @@ no_list a at bytes us f p b =
     inside : (more : List DebugUnit) → AllByRecursion (IsBare a) more → b.rest ≡ units_bytes more ++ [] → ⊥
     inside [] are rest = b.more rest
     inside (u ∷ more) are rest =
-        unit_or_fault a (at + length (units_bytes b.units)) b.rest f u (units_bytes more ++ []) b.fails are.0.0
-        (rest ∙ append_assoc (unit_bytes u) (units_bytes more) [])
+        search (rules, unit_or_fault, append_assoc)
 
 -- ---- one fault at most
 

@@ -1,16 +1,11 @@
 -- The entries and their records, by their offsets.
-use Rattle.std.proofs.Common.{rules, ◌≡◌, ℕ, ◌+◌, ◌<◌, ◌≤◌, ◌^◌, List, [], ◌∷◌, length, Option, Some, None, refl, ap, ◌∙◌, arith, sym}
-use Rattle.std.specs.Prelude.{IfSome, option_map, slice_get}
+use Rattle.std.proofs.Common.{rules, ◌≡◌, ℕ, ◌+◌, ◌<◌, ◌≤◌, ◌^◌, List, [], ◌∷◌, length, Option, Some, None, refl, ap, ◌∙◌, arith, sym, IfSome, option_map, slice_get}
 use Rattle.std.proofs.lemmas.Option.{slice_get_within}
 use Rattle.std.proofs.lemmas.List.{length-map}
-use Rattle.dw_forms.specs.KeptDecls.{Tables}
-use Rattle.dw_entries.specs.declared.records.Record.{Record}
-use Rattle.dw_entries.specs.declared.records.UnitRecord.{UnitRecord}
-use Rattle.dw_entries.specs.declared.starts.Block.{Block}
 use Rattle.dw_entries.specs.Entries.{entries_of, start_of}
 use Rattle.dw_entries.specs.Units.{AreFrom, DebugUnit}
-use Rattle.dw_entries.specs.Scanned.{found_units, numbers_of, record_of, Scanned}
-use Rattle.dw_entries.specs.Starts.{AreInOrder, AreStarts, IsRecordAt, number_from}
+use Rattle.dw_entries.specs.Scanned.{Tables, UnitRecord, Record, found_units, numbers_of, record_of, Scanned}
+use Rattle.dw_entries.specs.Starts.{Block, AreInOrder, AreStarts, IsRecordAt, number_from}
 use Rattle.dw_entries.specs.EntriesAt.{IsEntryAt}
 use Rattle.dw_entries.proofs.EntryFacts.{entries_rise, entry_past, placed_past}
 use Rattle.dw_entries.proofs.HeadLaws.{stands_within}
@@ -52,24 +47,17 @@ module _ {base : ℕ} {a info : List ℕ} {tables : Tables} {rs : List UnitRecor
 
   -- where an entry begins, its record is
   pub record_at : (offset id : ℕ) → IsEntryAt (entries_of (found_units s)) offset id → IsRecordAt records offset id
-  record_at offset id found =
-      ap (option_map (λ (r : Record). r.at)) (stands_at id found) ∙ ap (λ (n : ℕ). Some n) found.begins
+  record_at offset id found = search (rules, stands_at)
 
   -- no entry is before the base
   pub past_base : (id offset : ℕ) → IsEntryAt (entries_of (found_units s)) offset id → base ≤ offset
   past_base id offset found =
-      let k = kept_entry s id found.within in
-      let start = starts_at base (found_entry s id).unit (found_units s) s.1.are_from k.stands.within in
-      let past = entry_past a (found_units s) s.1.spells.are id (found_entry s id) k.is_entry in
-      omega arith
+      let k = kept_entry s id found.within in search (rules, starts_at, entry_past)
 
   -- no unit is either
   pub unit_past : (number : ℕ) → number < length (found_units s) → base ≤ (found_place s number).at
   unit_past number within =
-      let k = kept_unit s number within in
-      let start = starts_at base number (found_units s) s.1.are_from within in
-      let past = placed_past (found_units s) number (found_place s number) k.is_place in
-      omega arith
+      let k = kept_unit s number within in search (rules, starts_at, placed_past)
 
   -- the records are in the order of their entries
   pub records_ordered : AreInOrder records base (length info)

@@ -1,14 +1,11 @@
 -- The first failure of rules that are asked of entries one by one.
-use Rattle.std.proofs.Common.{rules, ◌≡◌, ℕ, ◌+◌, ◌<◌, ◌≤◌, List, length, Option, Some, arith, eq-or-lt_of_le, inl, inr, ◌⊎◌}
-use Rattle.std.specs.Prelude.{slice_get}
+use Rattle.std.proofs.Common.{rules, ◌≡◌, ℕ, ◌+◌, ◌<◌, ◌≤◌, List, length, Option, Some, arith, eq-or-lt_of_le, inl, inr, ◌⊎◌, slice_get}
 use Rattle.std.proofs.lemmas.Option.{slice_get_within}
 use Rattle.dw_forms.specs.Value.{Datum}
-use Rattle.dw_forms.specs.declared.rule.Rule.{Rule}
-use Rattle.dw_entries.specs.declared.fault.PlainFault.{PlainFault}
 use Rattle.dw_forms.specs.Rules.{number_of}
 use Rattle.dw_entries.specs.Entries.{Entry}
 use Rattle.dw_entries.specs.Places.{Place, at_header, at_entry, at_attribute, IsBefore, offset_of}
-use Rattle.dw_entries.specs.Failures.{Failure, Precedes, Names, HasNone, IsFirst, IsLeast}
+use Rattle.dw_entries.specs.Failures.{PlainFault, Rule, Failure, Precedes, Names, HasNone, IsFirst, IsLeast}
 use Rattle.dw_entries.specs.EntryRules.{OffsetsRise, values_of, HasAttribute, AtAttributes, InList, AtEntries}
 use Rattle.dw_entries.proofs.NumberOrder.{three_ways}
 

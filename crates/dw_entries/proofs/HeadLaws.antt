@@ -1,7 +1,6 @@
 -- At each entry's offset is its head, in the context of its unit.
-use Rattle.std.proofs.Common.{rules, ◌≡◌, ℕ, zero, suc, ◌+◌, ◌-◌, ◌<◌, ◌≤◌, List, [], ◌∷◌, ◌++◌, length, drop, Option, Some, None, Ok, refl, sym, ap, ◌∙◌, arith, length-append, length-drop, subst, append_assoc, append-nil, drop_at, drop-drop, replicate}
-use Rattle.std.specs.Prelude.{slice_get}
-use Rattle.std.specs.List.{flat_map, AllByRecursion}
+use Rattle.std.proofs.Common.{rules, ◌≡◌, ℕ, zero, suc, ◌+◌, ◌-◌, ◌<◌, ◌≤◌, List, [], ◌∷◌, ◌++◌, length, drop, Option, Some, None, Ok, refl, sym, ap, ◌∙◌, arith, length-append, length-drop, subst, append_assoc, append-nil, drop_at, drop-drop, replicate, slice_get, flat_map}
+use Rattle.std.specs.List.{AllByRecursion}
 use Rattle.std.proofs.lemmas.List.{length-replicate}
 use Rattle.std.proofs.lemmas.Option.{slice_get_within, get_or_from_slice_get}
 use Rattle.dw_entries.specs.Grammar.{Context, head_bytes, attribute_bytes, IsHead}
@@ -79,12 +78,14 @@ mutual
   nodes_stand x info unit above depth id at none after p e = tt
   nodes_stand x info unit above depth id at (n then ns) after p e =
       let parts : drop at info ≡ node_bytes n ++ (nodes_bytes ns ++ after) = search (rules, append_assoc) in
-      all-append (StandsIn x unit info) (node_entries unit (Some above) depth (first_id ns (id + node_count n)) id at n)
-      (nodes_entries unit above depth (id + node_count n) (at + length (node_bytes n)) ns)
-      (node_stands x info unit (Some above) depth (first_id ns (id + node_count n)) id at n (nodes_bytes ns ++ after)
-      p.0 parts)
-      (nodes_stand x info unit above depth (id + node_count n) (at + length (node_bytes n)) ns after p.1
-      (behind info (node_bytes n) (nodes_bytes ns ++ after) at parts))
+      search (
+        rules,
+        all-append,
+        (node_stands x info unit (Some above) depth (first_id ns (id + node_count n)) id at n (nodes_bytes ns ++ after)
+            p.0 parts),
+        (nodes_stand x info unit above depth (id + node_count n) (at + length (node_bytes n)) ns after p.1
+            (behind info (node_bytes n) (nodes_bytes ns ++ after) at parts)),
+      )
 
 -- these units are those of a longer list from the unit of this number on
 abbrev From : List DebugUnit → ℕ → List DebugUnit → Type 0
@@ -120,15 +121,16 @@ units_stand all a info unit id at (u ∷ us) after p f e =
     let root : drop (at + unit_header_size u.header.kind) info
     ≡ node_bytes u.root ++ (nulls_bytes u.nulls ++ (units_bytes us ++ after)) =
     search (rules, behind_header, append_assoc) in
-    all-append (Stands all info) (node_entries unit None 0 None id (at + unit_header_size u.header.kind) u.root)
-    (entries_from (suc unit) (id + node_count u.root) (at + length (unit_bytes u)) us)
-    (all_map (StandsIn (context_of u) unit info) (Stands all info)
-    (node_entries unit None 0 None id (at + unit_header_size u.header.kind) u.root)
-    (stands_among all info unit u (from_here all unit u us f))
-    (node_stands (context_of u) info unit None 0 None id (at + unit_header_size u.header.kind) u.root
-    (nulls_bytes u.nulls ++ (units_bytes us ++ after)) p.0.root root))
-    (units_stand all a info (suc unit) (id + node_count u.root) (at + length (unit_bytes u)) us after p.1
-    (from_next all unit u us f) (behind info (unit_bytes u) (units_bytes us ++ after) at parts))
+    search (
+      rules,
+      all-append,
+      (all_map (StandsIn (context_of u) unit info) (Stands all info) _
+          (stands_among all info unit u (from_here all unit u us f))
+          (node_stands (context_of u) info unit None 0 None id (at + unit_header_size u.header.kind) u.root
+          (nulls_bytes u.nulls ++ (units_bytes us ++ after)) p.0.root root)),
+      (units_stand all a info (suc unit) (id + node_count u.root) (at + length (unit_bytes u)) us after p.1
+          (from_next all unit u us f) (behind info (unit_bytes u) (units_bytes us ++ after) at parts)),
+    )
 
 stands_from : (a info : List ℕ) (us : List DebugUnit) (id : ℕ) (e : Entry) → Spells a us (drop (start_of us) info)
     → slice_get (entries_of us) id ≡ Some e → Stands us info e

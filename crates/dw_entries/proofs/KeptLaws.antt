@@ -1,33 +1,27 @@
 -- What is kept of an entry and of its unit, and what is in .debug_info where they point.
-use Rattle.std.proofs.Common.{rules, ◌≡◌, ℕ, zero, suc, ◌-◌, ◌<◌, ◌≤◌, List, [], ◌∷◌, ◌++◌, length, take, drop, get_or, Option, Some, None, Ok, Err, refl, ap, subst, ◌∙◌, arith}
-use Rattle.std.specs.Prelude.{slice_get, IsSomeAnd}
-use Rattle.std.specs.List.{AllZip, flat_map}
+use Rattle.std.proofs.Common.{rules, ◌≡◌, ℕ, zero, suc, ◌-◌, ◌<◌, ◌≤◌, List, [], ◌∷◌, ◌++◌, length, take, drop, get_or, Option, Some, None, Ok, Err, refl, ap, subst, ◌∙◌, arith, slice_get, IsSomeAnd, flat_map}
+use Rattle.std.specs.List.{AllZip}
 use Rattle.std.proofs.lemmas.List.{length-map}
 use Rattle.std.proofs.lemmas.Option.{slice_get_within, slice_get-get_or, get_or_from_slice_get}
 use Rattle.std.proofs.lemmas.Slice.Zip.{AllZip-right, AllZip-long}
 use Rattle.dw_forms.specs.declared.decl.Decls.{Decls}
 use Rattle.dw_forms.specs.declared.attribute_lists.Node.{Node}
 use Rattle.dw_forms.specs.declared.decl.KeptDecl.{KeptDecl}
-use Rattle.dw_forms.specs.Abbrev.{Declaration}
 use Rattle.dw_forms.specs.Chains.{chain_in, items_of}
-use Rattle.dw_forms.specs.KeptDecls.{Tables, decl_of}
+use Rattle.dw_forms.specs.KeptDecls.{decl_of}
 use Rattle.dw_forms.proofs.ChainLaws.{item_some, item_within}
 use Rattle.dw_forms.proofs.KeptLaws.{own_numbers, numbers_find}
 use Rattle.dw_forms.proofs.SpecLaws.{decl_specs}
-use Rattle.dw_entries.specs.declared.fault.Failing.{Failing}
-use Rattle.dw_entries.specs.declared.header.UnitHeader.{UnitHeader}
 use Rattle.dw_entries.specs.declared.header.UnitType.{UnitType}
 use Rattle.dw_entries.specs.declared.units.UnitHead.{UnitHead}
-use Rattle.dw_entries.specs.declared.records.Record.{Record}
-use Rattle.dw_entries.specs.declared.records.UnitRecord.{UnitRecord}
-use Rattle.dw_entries.specs.Grammar.{declared_in, attribute_bytes}
-use Rattle.dw_entries.specs.Header.{type_of}
-use Rattle.dw_entries.specs.ItemFormats.{code}
+use Rattle.dw_entries.specs.Grammar.{Declaration, declared_in, attribute_bytes}
+use Rattle.dw_entries.specs.Header.{UnitHeader, type_of}
+use Rattle.dw_entries.specs.ItemFormats.{Failing, code}
 use Rattle.dw_forms.specs.WithBytes.{ok_pair}
 use Rattle.dw_entries.specs.Units.{DebugUnit}
 use Rattle.dw_entries.specs.Entries.{Entry, entries_of, PlacedUnit, placed}
 use Rattle.dw_entries.specs.ByNumber.{no_entry, no_unit, entry_of, placed_of, unit_of}
-use Rattle.dw_entries.specs.Scanned.{found_units, tables_among, table_of, numbers_of, record_of, IsRecordOfUnit, Scanned}
+use Rattle.dw_entries.specs.Scanned.{Tables, UnitRecord, Record, found_units, tables_among, table_of, numbers_of, record_of, IsRecordOfUnit, Scanned}
 use Rattle.dw_entries.specs.Lookups.{IsKeptIn, HasSpecsIn, unit_head}
 use Rattle.dw_entries.proofs.ScanLaws.{rest_of}
 use Rattle.dw_entries.proofs.HeadLaws.{Stands, head_stands, stands_code, stands_within}
@@ -105,12 +99,10 @@ module _ {base : ℕ} {a info : List ℕ} {tables : Tables} {rs : List UnitRecor
     {s : Scanned base a info tables rs records} {id : ℕ} (k : KeptEntry s id) where
   module _ (r : Record) (read : slice_get records id ≡ Some r) where
     pub record_is : r ≡ record_of (numbers_of tables rs) (found_entry s id)
-    record_is = one_some (slice_get records id) r (record_of (numbers_of tables rs) (found_entry s id)) read k.is_record
+    record_is = search (rules, one_some)
 
     pub at_within : r.at < length info
-    at_within =
-        let e : r.at ≡ (found_entry s id).at = ap (λ (q : Record). q.at) record_is in
-        let w = stands_within (found_units s) info (found_entry s id) k.stands in omega arith
+    at_within = search (rules, record_is, stands_within)
 
     -- its code is read at its offset, and its values follow
     code_read : code.read (take (length info - r.at) (drop r.at info))

@@ -1,6 +1,6 @@
 -- The values that leads lead to: their forms, and what is read of their bytes.
-use Rattle.std.proofs.Common.{rules, ◌≡◌, ℕ, Bool, true, false, List, length, Some, Ok, Err, refl, subst, Result, sym}
-use Rattle.std.specs.Prelude.{⊤, nat_lt}
+use Rattle.std.proofs.Common.{rules, ◌≡◌, ℕ, Bool, true, false, List, length, Some, Ok, Err, refl, subst, Result, sym, nat_lt}
+use Rattle.std.specs.Prelude.{⊤}
 use Rattle.std.specs.Bool.{OnTrue}
 use Rattle.dw_forms.specs.declared.leading_steps.Lead.{Lead}
 use Rattle.dw_forms.specs.declared.leading_steps.Lead.TheVariants as lead

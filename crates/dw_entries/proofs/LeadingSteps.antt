@@ -3,7 +3,6 @@ use Rattle.std.proofs.Common.{rules, ◌≡◌, ℕ, ◌-◌, ◌≤◌, List, [
 use Rattle.std.proofs.lemmas.Bool.{ltb-false}
 use Rattle.std.proofs.lemmas.List.{take-append-drop}
 use Rattle.dw_forms.specs.declared.attributes.Attributes.{Attributes}
-use Rattle.dw_forms.specs.declared.abbrev.AttributeSpec.{AttributeSpec}
 use Rattle.dw_forms.specs.declared.leading_steps.Lead.TheVariants as lead
 use Rattle.dw_forms.specs.declared.leading_steps.Step.{Step}
 use Rattle.dw_forms.specs.Chains.{Numbered, items_of}
@@ -14,7 +13,7 @@ use Rattle.dw_forms.proofs.ChainLaws.{chain_none}
 use Rattle.dw_forms.proofs.PassSteps.{run, items_append}
 use Rattle.dw_forms.proofs.WalkSteps.{GoesTo, goes_to, step_lead}
 use Rattle.dw_entries.specs.EntryRules.{value_of}
-use Rattle.dw_entries.specs.Grammar.{Context, AreAttributes}
+use Rattle.dw_entries.specs.Grammar.{AttributeSpec, Context, AreAttributes}
 use Rattle.dw_entries.specs.Leading.{BeginsWithLead, PassesOver}
 use Rattle.dw_entries.specs.declared.values.Values.{Values}
 use Rattle.dw_entries.specs.ValueLaws.{left_unique}

@@ -1,19 +1,12 @@
 -- The attributes of an entry that stand in .debug_info, and the value of one of them.
-use Rattle.std.proofs.Common.{rules, ◌≡◌, ℕ, ◌+◌, List, ◌++◌, length, map, None, false, ap, [], ◌∷◌}
-use Rattle.std.specs.Prelude.{◌≢◌, All}
-use Rattle.std.specs.List.{flat_map}
+use Rattle.std.proofs.Common.{rules, ◌≡◌, ℕ, ◌+◌, List, ◌++◌, length, map, None, false, ap, [], ◌∷◌, ◌≢◌, All, flat_map}
 use Rattle.std.proofs.lemmas.Bool.{ne_eqb}
 use Rattle.std.proofs.lemmas.Option.{slice_get-get_or}
 use Rattle.std.proofs.lemmas.List.Folds.{list_any_none}
-use Rattle.dw_forms.specs.declared.abbrev.AttributeSpec.{AttributeSpec}
-use Rattle.dw_forms.specs.KeptDecls.{Tables}
-use Rattle.dw_entries.specs.declared.header.UnitHeader.{UnitHeader}
-use Rattle.dw_entries.specs.declared.records.Record.{Record}
-use Rattle.dw_entries.specs.declared.records.UnitRecord.{UnitRecord}
-use Rattle.dw_entries.specs.Grammar.{AreAttributes, attribute_bytes, Context, Attribute}
-use Rattle.dw_entries.specs.Header.{version_of, IsSize}
+use Rattle.dw_entries.specs.Grammar.{AttributeSpec, AreAttributes, attribute_bytes, Context, Attribute}
+use Rattle.dw_entries.specs.Header.{UnitHeader, version_of, IsSize}
 use Rattle.dw_entries.specs.UnitLaws.{unit_sized}
-use Rattle.dw_entries.specs.Scanned.{Scanned}
+use Rattle.dw_entries.specs.Scanned.{Tables, UnitRecord, Record, Scanned}
 use Rattle.dw_entries.specs.EntryRules.{value_of, values_of}
 use Rattle.dw_entries.specs.ValuePlaces.{placed_values, placed_values_from}
 use Rattle.dw_entries.specs.Values.{value_context, Left}

@@ -1,15 +1,13 @@
 -- The nulls after a unit's tree.
-use Rattle.std.proofs.Common.{rules, ◌≡◌, ◌≢◌, ℕ, ◌+◌, ◌-◌, ◌<◌, map, true, List, [], ◌∷◌, ◌++◌, length, Ok, refl, sym, ap, ◌∙◌, append_assoc, append-nil, arith, length-append}
+use Rattle.std.proofs.Common.{rules, ◌≡◌, ◌≢◌, ℕ, ◌+◌, ◌-◌, ◌<◌, map, true, List, [], ◌∷◌, ◌++◌, length, Ok, refl, ap, ◌∙◌, append_assoc, append-nil, arith, length-append}
 use Rattle.std.proofs.lemmas.List.Concat.{flat_map-append}
 use Rattle.dw_entries.specs.declared.records.Record.{Record}
-use Rattle.dw_entries.specs.declared.header.HeaderKind.{HeaderKind}
 use Rattle.dw_forms.specs.declared.rule.Rule.TheVariants.{LeftOver}
-use Rattle.dw_entries.specs.declared.fault.Failing.{Failing}
 use Rattle.dw_entries.specs.Grammar.{Context}
-use Rattle.dw_entries.specs.Header.{fits_tag, unit_header_size}
+use Rattle.dw_entries.specs.Header.{HeaderKind, fits_tag, unit_header_size}
 use Rattle.dw_entries.specs.Tree.{Node, leaf, parent, node_bytes}
 use Rattle.dw_entries.specs.Items.{Item, null, items_bytes, node_items}
-use Rattle.dw_entries.specs.ItemFormats.{code}
+use Rattle.dw_entries.specs.ItemFormats.{Failing, code}
 use Rattle.dw_entries.specs.Units.{AreNulls, nulls_bytes, head_of}
 use Rattle.dw_entries.specs.Faults.{BeginsNoNull, FitsUnit, in_unit, BodyFails}
 use Rattle.dw_entries.specs.Stopped.{TreeOf, AreAllNulls, NullsThen}
@@ -39,7 +37,7 @@ pub null_shorter : (rest after : List ℕ) → code.read rest ≡ Ok (0, after) 
 unfolding code
 null_shorter rest after e =
     let took = read_takes code rest 0 after e in
-    omega (arith, ap length took.parts, length-append took.text after, code_has_byte took.text 0 took.spelled)
+    search (rules, length-append, code_has_byte)
 
 -- where no null is read, none is there
 pub no_null : (bytes : List ℕ) → ((after : List ℕ) → code.read bytes ≢ Ok (0, after)) → BeginsNoNull bytes
@@ -81,8 +79,7 @@ left_over t numbers kind header start body rest left old new s tree then =
     let spelled : items_bytes is ≡ node_bytes tree.root
     ++ nulls_bytes zs = search (rules, items_bytes-append, node_spelled, nulls_spelled) in
     let parts : body ≡ items_bytes is
-    ++ left = together body (node_bytes tree.root) rest tree.nulls then.nulls left tree.parts then.parts
-    ∙ ap (λ (b : List ℕ). b ++ left) (sym spelled) in
+    ++ left = search (rules, together, spelled) in
     let f : Failing = record { rule = LeftOver; attribute = 0 } in
     let here : start + (length body - length left)
     ≡ header + unit_header_size kind + length (items_bytes is) = omega (

@@ -1,16 +1,13 @@
 -- The entries stand in rising offset.
-use Rattle.std.proofs.Common.{rules, ℕ, suc, ◌+◌, ◌≤◌, List, [], ◌∷◌, ◌++◌, length, map, Option, Some, None, ap, arith, length-append, length-drop}
+use Rattle.std.proofs.Common.{rules, ℕ, suc, ◌+◌, ◌≤◌, List, [], ◌∷◌, ◌++◌, length, map, Option, Some, None, arith, length-append, length-drop}
 use Rattle.std.proofs.lemmas.List.{map-append}
-use Rattle.dw_entries.specs.Scanned.{numbers_of, record_of, Scanned}
-use Rattle.dw_entries.specs.declared.records.Record.{Record}
-use Rattle.dw_entries.specs.declared.records.UnitRecord.{UnitRecord}
-use Rattle.dw_forms.specs.KeptDecls.{Tables}
+use Rattle.dw_entries.specs.Scanned.{Tables, UnitRecord, Record, record_of, Scanned}
 use Rattle.dw_entries.specs.Grammar.{Context, head_bytes}
 use Rattle.dw_entries.specs.Header.{unit_header_size}
 use Rattle.dw_entries.specs.UnitLaws.{unit_sized}
 use Rattle.dw_entries.specs.Tree.{Node, Nodes, leaf, parent, none, ◌then◌, IsNode, AreNodes, node_bytes, nodes_bytes}
 use Rattle.dw_entries.specs.Units.{nulls_bytes, DebugUnit, context_of, unit_bytes, AreUnits, units_bytes}
-use Rattle.dw_entries.specs.Entries.{Entry, node_count, first_id, node_entries, nodes_entries, entries_from, start_of}
+use Rattle.dw_entries.specs.Entries.{Entry, node_count, first_id, node_entries, nodes_entries, entries_from}
 use Rattle.dw_entries.specs.Records.{records_from}
 use Rattle.dw_entries.specs.Items.{entry}
 use Rattle.dw_entries.specs.ItemLaws.{item_some}
@@ -85,10 +82,4 @@ few_entries a numbers at us p =
 pub scanned_few : {base : ℕ} (a info : List ℕ) (tables : Tables) (us : List UnitRecord) (records : List Record)
     → Scanned base a info tables us records → length records ≤ length info
 scanned_few {base} a info tables us records e =
-    omega (
-      arith,
-      ap length e.1.entries,
-      ap length e.1.spells.parts,
-      length-drop base info,
-      few_entries a (numbers_of tables us) (start_of e.0) e.0 e.1.spells.are,
-    )
+    search (rules, length-drop, few_entries)

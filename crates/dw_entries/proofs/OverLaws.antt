@@ -1,9 +1,7 @@
 -- Attributes that are passed, and the one after them.
-use Rattle.std.proofs.Common.{rules, ◌≡◌, ℕ, zero, suc, ◌<◌, ◌≤◌, ◌-◌, take, drop, Ok, true, false, List, [], ◌∷◌, ◌++◌, length, map, Option, Some, None, refl, sym, ap, ◌∙◌, append_assoc, length-append}
-use Rattle.std.specs.Prelude.{IfNone, IfSome}
+use Rattle.std.proofs.Common.{rules, ◌≡◌, ℕ, zero, suc, ◌<◌, ◌≤◌, ◌-◌, take, drop, Ok, true, false, List, [], ◌∷◌, ◌++◌, length, map, Option, Some, None, refl, sym, ap, ◌∙◌, append_assoc, length-append, IfNone, IfSome}
 use Rattle.std.proofs.lemmas.Bool.{or_parts}
 use Rattle.std.specs.List.{list_any}
-use Rattle.dw_forms.specs.declared.abbrev.AttributeSpec.{AttributeSpec}
 use Rattle.dw_forms.specs.declared.attributes.Attributes.{Attributes}
 use Rattle.dw_forms.specs.declared.leading_steps.Lead.{Lead}
 use Rattle.dw_forms.specs.declared.leading_steps.Lead.TheVariants as lead
@@ -16,12 +14,11 @@ use Rattle.dw_forms.proofs.SuffixLaws.{first_specs}
 use Rattle.dw_entries.specs.declared.values.Values.{Values}
 use Rattle.dw_entries.specs.ValuesLeft.{specs_left, values_left}
 use Rattle.dw_entries.proofs.ValueSteps.{item_passed, steps_after}
-use Rattle.dw_forms.specs.Value.{Datum}
 use Rattle.dw_forms.proofs.LeadLaws.{lead_says}
 use Rattle.dw_forms.proofs.PartLaws.{none_both}
 use Rattle.dw_forms.proofs.WalkSteps.{step_none, step_nothing}
 use Rattle.dw_entries.specs.EntryRules.{value_of}
-use Rattle.dw_entries.specs.Grammar.{Context}
+use Rattle.dw_entries.specs.Grammar.{Datum, AttributeSpec, Context}
 use Rattle.dw_entries.specs.Led.{item_of, leads_on, LeadsNext}
 use Rattle.dw_entries.specs.declared.led.Led.{Led}
 use Rattle.dw_entries.specs.Leading.{BeginsWithForm, BeginsWithLead, DoesNotLead, PassesOver, ReadsFirst, StepsTo, form_of_lead}
@@ -67,7 +64,7 @@ some_first l specs b none = search (rules)
 
 -- ---- one attribute more
 
-module _ (items left : List (ℕ × Datum)) (specs others : List AttributeSpec) (p : PassesOver items left specs others)
+module _ {items left : List (ℕ × Datum)} {specs others : List AttributeSpec} (p : PassesOver items left specs others)
   where
     pub next_over : (item : ℕ × Datum) (behind : List (ℕ × Datum)) → left ≡ item ∷ behind
         → IsNextOf DoesNotLead items item behind
@@ -169,7 +166,7 @@ pub passed_on : (l : Lead) → l ≡ lead.Passed → l ≡ lead.Nothing → ⊥
 passed_on l passed nothing = search (rules)
 
 -- the first attribute is skipped, after those that are passed
-module _ (v : Values) (items : List (ℕ × Datum)) (specs : List AttributeSpec)
+module _ (v : Values) {items : List (ℕ × Datum)} {specs : List AttributeSpec}
     (p : PassesOver items (values_left v) specs (specs_left v)) (spec : AttributeSpec) (rest : Attributes)
     (first : Ends v.attributes rest (record { number = v.attributes.first; item = spec } ∷ [])) (d : Datum) (len : ℕ)
     (within : len ≤ length v.bytes.now)
@@ -187,10 +184,8 @@ module _ (v : Values) (items : List (ℕ × Datum)) (specs : List AttributeSpec)
   past l b is m =
       let parts = first_specs v.attributes rest spec first in
       let quiet = first_quiet l (specs_left v) (specs_in rest) spec b parts is in
-      over_more items (values_left v) specs (specs_left v) p (spec.attribute, d) (map value_of m.0.0) spec
-      (specs_in rest) (steps_on m) parts (item_passed v spec rest first quiet d len within read) quiet
+      over_more p (spec.attribute, d) (map value_of m.0.0) spec (specs_in rest) (steps_on m) parts
+      (item_passed v spec rest first quiet d len within read) quiet
 
   pub past_fewer : (m : LeftAfter) → length (map value_of m.0.0) < length items
-  past_fewer m =
-      fewer_over items (values_left v) specs (specs_left v) p (spec.attribute, d) (map value_of m.0.0)
-      (steps_on m)
+  past_fewer m = fewer_over p (spec.attribute, d) (map value_of m.0.0) (steps_on m)

@@ -1,18 +1,15 @@
 -- Values that are passed together, and the value after them.
-use Rattle.std.proofs.Common.{rules, ◌≡◌, ◌≢◌, ℕ, zero, suc, ◌+◌, ◌-◌, Bool, true, false, List, [], ◌∷◌, ◌++◌, length, take, drop, map, Option, Some, None, Result, Ok, Err, refl, sym, ap, ◌∙◌, append_assoc, length-append, length-drop, arith}
-use Rattle.std.specs.Prelude.{◌&&◌, slice_index_or, option_map}
-use Rattle.std.specs.List.{flat_map, slice_range}
+use Rattle.std.proofs.Common.{rules, ◌≡◌, ◌≢◌, ℕ, zero, suc, ◌+◌, ◌-◌, Bool, true, false, List, [], ◌∷◌, ◌++◌, length, take, drop, map, Option, Some, None, Result, Ok, Err, refl, sym, ap, ◌∙◌, append_assoc, length-append, length-drop, arith, ◌&&◌, slice_index_or, option_map, flat_map, slice_range}
 use Rattle.std.proofs.lemmas.Bool.{ne_eqb, eq-eqb}
-use Rattle.dw_forms.specs.declared.abbrev.AttributeSpec.{AttributeSpec}
 use Rattle.dw_forms.specs.declared.value.ValueFault.{ValueFault}
 use Rattle.dw_forms.specs.FormCodes.{is_allowed}
 use Rattle.dw_forms.specs.declared.form.Form.TheVariants.{Flag}
 use Rattle.dw_forms.specs.declared.value.Value.{Value}
-use Rattle.dw_forms.specs.Value.{Datum, view}
+use Rattle.dw_forms.specs.Value.{view}
 use Rattle.dw_forms.specs.Sizes.{rest_at, are_allowed}
 use Rattle.dw_forms.specs.KnownValues.{values_end}
 use Rattle.dw_forms.specs.FirstPlaces.{StandsFirst, value_behind, ReadsFirst, AnswersFirst}
-use Rattle.dw_entries.specs.Grammar.{Context, Attribute, IsAttribute, AreAttributes, attribute_bytes}
+use Rattle.dw_entries.specs.Grammar.{Datum, AttributeSpec, Context, Attribute, IsAttribute, AreAttributes, attribute_bytes}
 use Rattle.dw_entries.specs.ItemFormats.{bytes_after, attributes}
 use Rattle.dw_forms.specs.WithBytes.{bind_ok}
 use Rattle.dw_entries.specs.EntryRules.{value_of}
@@ -101,8 +98,7 @@ passed x (s ∷ front) back (b ∷ bs) rest bytes are spelled =
       spelled = p.spelled;
       values = p.values;
       placed =
-          λ at. ap (λ (n : ℕ). placed_values_from n p.others) (longer at b.bytes p.before)
-          ∙ p.placed (at + length b.bytes);
+          λ at. search (rules, longer, p.placed);
     }
 
 -- where bytes start that follow others at the end of a section
@@ -229,11 +225,7 @@ pub answers_left : (x : Context) (specs : List AttributeSpec) (bytes : List ℕ)
     → option_map view found ≡ value_in (map value_of l.0.0) attribute
 answers_left x specs bytes l attribute None none = search (rules, value_of_none, declares_none)
 answers_left x specs bytes l attribute (Some v) reads =
-    let (w, is, here) = value_of_left x specs bytes l attribute (Ok (view v)) reads in
-    ap (λ (d : Datum). Some d) (ok_is is) ∙ here
-  where
-    ok_is : {a b : Datum} → ◌≡◌ {A = Result Datum ValueFault} (Ok a) (Ok b) → a ≡ b
-    ok_is e = cc
+    let (w, is, here) = value_of_left x specs bytes l attribute (Ok (view v)) reads in search rules
 
 pub never_answers : (x : Context) (specs : List AttributeSpec) (bytes : List ℕ) (l : Left x specs bytes) (attribute : ℕ)
     (f : ValueFault) → ReadsFirst x.version x.address_size specs attribute bytes (Err f) → ⊥

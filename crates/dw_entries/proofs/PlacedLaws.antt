@@ -1,18 +1,13 @@
 -- The bytes of a value are the last of its spelling, and where they are in .debug_info.
-use Rattle.std.proofs.Common.{rules, ◌≡◌, ℕ, ◌-◌, List, [], ◌++◌, ◌≤◌, length, take, drop, refl, sym, ap, ◌∙◌, append_assoc, append-nil, length-append, length-drop, length-take, drop_at, take-append-drop, ◌∷◌, Some, Ok, arith}
+use Rattle.std.proofs.Common.{rules, ◌≡◌, ℕ, ◌-◌, List, [], ◌++◌, ◌≤◌, length, take, drop, refl, sym, ap, ◌∙◌, append_assoc, append-nil, length-append, length-drop, length-take, drop_at, take-append-drop, ◌∷◌, Some, Ok, slice_get}
 use Rattle.dw_forms.specs.declared.form.Form.{Form}
 use Rattle.dw_forms.specs.declared.form.Form.TheVariants as form
-use Rattle.std.specs.Prelude.{slice_get}
-use Rattle.dw_forms.specs.Value.{Datum}
 use Rattle.dw_forms.specs.FormTable.{layout_of}
 use Rattle.dw_forms.specs.ValueFormats.{Val, laid_out, counted_bytes, leb_counted_bytes}
 use Rattle.dw_forms.specs.ValueLaws.{named_plain}
-use Rattle.dw_forms.specs.KeptDecls.{Tables}
-use Rattle.dw_entries.specs.declared.records.Record.{Record}
-use Rattle.dw_entries.specs.declared.records.UnitRecord.{UnitRecord}
-use Rattle.dw_entries.specs.Grammar.{Attribute}
+use Rattle.dw_entries.specs.Grammar.{Datum, Attribute}
 use Rattle.dw_entries.specs.ItemFormats.{code}
-use Rattle.dw_entries.specs.Scanned.{Scanned, found_units}
+use Rattle.dw_entries.specs.Scanned.{Tables, UnitRecord, Record, Scanned, found_units}
 use Rattle.dw_entries.specs.Entries.{Entry}
 use Rattle.dw_entries.proofs.HeadLaws.{stands_within}
 use Rattle.dw_entries.proofs.KeptLaws.{KeptEntry, found_entry, values_are}
@@ -111,13 +106,7 @@ ends_at section bytes rest v is l =
       before = front ++ l.before;
       rest = rest;
       parts = whole;
-      end_is =
-          omega (
-            arith,
-            ap length whole,
-            length-append (front ++ l.before) (bytes_of v ++ rest),
-            length-append (bytes_of v) rest,
-          );
+      end_is = search (rules, length-append);
       no_zero = l.no_zero;
     }
 
@@ -144,6 +133,6 @@ follow_code {info = info} {s = s} {id = id} k r read n rest got =
       before = front ++ e.head.code;
       rest = k.stands.after;
       parts = search (rules, take-append-drop, append_assoc);
-      start = omega (arith, length-append front e.head.code, length-take e.at info);
+      start = search (rules, length-append, length-take);
       spelled = values;
     }

@@ -1,16 +1,13 @@
 -- One turn of the loop that reads attributes.
 use Rattle.std.proofs.Common.{rules, ◌≡◌, ℕ, true, List, [], ◌∷◌, Result, Ok, Err, refl, ◌++◌}
-use Rattle.dw_forms.specs.declared.abbrev.AttributeSpec.{AttributeSpec}
 use Rattle.dw_forms.specs.Formats.{as_other}
 use Rattle.dw_forms.specs.Steps.{◌>>=◌}
-use Rattle.dw_entries.specs.declared.fault.Failing.{Failing}
-use Rattle.dw_entries.specs.Grammar.{Context, Attribute, IsAttribute}
+use Rattle.dw_entries.specs.Grammar.{Datum, AttributeSpec, Context, Attribute, IsAttribute}
 use Rattle.dw_forms.specs.declared.value.ValueFault.{ValueFault}
 use Rattle.dw_forms.specs.FormCodes.{is_allowed}
-use Rattle.dw_forms.specs.Value.{Datum}
 use Rattle.dw_forms.specs.ValueReading.{value_at}
 use Rattle.dw_forms.specs.Sizes.{rest_at}
-use Rattle.dw_entries.specs.ItemFormats.{failing_by, value_rule, bytes_after, value_in, as_attribute, attribute, attributes}
+use Rattle.dw_entries.specs.ItemFormats.{Failing, failing_by, value_rule, bytes_after, value_in, as_attribute, attribute, attributes}
 use Rattle.dw_forms.specs.WithBytes.{with_front}
 
 after_then : {A B : Type 0} (r : Result (A × List ℕ) Failing) (f : A × List ℕ → Result (B × List ℕ) Failing)

@@ -3,12 +3,10 @@ use Rattle.std.proofs.Common.{rules, ◌≡◌, ℕ, zero, suc, ◌+◌, ◌-◌
 use Rattle.std.proofs.lemmas.List.Concat.{flat_map-append}
 use Rattle.std.specs.List.{AllByRecursion, AllZip}
 use Rattle.std.proofs.lemmas.List.{length-map, map-append}
-use Rattle.dw_entries.specs.declared.records.Record.{Record}
-use Rattle.dw_entries.specs.declared.records.UnitRecord.{UnitRecord}
 use Rattle.dw_entries.specs.declared.records.Kept.{Kept}
 use Rattle.dw_forms.specs.AbbrevTables.{tables_in, AreTablesOf}
 use Rattle.dw_forms.specs.Chains.{chain_in}
-use Rattle.dw_forms.specs.KeptDecls.{Tables, decl_number_in}
+use Rattle.dw_forms.specs.KeptDecls.{decl_number_in}
 use Rattle.dw_forms.specs.TableStarts.{Stay}
 use Rattle.dw_forms.proofs.StartLaws.{table_stays}
 use Rattle.dw_entries.specs.declared.fault.PlainFault.{PlainFault}
@@ -20,7 +18,7 @@ use Rattle.dw_entries.specs.UnitLaws.{unit_some}
 use Rattle.dw_entries.specs.Units.{DebugUnit, unit_bytes, AreUnits, units_bytes, AreFrom}
 use Rattle.dw_entries.specs.Entries.{Entry, node_count, node_entries, entries_from, start_of, PlacedUnit, placed_from, placed}
 use Rattle.dw_entries.specs.Records.{records_from}
-use Rattle.dw_entries.specs.Scanned.{table_of, numbers_of, record_of, IsRecordOfUnit, Scanned}
+use Rattle.dw_entries.specs.Scanned.{Tables, UnitRecord, Record, table_of, numbers_of, record_of, IsRecordOfUnit, Scanned}
 use Rattle.dw_entries.specs.Stopped.{UnitTaken}
 use Rattle.dw_entries.proofs.EntryFacts.{IsOfUnit, entries_from-append, length-entries_from, node_unit, units_count}
 use Rattle.dw_entries.proofs.HeadLaws.{all-append}
@@ -55,7 +53,7 @@ records_same f g unit id at (u ∷ us) same =
       (node_unit unit None 0 None id (at + unit_header_size u.header.kind) u.root),
       (same unit (omega arith)),
       (records_same f g (suc unit) (id + node_count u.root) (at + length (unit_bytes u)) us
-      (λ n less. same n (omega arith))),
+          (λ n less. same n (omega arith))),
     )
 
 units_bytes-push : (us : List DebugUnit) (u : DebugUnit) → units_bytes (us ++ u ∷ []) ≡ units_bytes us ++ unit_bytes u
@@ -153,8 +151,7 @@ upto_next a info base header old new len u t =
     let at : header ≡ base + length (units_bytes u.units) = u.at in
     let own : List Entry = node_entries unit None 0 None (length records) (header + size) v.root in
     let more : es ++ own ≡ entries_from 0 0 base (u.units ++ v ∷ []) =
-    (λ i. es ++ node_entries (n i) None 0 None (id i) (at i + size) v.root)
-    ∙ ap (λ (fs : List Entry). es ++ fs) (sym (append-nil _)) ∙ sym (entries_from-append 0 0 base u.units (v ∷ [])) in
+    search (rules, append-nil, entries_from-append) in
     record {
       units = u.units ++ v ∷ [];
       are = search (rules, all-append);

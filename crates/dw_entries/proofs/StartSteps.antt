@@ -1,25 +1,23 @@
 -- The blocks in which the entries of records start, one record after another.
-use Rattle.std.proofs.Common.{◌≡◌, ◌≢◌, ℕ, ◌+◌, ◌-◌, ◌*◌, ◌/◌, ◌%◌, ◌^◌, ◌<◌, ◌≤◌, List, length, get_or, set, replicate, Option, Some, None, refl, sym, ap, subst, ◌∙◌, inl, inr, arith}
+use Rattle.std.proofs.Common.{◌≡◌, ◌≢◌, ℕ, ◌+◌, ◌-◌, ◌*◌, ◌/◌, ◌%◌, ◌^◌, ◌<◌, ◌≤◌, List, length, get_or, set, replicate, Option, Some, None, refl, sym, ap, subst, ◌∙◌, inl, inr, rules, arith, slice_get, option_map}
 use Rattle.std.proofs.lemmas.Bool.{cases_eq, cases_lt}
 use Rattle.std.proofs.lemmas.Nat.{pow_pos}
 use Rattle.std.proofs.lemmas.List.{get_or-replicate, get_or-set_same, get_or-set_other, get_or_past, get_or_read, length-replicate}
 use Rattle.std.proofs.lemmas.Option.{slice_get_within, slice_get-get_or}
 use Rattle.std.proofs.lemmas.Nat.Bits.{bit_at-zero}
-use Rattle.std.specs.Prelude.{slice_get, option_map}
 use Rattle.dw_entries.specs.declared.records.Record.{Record}
-use Rattle.dw_entries.specs.declared.starts.Block.{Block}
-use Rattle.dw_entries.specs.Starts.{AreInOrder, AreStarts, IsNextIn, IsRecordAt, StartsToo, block_of, no_starts, number_at, number_from}
+use Rattle.dw_entries.specs.Starts.{Block, AreInOrder, AreStarts, IsNextIn, IsRecordAt, StartsToo, block_of, no_starts, number_from}
 use Rattle.dw_entries.proofs.StartLaws.{number_none}
 
 -- a number has no bit below the lowest
 no_bits : (bits byte : ℕ) → byte ≡ 0 → bits < 2 ^ byte → bits ≡ 0
 no_bits bits byte same few =
-    let one : 2 ^ byte ≡ 1 = ap (λ (n : ℕ). 2 ^ n) same in omega (arith, few, one)
+    let one : 2 ^ byte ≡ 1 = ap (λ (n : ℕ). 2 ^ n) same in search rules
 
 -- the record of a number is at one offset
 one_offset : (records : List Record) (number a b : ℕ) → IsRecordAt records a number → IsRecordAt records b number
     → a ≡ b
-one_offset records number a b is_a is_b = let e : Some a ≡ Some b = sym is_a ∙ is_b in cc
+one_offset records number a b is_a is_b = search rules
 
 -- by the blocks, which begin at the base, the first count entries start where their records are, and the next one may
 -- start after them
@@ -34,13 +32,9 @@ pub record HaveStarts (records : List Record) (base count : ℕ) (blocks : List 
 
 pub start_none : (records : List Record) (base n : ℕ) → HaveStarts records base 0 (replicate n no_starts)
 start_none records base n = record {
-  found = λ offset number is. absurd (let e : None ≡ Some number = sym (nowhere offset) ∙ is in cc);
+  found = λ offset number is. absurd (search (rules, nowhere));
   start = λ offset number few. absurd (omega arith);
-  next = λ offset _. let P : Block → Type 0 = λ b. IsNextIn b (offset % 32) 0 in
-      subst P (sym (none_at offset)) (record {
-        above = pow_pos (offset % 32);
-        follows = λ other. absurd (other refl);
-      });
+  next = λ offset _. search (rules, none_at, pow_pos);
 }
   where
     none_at : (offset : ℕ) → block_of (replicate n no_starts) offset ≡ no_starts
@@ -52,9 +46,7 @@ start_none records base n = record {
     ]
 
     nowhere : (offset : ℕ) → number_from (replicate n no_starts) offset ≡ None
-    nowhere offset =
-        ap (λ (b : Block). number_at b (offset % 32)) (none_at offset)
-        ∙ number_none no_starts (offset % 32) (bit_at-zero (offset % 32))
+    nowhere offset = search (rules, none_at, number_none, bit_at-zero)
 
 pub start_all : (records : List Record) (base : ℕ) (blocks : List Block)
     → HaveStarts records base (length records) blocks → AreStarts records base blocks
@@ -74,20 +66,18 @@ start_all records base blocks have offset number = (
 -- a record that was read is at its offset
 pub read_at : (records : List Record) (k : ℕ) (r : Record) → k < length records
     → IsRecordAt records (get_or records k r).at k
-read_at records k r within = ap (option_map (λ (q : Record). q.at)) (slice_get-get_or records k r within)
+read_at records k r within = search (rules, slice_get-get_or)
 
 -- and so far after the base
-pub read_past : (records : List Record) (base end k : ℕ) (r : Record) → k < length records
+pub read_past : {records : List Record} {base end k : ℕ} (r : Record) → k < length records
     → AreInOrder records base end
     → IsRecordAt records (base + ((get_or records k r).at - base)) k × ((get_or records k r).at < end)
     × (base ≤ (get_or records k r).at)
-read_past records base end k r within order =
-    let is = read_at records k r within in
-    let low = order.past k (get_or records k r).at is in
-    let same : (get_or records k r).at ≡ base + ((get_or records k r).at - base) = omega (arith, low) in
-    (subst (λ (n : ℕ). IsRecordAt records n k) same is, order.within k (get_or records k r).at is, low)
+read_past {records} {k = k} r within order =
+    let is = read_at records k r within in let low = order.past k (get_or records k r).at is in search (rules, order)
 
-module _ (records : List Record) (base end count at : ℕ) (blocks : List Block) (order : AreInOrder records base end)
+module _ {records : List Record} {base end count : ℕ} {blocks : List Block} (at : ℕ)
+    (order : AreInOrder records base end)
     (is : IsRecordAt records (base + at) count) (old : HaveStarts records base count blocks)
     (within : at / 32 < length blocks) (block : Block) (read : block ≡ get_or blocks (at / 32) block) where
   -- the records before are at lower offsets
@@ -95,33 +85,29 @@ module _ (records : List Record) (base end count at : ℕ) (blocks : List Block)
   below number before few at_before = order.rise number count before (base + at) few at_before is
 
   block_is : block_of blocks at ≡ block
-  block_is = sym (get_or_read blocks (at / 32) block within read no_starts)
+  block_is = search (rules, get_or_read)
 
   pub may_start : IsNextIn block (at % 32) count
-  may_start = let P : Block → Type 0 = λ b. IsNextIn b (at % 32) count in subst P block_is (old.next at below)
+  may_start = search (rules, old, below, block_is)
 
   module _ (new : Block) (too : StartsToo block (at % 32) count new) where
     abbrev pub put : List Block
     put = set blocks (at / 32) new
 
     put_same : (offset : ℕ) → offset / 32 ≡ at / 32 → block_of put offset ≡ new
-    put_same offset same = ap (λ (n : ℕ). get_or put n no_starts) same
-        ∙ get_or-set_same blocks (at / 32) new no_starts within
+    put_same offset same = search (rules, get_or-set_same)
 
     put_other : (offset : ℕ) → offset / 32 ≢ at / 32 → block_of put offset ≡ block_of blocks offset
     put_other offset other = get_or-set_other blocks (at / 32) (offset / 32) new no_starts other
 
     number_here : number_from put at ≡ Some count
-    number_here = ap (λ (b : Block). number_at b (at % 32)) (put_same at refl) ∙ too.here
+    number_here = search (rules, put_same, too)
 
     number_other : (offset : ℕ) → offset ≢ at → number_from put offset ≡ number_from blocks offset
     number_other offset other = elim (cases_eq (offset / 32) (at / 32)) [
       | inl same ↦
-          ap (λ (b : Block). number_at b (offset % 32)) (put_same offset same)
-          ∙ too.others (offset % 32) (λ e. other (omega (arith, e, same)))
-          ∙ ap (λ (b : Block). number_at b (offset % 32)) (sym block_is)
-          ∙ ap (λ (n : ℕ). number_at (get_or blocks n no_starts) (offset % 32)) (sym same)
-      | inr apart ↦ ap (λ (b : Block). number_at b (offset % 32)) (put_other offset apart)
+          search (rules, put_same, (too.others (offset % 32) (λ e. other (omega (arith, e, same)))), block_is)
+      | inr apart ↦ search (rules, put_other)
     ]
 
     pub start_more : HaveStarts records base (count + 1) put
@@ -131,14 +117,11 @@ module _ (records : List Record) (base end count at : ℕ) (blocks : List Block)
             → (number < count + 1) × IsRecordAt records (base + offset) number
         found offset number found_here = elim (cases_eq offset at) [
           | inl same ↦
-              let e : Some count ≡ Some number =
-              sym number_here ∙ ap (number_from put) (sym same) ∙ found_here in
+              let e : Some count ≡ Some number = search (rules, number_here) in
               let one : count ≡ number = cc in
-              let P : ℕ → ℕ → Type 0 = λ n. IsRecordAt records (base + n) in
-              (omega (arith, one), subst (λ n. P n number) (sym same) (subst (P at) one is))
+              search rules
           | inr other ↦
-              let (few, there) = old.found offset number (sym (number_other offset other) ∙ found_here) in
-              (omega (arith, few), there)
+              let (few, there) = old.found offset number (sym (number_other offset other) ∙ found_here) in search rules
         ]
 
         start : (offset number : ℕ) → number < count + 1 → IsRecordAt records (base + offset) number
@@ -148,11 +131,11 @@ module _ (records : List Record) (base end count at : ℕ) (blocks : List Block)
               let P : ℕ → Type 0 = IsRecordAt records (base + offset) in
               let both = one_offset records count (base + offset) (base + at) (subst P same there) is in
               let place : offset ≡ at = omega (arith, both) in
-              ap (number_from put) place ∙ number_here ∙ ap (λ (n : ℕ). Some n) (sym same)
+              search (rules, number_here)
           | inr other ↦
               let earlier : number < count = omega (arith, few, other) in
               let low = below number (base + offset) earlier there in
-              number_other offset (λ e. omega (arith, e, low)) ∙ old.start offset number earlier there
+              search (rules, number_other, old)
         ]
 
         after : (offset : ℕ)
@@ -161,12 +144,8 @@ module _ (records : List Record) (base end count at : ℕ) (blocks : List Block)
         after offset above =
             let past : at < offset = let e = above count (base + at) (omega arith) is in omega (arith, e) in
             elim (cases_eq (offset / 32) (at / 32)) [
-              | inl same ↦
-                  let P : Block → Type 0 = λ b. IsNextIn b (offset % 32) (count + 1) in
-                  subst P (sym (put_same offset same)) (too.next (offset % 32) (omega (arith, past, same)))
-              | inr apart ↦
-                  let P : Block → Type 0 = λ b. IsNextIn b (offset % 32) (count + 1) in
-                  subst P (sym (put_other offset apart)) (empty offset past apart)
+              | inl same ↦ search (rules, put_same, too)
+              | inr apart ↦ search (rules, put_other, empty)
             ]
           where
             -- no entry starts in a block after that of the last one
@@ -180,8 +159,7 @@ module _ (records : List Record) (base end count at : ℕ) (blocks : List Block)
                 let place : first / 32 ≡ offset / 32 = omega arith in
                 let byte : first % 32 ≡ 0 = omega arith in
                 let zero : (block_of blocks offset).bits ≡ 0 =
-                ap (λ (n : ℕ). (get_or blocks n no_starts).bits) (sym place)
-                ∙ no_bits (block_of blocks first).bits (first % 32) byte low.above in
+                search (rules, place, no_bits, low) in
                 record {
                   above = let e = pow_pos (offset % 32) in omega (arith, e, zero);
                   follows = λ other. absurd (other zero);

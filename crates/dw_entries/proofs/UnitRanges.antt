@@ -1,17 +1,13 @@
 -- Which entries are of a unit: those from its first one up to the first one of the next unit.
-use Rattle.std.proofs.Common.{rules, ◌≡◌, ℕ, zero, suc, ◌+◌, ◌-◌, ◌<◌, ◌≤◌, List, [], ◌∷◌, ◌++◌, length, take, get_or, Some, None, refl, sym, ap, subst, ◌∙◌, inl, inr, arith, length-drop, take_all}
-use Rattle.std.specs.Prelude.{slice_get}
+use Rattle.std.proofs.Common.{rules, ◌≡◌, ℕ, zero, suc, ◌+◌, ◌-◌, ◌<◌, ◌≤◌, List, [], ◌∷◌, length, take, get_or, Some, None, refl, sym, ap, ◌∙◌, inl, inr, arith, length-drop, take_all, slice_get}
 use Rattle.std.specs.List.Sorted.{IsPartitionPoint, IsNonDecreasingBy}
 use Rattle.std.proofs.lemmas.Bool.{cases_lt}
 use Rattle.std.proofs.lemmas.Option.{slice_get_within, slice_get-get_or, slice_get_cases}
-use Rattle.dw_forms.specs.KeptDecls.{Tables}
-use Rattle.dw_entries.specs.declared.records.Record.{Record}
-use Rattle.dw_entries.specs.declared.records.UnitRecord.{UnitRecord}
 use Rattle.dw_entries.specs.Header.{unit_header_size}
 use Rattle.dw_entries.specs.Units.{DebugUnit, unit_bytes}
 use Rattle.dw_entries.specs.Entries.{Entry, node_count, start_of, entries_of, PlacedUnit, placed_from, placed}
 use Rattle.dw_entries.specs.ByNumber.{end_in}
-use Rattle.dw_entries.specs.Scanned.{found_units, Scanned}
+use Rattle.dw_entries.specs.Scanned.{Tables, UnitRecord, Record, found_units, Scanned}
 use Rattle.dw_entries.proofs.EntryFacts.{IsOfUnit, has_unit, length-entries_from, length-node_entries, node_unit, place_of, unit_entries, units_count}
 use Rattle.dw_entries.proofs.FindLaws.{entries_counted}
 use Rattle.dw_entries.proofs.HeadLaws.{all_get}
@@ -28,11 +24,10 @@ unit_in_range us n p k e is is_e low high =
     let s = has_unit us n p is in
     let at : ℕ = p.at + unit_header_size p.unit.header.kind in
     let count = length-node_entries n None 0 None p.first at p.unit.root in
-    let there : slice_get (s.before ++ (unit_entries n p ++ s.after)) k ≡ Some e = search rules in
     let here : slice_get (unit_entries n p) (k - length s.before) ≡ Some e =
-    sym (get_front (unit_entries n p) s.after (k - length s.before) (omega (arith, s.long, high)))
-    ∙ sym (get_behind s.before (unit_entries n p ++ s.after) k (omega (arith, s.long))) ∙ there in
-    all_get (IsOfUnit n) (unit_entries n p) (k - length s.before) e (node_unit n None 0 None p.first at p.unit.root) here
+    search (rules, get_front, get_behind, high) in
+    all_get (IsOfUnit n) (unit_entries n p) (k - length s.before) e (node_unit n None 0 None p.first at p.unit.root)
+    here
 
 -- each entry is between the first of a unit and that of the next
 some_range : (at first : ℕ) (us : List DebugUnit) (k : ℕ) → first ≤ k → k < first + units_count us
@@ -56,10 +51,7 @@ range_of_unit us n p k e is is_e of_unit =
     let (m, q, is_q, low, high) = some_range (start_of us) 0 us k (omega arith)
     (omega (arith, length-entries_from 0 0 (start_of us) us)) in
     let same : m ≡ n = search (rules, unit_in_range, high) in
-    let P : ℕ → Type 0 = λ i. slice_get (placed us) i ≡ Some q in
-    let one : q ≡ p = search rules in
-    let R : PlacedUnit → Type 0 = λ x. (x.first ≤ k) × (k < x.first + node_count x.unit.root) in
-    subst R one (low, high)
+    let one : q ≡ p = search rules in search (rules, low, high)
 
 -- the next unit begins where a unit ends
 count_next : (us : List DebugUnit) (n : ℕ) (u : DebugUnit) → slice_get us n ≡ Some u
@@ -104,7 +96,7 @@ module _ {base : ℕ} {a info : List ℕ} {tables : Tables} {rs : List UnitRecor
       let k = kept_unit s n (omega (arith, units_counted s))
       in
       let same : k.unit_record ≡ u = search (rules, one_some) in
-      (k.is_place, ap (λ (q : UnitRecord). q.first) (sym same) ∙ k.kept.first)
+      search (rules)
 
   -- the entries of a unit that is kept, up to its end
   pub its_entries : (n end : ℕ) (u : UnitRecord) → slice_get rs n ≡ Some u

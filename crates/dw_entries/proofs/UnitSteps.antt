@@ -7,8 +7,7 @@ use Rattle.dw_forms.specs.AbbrevTables.{tables_in, AreTablesOf}
 use Rattle.dw_forms.specs.Chains.{chain_in}
 use Rattle.dw_forms.specs.KeptDecls.{table_in, decl_number_in}
 use Rattle.dw_forms.specs.TableStarts.{IsTableIn, Stay}
-use Rattle.dw_entries.specs.declared.header.UnitHeader.{UnitHeader}
-use Rattle.dw_entries.specs.Header.{IsSize, unit_header_size, header_and_body, header_at, unit_at}
+use Rattle.dw_entries.specs.Header.{UnitHeader, IsSize, unit_header_size, header_and_body, header_at, unit_at}
 use Rattle.dw_forms.specs.Front.{Takes}
 use Rattle.dw_entries.specs.HeaderLaws.{IsSized, Read, is_sized, unit_format}
 use Rattle.dw_entries.specs.Tree.{node_bytes}
@@ -40,9 +39,7 @@ module _ (abbrev_size : ℕ) where
   pub header_again : (text rest : List ℕ) (x : Read abbrev_size) → (unit_format abbrev_size).Spells text x
       → header_at abbrev_size (text ++ rest) ≡ Ok x
   header_again text rest x s =
-      header_is (text ++ rest)
-      ∙ ap (λ (r : Result (Read abbrev_size × List ℕ) Rule). r >>= unit_read)
-      ((unit_format abbrev_size).is_reader.again text rest x s)
+      search (rules, header_is, ((unit_format abbrev_size).is_reader.again text rest x s))
 
 -- ---- the unit
 

@@ -1,15 +1,12 @@
 -- Values with their places are the values, and the first one with a code.
-use Rattle.std.proofs.Common.{rules, ◌≡◌, ℕ, ◌+◌, Bool, true, false, List, [], ◌∷◌, ◌++◌, length, drop, map, None, Some, refl, sym, ◌∙◌}
+use Rattle.std.proofs.Common.{rules, ◌≡◌, ℕ, ◌+◌, Bool, true, false, List, [], ◌∷◌, ◌++◌, length, drop, map, None, Some, refl, sym, ◌∙◌, option_map, ◌||◌, ◌==◌}
 use Rattle.std.proofs.lemmas.Bool.{eq-eqb}
 use Rattle.std.proofs.lemmas.List.{length-map}
-use Rattle.std.specs.Prelude.{option_map, ◌||◌, ◌==◌}
 use Rattle.std.specs.List.{list_any}
-use Rattle.dw_forms.specs.declared.abbrev.AttributeSpec.{AttributeSpec}
 use Rattle.dw_forms.specs.AttributeLists.{has_this}
-use Rattle.dw_forms.specs.Value.{Datum}
 use Rattle.dw_entries.specs.Entries.{Entry}
 use Rattle.dw_entries.specs.EntryRules.{value_of, values_of}
-use Rattle.dw_entries.specs.Grammar.{Context, Attribute, AreAttributes}
+use Rattle.dw_entries.specs.Grammar.{Datum, AttributeSpec, Context, Attribute, AreAttributes}
 use Rattle.dw_entries.specs.Lookups.{value_at_entry, value_in}
 use Rattle.dw_entries.specs.ValuePlaces.{PlacedValue, end_of, placed_value_at, placed_value_in, placed_values, placed_values_from}
 

@@ -1,9 +1,5 @@
 -- One attribute of those that are left.
-use Rattle.std.proofs.Common.{rules, ◌≡◌, ℕ, ◌≤◌, List, [], ◌∷◌, ◌++◌, ◌-◌, length, take, drop, map, Option, Some, None, Result, Ok, Err, refl, sym, ap, ◌∙◌, append_assoc, true, false}
-use Rattle.std.specs.List.{flat_map}
-use Rattle.std.specs.Option.{unwrap_or}
-use Rattle.std.specs.Prelude.{IfSome}
-use Rattle.dw_forms.specs.declared.abbrev.AttributeSpec.{AttributeSpec}
+use Rattle.std.proofs.Common.{rules, ◌≡◌, ℕ, ◌≤◌, List, [], ◌∷◌, ◌++◌, ◌-◌, length, take, drop, map, Option, Some, None, Result, Ok, Err, refl, sym, ap, ◌∙◌, append_assoc, true, false, flat_map, unwrap_or, IfSome}
 use Rattle.dw_forms.specs.declared.attributes.Attributes.{Attributes}
 use Rattle.dw_forms.specs.declared.form.Form.{Form}
 use Rattle.dw_forms.specs.declared.value.ValueFault.{ValueFault}
@@ -11,11 +7,10 @@ use Rattle.dw_forms.specs.FormCodes.{is_allowed}
 use Rattle.dw_forms.specs.Sizes.{rest_at}
 use Rattle.dw_forms.specs.Steps.{◌>>=◌}
 use Rattle.dw_forms.specs.Suffixes.{Ends, specs_in}
-use Rattle.dw_forms.specs.Value.{Datum}
 use Rattle.dw_forms.specs.ValueReading.{value_at}
 use Rattle.dw_forms.proofs.SuffixLaws.{first_specs}
 use Rattle.dw_entries.specs.declared.values.Values.{Values}
-use Rattle.dw_entries.specs.Grammar.{Context, Attribute, IsAttribute, AreAttributes, attribute_bytes}
+use Rattle.dw_entries.specs.Grammar.{Datum, AttributeSpec, Context, Attribute, IsAttribute, AreAttributes, attribute_bytes}
 use Rattle.dw_forms.specs.WithBytes.{ok_pair}
 use Rattle.dw_entries.specs.Leading.{BeginsWithForm, DoesNotLead, ReadsFirst}
 use Rattle.dw_entries.specs.PassedAttributes.{IsPassed}
@@ -68,9 +63,7 @@ module _ (x : Context) (gs : List AttributeSpec) (s : AttributeSpec) (ss : List 
     unfolding next_left
     steps m =
         let same : m.0.0 ≡ left_goes.others = ap (λ (z : Left x ss rest). z.0.0) (left_unique x ss rest m next_left) in
-        ap (map value_of) left_goes.parts
-        ∙ ap (λ (b : List Attribute). value_of left_goes.first ∷ map value_of b) (sym same)
-        ∙ ap (λ (b : ℕ × Datum). b ∷ map value_of m.0.0) first_value
+        search (rules, left_goes, first_value)
 
     pub takes : (m : Left x ss rest) → BeginWith l.0.0 m.0.0 bytes rest (s.attribute, v)
     unfolding next_left

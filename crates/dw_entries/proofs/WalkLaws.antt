@@ -1,15 +1,13 @@
 -- The pass over a tree's items makes the tree's entries.
 use Rattle.std.proofs.Common.{rules, ◌≡◌, ℕ, zero, suc, ◌+◌, true, false, List, [], ◌∷◌, ◌++◌, length, map, Option, Some, None, refl, sym, ap, ◌∙◌, append_assoc, append-nil, arith, length-append}
 use Rattle.std.proofs.lemmas.List.{length-map, map-append}
-use Rattle.dw_entries.specs.declared.records.Record.{Record}
-use Rattle.dw_entries.specs.declared.tree.Level.{Level}
 use Rattle.dw_entries.specs.Grammar.{Context, Head, head_bytes}
 use Rattle.dw_entries.specs.Tree.{Node, Nodes, leaf, parent, none, ◌then◌, IsNode, AreNodes, node_bytes, nodes_bytes}
 use Rattle.dw_entries.specs.Items.{Item, null, node_items, nodes_items}
 use Rattle.dw_entries.specs.Entries.{node_count, first_id, node_entries, nodes_entries}
-use Rattle.dw_entries.specs.Scanned.{record_of}
+use Rattle.dw_entries.specs.Scanned.{Record, record_of}
 use Rattle.dw_entries.specs.Records.{tree_records}
-use Rattle.dw_entries.specs.Walk.{Walk, link, link_last, walk_along}
+use Rattle.dw_entries.specs.Walk.{Level, Walk, link, link_last, walk_along}
 use Rattle.dw_entries.proofs.EntryFacts.{length-node_entries}
 
 length-link : (k id : ℕ) (rs : List Record) → length (link k id rs) ≡ length rs
@@ -70,13 +68,14 @@ module _ (numbers : ℕ → ℕ) (unit : ℕ) where
   abbrev entered : Head → ℕ → List Record → ℕ → Option ℕ → List Record
   entered h at rs p last =
       link_last last (length rs) rs
-          ++ record { at = at; decl = numbers h.decl.code; parent = Some p; next = None } ∷ []
+      ++ record { at = at; decl = numbers h.decl.code; parent = Some p; next = None } ∷ []
 
   length-entered : (h : Head) (at : ℕ) (rs : List Record) (p : ℕ) (last : Option ℕ)
       → length (entered h at rs p last) ≡ suc (length rs)
   length-entered h at rs p last = search (rules, length-append, length-link_last)
 
-  parent_records : (h : Head) (at : ℕ) (rs : List Record) (p : ℕ) (last : Option ℕ) (depth : ℕ) (ns : Nodes) (z : List ℕ)
+  parent_records : (h : Head) (at : ℕ) (rs : List Record) (p : ℕ) (last : Option ℕ) (depth : ℕ) (ns : Nodes)
+      (z : List ℕ)
       → linked ns None (length (entered h at rs p last)) (entered h at rs p last)
       ++ nodes_kept (length rs) (suc depth) (length (entered h at rs p last)) (at + length (head_bytes h)) ns
       ≡ link_last last (length rs) rs ++ node_kept (Some p) depth None (length rs) at (parent h ns z)
@@ -164,7 +163,7 @@ module _ (numbers : ℕ → ℕ) (unit : ℕ) where
       let e : h.decl.has_children ≡ true = good.1 in
       let new : List Record = rs ++ record { at = at; decl = numbers h.decl.code; parent = None; next = None } ∷ [] in
       let below : ℕ → List Record = λ k. nodes_kept (length rs) 1 k (at + length (head_bytes h)) ns in
-      let len : length new ≡ suc (length rs) = simp length-append (omega arith) in
+      let len : length new ≡ suc (length rs) = search (rules, length-append) in
       let all : linked ns None (length new) new ++ below (length new)
       ≡ rs ++ tree_records numbers unit (length rs) at (parent h ns z) =
       search (rules, linked-None, append_assoc) in

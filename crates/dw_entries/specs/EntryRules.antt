@@ -1,11 +1,9 @@
 -- Chapter: rules on each entry, on each attribute of an entry, or on each unit.
 use Rattle.std.specs.Prelude.{◌≡◌, ℕ, ◌<◌, List, Some, slice_get, map}
-use Rattle.dw_forms.specs.Value.{Datum}
-use Rattle.dw_forms.specs.declared.rule.Rule.{Rule}
-use Rattle.dw_entries.specs.Grammar.{Attribute, Head}
+use Rattle.dw_entries.specs.Grammar.{Datum, Attribute, Head}
 use Rattle.dw_entries.specs.Entries.{Entry}
 use Rattle.dw_entries.specs.Places.{Place, at_attribute}
-use Rattle.dw_entries.specs.Failures.{Failure}
+use Rattle.dw_entries.specs.Failures.{Rule, Failure}
 
 -- an attribute without its spelling: its code and its value
 abbrev pub value_of : Attribute → ℕ × Datum

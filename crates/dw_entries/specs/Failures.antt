@@ -1,9 +1,9 @@
 -- Chapter: failures of rules over entries, their order, and the first of them.
 use Rattle.std.specs.Prelude.{◌≡◌, ℕ, ◌<◌, ◌⊎◌, [], Option, None, Some}
-use Rattle.dw_forms.specs.declared.rule.Rule.{Rule}
+pub use Rattle.dw_forms.specs.declared.rule.Rule.{Rule}
 use Rattle.dw_entries.specs.declared.fault.Section.TheVariants.{Info}
-use Rattle.dw_entries.specs.declared.fault.PlainFault.{PlainFault}
-use Rattle.dw_entries.specs.declared.fault.Fault.{Fault}
+pub use Rattle.dw_entries.specs.declared.fault.PlainFault.{PlainFault}
+pub use Rattle.dw_entries.specs.declared.fault.Fault.{Fault}
 use Rattle.dw_forms.specs.Rules.{number_of}
 use Rattle.dw_entries.specs.Places.{Place, offset_of, IsBefore}
 

@@ -1,19 +1,14 @@
 -- Chapter: the first place at which .debug_info stops being a list of units, and the rule that fails there.
-use Rattle.std.specs.Prelude.{◌≡◌, ◌≢◌, ℕ, zero, suc, true, ◌+◌, List, [], ◌∷◌, ◌++◌, length, Some, Result, Ok}
-use Rattle.std.specs.Prelude.{Err}
+use Rattle.std.specs.Prelude.{◌≡◌, ◌≢◌, ℕ, zero, suc, true, ◌+◌, List, [], ◌∷◌, ◌++◌, length, Some, Result, Ok, Err}
 use Rattle.dw_forms.specs.declared.fault.AbbrevFault.{AbbrevFault}
-use Rattle.dw_forms.specs.Abbrev.{Declaration}
 use Rattle.dw_forms.specs.AbbrevReading.{table_at}
 use Rattle.dw_forms.specs.declared.rule.Rule.{Rule}
 use Rattle.dw_forms.specs.declared.rule.Rule.TheVariants.{NoUnitEntry, LeftOver}
 use Rattle.dw_entries.specs.declared.fault.Section.TheVariants.{Abbrev, Info}
-use Rattle.dw_entries.specs.declared.fault.Failing.{Failing}
 use Rattle.dw_entries.specs.declared.fault.PlainFault.{PlainFault}
-use Rattle.dw_entries.specs.declared.header.HeaderKind.{HeaderKind}
-use Rattle.dw_entries.specs.declared.header.UnitHeader.{UnitHeader}
-use Rattle.dw_entries.specs.Grammar.{Context, IsNull}
-use Rattle.dw_entries.specs.Header.{fits_tag, unit_header_size, header_at}
-use Rattle.dw_entries.specs.ItemFormats.{failing_by, next_item}
+use Rattle.dw_entries.specs.Grammar.{Declaration, Context, IsNull}
+use Rattle.dw_entries.specs.Header.{UnitHeader, HeaderKind, fits_tag, unit_header_size, header_at}
+use Rattle.dw_entries.specs.ItemFormats.{Failing, failing_by, next_item}
 use Rattle.dw_entries.specs.Items.{Item, entry, null, AreItems, items_bytes, tree_depth}
 use Rattle.dw_entries.specs.Units.{DebugUnit, context_by, AreUnits, units_bytes}
 

@@ -1,11 +1,10 @@
 -- Chapter: an entry and its attributes, as they are spelled (DWARF 5, 2.2 and 7.5.2).
-use Rattle.std.specs.Prelude.{◌≡◌, ℕ, true, false, List, [], ◌∷◌, ◌++◌, Option, Some, ◌==◌, find}
-use Rattle.std.specs.List.{flat_map}
-use Rattle.dw_forms.specs.declared.abbrev.AttributeSpec.{AttributeSpec}
-use Rattle.dw_forms.specs.Abbrev.{Declaration}
+use Rattle.std.specs.Prelude.{◌≡◌, ℕ, true, false, List, [], ◌∷◌, ◌++◌, Option, Some, ◌==◌, find, flat_map}
+pub use Rattle.dw_forms.specs.declared.abbrev.AttributeSpec.{AttributeSpec}
+pub use Rattle.dw_forms.specs.Abbrev.{Declaration}
 use Rattle.dw_forms.specs.FormCodes.{is_allowed}
 use Rattle.dw_forms.specs.Leb.{Uleb}
-use Rattle.dw_forms.specs.Value.{Datum}
+pub use Rattle.dw_forms.specs.Value.{Datum}
 use Rattle.dw_forms.specs.ValueFormats.{Val}
 
 -- what the bytes of a unit are read by: its abbreviation table, the size of an address, and the version

@@ -7,9 +7,9 @@ use Rattle.dw_forms.specs.Steps.{◌>>=◌}
 use Rattle.dw_forms.specs.declared.rule.Rule.{Rule}
 use Rattle.dw_forms.specs.declared.rule.Rule.TheVariants.{UnitCut, Not32Bit, BadVersion, BadUnitType, BadAddressSize}
 use Rattle.dw_forms.specs.declared.rule.Rule.TheVariants.{BadAbbrevOffset}
-use Rattle.dw_entries.specs.declared.header.HeaderKind.{HeaderKind}
+pub use Rattle.dw_entries.specs.declared.header.HeaderKind.{HeaderKind}
 use Rattle.dw_entries.specs.declared.header.HeaderKind.TheVariants.{Version4, CompileUnit, PartialUnit, TypeUnit}
-use Rattle.dw_entries.specs.declared.header.UnitHeader.{UnitHeader}
+pub use Rattle.dw_entries.specs.declared.header.UnitHeader.{UnitHeader}
 use Rattle.dw_entries.specs.declared.header.UnitType.{UnitType}
 use Rattle.dw_entries.specs.declared.header.UnitType.TheVariants as types
 

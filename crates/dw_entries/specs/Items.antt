@@ -1,8 +1,7 @@
 -- Chapter: the items of a tree in their order: the head of each entry, and each null that closes a list of children.
-use Rattle.std.specs.Prelude.{ℕ, zero, suc, List, [], ◌∷◌, ◌++◌, Option, Some, None, if◌then◌else◌}
-use Rattle.std.specs.List.{flat_map, AllByRecursion}
-use Rattle.dw_forms.specs.Abbrev.{Declaration}
-use Rattle.dw_entries.specs.Grammar.{Context, Head, head_bytes, IsHead, IsNull}
+use Rattle.std.specs.Prelude.{ℕ, zero, suc, List, [], ◌∷◌, ◌++◌, Option, Some, None, if◌then◌else◌, flat_map}
+use Rattle.std.specs.List.{AllByRecursion}
+use Rattle.dw_entries.specs.Grammar.{Declaration, Context, Head, head_bytes, IsHead, IsNull}
 use Rattle.dw_entries.specs.Tree.{Node, Nodes, leaf, parent, none, ◌then◌}
 
 -- an entry's head, or a null

@@ -1,6 +1,6 @@
 -- Laws: if no spelling is a prefix of another, joined spellings are taken apart in one way.
-use Rattle.std.proofs.Common.{◌≡◌, ℕ, ◌<◌, List, [], ◌∷◌, ◌++◌, refl, ap, length, length-append, arith}
-use Rattle.std.specs.List.{flat_map, AllByRecursion}
+use Rattle.std.proofs.Common.{◌≡◌, ℕ, ◌<◌, List, [], ◌∷◌, ◌++◌, refl, ap, length, length-append, arith, flat_map}
+use Rattle.std.specs.List.{AllByRecursion}
 
 module _ {A : Type 0} (bytes : A → List ℕ) (Is : A → Type 0) where
   -- no spelling begins another

@@ -1,6 +1,5 @@
 -- State: a number or none, stored in four bytes.
-use Rattle.std.specs.Prelude.{◌≡◌, ℕ, true, false, ◌==◌, Option, Some, None, if◌then◌else◌, refl}
-use Rattle.std.proofs.Common.{ap, sym}
+use Rattle.std.proofs.Common.{ap, sym, ◌≡◌, ℕ, true, false, ◌==◌, Option, Some, None, if◌then◌else◌, refl}
 use Rattle.std.proofs.lemmas.Bool.{eqb-true}
 use Rattle.dw_entries.specs.declared.id.OptionalId.TheInside.{Inside}
 

@@ -1,10 +1,8 @@
 -- State: the attributes of an entry that a search passes, by how they are declared.
 use Rattle.std.specs.Prelude.{◌≡◌, ℕ, List, ◌∷◌, ◌++◌, Some, Bool, true, false, slice_get}
 use Rattle.std.specs.List.{list_any}
-use Rattle.dw_forms.specs.declared.abbrev.AttributeSpec.{AttributeSpec}
 use Rattle.dw_forms.specs.Classes.{is_open}
-use Rattle.dw_forms.specs.Value.{Datum}
-use Rattle.dw_entries.specs.Grammar.{Context, Attribute, IsAttribute}
+use Rattle.dw_entries.specs.Grammar.{Datum, AttributeSpec, Context, Attribute, IsAttribute}
 use Rattle.dw_entries.specs.EntryRules.{value_of}
 
 -- the attribute is not open: each value that is declared so has one of its classes

@@ -1,11 +1,9 @@
 -- State: what is kept of the entries of a tree and of units.
-use Rattle.std.specs.Prelude.{◌≡◌, ℕ, List, None, map}
-use Rattle.std.proofs.Common.{refl}
-use Rattle.dw_entries.specs.declared.records.Record.{Record}
+use Rattle.std.proofs.Common.{refl, ◌≡◌, ℕ, List, None, map}
 use Rattle.dw_entries.specs.Tree.{Node}
 use Rattle.dw_entries.specs.Units.{DebugUnit}
 use Rattle.dw_entries.specs.Entries.{node_entries, entries_from, start_of}
-use Rattle.dw_entries.specs.Scanned.{record_of, records_of}
+use Rattle.dw_entries.specs.Scanned.{Record, record_of, records_of}
 
 -- the entries of a tree of this unit, by the numbers of the declarations by their codes; the first entry has number id
 -- and is at this offset

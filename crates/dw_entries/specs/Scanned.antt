@@ -1,11 +1,12 @@
 -- State: what is known of the result of a scan: its units, and what is kept of them and of their entries.
 use Rattle.std.specs.Prelude.{◌≡◌, ◌<◌, ℕ, zero, suc, List, [], ◌∷◌, length, map, drop}
 use Rattle.std.specs.List.{AllZip}
-use Rattle.dw_entries.specs.declared.records.Record.{Record}
-use Rattle.dw_entries.specs.declared.records.UnitRecord.{UnitRecord}
+pub use Rattle.dw_entries.specs.declared.records.Record.{Record}
+pub use Rattle.dw_entries.specs.declared.records.UnitRecord.{UnitRecord}
 use Rattle.dw_forms.specs.Chains.{chain_in}
 use Rattle.dw_forms.specs.declared.decl.Decls.{Decls}
-use Rattle.dw_forms.specs.KeptDecls.{Tables, table_in, tables_of, decl_number_in}
+pub use Rattle.dw_forms.specs.KeptDecls.{Tables}
+use Rattle.dw_forms.specs.KeptDecls.{table_in, tables_of, decl_number_in}
 use Rattle.dw_entries.specs.Units.{DebugUnit, Spells, AreFrom}
 use Rattle.dw_entries.specs.Entries.{Entry, entries_of, PlacedUnit, placed}
 

@@ -1,10 +1,9 @@
 -- State: where entries start, by blocks of 32 bytes of .debug_info from the base on.
-use Rattle.std.specs.Prelude.{◌≡◌, ◌≢◌, ◌==◌, ◌<◌, ◌≤◌, ◌/◌, ◌%◌, ◌^◌, ◌+◌, ◌↔◌}
-use Rattle.std.specs.Prelude.{ℕ, List, Option, Some, None, count_ones}
-use Rattle.std.specs.Prelude.{if◌then◌else◌, option_map, slice_get, slice_index_or}
+use Rattle.std.specs.Prelude.{◌≡◌, ◌≢◌, ◌==◌, ◌<◌, ◌≤◌, ◌/◌, ◌%◌, ◌^◌, ◌+◌, ◌↔◌, ℕ, List, Option, Some, None}
+use Rattle.std.specs.Prelude.{count_ones, if◌then◌else◌, option_map, slice_get, slice_index_or}
 use Rattle.std.specs.Int.{bit_at}
 use Rattle.dw_entries.specs.declared.records.Record.{Record}
-use Rattle.dw_entries.specs.declared.starts.Block.{Block}
+pub use Rattle.dw_entries.specs.declared.starts.Block.{Block}
 
 -- the number of the entry that starts at a byte of a block
 abbrev pub number_at : Block → ℕ → Option ℕ

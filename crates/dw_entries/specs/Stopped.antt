@@ -1,29 +1,23 @@
 -- State: what holds of a result, unless memory ran out.
 use Rattle.dw_forms.specs.declared.fault.AbbrevFault.{AbbrevFault}
-use Rattle.dw_forms.specs.Abbrev.{Declaration}
 use Rattle.dw_entries.specs.Faults.{BeginsNoNull, in_table}
 use Rattle.std.specs.Prelude.{◌≡◌, ◌≢◌, ℕ, true, List, ◌+◌, ◌++◌, ◌∷◌, length, [], Result, Ok, Err}
-use Rattle.dw_entries.specs.declared.records.Record.{Record}
-use Rattle.dw_entries.specs.declared.records.UnitRecord.{UnitRecord}
 use Rattle.dw_entries.specs.declared.records.Kept.{Kept}
 use Rattle.dw_forms.specs.declared.abbrev_tables.AbbrevTables.{AbbrevTables}
 use Rattle.dw_forms.specs.AbbrevTables.{tables_in, AreTablesOf}
 use Rattle.dw_forms.specs.Chains.{chain_in}
 use Rattle.dw_forms.specs.KeptDecls.{decl_number_in}
 use Rattle.dw_forms.specs.TableStarts.{Stay}
-use Rattle.dw_entries.specs.Scanned.{IsRecordOfUnit}
-use Rattle.dw_entries.specs.Failures.{IsPlainFault}
-use Rattle.dw_entries.specs.declared.fault.PlainFault.{PlainFault}
-use Rattle.dw_entries.specs.declared.header.HeaderKind.{HeaderKind}
-use Rattle.dw_entries.specs.Grammar.{Context}
-use Rattle.dw_entries.specs.Header.{fits_tag, unit_header_size}
+use Rattle.dw_entries.specs.Scanned.{UnitRecord, Record, IsRecordOfUnit}
+use Rattle.dw_entries.specs.Failures.{Fault, PlainFault, IsPlainFault}
+use Rattle.dw_entries.specs.Grammar.{Declaration, Context}
+use Rattle.dw_entries.specs.Header.{HeaderKind, fits_tag, unit_header_size}
 use Rattle.dw_entries.specs.Tree.{Node, IsNode, node_bytes}
 use Rattle.dw_entries.specs.Units.{DebugUnit, IsUnit, unit_bytes, AreNulls, nulls_bytes, head_of}
 use Rattle.dw_entries.specs.Records.{tree_records}
 use Rattle.dw_forms.specs.declared.fault.Stop.{Stop}
 use Rattle.dw_forms.specs.declared.fault.Stop.TheVariants as stops
 use Rattle.dw_forms.specs.Stops.{IfFault}
-use Rattle.dw_entries.specs.declared.fault.Fault.{Fault}
 
 -- the body spells a tree and nulls, and then the rest; the tree's entries come after the old ones
 pub record TreeOf (x : Context) (numbers : ℕ → ℕ) (kind : HeaderKind) (body rest : List ℕ) (at : ℕ)

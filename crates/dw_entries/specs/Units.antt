@@ -1,16 +1,14 @@
 -- Chapter: units, and .debug_info as a list of them (DWARF 5, 7.5.1).
-use Rattle.std.specs.Prelude.{◌≡◌, ℕ, ◌+◌, true, List, [], ◌∷◌, ◌++◌, length, drop, Ok}
-use Rattle.std.specs.List.{flat_map, AllByRecursion}
+use Rattle.std.specs.Prelude.{◌≡◌, ℕ, ◌+◌, true, List, [], ◌∷◌, ◌++◌, length, drop, Ok, flat_map}
+use Rattle.std.specs.List.{AllByRecursion}
 use Rattle.dw_elf.specs.declared.sections.Sections.{Sections}
-use Rattle.dw_forms.specs.Abbrev.{Declaration}
 use Rattle.dw_forms.specs.AbbrevReading.{table_at}
 use Rattle.dw_forms.specs.AbbrevTables.{tables_in}
 use Rattle.dw_forms.specs.Chains.{chain_in}
 use Rattle.dw_forms.specs.KeptDecls.{table_in, decl_number_in}
-use Rattle.dw_entries.specs.declared.header.UnitHeader.{UnitHeader}
 use Rattle.dw_entries.specs.declared.records.UnitContext.{UnitContext}
-use Rattle.dw_entries.specs.Grammar.{Context, Head, IsNull}
-use Rattle.dw_entries.specs.Header.{version_of, fits_tag, header_and_body}
+use Rattle.dw_entries.specs.Grammar.{Declaration, Context, Head, IsNull}
+use Rattle.dw_entries.specs.Header.{UnitHeader, version_of, fits_tag, header_and_body}
 use Rattle.dw_entries.specs.Tree.{Node, leaf, parent, IsNode, node_bytes}
 
 -- where the unit begins in .debug_info, a header and the bytes that spell it, the table that it names, a tree, and the

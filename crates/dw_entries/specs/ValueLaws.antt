@@ -1,10 +1,8 @@
 -- Laws: some bytes begin with one list of attributes at most.
-use Rattle.std.proofs.Common.{◌≡◌, ℕ, List, sym, ◌∙◌}
-use Rattle.std.specs.List.{flat_map}
+use Rattle.std.proofs.Common.{◌≡◌, ℕ, List, sym, ◌∙◌, flat_map}
 use mathlib.Core.HLevel.{Σ_prop_path}
 use Rattle.std.proofs.Props.{props}
-use Rattle.dw_forms.specs.declared.abbrev.AttributeSpec.{AttributeSpec}
-use Rattle.dw_entries.specs.Grammar.{Context, Attribute, attribute_bytes}
+use Rattle.dw_entries.specs.Grammar.{AttributeSpec, Context, Attribute, attribute_bytes}
 use Rattle.dw_entries.specs.ItemFormats.{attributes}
 use Rattle.dw_entries.specs.ItemLaws.{attributes_to}
 use Rattle.dw_forms.specs.WithBytes.{one_value}

@@ -1,9 +1,7 @@
 -- Chapter: where the values of an entry are in .debug_info: their bytes follow its code, in the order of its
 -- attributes (DWARF 5, 2.2 and 7.5.2).
-use Rattle.std.specs.Prelude.{◌≡◌, ℕ, ◌+◌, ◌==◌, List, [], ◌∷◌, ◌++◌, length, Option, find, option_map}
-use Rattle.std.specs.List.{flat_map}
-use Rattle.dw_forms.specs.Value.{Datum}
-use Rattle.dw_entries.specs.Grammar.{Attribute, attribute_bytes}
+use Rattle.std.specs.Prelude.{◌≡◌, ℕ, ◌+◌, ◌==◌, List, [], ◌∷◌, ◌++◌, length, Option, find, option_map, flat_map}
+use Rattle.dw_entries.specs.Grammar.{Datum, Attribute, attribute_bytes}
 use Rattle.dw_entries.specs.Entries.{Entry}
 
 -- an attribute of an entry, its value, and the offset of the byte after those that spell the value

@@ -1,12 +1,11 @@
 -- State: what an iterator over the attributes of an entry has left.
 use Rattle.std.specs.Prelude.{◌≡◌, ℕ, ◌-◌, List, ◌∷◌, ◌++◌, length, map}
 use Rattle.dw_forms.specs.declared.value.Value.{Value}
-use Rattle.dw_forms.specs.declared.abbrev.AttributeSpec.{AttributeSpec}
 use Rattle.dw_forms.specs.Suffixes.{specs_in}
-use Rattle.dw_forms.specs.Value.{Datum, view}
+use Rattle.dw_forms.specs.Value.{view}
 use Rattle.dw_entries.specs.declared.values.Values.{Values}
 use Rattle.dw_entries.specs.EntryRules.{value_of}
-use Rattle.dw_entries.specs.Grammar.{Attribute}
+use Rattle.dw_entries.specs.Grammar.{Datum, AttributeSpec, Attribute}
 use Rattle.dw_entries.specs.ValuePlaces.{PlacedValue, placed_values_from}
 
 -- an attribute and its value, without where the value's bytes lie in memory

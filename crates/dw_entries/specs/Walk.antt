@@ -2,7 +2,7 @@
 use Rattle.std.specs.Prelude.{ℕ, zero, suc, ◌+◌, Bool, true, false, List, [], ◌∷◌, ◌++◌, length, reverse, Option, Some}
 use Rattle.std.specs.Prelude.{None}
 use Rattle.dw_entries.specs.declared.records.Record.{Record}
-use Rattle.dw_entries.specs.declared.tree.Level.{Level}
+pub use Rattle.dw_entries.specs.declared.tree.Level.{Level}
 use Rattle.dw_forms.specs.Abbrev.{Declaration}
 use Rattle.dw_entries.specs.Items.{Item, entry, null, item_bytes}
 

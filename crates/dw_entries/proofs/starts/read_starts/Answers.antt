@@ -14,38 +14,32 @@ loop-number-init c = record {
 
 pub overflow_sub-at : goal.overflow_sub-at
 overflow_sub-at c =
-    let (is, low, past) = read_past c.args.records.now c.args.base c.args.end c.loop-number.number
-    c.index-records-number.result c.loop-number-test.true c.requires.order in
+    let (is, low, past) = read_past c.index-records-number.result c.loop-number-test.true c.requires.order in
     past
 
 pub index-requires : goal.index-requires
 index-requires c =
-    let (is, low, past) = read_past c.args.records.now c.args.base c.args.end c.loop-number.number
-    c.index-records-number.result c.loop-number-test.true c.requires.order in
+    let (is, low, past) = read_past c.index-records-number.result c.loop-number-test.true c.requires.order in
     omega (arith, low, past, c.loop-number.invariant.long)
 
 pub with-requires-clause-next : goal.with-requires-clause-next
 with-requires-clause-next c =
-    let (is, low, past) = read_past c.args.records.now c.args.base c.args.end c.loop-number.number
-    c.index-records-number.result c.loop-number-test.true c.requires.order in
-    may_start c.args.records.now c.args.base c.args.end c.loop-number.number _ c.loop-number.blocks.items
-    c.requires.order is c.loop-number.invariant.have
-    (omega (arith, low, past, c.loop-number.invariant.long)) c.index.result.now c.index.ensures
+    let (is, low, past) = read_past c.index-records-number.result c.loop-number-test.true c.requires.order in
+    may_start _ c.requires.order is c.loop-number.invariant.have
+    (omega (arith, low, past, c.loop-number.invariant.long))
+    c.index.result.now c.index.ensures
 
 pub index_mut-requires : goal.index_mut-requires
 index_mut-requires c =
-    let (is, low, past) = read_past c.args.records.now c.args.base c.args.end c.loop-number.number
-    c.index-records-number.result c.loop-number-test.true c.requires.order in
+    let (is, low, past) = read_past c.index-records-number.result c.loop-number-test.true c.requires.order in
     omega (arith, low, past, c.loop-number.invariant.long)
 
 pub loop-number-preserved : goal.loop-number-preserved
 loop-number-preserved c =
-    let (is, low, past) = read_past c.args.records.now c.args.base c.args.end c.loop-number.number
-    c.index-records-number.result c.loop-number-test.true c.requires.order in
+    let (is, low, past) = read_past c.index-records-number.result c.loop-number-test.true c.requires.order in
     record {
       have =
-          start_more c.args.records.now c.args.base c.args.end c.loop-number.number _ c.loop-number.blocks.items
-          c.requires.order is c.loop-number.invariant.have
+          start_more _ c.requires.order is c.loop-number.invariant.have
           (omega (arith, low, past, c.loop-number.invariant.long))
           c.index.result.now c.index.ensures c.with.result c.with.ensures;
       long = search (rules, length-set);

@@ -1,5 +1,4 @@
-use Rattle.std.proofs.Common.{rules, ℕ, ◌≡◌, ◌≢◌, List, Option, Some, None, All, ◌∙◌, arith}
-use Rattle.std.specs.Prelude.{IfNone, IfSome}
+use Rattle.std.proofs.Common.{rules, ℕ, ◌≡◌, ◌≢◌, List, Option, Some, None, All, ◌∙◌, arith, IfNone, IfSome}
 use Rattle.std.proofs.lemmas.List.{get_or_default}
 use Rattle.dw_entries.specs.Entries.{Entry}
 use Rattle.dw_entries.specs.ByNumber.{entry_of}

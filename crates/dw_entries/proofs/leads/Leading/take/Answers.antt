@@ -9,10 +9,10 @@ pub loop-self-preserved : goal.loop-self-preserved
 loop-self-preserved c = search (rules, over_over)
 
 pub returns-clause-next : goal.returns-clause-next
-returns-clause-next c = found_all _ _ _ _ c.loop-self.invariant _ _ c.take_next.ensures.next
+returns-clause-next c = found_all c.loop-self.invariant _ _ c.take_next.ensures.next
 
 pub returns-clause-led : goal.returns-clause-led
-returns-clause-led c = leads_all _ _ _ _ c.loop-self.invariant _ _ c.take_next.ensures.led
+returns-clause-led c = leads_all c.loop-self.invariant _ _ c.take_next.ensures.led
 
 pub returns-clause-none : goal.returns-clause-none
 returns-clause-none c = search (rules, none_all)

@@ -1,9 +1,8 @@
 use Rattle.std.proofs.Common.{rules, ◌≡◌, ℕ, List, ◌-◌, drop, length, sym, ap, subst, ◌∙◌}
 use Rattle.std.proofs.lemmas.List.{length-map}
-use Rattle.dw_forms.specs.declared.abbrev.AttributeSpec.{AttributeSpec}
 use Rattle.dw_forms.specs.Chains.{items_of}
 use Rattle.dw_forms.proofs.SuffixLaws.{follow, specs_ends}
-use Rattle.dw_entries.specs.Grammar.{AreAttributes}
+use Rattle.dw_entries.specs.Grammar.{AttributeSpec, AreAttributes}
 use Rattle.dw_entries.specs.ValuePlaces.{PlacedValue, placed_value_in}
 use Rattle.dw_entries.specs.Values.{value_context}
 use Rattle.dw_entries.specs.ValuesLeft.{placed_left}

@@ -34,4 +34,4 @@ pub returns-clause-fewer : goal.returns-clause-fewer
 returns-clause-fewer c =
     let v = c.go.new.self in
     let d = skipped v _ c.in-Some.rest c.in-Some.ensures.0 _ c.in-Ok.ensures.exact in
-    search (past_fewer v _ _ c.go.ensures.passed _ c.in-Some.rest c.in-Some.ensures.0 d.0 _ c.in-Ok.ensures.within d.1)
+    search (past_fewer v c.go.ensures.passed _ c.in-Some.rest c.in-Some.ensures.0 d.0 _ c.in-Ok.ensures.within d.1)

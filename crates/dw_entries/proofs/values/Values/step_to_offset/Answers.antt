@@ -30,7 +30,7 @@ pub returns-clause-next : goal.returns-clause-next
 returns-clause-next c =
     let v = c.go.new.self in
     search (
-      next_over _ _ _ _ c.go.ensures.passed,
+      next_over c.go.ensures.passed,
       offset_steps v _ c.requires.offset c.go.ensures.first _
           c.in-Some.rest c.in-Some.ensures.0 _ c.in-Ok.ensures.within c.in-Ok.ensures.exact,
     )
@@ -38,6 +38,6 @@ returns-clause-next c =
 pub returns-clause-declared : goal.returns-clause-declared
 returns-clause-declared c =
     let v = c.go.new.self in
-    steps_over _ _ _ _ c.go.ensures.passed _ _ _ c.go.ensures.first
+    steps_over c.go.ensures.passed _ _ _ c.go.ensures.first
     (offset_first v _ c.requires.offset c.go.ensures.first _ c.in-Some.rest
     c.in-Some.ensures.0 _ c.in-Ok.ensures.within c.in-Ok.ensures.exact)

@@ -33,7 +33,7 @@ pub returns-clause-next : goal.returns-clause-next
 returns-clause-next c =
     let v = c.go.new.self in
     search (
-      next_over _ _ _ _ c.go.ensures.passed,
+      next_over c.go.ensures.passed,
       steps_after v None _ c.in-Some.rest _ c.in-Some.ensures.0 tt refl
           _ _ c.in-Ok.ensures.within c.in-Ok.ensures.exact,
     )
