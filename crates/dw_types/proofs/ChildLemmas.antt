@@ -1,5 +1,5 @@
 -- An entry's children are the entry behind it, if that is a child, and the next siblings from there on.
-use Rattle.std.proofs.Common.{rules, ◌≡◌, ℕ, suc, ◌+◌, ◌<◌, ◌≤◌, ◌==◌, Bool, true, false, if◌then◌else◌, List, [], ◌∷◌, ◌++◌, length, drop, Option, Some, None, IfSome, refl, sym, ap, subst, ◌∙◌, arith, append_assoc, ne_eqb, eq-eqb}
+use Rattle.std.proofs.Common.{rules, ◌≡◌, ℕ, suc, ◌+◌, ◌<◌, ◌≤◌, ◌==◌, Bool, true, false, if◌then◌else◌, List, [], ◌∷◌, ◌++◌, length, drop, Option, Some, None, IfSome, refl, sym, ap, subst, arith, append_assoc, ne_eqb, eq-eqb}
 use Rattle.std.proofs.Math.Seq.{drop-append-add}
 use Rattle.dw_entries.specs.Grammar.{head_bytes}
 use Rattle.dw_entries.specs.Header.{unit_header_size}
@@ -24,18 +24,13 @@ join_if false k xs ys zs e = e
 
 children_from-append : (es fs : List Entry) (p k : ℕ)
     → children_from (es ++ fs) p k ≡ children_from es p k ++ children_from fs p (k + length es)
-children_from-append [] fs p k = ap (children_from fs p) (let e : k ≡ k + 0 = omega arith in e)
-children_from-append (e ∷ es) fs p k =
-    let at : suc k + length es ≡ k + suc (length es) = omega arith in
-    join_if (is_parent e.parent p) k (children_from es p (suc k)) (children_from fs p (k + suc (length es)))
-    (children_from (es ++ fs) p (suc k))
-    (children_from-append es fs p (suc k) ∙ ap (λ n. children_from es p (suc k) ++ children_from fs p n) at)
+children_from-append [] fs p k = search rules
+children_from-append (e ∷ es) fs p k = search (rules, join_if, (children_from-append es fs p (suc k)))
 
 -- none of the joined entries is a child
 no_children-append : (es fs : List Entry) (p k : ℕ) → children_from es p k ≡ []
     → children_from fs p (k + length es) ≡ [] → children_from (es ++ fs) p k ≡ []
-no_children-append es fs p k x y =
-    children_from-append es fs p k ∙ ap (λ xs. xs ++ children_from fs p (k + length es)) x ∙ y
+no_children-append es fs p k x y = search (rules, children_from-append)
 
 -- an entry that is no child
 pub skip_one : (e : Entry) (es : List Entry) (p k : ℕ) → is_parent e.parent p ≡ false
@@ -47,7 +42,7 @@ pub take_one : (e : Entry) (es : List Entry) (p k : ℕ) → is_parent e.parent 
 take_one e es p k is = rw is refl
 
 differs : (p q : ℕ) → p < q → (q == p) ≡ false
-differs p q lt = ne_eqb q p (λ e. omega (arith, lt, e))
+differs p q lt = search (rules, ne_eqb)
 
 pub equals : (p : ℕ) → (p == p) ≡ true
 equals p = eq-eqb p p refl
@@ -60,10 +55,13 @@ mutual
       → children_from (node_entries unit above depth next id at n) p k ≡ []
   node_none p k unit above depth next id at (leaf h) lt isnt = rw isnt refl
   node_none p k unit above depth next id at (parent h ns z) lt isnt =
-      skip_one (record { at = at; unit = unit; parent = above; depth = depth; next = next; head = h })
-      (nodes_entries unit id (suc depth) (suc id) (at + length (head_bytes h)) ns) p k isnt
-      ∙ nodes_none p (suc k) unit id (suc depth) (suc id) (at + length (head_bytes h)) ns (omega (arith, lt))
-      (differs p id lt)
+      search (
+        rules,
+        skip_one,
+        differs,
+        nodes_none p (suc k) unit id (suc depth) (suc id) (at + length (head_bytes h)) ns (omega (arith, lt))
+            (differs p id lt),
+      )
 
   nodes_none : (p k unit above depth id at : ℕ) (ns : Nodes) → p < id → (above == p) ≡ false
       → children_from (nodes_entries unit above depth id at ns) p k ≡ []
@@ -131,13 +129,12 @@ Outside low high es = (p k : ℕ) → low ≤ p → p < high → children_from e
 after_more : (ys more : List Entry) (i k : ℕ) (above next : Option ℕ) → k ≡ i + length ys
     → ((p : ℕ) → above ≡ Some p → children_from ys p i ≡ []) → After k more above next → After i (ys ++ more) above next
 after_more ys more i k None next e clear after = tt
-after_more ys more i k (Some p) None e clear after =
-    no_children-append ys more p i (clear p refl) (ap (children_from more p) (sym e) ∙ after)
+after_more ys more i k (Some p) None e clear after = search (rules, no_children-append)
 after_more ys more i k (Some p) (Some m) e clear after = search (rules, drop-append-add, children_from-append)
 
 pub below_get : (k : ℕ) (above : Option ℕ) (p : ℕ) → Below k above → above ≡ Some p → p < k
 below_get k None p below is = absurd cc
-below_get k (Some q) p below is = let same : q ≡ p = cc in subst (λ x. x < k) same below
+below_get k (Some q) p below is = search rules
 
 -- the first entry behind is no child: there is none
 first_none : (id : ℕ) (more : List Entry) → children_from more id (suc id) ≡ [] → First id more
@@ -156,24 +153,16 @@ first_sibling unit above depth id at (parent h ms z then ns) more clear =
 first_of_nodes : (unit above depth at : ℕ) (ns : Nodes) (more : List Entry)
     → ((k : ℕ) → children_from more above k ≡ [])
     → First above (nodes_entries unit above depth (suc above) at ns ++ more)
-first_of_nodes unit above depth at none more clear = first_none above more (clear (suc above))
-first_of_nodes unit above depth at (leaf h then ns) more clear = λ isnt. absurd (let is = equals above in cc)
-first_of_nodes unit above depth at (parent h ms z then ns) more clear = λ isnt. absurd (let is = equals above in cc)
+first_of_nodes unit above depth at none more clear = search (rules, first_none)
+first_of_nodes unit above depth at (leaf h then ns) more clear = search (rules, equals)
+first_of_nodes unit above depth at (parent h ms z then ns) more clear = search (rules, equals)
 
 mutual
   node_chained : (unit : ℕ) (above : Option ℕ) (depth : ℕ) (next : Option ℕ) (id at : ℕ) (n : Node) (more : List Entry)
       → Below id above → Outside id (id + node_count n) more
       → After (id + node_count n) more above next → Chained (id + node_count n) more
       → Chained id (node_entries unit above depth next id at n ++ more)
-  node_chained unit above depth next id at (leaf h) more below outside after chained =
-      let one : id + 1 ≡ suc id = omega arith in (
-        record {
-          below = below;
-          after = subst (λ k. After k more above next) one after;
-          first = first_none id more (outside id (suc id) (omega arith) (omega arith));
-        },
-        subst (λ k. Chained k more) one chained,
-      )
+  node_chained unit above depth next id at (leaf h) more below outside after chained = search (rules, first_none)
   node_chained unit above depth next id at (parent h ns z) more below outside after chained =
       let ys : List Entry = nodes_entries unit id (suc depth) (suc id) (at + length (head_bytes h)) ns in
       let len : id + suc (nodes_count ns)
@@ -200,8 +189,7 @@ mutual
   nodes_chained : (unit above depth id at : ℕ) (ns : Nodes) (more : List Entry) → above < id
       → ((k : ℕ) → children_from more above k ≡ []) → Outside id (id + nodes_count ns) more
       → Chained (id + nodes_count ns) more → Chained id (nodes_entries unit above depth id at ns ++ more)
-  nodes_chained unit above depth id at none more below clear outside chained =
-      subst (λ k. Chained k more) (let e : id + 0 ≡ id = omega arith in e) chained
+  nodes_chained unit above depth id at none more below clear outside chained = search rules
   nodes_chained unit above depth id at (n then ns) more below clear outside chained =
       let here : ℕ = id + node_count n in
       let xs : List Entry = node_entries unit (Some above) depth (first_id ns here) id at n in
@@ -221,7 +209,9 @@ mutual
 pub units_chained : (unit id at : ℕ) (us : List DebugUnit) → Chained id (entries_from unit id at us)
 units_chained unit id at [] = tt
 units_chained unit id at (u ∷ us) =
-    node_chained unit None 0 None id (at + unit_header_size u.header.kind) u.root
-    (entries_from (suc unit) (id + node_count u.root) (at + length (unit_bytes u)) us) tt
-    (λ p k low high. units_none p k (suc unit) (id + node_count u.root) (at + length (unit_bytes u)) us high) tt
-    (units_chained (suc unit) (id + node_count u.root) (at + length (unit_bytes u)) us)
+    search (
+      rules,
+      node_chained,
+      units_none,
+      (units_chained (suc unit) (id + node_count u.root) (at + length (unit_bytes u)) us),
+    )

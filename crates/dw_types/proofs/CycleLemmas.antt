@@ -38,13 +38,10 @@ round ring m = (drop m ring ++ take m ring) ++ get_or ring m 0 ∷ []
 
 module _ (ring : List ℕ) (m : ℕ) (in_ring : m < length ring) where
   front-length : length (drop m ring ++ take m ring) ≡ length ring
-  front-length =
-      let a = length-append (drop m ring) (take m ring) in let b = length-drop m ring in
-      let c = length-take-le m ring (omega arith) in omega arith
+  front-length = search (rules, length-append, length-drop, length-take-le)
 
   pub round-length : length (round ring m) ≡ length ring + 1
-  round-length =
-      let a = length_push (drop m ring ++ take m ring) (get_or ring m 0) in let b = front-length in omega arith
+  round-length = search (rules, length_push, front-length)
 
   -- which place of the ring a place of the round is
   pub round-at : (k : ℕ) → k ≤ length ring → (j : ℕ) × (j < length ring) × (get_or (round ring m) k 0 ≡ get_or ring j 0)
@@ -103,7 +100,7 @@ step-round graph ring h m k i j in_ring in_i in_j p q =
             ]
           ] in
           rw next (h.steps i below)
-      | inr over ↦ search (rules)
+      | inr over ↦ search rules
     ]
 
 -- two places of the round but its last are two of the ring

@@ -1,5 +1,5 @@
 -- Entries whose declarations tell whether they are declarations.
-use Rattle.std.proofs.Common.{◌≡◌, ℕ, Bool, true, false, List, [], ◌∷◌, Some, refl, ap, ◌∙◌, map}
+use Rattle.std.proofs.Common.{rules, ◌≡◌, ℕ, Bool, true, false, List, [], ◌∷◌, Some, refl, map}
 use Rattle.std.specs.Prelude.{◌==◌, ◌<◌, length}
 use Rattle.std.proofs.lemmas.Option.{slice_get-get_or}
 use Rattle.dw_forms.specs.Codes.{DW_AT_declaration}
@@ -36,9 +36,7 @@ not_there x (s ∷ specs) (b ∷ bs) are known =
         → (s.attribute == DW_AT_declaration) ≡ t
         → is_true (value_in (map value_of (b ∷ bs)) DW_AT_declaration) ≡ false
     by_code others true e = absurd (never s.form (rw e at known))
-    by_code others false e =
-        let code : (b.code == DW_AT_declaration) ≡ false = ap (λ (n : ℕ). n == DW_AT_declaration) are.0.code ∙ e in
-        rw code (others (rw e at known))
+    by_code others false e = search rules
 
 -- an entry is a declaration, or not, where its own declaration says so
 pub told-declared : (entries : Entries) (t : ℕ) → t < length (all_entries entries) → (declared : Bool)

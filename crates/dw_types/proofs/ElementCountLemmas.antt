@@ -1,5 +1,5 @@
 -- Sizes and products that are capped at a limit, and the product of an array's counts, found child by child.
-use Rattle.std.proofs.Common.{rules, ◌≡◌, ℕ, ◌*◌, ◌<◌, ◌≤◌, min, Some, None, arith, refl, ap, ◌∙◌, suc, zero, ◌^◌, sym}
+use Rattle.std.proofs.Common.{rules, ◌≡◌, ℕ, ◌*◌, ◌<◌, ◌≤◌, min, Some, None, arith, refl, ap, suc, zero, ◌^◌}
 use Rattle.std.proofs.lemmas.Bool.{cases_lt}
 use Rattle.std.proofs.Math.Nat.{mul-le-mul_left, mul_comm, mul_assoc}
 use Rattle.dw_types.specs.SizeTables.{Size, cap_size}
@@ -9,7 +9,7 @@ use Rattle.dw_types.specs.Sizes.{times}
 pub uncapped : (limit : ℕ) (found size : Size) → found ≡ cap_size limit size → ((n : ℕ) → found ≡ Some n → n < limit)
     → found ≡ size
 uncapped limit found None is small = is
-uncapped limit found (Some n) is small = search (rules)
+uncapped limit found (Some n) is small = search rules
 
 -- from the limit on the product is the same
 great-product : (limit a b : ℕ) → limit ≤ a → min limit (a * b) ≡ min limit (limit * b)
@@ -29,7 +29,7 @@ cap-right (Some a) (Some b) = search (rules, cap-product, mul_comm)
 cap-left : (a b : Size) → cap_size (2 ^ 63) (times (cap_size (2 ^ 63) a) b) ≡ cap_size (2 ^ 63) (times a b)
 cap-left None b = refl
 cap-left (Some a) None = refl
-cap-left (Some a) (Some b) = ap Some (sym (cap-product (2 ^ 63) a b))
+cap-left (Some a) (Some b) = search (rules, cap-product)
 
 times-assoc : (a b c : Size) → times (times a b) c ≡ times a (times b c)
 times-assoc None b c = refl
@@ -49,8 +49,4 @@ cap-twice limit (Some n) = ap Some (omega arith)
 pub cap-next : (product factor rest : Size)
     → cap_size (2 ^ 63) (times (cap_size (2 ^ 63) (times product (cap_size (2 ^ 63) factor))) rest)
     ≡ cap_size (2 ^ 63) (times product (times factor rest))
-cap-next product factor rest =
-    let cap = cap_size (2 ^ 63) in
-    cap-left (times product (cap factor)) rest ∙ ap cap (times-assoc product (cap factor) rest)
-    ∙ sym (cap-right product (times (cap factor) rest))
-    ∙ ap (λ (size : Size). cap (times product size)) (cap-left factor rest) ∙ cap-right product (times factor rest)
+cap-next product factor rest = search (rules, cap-left, times-assoc, cap-right)

@@ -1,6 +1,6 @@
 -- How a walk begins, and what holds at its end, also where it goes on past cycles: the nodes that are given up reach
 -- one, and those that have ranks reach none.
-use Rattle.std.proofs.Common.{rules, ◌≡◌, ◌≢◌, ℕ, ◌^◌, ◌+◌, ◌<◌, ◌⊎◌, ◌∙◌, true, false, [], ◌∷◌, ◌++◌, length, get_or, replicate, set, inl, inr, arith, refl, sym, ap, sum, count_by, cond, zero, suc, ◌-◌, List, subst}
+use Rattle.std.proofs.Common.{rules, ◌≡◌, ◌≢◌, ℕ, ◌^◌, ◌+◌, ◌<◌, ◌⊎◌, ◌∙◌, true, false, [], ◌∷◌, ◌++◌, length, get_or, replicate, set, inl, inr, arith, refl, sym, ap, sum, count_by, zero, suc, ◌-◌, List, subst}
 use Rattle.std.proofs.lemmas.Bool.{cases_lt}
 use Rattle.std.proofs.lemmas.List.{length-replicate, length_push, get_or-replicate, get_or_past, get_or_default, set-set}
 use Rattle.std.proofs.lemmas.List.Sums.{sum_by-cons}
@@ -20,16 +20,12 @@ use Rattle.dw_types.proofs.RankLemmas.{ranks_listed-push}
 use Rattle.dw_types.proofs.WalkLemmas.{in-graph, turns-all}
 
 pub get_or-same : {X : Type 0} (n k : ℕ) (x : X) → get_or (replicate n x) k x ≡ x
-get_or-same n k x =
-    elim (cases_lt k n) [
-      | inl below ↦ get_or-replicate n k x x below
-      | inr above ↦ get_or_past (replicate n x) k x (let e = length-replicate n x in omega arith)
-    ]
+get_or-same n k x = search (rules, cases_lt, get_or-replicate, get_or_past, length-replicate)
 
 -- where first steps lead: nothing is known, and that of one node more
 
 pub no-firsts : (graph : Graph) (n : ℕ) → AreFirsts graph (replicate n 0)
-no-firsts graph n node to is = let none : 0 ≡ suc to = sym (get_or-same n node 0) ∙ is in absurd (omega arith)
+no-firsts graph n node to is = search (rules, get_or-same)
 
 pub more-firsts : (graph : Graph) (firsts : List ℕ) (node first : ℕ) → node < length firsts
     → AreFirsts graph firsts → ((to : ℕ) → first ≡ suc to → step_at graph node 0 ≡ to)
@@ -42,13 +38,11 @@ more-firsts graph firsts node first inside known here other to is =
 
 pub sum-zeros : (n : ℕ) → sum (replicate n 0) ≡ 0
 sum-zeros zero = refl
-sum-zeros (suc n) = let first = sum_by-cons (λ (x : ℕ). x) 0 (replicate n 0) in let rest = sum-zeros n in omega arith
+sum-zeros (suc n) = search (rules, sum_by-cons, (sum-zeros n))
 
 count-fresh : (n : ℕ) → count_by is_taken (replicate n Fresh) ≡ 0
 count-fresh zero = refl
-count-fresh (suc n) =
-    let first = sum_by-cons (λ (m : Mark). cond {A = ℕ} (is_taken m) 1 0) Fresh (replicate n Fresh) in
-    let rest = count-fresh n in omega arith
+count-fresh (suc n) = search (rules, sum_by-cons, (count-fresh n))
 
 -- what a walk keeps once some nodes have their ranks, and no other was taken up
 abbrev pub begun : ℕ → List Mark → List ℕ → Kept
@@ -94,12 +88,12 @@ begun-more graph nodes marks by_rank node h inside fresh none =
 end-by_mark : (graph : Graph) (s : WalkState) (node : ℕ) → IsWalk graph s → s.stack ≡ [] → mark_of s node ≢ Fresh
     → (m : Mark) → mark_of s node ≡ m → (m ≡ Ranked) ⊎ ((s.gave_up ≡ true) × ReachesCycle (IsStep graph) node)
 end-by_mark graph s node h empty taken Fresh e = absurd (taken e)
-end-by_mark graph s node h empty taken Open e = search (rules)
+end-by_mark graph s node h empty taken Open e = search rules
 end-by_mark graph s node h empty taken Ranked e = inl refl
 
 end-of_taken : (graph : Graph) (s : WalkState) (node : ℕ) → IsWalk graph s → s.stack ≡ [] → mark_of s node ≢ Fresh
     → (mark_of s node ≡ Ranked) ⊎ ((s.gave_up ≡ true) × ReachesCycle (IsStep graph) node)
-end-of_taken graph s node h empty taken = end-by_mark graph s node h empty taken (mark_of s node) refl
+end-of_taken graph s node h empty taken = search (rules, end-by_mark)
 
 -- so it was ranked, if none was given up
 ranked-from_taken : (graph : Graph) (s : WalkState) (node : ℕ) → IsWalk graph s → s.stack ≡ [] → s.gave_up ≡ false
@@ -138,13 +132,13 @@ order-at_end graph it h empty kept taken =
 -- one step more at the end
 leads-more : (graph : Graph) (k a b c : ℕ) → Leads (IsStep graph) k a b → IsStep graph b c
     → Leads (IsStep graph) (suc k) a c
-leads-more graph zero a b c same step = (c, subst (λ (x : ℕ). IsStep graph x c) (sym same) step, refl)
+leads-more graph zero a b c same step = search rules
 leads-more graph (suc k) a b c (next, first, rest) step = (next, first, leads-more graph k next b c rest step)
 
 -- what leads to a node that reaches a cycle reaches it
 reaches-back : (graph : Graph) (k from to : ℕ) → Leads (IsStep graph) k from to → ReachesCycle (IsStep graph) to
     → ReachesCycle (IsStep graph) from
-reaches-back graph zero from to same reaches = subst (λ (x : ℕ). ReachesCycle (IsStep graph) x) (sym same) reaches
+reaches-back graph zero from to same reaches = search rules
 reaches-back graph (suc k) from to (next, step, led) reaches =
     let (n, end, way, cycle) = reaches-back graph k next to led reaches in
     (suc n, end, (next, step, way), cycle)
@@ -152,7 +146,7 @@ reaches-back graph (suc k) from to (next, step, led) reaches =
 -- from a node of the stack to a later one
 along : (graph : Graph) (stack : List ℕ) (d i : ℕ) → FollowsSteps graph stack → i + d < length stack
     → Leads (IsStep graph) d (get_or stack i 0) (get_or stack (i + d) 0)
-along graph stack zero i chain within = ap (λ (n : ℕ). get_or stack n 0) (let e : i ≡ i + 0 = omega arith in e)
+along graph stack zero i chain within = search rules
 along graph stack (suc d) i chain within =
     let there : i + 1 + d ≡ i + suc d = omega arith in
     let rest : Leads (IsStep graph) d (get_or stack (i + 1) 0) (get_or stack (i + 1 + d) 0) = along graph stack d
@@ -214,7 +208,7 @@ module _ (graph : Graph) (s : WalkState) (to : ℕ) (h : IsAtCycle graph s to) w
         once = λ i j lt below. absurd (omega arith);
         steps = λ k below. absurd (omega arith);
       } in
-      search (rules)
+      search rules
 
 -- what is kept once the nodes on the stack are given up
 pub without_stack-kept : (graph : Graph) (it : Kept) (to : ℕ) → ((next : List ℕ) × IsAtCycle graph (counted it next) to)

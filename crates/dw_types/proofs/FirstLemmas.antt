@@ -1,5 +1,5 @@
 -- The first entry that violates a rule, where each is asked in its own turn.
-use Rattle.std.proofs.Common.{rules, ◌≡◌, ℕ, ◌+◌, ◌<◌, ◌≤◌, Bool, true, List, None, length, inl, inr, refl, subst, sym, arith}
+use Rattle.std.proofs.Common.{rules, ◌≡◌, ℕ, ◌+◌, ◌<◌, ◌≤◌, Bool, true, List, None, length, refl}
 use Rattle.std.proofs.lemmas.Bool.{cases_lt}
 use Rattle.std.proofs.lemmas.Option.{slice_get-get_or}
 use Rattle.dw_entries.specs.declared.fault.PlainFault.{PlainFault}
@@ -20,21 +20,14 @@ use Rattle.dw_types.specs.TypeFailures.{plain_fault_at, EntryFailures, IsFirstAt
 -- the entries from one on up to another pass too
 pub pass-on : (fails : ℕ → Rule → Bool) (node next : ℕ) → NoneFailsBefore fails node → IsLeastAt fails node None
     → ((k : ℕ) → node + 1 ≤ k → k < next → IsLeastAt fails k None) → NoneFailsBefore fails next
-pass-on fails node next before here between k below = elim (cases_lt k node) [
-  | inl earlier ↦ before k earlier
-  | inr late ↦ elim (cases_lt node k) [
-    | inl later ↦ between k (omega arith) below
-    | inr not ↦ let same : node ≡ k = omega arith in subst (λ (n : ℕ). IsLeastAt fails n None) same here
-  ]
-]
+pass-on fails node next before here between k below = search (rules, cases_lt)
 
 pub pass-more : (fails : ℕ → Rule → Bool) (node : ℕ) → NoneFailsBefore fails node → IsLeastAt fails node None
     → NoneFailsBefore fails (node + 1)
-pass-more fails node before here =
-    pass-on fails node (node + 1) before here (λ k low below. absurd (omega arith))
+pass-more fails node before here = search (rules, pass-on)
 
 entry_precedes_le : (a b : ℕ) (f g : Failure) → f.place ≡ at_entry a → g.place ≡ at_entry b → Precedes f g → a ≤ b
-entry_precedes_le a b f g f_at g_at precedes = search (rules)
+entry_precedes_le a b f g f_at g_at precedes = search rules
 
 module _ (entries : List Entry) (fails : ℕ → Rule → Bool) where
   -- the first entry that violates a rule, with its least rule, has the first failure
@@ -53,12 +46,10 @@ module _ (entries : List Entry) (fails : ℕ → Rule → Bool) where
 
   -- where no entry violates a rule there is no failure
   pub none-of_entries : NoneFailsBefore fails (length entries) → HasNone (EntryFailures entries fails)
-  none-of_entries pass =
-      none_of_list entries (λ number entry. AtPlace (at_entry entry.at) (λ r. fails number r ≡ true))
-      (λ j entry inside is. none_at_place (at_entry entry.at) (λ r. fails j r ≡ true) (pass j inside))
+  none-of_entries pass = search (rules, none_of_list, none_at_place)
 
 -- what holds of what is named holds of a fault that names it
 pub plain-fault : (P : PlainFault → Type 0) (broken : PlainFault) (stop : Stop FaultOf) → P broken
     → IfPlainFault (λ named. named ≡ broken) stop → IfPlainFault P stop
 plain-fault P broken Memory holds is = tt
-plain-fault P broken (Fault f) holds is = record { holds = subst P (sym is.holds) holds; cycle = is.cycle }
+plain-fault P broken (Fault f) holds is = search rules

@@ -1,6 +1,6 @@
 -- A walk with a node at hand: it is taken up, its steps are looked at, and it is ranked or put on the stack; each of
 -- these leads to what a walk keeps.
-use Rattle.std.proofs.Common.{◌≡◌, ◌≢◌, Option, None, Some, ℕ, ◌+◌, ◌*◌, ◌-◌, ◌^◌, ◌<◌, ◌≤◌, ◌∙◌, List, [], ◌∷◌, ◌++◌, length, get_or, inl, inr, arith, refl, sym, ap, set, get_or-set_same, get_or-set_other}
+use Rattle.std.proofs.Common.{rules, ◌≡◌, ◌≢◌, Option, None, Some, ℕ, ◌+◌, ◌*◌, ◌-◌, ◌^◌, ◌<◌, ◌≤◌, ◌∙◌, List, [], ◌∷◌, ◌++◌, length, get_or, inl, inr, arith, refl, sym, ap, set, get_or-set_same, get_or-set_other}
 use Rattle.std.proofs.lemmas.List.{length_push, get_or_push, get_or_append_left}
 use Rattle.std.proofs.lemmas.Bool.{cases_lt}
 use Rattle.std.specs.Prelude.{MatchOption}
@@ -32,42 +32,18 @@ AreLooked it next =
 
 looked-push : (it : Kept) (next : List ℕ) (node looked : ℕ) → AreLooked it next → get_or next node 0 ≡ looked
     → AreLooked (with_hand it node looked) next
-looked-push it next node looked known here = (
-  (let a = length_push it.looked looked in let b = length_push it.stack node in let c = known.0 in omega arith),
-  λ k below. elim (at_push it.stack k node 0 below) [
-    | inl p ↦ rw (p.1, p.0, ← known.0, get_or_push it.looked looked 0 (length it.looked) refl) (sym here)
-    | inr p ↦ rw (p.1, get_or_append_left it.looked (looked ∷ []) 0 k (let c = known.0 in let b = p.0 in omega arith))
-        (known.1 k p.0)
-  ],
-)
+looked-push it next node looked known here = search (rules, length_push, at_push, get_or_push, get_or_append_left)
 
 looked-pop : (it : Kept) (next : List ℕ) (node looked : ℕ) → AreLooked (with_hand it node looked) next
     → AreLooked it next
-looked-pop it next node looked known = (
-  (let a = length_push it.looked looked in let b = length_push it.stack node in let c = known.0 in omega arith),
-  λ k below.
-      let long : length it.looked ≡ length it.stack =
-      (let a = length_push it.looked looked in let b = length_push it.stack node in let c = known.0 in omega arith)
-      in
-      let here = known.1 k (let b = length_push it.stack node in omega arith) in
-      rw (
-        get_or_append_left it.stack (node ∷ []) 0 k below,
-        get_or_append_left it.looked (looked ∷ []) 0 k
-            (omega arith),
-      ) at here,
-)
+looked-pop it next node looked known = search (rules, length_push, get_or_append_left)
 
 module _ (graph : Graph) (it : Kept) (node from : ℕ) (h : IsKept graph (with_hand it node from)) where
   hand-long : length it.looked ≡ length it.stack
   hand-long = (looked-pop it h.next node from (h.long, h.looked)).0
 
   hand-top : IsTop (counted (with_hand it node from) h.next) node
-  hand-top = record {
-    some = (let a = length_push it.stack node in omega arith);
-    top =
-        get_or_push it.stack node 0 (length (it.stack ++ node ∷ []) - 1)
-        (let a = length_push it.stack node in omega arith);
-  }
+  hand-top = search (rules, length_push, get_or_push)
 
   pub hand-in : node < length graph
   hand-in =
@@ -76,16 +52,10 @@ module _ (graph : Graph) (it : Kept) (node from : ℕ) (h : IsKept graph (with_h
       hand-top in cc)
 
   hand-looked : get_or h.next node 0 ≡ from
-  hand-looked =
-      let here = h.looked (length it.stack) (let a = length_push it.stack node in omega arith) in
-      sym (rw (
-        get_or_push it.stack node 0 (length it.stack) refl,
-        get_or_push it.looked from 0 (length it.stack)
-            hand-long,
-      ) at here)
+  hand-looked = grind (arith, length_push, get_or_push, hand-long)
 
   pub hand-within : from ≤ length (steps_of graph node)
-  hand-within = let within = h.walk.coherent.counters.within node in let same = hand-looked in omega arith
+  hand-within = search (rules, hand-looked)
 
   module _ (looked : ℕ) (after : from ≤ looked) (within : looked ≤ length (steps_of graph node))
       (small : looked < 2 ^ 64) where
@@ -97,7 +67,7 @@ module _ (graph : Graph) (it : Kept) (node from : ℕ) (h : IsKept graph (with_h
     kept-on = with_hand (turned it (looked - from)) node looked
 
     on-in : node < length h.next
-    on-in = let long = h.walk.coherent.places.next in let below = hand-in in omega arith
+    on-in = search (rules, hand-in)
 
     pub on-coherent : IsCoherent graph (counted kept-on next-on)
     on-coherent =
@@ -105,12 +75,10 @@ module _ (graph : Graph) (it : Kept) (node from : ℕ) (h : IsKept graph (with_h
         on-in (let same = hand-looked in omega arith) (let same = hand-looked in omega arith)
 
     on-top : IsTop (counted kept-on next-on) node
-    on-top = record { some = hand-top.some; top = hand-top.top }
+    on-top = search (rules, hand-top)
 
     on-here : get_or next-on node 0 ≡ looked
-    on-here =
-        rw (get_or-set_same h.next node (get_or h.next node 0 + (looked - from)) 0 on-in)
-        (let same = hand-looked in omega arith)
+    on-here = search (rules, get_or-set_same, on-in, hand-looked)
 
     on-waiting : AreLooked it next-on
     on-waiting =
@@ -126,7 +94,7 @@ module _ (graph : Graph) (it : Kept) (node from : ℕ) (h : IsKept graph (with_h
         )
 
     on-looked : AreLooked kept-on next-on
-    on-looked = looked-push (turned it (looked - from)) next-on node looked on-waiting on-here
+    on-looked = search (rules, looked-push, on-waiting, on-here)
 
     -- all its steps lead to ranked nodes, so it is ranked
     pub ranked-kept : looked ≡ length (steps_of graph node) → GoToRanked graph it.marks node from looked
@@ -157,7 +125,7 @@ module _ (graph : Graph) (it : Kept) (node from : ℕ) (h : IsKept graph (with_h
           ])
 
       other-link : IsStep graph (get_or (it.stack ++ node ∷ []) (length (it.stack ++ node ∷ []) - 1) 0) to
-      other-link = rw hand-top.top (last, first.step_in, sym first.leads)
+      other-link = search (rules, hand-top)
 
       -- its last step leads to a fresh node, which is taken up
       pub fresh-kept : mark_in it.marks to ≡ Fresh → to < length graph
@@ -178,8 +146,7 @@ module _ (graph : Graph) (it : Kept) (node from : ℕ) (h : IsKept graph (with_h
 
       -- its last step leads to an open node
       pub open-kept : mark_in it.marks to ≡ Open → (next : List ℕ) × IsAtCycle graph (counted kept-on next) to
-      open-kept is =
-          (next-on, record { coherent = on-coherent; some = hand-top.some; closes = other-link; opened = is })
+      open-kept is = search (rules, on-coherent, hand-top, other-link)
 
 -- a walk with an empty stack takes up a fresh node
 pub first-kept : (graph : Graph) (it : Kept) (node : ℕ) → IsKept graph it → it.stack ≡ [] → node < length graph
@@ -197,23 +164,18 @@ first-kept graph it node h empty inside fresh =
 -- a mark other than `Fresh` is written
 pub keeps-set : (old marks : List Mark) (node : ℕ) (mark : Mark) → node < length marks → mark ≢ Fresh
     → KeepsTaken old marks → KeepsTaken old (set marks node mark)
-keeps-set old marks node mark inside taken keeps a fresh = elim (at_set marks node a mark Fresh inside) [
-  | inl p ↦ absurd (taken (sym p.1 ∙ fresh))
-  | inr p ↦ keeps a (sym p.1 ∙ fresh)
-]
+keeps-set old marks node mark inside taken keeps a fresh = search (rules, at_set)
 
 -- the steps that are looked at are those from one on
 pub looks-after : (graph : Graph) (marks : List Mark) (node from looked : ℕ) (stop : Option ℕ)
     → from ≤ length (steps_of graph node) → LooksOn graph marks node from looked stop → from ≤ looked
-looks-after graph marks node from looked None within looks = let all = looks.0 in omega arith
-looks-after graph marks node from looked (Some to) within looks =
-    let one = looks.1 in let last = looks.2.after in omega arith
+looks-after graph marks node from looked None within looks = search rules
+looks-after graph marks node from looked (Some to) within looks = search rules
 
 pub looks-within : (graph : Graph) (marks : List Mark) (node from looked : ℕ) (stop : Option ℕ)
     → LooksOn graph marks node from looked stop → looked ≤ length (steps_of graph node)
-looks-within graph marks node from looked None looks = let all = looks.0 in omega arith
-looks-within graph marks node from looked (Some to) looks =
-    let one = looks.1 in let last = looks.2.step_in in omega arith
+looks-within graph marks node from looked None looks = search rules
+looks-within graph marks node from looked (Some to) looks = search rules
 
 -- a mark that is no other is `Open`
 is-open : (mark : Mark) → mark ≢ Fresh → mark ≢ Ranked → mark ≡ Open
@@ -231,41 +193,15 @@ pub record GoesOn (graph : Graph) (old : Kept) (hand : Hand) (new : Kept) (at : 
 module _ (graph : Graph) (old : Kept) (hand : Hand) (looked : ℕ) (small : looked < 2 ^ 64)
     (h : IsKept graph (with_hand old hand.node hand.looked)) where
   hand-in_marks : hand.node < length old.marks
-  hand-in_marks =
-      let long = h.walk.coherent.places.marks in let below = hand-in graph old hand.node hand.looked h in omega arith
+  hand-in_marks = search (rules, hand-in)
 
   -- the node at hand is ranked, and the one on top of the stack is at hand next
   pub goes-ranked : (new : Kept) (at : Option Hand) → LooksOn graph old.marks hand.node hand.looked looked None
       → MatchOption at ((old.stack ≡ []) × (new ≡ ranked (turned old (looked - hand.looked)) hand.node))
       (λ next. ranked (turned old (looked - hand.looked)) hand.node ≡ with_hand new next.node next.looked)
       → GoesOn graph old hand new at
-  goes-ranked new None looks e =
-      let within = hand-within graph old hand.node hand.looked h in
-      let kept = ranked-kept graph old hand.node hand.looked h looked (let all = looks.0 in omega arith)
-      (let all = looks.0 in omega arith) small looks.0 looks.1 in
-      rw e.1 record {
-        kept = (kept, e.0);
-        taken = keeps-set old.marks old.marks hand.node Ranked hand-in_marks (λ same. cc) (λ a fresh. fresh);
-        gave_up = refl;
-        less = omega arith;
-      }
-  goes-ranked new (Some next) looks e =
-      let within = hand-within graph old hand.node hand.looked h in
-      let kept = ranked-kept graph old hand.node hand.looked h looked (let all = looks.0 in omega arith)
-      (let all = looks.0 in omega arith) small looks.0 looks.1 in
-      let stack : old.stack ≡ new.stack ++ next.node ∷ [] = ap (λ (it : Kept). it.stack) e in
-      let turns : old.turns + (looked - hand.looked) ≡ new.turns = ap (λ (it : Kept). it.turns) e in
-      let marks : set old.marks hand.node Ranked ≡ new.marks = ap (λ (it : Kept). it.marks) e in
-      let gave : old.gave_up ≡ new.gave_up = ap (λ (it : Kept). it.gave_up) e in
-      record {
-        kept = rw e at kept;
-        taken =
-            rw (← marks) (keeps-set old.marks old.marks hand.node Ranked hand-in_marks (λ same. cc) (λ a fresh. fresh));
-        gave_up = sym gave;
-        less =
-            let long = ap (λ (xs : List ℕ). length xs) stack in let one = length_push new.stack next.node in
-            omega arith;
-      }
+  goes-ranked new None looks e = search (rules, hand-within, ranked-kept, keeps-set, hand-in_marks)
+  goes-ranked new (Some next) looks e = search (rules, hand-within, ranked-kept, keeps-set, hand-in_marks, length_push)
 
   module _ (to : ℕ) (looks : LooksOn graph old.marks hand.node hand.looked looked (Some to)) where
     -- the node at hand is put on the stack, and a fresh node is at hand next

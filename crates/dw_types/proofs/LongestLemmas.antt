@@ -1,5 +1,5 @@
 -- The longest rows of steps from nodes, by those from the nodes that their steps lead to.
-use Rattle.std.proofs.Common.{rules, ◌≡◌, ℕ, zero, suc, ◌+◌, ◌<◌, ◌≤◌, List, length, get_or, set, inl, inr, arith, refl, sym, ◌∙◌, subst, get_or-set_same, get_or-set_other}
+use Rattle.std.proofs.Common.{rules, ◌≡◌, ℕ, zero, suc, ◌+◌, ◌<◌, ◌≤◌, List, length, get_or, set, inl, inr, arith, sym, ◌∙◌, subst, get_or-set_same, get_or-set_other}
 use Rattle.std.specs.Prelude.{◌⊎◌, Contains}
 use Rattle.std.proofs.lemmas.Bool.{cases_eq, cases_lt}
 use Rattle.std.proofs.lemmas.List.{get_or_default}
@@ -15,22 +15,7 @@ module _ (graph : Graph) (counts : List ℕ) (node : ℕ) where
       → ((k : ℕ) → k < length (steps_of graph node)
       → IsLongest graph (step_at graph node k) (get_or counts (step_at graph node k) 0))
       → IsLongest graph node count
-  longest-above count above known = record { has_row = has_row above.tight; none_longer = bound }
-    where
-      has_row : (count ≡ 0) ⊎ ((k : ℕ) × (k < length (steps_of graph node))
-          × (count ≡ get_or counts (step_at graph node k) 0 + 1)) → HasRow graph node count
-      has_row (inl e) = let P : ℕ → Type 0 = λ n. HasRow graph node n in subst P (sym e) tt
-      has_row (inr (k, within, e)) =
-          let next = step_at graph node k in
-          let P : ℕ → Type 0 = λ n. HasRow graph node n in
-          let e' : suc (get_or counts next 0) ≡ count = omega arith in
-          subst P e' (next, (k, within, refl), (known k within).has_row)
-
-      bound : (k : ℕ) → HasRow graph node k → k ≤ count
-      bound zero w = omega arith
-      bound (suc k) (next, step, w) =
-          let W : ℕ → Type 0 = λ n. HasRow graph n k in
-          omega (arith, (known step.0 step.1).none_longer k (subst W (sym step.2) w), above.above step.0 step.1)
+  longest-above count above known = grind arith
 
 -- the longest rows from the first nodes are known
 abbrev pub KnownUpTo : Graph → List ℕ → List ℕ → ℕ → Type 0
@@ -53,7 +38,7 @@ module _ (graph : Graph) (clear : List ℕ) (h : AreClear graph clear) (counts :
       subst P same (known before less)
 
   in-counts : length counts ≡ length graph → place < length clear → get_or clear place 0 < length counts
-  in-counts long below = search (rules)
+  in-counts long below = search rules
 
   pub known-more : (count : ℕ) → length counts ≡ length graph → place < length clear
       → KnownUpTo graph clear counts place
@@ -74,15 +59,12 @@ module _ (graph : Graph) (clear : List ℕ) (h : AreClear graph clear) (counts :
       → (count ≡ 0) ⊎ ((k : ℕ) × (k < length (steps_of graph node))
       × (count ≡ get_or counts (step_at graph node k) 0 + 1)) → count ≤ place + 1
   few-above node count few (inl e) = omega arith
-  few-above node count few (inr (k, within, e)) = omega (arith, few (step_at graph node k), e)
+  few-above node count few (inr (k, within, e)) = search rules
 
   pub few-more : (count : ℕ) → length counts ≡ length graph → place < length clear → AreFew counts place
       → IsOneMore graph counts (get_or clear place 0) count
       → AreFew (set counts (get_or clear place 0) count) (place + 1)
-  few-more count long below few above n = elim (at_set counts (get_or clear place 0) n count 0 (in-counts long below)) [
-    | inl same ↦ omega (arith, same.1, few-above (get_or clear place 0) count few above.tight)
-    | inr other ↦ omega (arith, other.1, few n)
-  ]
+  few-more count long below few above n = search (rules, at_set, in-counts, few-above)
 
   pub known-all : length clear ≤ place → KnownUpTo graph clear counts place
       → AreLongest graph clear (λ node. get_or counts node 0)
@@ -94,7 +76,7 @@ module _ (graph : Graph) (clear : List ℕ) (h : AreClear graph clear) (counts :
 -- a row that goes on where some steps lead
 pub row-after : (graph : Graph) (k n from to : ℕ) → Leads (IsStep graph) k from to → HasRow graph to n
     → HasRow graph from (k + n)
-row-after graph zero n from to same row = search (rules)
+row-after graph zero n from to same row = search rules
 row-after graph (suc k) n from to (next, step, led) row =
     let P : ℕ → Type 0 = λ m. HasRow graph from m in
     let e : suc (k + n) ≡ suc k + n = omega arith in
@@ -106,7 +88,7 @@ module _ (graph : Graph) (clear : List ℕ) (h : AreClear graph clear) where
   -- steps from one of them lead to one that is at least as many places before it
   led-before : (k place to : ℕ) → place < length clear → Leads (IsStep graph) k (get_or clear place 0) to
       → (before : ℕ) × (before + k ≤ place) × (get_or clear before 0 ≡ to)
-  led-before zero place to within same = (place, omega arith, same)
+  led-before zero place to within same = search rules
   led-before (suc k) place to within (next, (m, below, is), led) =
       let (before, less, same) = h.ordered place m within below in
       let P : ℕ → Type 0 = λ n. Leads (IsStep graph) k n to in

@@ -1,5 +1,5 @@
 -- The steps of an entry through its members, one child after another, and the row of each entry.
-use Rattle.std.proofs.Common.{rules, ◌≡◌, ℕ, ◌-◌, ◌<◌, Bool, true, false, ◌&&◌, List, [], ◌++◌, length, get_or, inl, inr, refl, ap, ◌∙◌, arith, append-nil, length-append}
+use Rattle.std.proofs.Common.{rules, ◌≡◌, ℕ, ◌-◌, ◌<◌, Bool, true, false, ◌&&◌, List, [], ◌++◌, length, get_or, inl, inr, refl, arith, append-nil, length-append}
 use Rattle.std.specs.List.{flat_map}
 use Rattle.std.proofs.lemmas.Bool.{cases_lt}
 use Rattle.std.proofs.lemmas.List.{get_or_append_left}
@@ -38,23 +38,15 @@ module _ (us : List DebugUnit) (node : ℕ) where
   -- a member of a structure
   pub plain-in_members : has_members (entry_in us node) ≡ true → (child : ℕ) → IsChildOf (entries_of us) node child
       → is_plain us child ≡ is_defined_member (entry_in us child)
-  plain-in_members members child is =
-      and-by _ _ true (in-members child is ∙ members) ∙ and-true (is_defined_member (entry_in us child))
+  plain-in_members members child is = search (rules, and-by, in-members, and-true)
 
   no-member : has_members (entry_in us node) ≡ false → (child : ℕ) → IsChildOf (entries_of us) node child
       → member_step us child ≡ []
-  no-member none child is =
-      ap (λ (plain : Bool). targets_if plain (type_target us child))
-      (and-by _ _ false (in-members child is ∙ none) ∙ and-false (is_defined_member (entry_in us child)))
+  no-member none child is = search (rules, and-by, in-members, and-false)
 
   no-members : has_members (entry_in us node) ≡ false
       → flat_map (member_step us) (children_of (entries_of us) node) ≡ []
-  no-members none =
-      let children = children_of (entries_of us) node in
-      flat_map-none (member_step us) children (λ k below.
-      no-member none (get_or children k 0)
-      (All-contains (IsChildOf (entries_of us) node) children (get_or children k 0) (children-all (entries_of us) node)
-      (Contains-get_or children k 0 below)))
+  no-members none = search (rules, flat_map-none, no-member, All-contains, children-all, Contains-get_or)
 
   -- the row of any other entry
   pub own-row : has_members (entry_in us node) ≡ false
@@ -65,9 +57,7 @@ module _ (us : List DebugUnit) (node : ℕ) where
 
   -- the row of an entry that is no type
   pub untyped-row : is_type_tag (entry_in us node).head.decl.tag ≡ false → [] ≡ steps_by_value us node
-  untyped-row untyped =
-      let entry = entry_in us node in
-      rw (← own-row (untyped-members entry untyped), untyped-passes entry untyped, untyped-declared entry untyped) refl
+  untyped-row untyped = search (rules, own-row, untyped-members, untyped-passes, untyped-declared)
 
 -- one more row leads to entries
 pub leads-row : (us : List DebugUnit) (node : ℕ) (steps : List ℕ) → LeadsBelow steps (length (entries_of us))

@@ -1,7 +1,7 @@
 -- A loop that packs one node after another.
 use Rattle.std.proofs.Common.{rules}
 use Rattle.std.proofs.lemmas.Grind.{common_steps}
-use Rattle.std.proofs.Common.{◌≡◌, ℕ, ◌+◌, ◌<◌, List, [], ◌∷◌, ◌++◌, length, get_or, take, inl, inr, arith, sym, ◌∙◌, append_assoc, length-append}
+use Rattle.std.proofs.Common.{◌≡◌, ℕ, ◌+◌, ◌<◌, List, [], ◌∷◌, ◌++◌, length, get_or, take, arith, sym, ◌∙◌, append_assoc, length-append}
 use Rattle.std.proofs.lemmas.List.{get_or_append_left, get_or_push, length_push, take_more}
 use Rattle.dw_types.specs.Graphs.{Graph}
 use Rattle.dw_types.specs.Packing.{cut, begin_of, CutsInOrder, LeadsBelow}
@@ -47,5 +47,4 @@ row-more steps all row k below is = search (rules, append_assoc, take_more)
 -- one more step that leads to a node
 pub leads-more : (steps : List ℕ) (to nodes : ℕ) → LeadsBelow steps nodes → to < nodes
     → LeadsBelow (steps ++ to ∷ []) nodes
-leads-more steps to nodes leads below k within =
-    elim (at_push steps k to 0 within) [ inl last ↦ rw last.1 below | inr before ↦ rw before.1 (leads k before.0) ]
+leads-more steps to nodes leads below k within = search (rules, at_push)

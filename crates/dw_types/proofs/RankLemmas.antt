@@ -1,6 +1,6 @@
 -- A node on top of the stack, all of whose steps were looked at, is ranked; ranks by the nodes in their order.
 use Rattle.std.proofs.lemmas.Grind.{common_steps}
-use Rattle.std.proofs.Common.{rules, ◌≡◌, ◌≢◌, ℕ, ◌+◌, ◌<◌, List, [], ◌∷◌, ◌++◌, length, get_or, replicate, set, take, suc, arith, refl, sym, ap, ◌∙◌, length-set, get_or-set_same, get_or-set_other, ◌-◌, ◌⊎◌, inl, inr}
+use Rattle.std.proofs.Common.{rules, ◌≡◌, ◌≢◌, ℕ, ◌+◌, ◌<◌, List, [], ◌∷◌, ◌++◌, length, get_or, set, take, suc, arith, refl, ◌∙◌, length-set, get_or-set_same, get_or-set_other, ◌-◌, ◌⊎◌}
 use Rattle.std.proofs.lemmas.List.{length-replicate, length-take-le, take_more, length_push, get_or_push, get_or_append_left, get_or-take}
 use Rattle.std.proofs.lemmas.Bool.{cases_lt}
 use Rattle.std.proofs.lemmas.List.Sums.{sum_by-set}
@@ -15,12 +15,9 @@ use Rattle.dw_types.proofs.WalkLemmas.{IsTop, top-opened, in-graph}
 
 ranks_from-push : (ranks : List ℕ) (first : ℕ) (nodes : List ℕ) (node : ℕ)
     → ranks_from ranks first (nodes ++ node ∷ []) ≡ set (ranks_from ranks first nodes) node (first + length nodes)
-ranks_from-push ranks first [] node =
-    ap (λ (rank : ℕ). set ranks node rank) (let e : first ≡ first + 0 = omega arith in e)
+ranks_from-push ranks first [] node = search rules
 ranks_from-push ranks first (other ∷ rest) node =
-    ranks_from-push (set ranks other first) (suc first) rest node
-    ∙ ap (λ (rank : ℕ). set (ranks_from (set ranks other first) (suc first) rest) node rank)
-    (let e : suc first + length rest ≡ first + suc (length rest) = omega arith in e)
+    search (rules, (ranks_from-push (set ranks other first) (suc first) rest node))
 
 length-ranks_from : (ranks : List ℕ) (first : ℕ) (nodes : List ℕ) → length (ranks_from ranks first nodes) ≡ length ranks
 length-ranks_from ranks first [] = refl
@@ -33,7 +30,7 @@ pub ranks_listed-push : (nodes : ℕ) (by_rank : List ℕ) (node : ℕ)
 ranks_listed-push nodes by_rank node = search (rules, ranks_from-push)
 
 pub length-ranks_listed : (nodes : ℕ) (by_rank : List ℕ) → length (ranks_listed nodes by_rank) ≡ nodes
-length-ranks_listed nodes by_rank = length-ranks_from (replicate nodes 0) 0 by_rank ∙ length-replicate nodes 0
+length-ranks_listed nodes by_rank = search (rules, length-ranks_from, length-replicate)
 
 -- the rank of a node once one more node has its rank
 module _ (nodes node : ℕ) (by_rank : List ℕ) (place : ℕ) (inside : node < nodes) (below : place < length by_rank) where
@@ -47,25 +44,23 @@ module _ (nodes node : ℕ) (by_rank : List ℕ) (place : ℕ) (inside : node < 
   pub rank-other : node ≢ get_or by_rank place 0
       → get_or (ranks_listed nodes (take place by_rank)) node 0
       ≡ get_or (ranks_listed nodes (take (place + 1) by_rank)) node 0
-  rank-other other =
-      rw more (sym (get_or-set_other (ranks_listed nodes (take place by_rank)) (get_or by_rank place 0) node place 0
-      other))
+  rank-other other = search (rules, more, get_or-set_other)
 
 -- ranking the node on top of the stack, all of whose steps were looked at
 
 module _ (graph : Graph) (s : WalkState) (node : ℕ) (h : IsWalk graph s) (t : IsTop s node)
     (all : get_or s.next node 0 ≡ length (steps_of graph node)) where
   done-opened : mark_of s node ≡ Open
-  done-opened = top-opened graph s node h.coherent.stack t
+  done-opened = search (rules, top-opened)
 
   done-in : node < length graph
-  done-in = in-graph graph s node h.coherent.places (λ e. let opened = done-opened in cc)
+  done-in = search (rules, in-graph, done-opened)
 
   done-in_marks : node < length s.marks
-  done-in_marks = let e = h.coherent.places.marks in let below = done-in in omega arith
+  done-in_marks = search (rules, done-in)
 
   done-in_ranks : node < length s.ranks
-  done-in_ranks = let e = h.coherent.places.ranks in let below = done-in in omega arith
+  done-in_ranks = search (rules, done-in)
 
   done-mark : (a : ℕ) → ((a ≡ node) × (mark_of (with_rank s node) a ≡ Ranked))
       ⊎ ((a ≢ node) × (mark_of (with_rank s node) a ≡ mark_of s a))
@@ -73,32 +68,31 @@ module _ (graph : Graph) (s : WalkState) (node : ℕ) (h : IsWalk graph s) (t : 
 
   done-rank : (a : ℕ) → ((a ≡ node) × (get_or (with_rank s node).ranks a 0 ≡ length s.by_rank))
       ⊎ ((a ≢ node) × (get_or (with_rank s node).ranks a 0 ≡ get_or s.ranks a 0))
-  done-rank a = at_set s.ranks node a (length s.by_rank) 0 done-in_ranks
+  done-rank a = search (rules, at_set, done-in_ranks)
 
   done-ranked : (a : ℕ) → mark_of s a ≡ Ranked → mark_of (with_rank s node) a ≡ Ranked
-  done-ranked a done = elim (done-mark a) [ inl p ↦ p.1 | inr p ↦ p.1 ∙ done ]
+  done-ranked a done = search (rules, done-mark)
 
   done-fresh : (a : ℕ) → mark_of (with_rank s node) a ≡ Fresh → mark_of s a ≡ Fresh
-  done-fresh a fresh = elim (done-mark a) [ inl p ↦ absurd cc | inr p ↦ sym p.1 ∙ fresh ]
+  done-fresh a fresh = search (rules, done-mark)
 
   -- each step of the node leads to one that was ranked, since none is above the top
   done-leads : (k : ℕ) → k < length (steps_of graph node) → mark_of s (step_at graph node k) ≡ Ranked
-  done-leads k in_steps = search (rules)
+  done-leads k in_steps = search rules
 
   -- a node that was ranked before has a rank below the new one, and keeps it
   done-keeps : (a : ℕ) → mark_of s a ≡ Ranked → get_or (with_rank s node).ranks a 0 ≡ get_or s.ranks a 0
   done-keeps a done = search (rules, done-rank, done-opened)
 
   done-length : length (take (length s.stack - 1) s.stack) ≡ length s.stack - 1
-  done-length = length-take-le (length s.stack - 1) s.stack (omega arith)
+  done-length = search (rules, length-take-le)
 
   done-at : (k : ℕ) → k < length s.stack - 1 → get_or (take (length s.stack - 1) s.stack) k 0 ≡ get_or s.stack k 0
-  done-at k below = get_or-take (length s.stack - 1) s.stack k 0 below
+  done-at k below = search (rules, get_or-take)
 
   -- the node stood on top alone
   done-other : (k : ℕ) → k < length s.stack - 1 → get_or s.stack k 0 ≢ node
-  done-other k below same =
-      h.coherent.stack.once k (length s.stack - 1) below (let some = t.some in omega arith) (same ∙ sym t.top)
+  done-other k below same = search rules
 
   done-stack : HasStack graph (with_rank s node)
   done-stack =

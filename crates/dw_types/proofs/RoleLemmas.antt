@@ -9,25 +9,25 @@ use Rattle.dw_types.specs.SizeFaults.{has_no_size, wants_own}
 -- an entry that is no type
 module _ (entry : Entry) (untyped : is_type_tag entry.head.decl.tag ≡ false) where
   pub untyped-passes : passes_type_on entry ≡ false
-  untyped-passes = search (rules)
+  untyped-passes = search rules
 
   pub untyped-members : has_members entry ≡ false
-  untyped-members = search (rules)
+  untyped-members = search rules
 
   pub untyped-enumeration : nat_eq entry.head.decl.tag DW_TAG_enumeration_type ≡ false
-  untyped-enumeration = search (rules)
+  untyped-enumeration = search rules
 
   pub untyped-declared : is_declared_type entry ≡ false
-  untyped-declared = search (rules)
+  untyped-declared = search rules
 
   pub untyped-kind : kind_of entry ≡ NoType
-  untyped-kind = search (rules)
+  untyped-kind = search rules
 
   untyped-base : nat_eq entry.head.decl.tag DW_TAG_base_type ≡ false
-  untyped-base = search (rules)
+  untyped-base = search rules
 
   untyped-array : is_array entry ≡ false
-  untyped-array = search (rules)
+  untyped-array = search rules
 
   untyped-wants : wants_own entry ≡ false
   untyped-wants = rw (untyped-base, untyped-members, untyped-array) refl

@@ -1,6 +1,6 @@
 -- The children of an entry, by the look-ups: the entry behind it, if that is a child, and the next siblings from there
 -- on; and a parent has a smaller number than its child.
-use Rattle.std.proofs.Common.{rules, ◌≡◌, ℕ, zero, suc, ◌+◌, ◌<◌, ◌≤◌, Bool, true, false, if◌then◌else◌, List, [], ◌∷◌, length, drop, Option, Some, None, IfSome, inl, inr, refl, sym, ap, subst, ◌∙◌, arith, length-drop, ne_eqb}
+use Rattle.std.proofs.Common.{rules, ◌≡◌, ℕ, zero, suc, ◌+◌, ◌<◌, ◌≤◌, Bool, true, false, List, [], ◌∷◌, length, drop, Option, Some, None, IfSome, inl, inr, refl, sym, ap, subst, ◌∙◌, arith, length-drop, ne_eqb}
 use Rattle.std.specs.Prelude.{slice_get, All, Contains}
 use Rattle.std.specs.List.{filter, range_with_len}
 use Rattle.std.specs.Option.{ForSome}
@@ -9,24 +9,23 @@ use Rattle.std.proofs.lemmas.List.{drop-drop, get_or_past}
 use Rattle.std.proofs.lemmas.List.Elements.{All-cons, All-nil, Contains-append_right}
 use Rattle.std.proofs.lemmas.Option.{get_or_from_slice_get, slice_get-get_or, slice_get_within}
 use Rattle.std.proofs.Math.ListN.{drop_of_length-le}
-use Rattle.dw_entries.specs.ByNumber.{entry_of, no_entry}
+use Rattle.dw_entries.specs.ByNumber.{no_entry}
 use Rattle.dw_entries.specs.Entries.{Entry, start_of, entries_of}
 use Rattle.dw_entries.specs.Units.{DebugUnit}
 use Rattle.dw_types.specs.Children.{children_of, is_child, is_parent, siblings_from, IsChildOf}
 use Rattle.dw_types.specs.Entries.{entry_in}
-use Rattle.dw_types.proofs.ChildLemmas.{children_from, equals, skip_one, take_one, below_get, units_chained, After, Below, Chained, First, Link}
+use Rattle.dw_types.proofs.ChildLemmas.{children_from, equals, skip_one, take_one, below_get, units_chained, After, Chained, First, Link}
 
 -- the entry with this number, and those behind it
 drop_get : (es : List Entry) (i : ℕ) (e : Entry) → slice_get es i ≡ Some e → drop i es ≡ e ∷ drop (suc i) es
 drop_get [] i e is = absurd cc
-drop_get (x ∷ es) zero e is = let there : Some x ≡ Some e = is in let same : x ≡ e = cc in ap (λ y. y ∷ es) same
+drop_get (x ∷ es) zero e is = search rules
 drop_get (x ∷ es) (suc i) e is = drop_get es i e is
 
 get-drop : (es : List Entry) (m i : ℕ) → slice_get (drop m es) i ≡ slice_get es (m + i)
-get-drop es zero i = let same : i ≡ 0 + i = omega arith in ap (slice_get es) same
+get-drop es zero i = search rules
 get-drop [] (suc m) i = refl
-get-drop (e ∷ es) (suc m) i =
-    let same : suc (m + i) ≡ suc m + i = omega arith in get-drop es m i ∙ ap (slice_get (e ∷ es)) same
+get-drop (e ∷ es) (suc m) i = search (rules, (get-drop es m i))
 
 get_drop : (es rest : List Entry) (i : ℕ) (e : Entry) → drop i es ≡ e ∷ rest → slice_get es i ≡ Some e
 get_drop es rest i e is =
@@ -48,17 +47,16 @@ here-on : (all es : List Entry) (p k : ℕ) → drop k all ≡ es
     → filter (is_child all p) (range_with_len k (length es)) ≡ children_from es p k
 here-on all [] p k there = refl
 here-on all (e ∷ es) p k there =
-    let at : entry_of all k ≡ e = get_or_from_slice_get all k e no_entry (get_drop all es k e there) in
-    let test : is_child all p k ≡ is_parent e.parent p = ap (λ (x : Entry). is_parent x.parent p) at in
-    let next : k + 1 ≡ suc k = omega arith in
-    let rest : filter (is_child all p) (range_with_len (k + 1) (length es)) ≡ children_from es p (suc k) =
-    here-on all es p (k + 1) (sym (drop-drop 1 k all) ∙ ap (drop 1) there) ∙ ap (children_from es p) next in
-    rw test (ap (λ (xs : List ℕ). if is_parent e.parent p then k ∷ xs else xs) rest)
+    search (
+      rules,
+      get_or_from_slice_get,
+      get_drop,
+      drop-drop,
+      (here-on all es p (k + 1) (sym (drop-drop 1 k all) ∙ ap (drop 1) there)),
+    )
 
 siblings-are : (all : List Entry) (p m : ℕ) → siblings_from all p (Some m) ≡ children_from (drop m all) p m
-siblings-are all p m =
-    ap (λ (n : ℕ). filter (is_child all p) (range_with_len m n)) (sym (length-drop m all))
-    ∙ here-on all (drop m all) p m refl
+siblings-are all p m = search (rules, length-drop, here-on)
 
 children-are : (all : List Entry) (p : ℕ) → children_of all p ≡ children_from all p 0
 unfolding children_of
@@ -72,18 +70,12 @@ parent_is above node is = search (rules, eqb-true)
 range-all : (es : List Entry) (p m n : ℕ) → m + n ≤ length es
     → All (IsChildOf es p) (filter (is_child es p) (range_with_len m n))
 range-all es p m zero within = All-nil (IsChildOf es p)
-range-all es p m (suc n) within = go (is_child es p m) refl (range-all es p (m + 1) n (omega (arith, within)))
-  where
-    go : (is : Bool) → is_child es p m ≡ is
-        → All (IsChildOf es p) (filter (is_child es p) (range_with_len (m + 1) n))
-        → All (IsChildOf es p) (filter (is_child es p) (range_with_len m (suc n)))
-    go true is rest =
-        rw is (All-cons (IsChildOf es p) m _ (omega (arith, within), parent_is (entry_of es m).parent p is) rest)
-    go false is rest = rw is rest
+range-all es p m (suc n) within =
+    search (rules, All-cons, parent_is, (range-all es p (m + 1) n (omega (arith, within))))
 
 pub children-all : (es : List Entry) (p : ℕ) → All (IsChildOf es p) (children_of es p)
 unfolding children_of
-children-all es p = range-all es p 0 (length es) (omega arith)
+children-all es p = search (rules, range-all)
 
 -- and each child is one of them
 range-has : (test : ℕ → Bool) (m n x : ℕ) → m ≤ x → x < m + n → test x ≡ true
@@ -101,24 +93,15 @@ range-has test m (suc n) x low high passes = elim (cases_lt m x) [
 
 pub child-in : (es : List Entry) (p child : ℕ) → IsChildOf es p child → Contains (children_of es p) child
 unfolding children_of
-child-in es p child is =
-    let inside : child < 0 + length es = omega (arith, is.0) in
-    let test : is_child es p child ≡ true = ap (λ (above : Option ℕ). is_parent above p) is.1 ∙ equals p in
-    range-has (is_child es p) 0 (length es) child (omega arith) inside test
+child-in es p child is = search (rules, equals, range-has)
 
 -- entries up to a parent are none of its children
 skip_before : (p n k : ℕ) (es : List Entry) → Chained k es → k + n ≤ suc p
     → children_from es p k ≡ children_from (drop n es) p (k + n)
-skip_before p zero k es chained le = ap (children_from es p) (let z : k ≡ k + 0 = omega arith in z)
+skip_before p zero k es chained le = search rules
 skip_before p (suc n) k [] chained le = refl
 skip_before p (suc n) k (e ∷ es) chained le =
-    skip_one e es p k (not_yet e.parent chained.0.below)
-    ∙ skip_before p n (suc k) es chained.1 (omega (arith, le))
-    ∙ ap (children_from (drop n es) p) (let z : suc k + n ≡ k + suc n = omega arith in z)
-  where
-    not_yet : (above : Option ℕ) → Below k above → is_parent above p ≡ false
-    not_yet None below = refl
-    not_yet (Some q) below = ne_eqb q p (λ e. omega (arith, below, le, e))
+    search (rules, skip_one, ne_eqb, (skip_before p n (suc k) es chained.1 (omega (arith, le))))
 
 -- a child, and its siblings from the next one on
 pub record IsNextOf (es : List Entry) (p m : ℕ) (next : Option ℕ) : Type 0 where
@@ -129,8 +112,7 @@ module _ (us : List DebugUnit) where
   -- an entry, and those behind it
   from-entry : (id : ℕ) → id < length (entries_of us)
       → drop id (entries_of us) ≡ entry_in us id ∷ drop (suc id) (entries_of us)
-  from-entry id below =
-      drop_get (entries_of us) id (entry_in us id) (slice_get-get_or (entries_of us) id no_entry below)
+  from-entry id below = search (rules, drop_get, slice_get-get_or)
 
   link-at : (id : ℕ) → id < length (entries_of us) → Link id (entry_in us id) (drop (suc id) (entries_of us))
   link-at id below =
@@ -154,7 +136,7 @@ module _ (us : List DebugUnit) where
   goes_on : (p m : ℕ) (next : Option ℕ) → After (suc m) (drop (suc m) (entries_of us)) (Some p) next
       → (children_from (drop (suc m) (entries_of us)) p (suc m) ≡ siblings_from (entries_of us) p next)
       × ForSome next (IsChildOf (entries_of us) p)
-  goes_on p m None after = (after, λ x gone. absurd cc)
+  goes_on p m None after = search rules
   goes_on p m (Some n) after =
       let es = entries_of us in
       let there : drop after.j (drop (suc m) es)
@@ -214,6 +196,4 @@ module _ (us : List DebugUnit) where
   -- no entry stands behind: there is no child
   pub none_behind : (id behind : ℕ) → behind ≡ id + 1 → length (entries_of us) ≤ behind
       → children_of (entries_of us) id ≡ []
-  none_behind id behind is over =
-      children_behind id ∙ ap (λ xs. children_from xs id (suc id))
-      (drop_of_length-le (entries_of us) (let le : length (entries_of us) ≤ suc id = omega (arith, is, over) in le))
+  none_behind id behind is over = search (rules, children_behind, drop_of_length-le)

@@ -1,6 +1,6 @@
 -- A first fault over capped sizes is the first fault over the sizes themselves: the one table of sizes, and the capped
 -- table that is filled in its place.
-use Rattle.std.proofs.Common.{rules, ◌≡◌, ℕ, ◌^◌, ◌<◌, ◌≤◌, min, ℤ, pos, negsuc, Bool, true, false, not, ◌&&◌, ◌||◌, if◌then◌else◌, List, Option, Some, None, is_some, length, nat_eq, inl, inr, arith, refl, sym, ap, ◌∙◌}
+use Rattle.std.proofs.Common.{rules, ◌≡◌, ℕ, ◌^◌, ◌<◌, ◌≤◌, min, ℤ, pos, negsuc, Bool, true, false, not, ◌&&◌, ◌||◌, if◌then◌else◌, List, Option, Some, None, is_some, length, nat_eq, arith, refl, sym, ap, ◌∙◌}
 use Rattle.std.proofs.lemmas.Bool.{cases_lt, false_from_ne_true}
 use Rattle.dw_forms.specs.Codes.{DW_TAG_enumeration_type}
 use Rattle.dw_forms.specs.declared.rule.Rule.{Rule}
@@ -37,7 +37,7 @@ use Rattle.dw_types.proofs.TableLemmas.{ObeysLines, capped-table, only-one, same
 
 great-same : (size : Size) → is_too_great (cap_size (2 ^ 63) size) ≡ is_too_great size
 great-same None = refl
-great-same (Some n) = elim (cases_lt n (2 ^ 63)) [ inl small ↦ grind arith | inr great ↦ grind arith ]
+great-same (Some n) = search (rules, cases_lt)
 
 past-same : (n : ℕ) (start : ℤ) (k : ℕ) → n < 2 ^ 63 → end_past n start (min (2 ^ 63) k) ≡ end_past n start k
 past-same n (pos start) k small = grind arith
@@ -59,7 +59,7 @@ if-same a b x y z w same = rw same refl
 
 cap-small : (size : Size) → is_too_great size ≡ false → cap_size (2 ^ 63) size ≡ size
 cap-small None small = refl
-cap-small (Some n) small = let below : n < 2 ^ 63 = grind arith in ap Some (omega arith)
+cap-small (Some n) small = search rules
 
 ends-same : (own : Size) (member : Entry) (size : Size) → is_too_great own ≡ false
     → ends_past_container own member (cap_size (2 ^ 63) size) ≡ ends_past_container own member size
@@ -94,7 +94,7 @@ module _ (us : List DebugUnit) (exact found : ℕ → Size) (obeys : ObeysSizeLi
     (caps : (node : ℕ) → node < length (entries_of us) → found node ≡ cap_size (2 ^ 63) (exact node)) where
   -- the same entries have a size that is too great
   great-at : (node : ℕ) → node < length (entries_of us) → is_too_great (found node) ≡ is_too_great (exact node)
-  great-at node below = ap is_too_great (caps node below) ∙ great-same (exact node)
+  great-at node below = search (rules, great-same)
 
   to-found : (target : Option ℕ) → ((to : ℕ) → target ≡ Some to → to < length (entries_of us))
       → size_to found target ≡ cap_size (2 ^ 63) (size_to exact target)
@@ -144,7 +144,7 @@ module _ (us : List DebugUnit) (exact found : ℕ → Size) (obeys : ObeysSizeLi
 
   not-great : (node : ℕ) → node < length (entries_of us) → ¬ (fails_size us found node SizeTooGreat ≡ true)
       → is_too_great (exact node) ≡ false
-  not-great node below never = sym (great-at node below) ∙ false_from_ne_true (is_too_great (found node)) never
+  not-great node below never = search (rules, great-at, false_from_ne_true)
 
   -- the first entry that breaks a rule by the capped sizes is the first by the sizes
   pub first-same : (node : ℕ) (rule : Rule) → IsFirstAt (entries_of us) (fails_size us found) node rule
@@ -168,7 +168,7 @@ module _ (us : List DebugUnit) (exact found : ℕ → Size) (obeys : ObeysSizeLi
       }
 
 below-limit : (size : Size) (n : ℕ) → is_too_great size ≡ false → size ≡ Some n → n < 2 ^ 63
-below-limit size n small is = let e : is_too_great (Some n) ≡ false = rw is at small in grind arith
+below-limit size n small is = search rules
 
 module _ (us : List DebugUnit) (ranks : List ℕ) (falls : FallsAlong (by_value us) ranks) where
   leads : LeadsToNodes (by_value us)

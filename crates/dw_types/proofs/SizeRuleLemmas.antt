@@ -1,10 +1,9 @@
 -- Which rule on sizes an entry violates, by a capped table: the least of those of a type, one at most of another entry.
-use Rattle.std.proofs.Common.{rules, ◌≡◌, ℕ, ◌^◌, ◌<◌, pos, negsuc, Bool, true, false, not, ◌&&◌, ◌||◌, if◌then◌else◌, List, Some, None, IfSome, length, nat_eq, arith, refl, sym, ap, ◌∙◌}
+use Rattle.std.proofs.Common.{rules, ◌≡◌, ℕ, ◌^◌, ◌<◌, pos, negsuc, Bool, true, false, not, ◌&&◌, ◌||◌, if◌then◌else◌, List, Some, None, IfSome, length, nat_eq, refl, sym, ap, ◌∙◌}
 use Rattle.std.proofs.lemmas.Bool.{eqb-true, false_from_ne_true, false≢true, or_parts}
-use Rattle.dw_forms.specs.Codes.{DW_AT_bit_size, DW_AT_byte_stride, DW_TAG_array_type, DW_TAG_base_type, DW_TAG_enumeration_type, DW_TAG_member, is_type_tag}
+use Rattle.dw_forms.specs.Codes.{DW_AT_byte_stride, DW_TAG_array_type, DW_TAG_base_type, DW_TAG_enumeration_type, DW_TAG_member, is_type_tag}
 use Rattle.dw_forms.specs.declared.rule.Rule.{Rule}
 use Rattle.dw_forms.specs.declared.rule.Rule.TheVariants.{NoSize, SizeTooGreat, MemberOutside, EnumSize}
-use Rattle.dw_forms.specs.Rules.{number_of}
 use Rattle.dw_entries.specs.Entries.{Entry, entries_of}
 use Rattle.dw_entries.specs.Units.{DebugUnit}
 use Rattle.dw_links.specs.Constants.{constant_at, is_negative, is_present, natural_of}
@@ -15,10 +14,8 @@ use Rattle.dw_types.specs.declared.kind.Kind.TheVariants.{Declared, OwnSized, Po
 use Rattle.dw_types.specs.Entries.{byte_size, entry_in, type_target}
 use Rattle.dw_types.specs.Extents.{ends_past, is_outside}
 use Rattle.dw_links.specs.Classes.{is_one_of}
-use Rattle.dw_links.specs.References.{is_declared}
 use Rattle.dw_types.specs.Kinds.{container_tags, kind_by, kind_of}
-use Rattle.dw_types.specs.Shapes.{is_plain, stands_alone}
-use Rattle.dw_types.specs.SizeFaults.{fails_size, has_no_size, has_wrong_size, is_asked, is_plain_size, is_too_great, reads_own, wants_own}
+use Rattle.dw_types.specs.SizeFaults.{fails_size, has_no_size, has_wrong_size, is_too_great, may_fail, wants_own}
 use Rattle.dw_types.specs.SizeTables.{Size, cap_size}
 use Rattle.dw_types.specs.Sizes.{constant_or, size_line, size_of_kind, size_to, times}
 use Rattle.dw_types.specs.TypeFailures.{IsLeastAt}
@@ -59,32 +56,27 @@ wants_by tag declared base container array =
 
 none-wanted : (tag : ℕ) (declared base container array : Bool) → (kind_by tag declared ≡ OwnSized → ⊥)
     → (kind_by tag declared ≡ Array → ⊥) → wants_by tag declared base container array ≡ false
-none-wanted tag declared base container array not_own not_array = search (rules)
+none-wanted tag declared base container array not_own not_array = search rules
 
 array-wanted : (tag : ℕ) (declared base container array : Bool) → kind_by tag declared ≡ Array → array ≡ false
     → wants_by tag declared base container array ≡ false
-array-wanted tag declared base container array is none = search (rules)
+array-wanted tag declared base container array is none = search rules
 
 kind-wants : (entry : Entry) → (kind_of entry ≡ OwnSized → ⊥) → (kind_of entry ≡ Array → ⊥) → wants_own entry ≡ false
-kind-wants entry own array =
-    none-wanted entry.head.decl.tag (is_declared entry) (not (is_present (constant_at entry DW_AT_bit_size)))
-    (stands_alone entry) (is_negative (constant_at entry DW_AT_byte_stride)) own array
+kind-wants entry own array = search (rules, none-wanted, not)
 
 array-wants : (entry : Entry) → kind_of entry ≡ Array → is_negative (constant_at entry DW_AT_byte_stride) ≡ false
     → wants_own entry ≡ false
-array-wants entry is stride =
-    array-wanted entry.head.decl.tag (is_declared entry) (not (is_present (constant_at entry DW_AT_bit_size)))
-    (stands_alone entry) (is_negative (constant_at entry DW_AT_byte_stride)) is stride
+array-wants entry is stride = search (rules, array-wanted, not)
 
 -- with a byte size of its own, or by other sizes where nothing is wanted
 own-by : (own : Constant) (other : Size) (n : ℕ) (reads wants : Bool) → constant_or own other ≡ Some n
     → (other ≡ Some n → wants ≡ false) → ((reads && is_negative own) || (not (is_present own) && wants)) ≡ false
-own-by own other n reads wants is none = search (rules)
+own-by own other n reads wants is none = search rules
 
 own-part : (entry : Entry) (other : Size) (n : ℕ) → constant_or (byte_size entry) other ≡ Some n
     → (other ≡ Some n → wants_own entry ≡ false) → has_no_size entry ≡ false
-own-part entry other n is wants =
-    own-by (byte_size entry) other n (reads_own (kind_of entry)) (wants_own entry) is wants
+own-part entry other n is wants = search (rules, own-by)
 
 sized-kind : (us : List DebugUnit) (table : ℕ → Size) (node : ℕ) (kind : Kind) → kind_of (entry_in us node) ≡ kind
     → (n : ℕ) → size_of_kind kind us table node ≡ Some n
@@ -114,16 +106,11 @@ sized-line us table node size is =
 
 -- a type is no member
 
-true_from_not : (b : Bool) → not b ≡ false → b ≡ true
-true_from_not true is = refl
-true_from_not false is = absurd (false≢true (sym is))
-
 member-untyped : (tag : ℕ) → nat_eq tag DW_TAG_member ≡ true → is_type_tag tag ≡ false
-member-untyped tag is = let same : tag ≡ DW_TAG_member = eqb-true tag DW_TAG_member is in ap is_type_tag same
+member-untyped tag is = search (rules, eqb-true)
 
 type-unmember : (tag : ℕ) → is_type_tag tag ≡ true → nat_eq tag DW_TAG_member ≡ false
-type-unmember tag is =
-    false_from_ne_true (nat_eq tag DW_TAG_member) (λ member. false≢true (sym (member-untyped tag member) ∙ is))
+type-unmember tag is = search (rules, false_from_ne_true, nat_eq, false≢true, member-untyped)
 
 -- a type violates no other rule than these three
 pub type-none : (us : List DebugUnit) (table : ℕ → Size) (node : ℕ)
@@ -132,43 +119,26 @@ pub type-none : (us : List DebugUnit) (table : ℕ → Size) (node : ℕ)
     → (rule : Rule) → fails_size us table node rule ≡ true → ⊥
 type-none us table node typed size great wrong NoSize fails = false≢true (sym size ∙ fails)
 type-none us table node typed size great wrong SizeTooGreat fails = false≢true (sym great ∙ fails)
-type-none us table node typed size great wrong MemberOutside fails =
-    let no = type-unmember (entry_in us node).head.decl.tag typed in false≢true (rw no at fails)
+type-none us table node typed size great wrong MemberOutside fails = search (rules, type-unmember, false≢true)
 type-none us table node typed size great wrong EnumSize fails = false≢true (sym wrong ∙ fails)
 type-none us table node typed size great wrong _ fails = false≢true fails
 
 -- the least of them
 pub great-least : (us : List DebugUnit) (table : ℕ → Size) (node : ℕ) → has_no_size (entry_in us node) ≡ false
     → is_too_great (table node) ≡ true → IsLeastAt (fails_size us table) node (Some SizeTooGreat)
-great-least us table node size great = (great, others)
-  where
-    others : (rule : Rule) → fails_size us table node rule ≡ true → number_of rule < 2 → ⊥
-    others NoSize fails lower = false≢true (sym size ∙ fails)
-    others SizeTooGreat fails lower = omega arith
-    others MemberOutside fails lower = omega arith
-    others EnumSize fails lower = omega arith
-    others _ fails lower = false≢true fails
+great-least us table node size great = search (rules, false≢true)
 
 pub wrong-least : (us : List DebugUnit) (table : ℕ → Size) (node : ℕ)
     → is_type_tag (entry_in us node).head.decl.tag ≡ true → has_no_size (entry_in us node) ≡ false
     → is_too_great (table node) ≡ false → has_wrong_size us table node ≡ true
     → IsLeastAt (fails_size us table) node (Some EnumSize)
-wrong-least us table node typed size great wrong = (wrong, others)
-  where
-    others : (rule : Rule) → fails_size us table node rule ≡ true → number_of rule < 4 → ⊥
-    others NoSize fails lower = false≢true (sym size ∙ fails)
-    others SizeTooGreat fails lower = false≢true (sym great ∙ fails)
-    others MemberOutside fails lower =
-        let no = type-unmember (entry_in us node).head.decl.tag typed in false≢true (rw no at fails)
-    others EnumSize fails lower = omega arith
-    others _ fails lower = false≢true fails
+wrong-least us table node typed size great wrong = search (rules, false≢true, type-unmember)
 
 -- a member that ends inside its container
 pub not-outside : (us : List DebugUnit) (table : ℕ → Size) (node n : ℕ)
     → size_to table (entry_in us node).parent ≡ Some n
     → ends_past n (entry_in us node) (size_to table (type_target us node)) ≡ false → is_outside us table node ≡ false
-not-outside us table node n container past =
-    rw container (and-by (is_plain us node) _ false past ∙ and-false (is_plain us node))
+not-outside us table node n container past = search (rules, and-by, and-false)
 
 module _ (us : List DebugUnit) (found : ℕ → Size) (node : ℕ) where
   module _ (capped : ObeysCappedLines us found) (below : node < length (entries_of us)) where
@@ -176,64 +146,36 @@ module _ (us : List DebugUnit) (found : ℕ → Size) (node : ℕ) where
 
     module _ (untyped : is_type_tag (entry_in us node).head.decl.tag ≡ false) where
       untyped-none : found node ≡ None
-      untyped-none = capped node below ∙ untyped-line us found node untyped
+      untyped-none = search (rules, untyped-line)
 
       untyped-rule : (rule : Rule) → fails_size us found node rule ≡ true → rule ≡ MemberOutside
       untyped-rule NoSize breaks =
           absurd (false≢true (sym (untyped-size_none (entry_in us node) untyped) ∙ breaks))
       untyped-rule SizeTooGreat breaks = absurd (false≢true (ap is_too_great (sym untyped-none) ∙ breaks))
       untyped-rule MemberOutside breaks = refl
-      untyped-rule EnumSize breaks =
-          let enumeration = untyped-enumeration (entry_in us node) untyped in
-          absurd (false≢true (rw enumeration at breaks))
+      untyped-rule EnumSize breaks = search (rules, untyped-enumeration, false≢true)
       untyped-rule _ breaks = absurd (false≢true breaks)
 
       pub untyped-breaks : fails_size us found node MemberOutside ≡ true
           → IsLeastAt (fails_size us found) node (Some MemberOutside)
-      untyped-breaks breaks = (
-        breaks,
-        λ other fails lower.
-            let same = untyped-rule other fails in
-            let less : number_of MemberOutside < number_of MemberOutside = rw same at lower in omega arith,
-      )
+      untyped-breaks breaks = search (rules, untyped-rule)
 
       pub untyped-passes : fails_size us found node MemberOutside ≡ false
           → IsLeastAt (fails_size us found) node None
-      untyped-passes passes other fails =
-          let same = untyped-rule other fails in
-          let breaks : fails_size us found node MemberOutside ≡ true = rw same at fails in
-          false≢true (sym passes ∙ breaks)
+      untyped-passes passes other fails = search (rules, untyped-rule, false≢true)
 
-    -- a type with a plain size that is no enumeration
-
-    plain-sized : (size : Size) → is_plain_size size ≡ true
-        → IfSome size (λ _. has_no_size (entry_in us node) ≡ false) → has_no_size (entry_in us node) ≡ false
-    plain-sized None is own = absurd (false≢true is)
-    plain-sized (Some n) is own = own
-
-    plain-small : (size : Size) → is_plain_size size ≡ true → is_too_great size ≡ false
-    plain-small None is = absurd (false≢true is)
-    plain-small (Some n) is = grind arith
-
-    plain-passes : is_type_tag (entry_in us node).head.decl.tag ≡ true → is_plain_size (found node) ≡ true
-        → nat_eq (entry_in us node).head.decl.tag DW_TAG_enumeration_type ≡ false
-        → IsLeastAt (fails_size us found) node None
-    plain-passes typed plain other =
-        let own = sized-line us found node (found node) (capped node below) in
-        type-none us found node typed (plain-sized (found node) plain own) (plain-small (found node) plain)
-        (rw other refl)
-
-    -- at an entry that is not asked no rule fails
-    pub unasked-passes : is_asked (entry_in us node).head.decl.tag (found node) ≡ false
-        → IsLeastAt (fails_size us found) node None
+    -- where no rule on sizes may fail, none does
+    pub unasked-passes : may_fail (entry_in us node) (found node) ≡ false → IsLeastAt (fails_size us found) node None
     unasked-passes unasked = go (is_type_tag (entry_in us node).head.decl.tag) refl
       where
         go : (typed : Bool) → is_type_tag (entry_in us node).head.decl.tag ≡ typed
             → IsLeastAt (fails_size us found) node None
         go true typed =
-            let parts = or_parts (not (is_plain_size (found node)))
-            (nat_eq (entry_in us node).head.decl.tag DW_TAG_enumeration_type) (rw typed at unasked) in
-            plain-passes typed (true_from_not (is_plain_size (found node)) parts.0) parts.1
+            let enumeration = nat_eq (entry_in us node).head.decl.tag DW_TAG_enumeration_type in
+            let parts = or_parts (has_no_size (entry_in us node)) (is_too_great (found node) || enumeration)
+            (rw typed at unasked) in
+            let rest = or_parts (is_too_great (found node)) enumeration parts.1 in
+            type-none us found node typed parts.0 rest.0 (rw rest.1 refl)
         go false untyped =
             let other : nat_eq (entry_in us node).head.decl.tag DW_TAG_member ≡ false = rw untyped at unasked in
             untyped-passes untyped (rw other refl)

@@ -5,12 +5,11 @@ use Rattle.std.proofs.lemmas.Bool.{cases_lt}
 use Rattle.std.proofs.lemmas.List.{length-map, get_or-map, get_or_past, get_or_default}
 use Rattle.std.proofs.lemmas.List.Elements.{All-contains, Contains-append_left, Contains-append_right, Contains-append_cases}
 use Rattle.std.proofs.lemmas.List.FromFn.{length-range_with_len, get_or-range_with_len}
-use Rattle.dw_entries.specs.ByNumber.{no_entry}
 use Rattle.dw_entries.specs.Entries.{entries_of}
 use Rattle.dw_entries.specs.Units.{DebugUnit}
 use Rattle.dw_links.proofs.TableLemmas.{target_within}
 use Rattle.dw_types.specs.Children.{children_of, IsChildOf}
-use Rattle.dw_types.specs.Entries.{entry_in, entry_numbers, signature_target, type_target}
+use Rattle.dw_types.specs.Entries.{entry_in, signature_target, type_target}
 use Rattle.dw_types.specs.Graphs.{steps_of, IsStep, step_at, LeadsToNodes}
 use Rattle.dw_types.specs.Kinds.{passes_type_on, is_declared_type}
 use Rattle.dw_types.specs.Shapes.{is_plain}
@@ -21,7 +20,7 @@ use Rattle.dw_types.proofs.SiblingLemmas.{child-in, children-all, parent-first}
 
 in-targets : (test : Bool) (target : Option ℕ) (to : ℕ) → test ≡ true → target ≡ Some to
     → Contains (targets_if test target) to
-in-targets test target to passes is = rw (passes, is) (0, (omega arith), refl)
+in-targets test target to passes is = search rules
 
 from-targets : (test : Bool) (target : Option ℕ) (to : ℕ) → Contains (targets_if test target) to
     → (test ≡ true) × (target ≡ Some to)
@@ -34,8 +33,7 @@ from-targets true (Some x) to (suc k, below, e) = absurd (omega arith)
 
 in-flat_map : (f : ℕ → List ℕ) (xs : List ℕ) (x y : ℕ) → Contains xs x → Contains (f x) y → Contains (flat_map f xs) y
 in-flat_map f [] x y has more = absurd (let below = has.1 in omega arith)
-in-flat_map f (z ∷ zs) x y (zero, below, same) more =
-    Contains-append_left (f z) (flat_map f zs) y (let here : z ≡ x = same in rw here more)
+in-flat_map f (z ∷ zs) x y (zero, below, same) more = search (rules, Contains-append_left)
 in-flat_map f (z ∷ zs) x y (suc k, below, same) more =
     Contains-append_right (f z) (flat_map f zs) y (in-flat_map f zs x y (k, omega arith, same) more)
 
@@ -60,8 +58,7 @@ by_value-at us node below =
 
 -- as many nodes as entries
 pub length-by_value : (us : List DebugUnit) → length (by_value us) ≡ length (entries_of us)
-length-by_value us =
-    length-map (entry_numbers us) (steps_by_value us) ∙ length-range_with_len 0 (length (entries_of us))
+length-by_value us = search (rules, length-map, length-range_with_len)
 
 -- a step of an entry is one of the three parts of its list
 pub steps-from : (us : List DebugUnit) (from to : ℕ) → Contains (steps_by_value us from) to → IsStepByValue us from to
@@ -100,14 +97,9 @@ steps-to us from to (by_signature declared is) = search (rules, Contains-append_
 
 -- only an entry has a step by value
 step-inside : (us : List DebugUnit) (from to : ℕ) → length (entries_of us) ≤ from → IsStepByValue us from to → ⊥
-step-inside us from to above (by_type passes is) =
-    let past : entry_in us from ≡ no_entry = get_or_past (entries_of us) from no_entry above in
-    let no : false ≡ true = rw past at passes in cc
-step-inside us from to above (by_member member below plain parent is) =
-    let before = parent-first us member from parent in omega arith
-step-inside us from to above (by_signature declared is) =
-    let past : entry_in us from ≡ no_entry = get_or_past (entries_of us) from no_entry above in
-    let no : false ≡ true = rw past at declared in cc
+step-inside us from to above (by_type passes is) = search (rules, get_or_past)
+step-inside us from to above (by_member member below plain parent is) = search (rules, parent-first)
+step-inside us from to above (by_signature declared is) = search (rules, get_or_past)
 
 -- the steps of the graph are the steps by value
 pub by_value-from_step : (us : List DebugUnit) (from to : ℕ) → IsStep (by_value us) from to

@@ -82,7 +82,7 @@ module _ (graph : Graph) (ranks : List ℕ) (falls : FallsAlong graph ranks) (le
   -- a table that is the same as one that obeys the lines obeys them too
   pub same-obeys : (line : Lines) → IsLocal graph line → (exact found : ℕ → Size) → ObeysLines graph line exact
       → SameAt graph found exact → ObeysLines graph line found
-  same-obeys line local exact found obeys same node in_graph = search (rules)
+  same-obeys line local exact found obeys same node in_graph = search rules
 
 -- the lines of the first nodes by rank hold
 abbrev pub HasFilled : Graph → Ranking → Lines → List Size → ℕ → Type 0
@@ -94,7 +94,7 @@ module _ (graph : Graph) (order : Ranking) (h : IsOrderOf graph order) (line : L
   other-step : (place node k : ℕ) → get_or order.ranks node 0 ≤ place → place < length order.by_rank
       → k < length (steps_of graph node)
       → step_at graph node k ≢ get_or order.by_rank place 0
-  other-step place node k rank below in_steps same = search (rules)
+  other-step place node k rank below in_steps same = search rules
 
   line-kept : (sizes : List Size) (place node : ℕ) (size : Size) → node < length graph
       → get_or order.ranks node 0 ≤ place → place < length order.by_rank

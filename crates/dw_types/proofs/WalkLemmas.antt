@@ -1,6 +1,6 @@
 -- A node is taken up, or a step looked at: each turn of a walk leads to another state of one, and how many turns a walk
 -- has taken.
-use Rattle.std.proofs.Common.{rules, ◌≡◌, Option, None, Some, ℕ, ◌+◌, ◌^◌, ◌<◌, ◌≤◌, List, [], ◌∷◌, Bool, true, cond, length, get_or, arith, refl, sum, count_by, suc, ◌≢◌, ◌-◌, ◌⊎◌, inl, inr, sym, ap, ◌∙◌, length-set, get_or-set_same}
+use Rattle.std.proofs.Common.{rules, ◌≡◌, Option, None, Some, ℕ, ◌+◌, ◌^◌, ◌<◌, ◌≤◌, List, [], ◌∷◌, Bool, true, cond, length, get_or, arith, refl, sum, count_by, suc, ◌≢◌, ◌-◌, ◌⊎◌, inl, inr, sym, ◌∙◌, length-set, get_or-set_same}
 use Rattle.std.proofs.lemmas.Grind.{common_steps}
 use Rattle.std.specs.List.{sum_by}
 use Rattle.std.proofs.lemmas.List.Sums.{sum_by-cons, sum_by-le, count_by-le-length, sum_by-set}
@@ -87,7 +87,7 @@ turns-all graph s h all =
     omega arith
 
 pub top-opened : (graph : Graph) (s : WalkState) (node : ℕ) → HasStack graph s → IsTop s node → mark_of s node ≡ Open
-top-opened graph s node h t = rw (← t.top) (h.opened (length s.stack - 1) (let some = t.some in omega arith))
+top-opened graph s node h t = search rules
 
 -- a node with a mark other than `Fresh` is one of the graph
 pub in-graph : (graph : Graph) (s : WalkState) (node : ℕ) → HasPlaces graph s → (mark_of s node ≡ Fresh → ⊥)
@@ -114,20 +114,11 @@ pub look-but : (graph : Graph) (s : WalkState) (node count : ℕ) (stop : Option
     → ((k : ℕ) → get_or s.next node 0 ≤ k → k < get_or s.next node 0 + count
     → (mark_of s (step_at graph node k) ≡ Ranked) ⊎ (stop ≡ Some (step_at graph node k)))
     → LooksUpBut graph (with_steps s node count) stop
-look-but graph s node count stop h in_graph known place k in_stack seen =
-    elim (at_set s.next node (get_or s.stack place 0) (get_or s.next node 0 + count) 0 in_graph) [
-      | inl p ↦ elim (cases_lt k (get_or s.next node 0)) [
-        | inl below ↦ inl (h.looks_up place k in_stack (rw p.0 below))
-        | inr above ↦ rw p.0 (elim (known k above (rw p.1 at seen))
-            [ inl done ↦ inl (inl done) | inr stops ↦ inr stops ])
-      ]
-      | inr p ↦ inl (h.looks_up place k in_stack (rw p.1 at seen))
-    ]
+look-but graph s node count stop h in_graph known place k in_stack seen = search (rules, at_set, cases_lt)
 
 -- where none stops, that is all
 pub looked-all : (graph : Graph) (s : WalkState) → LooksUpBut graph s None → LooksUp graph s
-looked-all graph s but place k in_stack seen =
-    elim (but place k in_stack seen) [ inl known ↦ known | inr stops ↦ absurd cc ]
+looked-all graph s but place k in_stack seen = search rules
 
 -- taking up a fresh node
 
@@ -137,16 +128,16 @@ module _ (graph : Graph) (s : WalkState) (node : ℕ) (h : IsCoherent graph s) (
   -- a mark afterwards is the one before, but for the node's own
   up-mark : (a : ℕ) → ((a ≡ node) × (mark_of (taken_up s node) a ≡ Open))
       ⊎ ((a ≢ node) × (mark_of (taken_up s node) a ≡ mark_of s a))
-  up-mark a = at_set s.marks node a Open Fresh in_graph
+  up-mark a = search (rules, at_set)
 
   up-ranked : (a : ℕ) → mark_of s a ≡ Ranked → mark_of (taken_up s node) a ≡ Ranked
   up-ranked a done = search (rules, up-mark)
 
   was-ranked : (a : ℕ) → mark_of (taken_up s node) a ≡ Ranked → mark_of s a ≡ Ranked
-  was-ranked a done = elim (up-mark a) [ inl p ↦ absurd cc | inr p ↦ sym p.1 ∙ done ]
+  was-ranked a done = search (rules, up-mark)
 
   pub was-fresh : (a : ℕ) → mark_of (taken_up s node) a ≡ Fresh → mark_of s a ≡ Fresh
-  was-fresh a done = elim (up-mark a) [ inl p ↦ absurd cc | inr p ↦ sym p.1 ∙ done ]
+  was-fresh a done = search (rules, up-mark)
 
   up-length : length (taken_up s node).stack ≡ length s.stack + 1
   up-length = length_push s.stack node
@@ -179,7 +170,7 @@ module _ (graph : Graph) (s : WalkState) (node : ℕ) (h : IsCoherent graph s) (
   pub up-looks_up : LooksUpBut graph s (Some node) → LooksUp graph (taken_up s node)
   up-looks_up but place k in_stack seen =
       elim (at_push s.stack place node 0 in_stack) [
-        | inl p ↦ search (rules)
+        | inl p ↦ search rules
         | inr p ↦
             rw p.1 (elim (but place k p.0 (rw p.1 at seen)) [
               | inl known ↦ search (rules, up-ranked, up-length, get_or_append_left)
@@ -197,10 +188,10 @@ module _ (graph : Graph) (s : WalkState) (node : ℕ) (h : IsCoherent graph s) (
 module _ (graph : Graph) (s : WalkState) (node : ℕ) (h : IsWalk graph s) (empty : s.stack ≡ [])
     (in_graph : node < length graph) (new : mark_of s node ≡ Fresh) where
   first-in_marks : node < length s.marks
-  first-in_marks = let e = h.coherent.places.marks in omega arith
+  first-in_marks = search rules
 
   first-link : 0 < length s.stack → IsStep graph (get_or s.stack (length s.stack - 1) 0) node
-  first-link some = let none : length s.stack ≡ 0 = ap length empty in absurd (omega arith)
+  first-link some = search rules
 
   pub first-walk : IsWalk graph (taken_up s node)
   first-walk = grind (arith, common_steps, up-coherent, first-in_marks, first-link, up-looks_up)

@@ -23,8 +23,6 @@ pub cut-length : (steps ends : List ℕ) (node : ℕ) → CutsInOrder steps ends
     → length (steps_of (cut steps 0 ends) node) ≡ get_or ends node 0 - begin_of ends node
 cut-length steps ends node order below =
     let here = order node below in
-    let rises : begin_of ends node ≤ get_or ends node 0 = here.0 in
-    let within : get_or ends node 0 ≤ length steps = here.1 in
     let rest = length-drop (begin_of ends node) steps in
     rw (cut-at steps 0 ends node below)
     (length-take-le (get_or ends node 0 - begin_of ends node) (drop (begin_of ends node) steps) (omega arith))
@@ -35,8 +33,6 @@ pub cut-step : (steps ends : List ℕ) (node k : ℕ) → CutsInOrder steps ends
     × (step_at (cut steps 0 ends) node k ≡ get_or steps (begin_of ends node + k) 0)
 cut-step steps ends node k order below in_steps =
     let here = order node below in
-    let rises : begin_of ends node ≤ get_or ends node 0 = here.0 in
-    let within : get_or ends node 0 ≤ length steps = here.1 in
     let short : k < get_or ends node 0 - begin_of ends node =
     rw (cut-length steps ends node order below) at in_steps in (
       omega arith,
@@ -52,8 +48,7 @@ cut-leads steps ends order leads node k in_steps =
           let p = cut-step steps ends node k order below in_steps in
           rw (p.1, length-cut steps 0 ends) (leads _ p.0)
       | inr above ↦
-          let all = length-cut steps 0 ends in
-          let none : steps_of (cut steps 0 ends) node ≡ [] = get_or_past (cut steps 0 ends) node [] (omega arith) in
+          let none = get_or_past (cut steps 0 ends) node [] (rw length-cut above) in
           let some : k < length {A = ℕ} [] = rw none at in_steps in
           absurd (omega arith)
     ]
@@ -65,13 +60,11 @@ cut-append : (steps more : List ℕ) (from : ℕ) (ends : List ℕ) → from ≤
 cut-append steps more from [] here order = refl
 cut-append steps more from (end ∷ ends) here order =
     let first = order 0 (omega arith) in
-    let rises : from ≤ end = first.0 in
-    let within : end ≤ length steps = first.1 in
     let rest = length-drop from steps in
     rw (
       drop-append-le from steps more here,
       take-append-le (end - from) (drop from steps) more (omega arith),
-      cut-append steps more end ends within (λ k below. order (suc k) (omega arith)),
+      cut-append steps more end ends first.1 (λ k below. order (suc k) (omega arith)),
     ) refl
 
 -- one more end cuts one more list

@@ -1,6 +1,6 @@
 -- Chapter: the rules on sizes (DWARF 5, 5.1, 5.5, 5.7 and 5.8).
 use Rattle.std.specs.Prelude.{ℕ, ◌^◌, Bool, true, false, ◌&&◌, ◌||◌, not, List, None, Some, is_some, if◌then◌else◌}
-use Rattle.std.specs.Prelude.{nat_eq, nat_le, nat_lt}
+use Rattle.std.specs.Prelude.{nat_eq, nat_le}
 use Rattle.dw_entries.specs.declared.fault.PlainFault.{PlainFault}
 use Rattle.dw_types.specs.declared.kind.Kind.{Kind}
 use Rattle.dw_types.specs.declared.kind.Kind.TheVariants.{Declared, OwnSized, Pointer, Alias, Enumeration, Array}
@@ -65,17 +65,15 @@ has_wrong_size us table node =
     && (not (is_some (type_target us node)) && stands_alone (entry_in us node)))
     || differ (natural_of (byte_size (entry_in us node))) (size_to table (type_target us node)))
 
--- a size of less than 2^63
-abbrev pub is_plain_size : Size → Bool
-is_plain_size None = false
-is_plain_size (Some n) = nat_lt n (2 ^ 63)
+-- a rule on sizes may fail at a type of this size: it lacks one, has one that is too great, or is an enumeration
+abbrev pub type_may_fail : Entry → Size → Bool
+type_may_fail entry size =
+    has_no_size entry || (is_too_great size || nat_eq entry.head.decl.tag DW_TAG_enumeration_type)
 
--- a rule on sizes may fail at an entry with this tag and this size: at a type with no size or one that is too great, at
--- an enumeration, or at a member
-abbrev pub is_asked : ℕ → Size → Bool
-is_asked tag size =
-    if is_type_tag tag then not (is_plain_size size) || nat_eq tag DW_TAG_enumeration_type
-    else nat_eq tag DW_TAG_member
+-- one may fail at an entry: at such a type, or at a member
+abbrev pub may_fail : Entry → Size → Bool
+may_fail entry size =
+    if is_type_tag entry.head.decl.tag then type_may_fail entry size else nat_eq entry.head.decl.tag DW_TAG_member
 
 -- the entry of a number violates a rule on sizes, by a table of sizes
 abbrev pub fails_size : List DebugUnit → (ℕ → Size) → ℕ → Rule → Bool

@@ -60,9 +60,8 @@ fn signature_step(entries: &mut LinkedEntries<'_, '_>, id: EntryId, tag: Tag) ->
 fn push_to(steps: &mut Numbers, to: Option<EntryId>) -> Result<(), AllocError>
     ensures { OnOk result (steps.new ≡ steps.old ++ option_to_list to) }
 {
-    match to {
-        Some(to) => steps.push(to.number())?,
-        None => {}
+    if let Some(to) = to {
+        steps.push(to.number())?;
     }
     Ok(())
 }

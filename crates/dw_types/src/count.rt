@@ -93,10 +93,8 @@ fn count_from(count: Constant, language: Constant, upper: Constant, lower: Const
 fn known_natural(count: Option<i128>) -> Option<u128>
     ensures { result ≡ known_natural count }
 {
-    match count {
-        Some(n) => if n < 0 { None } else { Some(n as u128) },
-        None => None,
-    }
+    let n = count?;
+    if n < 0 { None } else { Some(n as u128) }
 }
 
 /// The count of a dimension. It may be below 0.

@@ -4,8 +4,7 @@ ghost use Rattle.std.specs.Prelude.{◌≡◌};
 ghost use Rattle.dw_links.specs.Classes.{is_one_of};
 ghost use Rattle.dw_links.specs.References.{is_declared};
 ghost use Rattle.dw_types.specs.Kinds.{container_tags, declarable_tags, has_members, is_array, is_declared_type};
-ghost use Rattle.dw_types.specs.Kinds.{is_enumeration, is_subrange};
-ghost use Rattle.dw_types.specs.Kinds.{kind_of, passing_tags};
+ghost use Rattle.dw_types.specs.Kinds.{is_enumeration, is_subrange, kind_of, passing_tags};
 
 use dw_entries::constants::*;
 use dw_entries::{EntryAt, Value};

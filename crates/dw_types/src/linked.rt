@@ -179,9 +179,7 @@ impl<'r, 'a> LinkedEntries<'r, 'a> {
         let mut flags = Flags::none(alloc, count)?;
         for node in 0..count {
             let id = self.id(node);
-            if has_members(&self.at(id)) {
-                flags.set(node);
-            }
+            flags.set_if(node, has_members(&self.at(id)));
         }
         Ok(flags)
     }

@@ -1,24 +1,27 @@
 //! The sizes of all entries, computed in the order of the ranks.
 
-ghost use Rattle.std.specs.Prelude.{◌≡◌, ◌<◌, ◌≤◌, ◌^◌, length, slice_set, IfOk, IfErr, IfSome, OnOk};
+ghost use Rattle.std.specs.Prelude.{◌≡◌, ◌<◌, ◌≤◌, ◌^◌, ◌&&◌, ◌||◌, ℕ, length, nat_eq, slice_set};
+ghost use Rattle.std.specs.Prelude.{IfOk, IfErr, IfSome, OnOk};
 ghost use Rattle.dw_entries.specs.Failures.{HasNone};
 ghost use Rattle.dw_entries.specs.Stopped.{IfPlainFault};
 ghost use Rattle.dw_entries.specs.Views.{all_entries, units_of};
 ghost use Rattle.dw_types.specs.Sizes.{array_size, size_line, IsSizeTable};
 ghost use Rattle.dw_types.specs.SizeTables.{size_at, cap_size, HasSizePlaces, OnlyTypesAreSized};
-ghost use Rattle.dw_types.specs.StoredSizes.{ObeysCappedLines};
+ghost use Rattle.dw_types.specs.StoredSizes.{ObeysCappedLines, TellAsked};
 ghost use Rattle.dw_types.specs.Entries.{entry_in};
 ghost use Rattle.dw_types.specs.Held.{entries_held, units_held};
 ghost use Rattle.dw_types.specs.Kinds.{kind_of};
 ghost use Rattle.dw_types.specs.Orders.{IsOrderOf};
-ghost use Rattle.dw_types.specs.SizeFaults.{IsFirstSizeFault, SizeFailures};
+ghost use Rattle.dw_types.specs.SizeFaults.{IsFirstSizeFault, SizeFailures, may_fail};
+ghost use Rattle.dw_types.specs.StoredFlags.{flag_at, flag_count};
 ghost use Rattle.dw_types.specs.Steps.{by_value};
 
 use crate::count::{capped_times, count_elements, natural_or};
+use crate::flags::Flags;
 use crate::graph::Order;
 use crate::kind::{Kind, kind_of};
 use crate::linked::LinkedEntries;
-use crate::size_rules::first_broken;
+use crate::size_rules::{first_broken, may_fail};
 use crate::size_table::SizeTable;
 use dw_entries::constants::*;
 use dw_entries::{Entries, EntryAt, EntryId, Fault, Stop};
@@ -30,10 +33,7 @@ fn capped(size: Option<u64>) -> Option<u64>
     ensures value { result ≡ cap_size (2 ^ 63) size }
     ensures small { IfSome result (λ n. n ≤ 2 ^ 63) }
 {
-    match size {
-        Some(size) => Some(size.min(1 << 63)),
-        None => None,
-    }
+    Some(size?.min(1 << 63))
 }
 
 /// The capped size of an array without a byte size of its own: element storage times all counts.
@@ -95,61 +95,58 @@ fn capped_size(
     }
 }
 
-/// Writes the size of an entry, by those of what it holds by value.
-fn measure_type(
-    alloc: Global,
-    entries: &mut LinkedEntries<'_, '_>,
-    sizes: &mut SizeTable,
-    id: EntryId,
-) -> Result<(), AllocError>
-    requires places { HasSizePlaces (units_held entries.old) sizes.old id }
-    ensures same { OnOk result (units_held entries.new ≡ units_held entries.old) }
-    ensures size { OnOk result (sizes.new
-        ≡ slice_set sizes.old id (cap_size (2 ^ 63) (size_line (units_held entries.old) (size_at sizes.old) id))) }
-{
-    let entry = entries.at(id);
-    let kind = kind_of(&entry);
-    let size = capped_size(entries, sizes, id, &entry, kind);
-    sizes.set(alloc, id, size)
-}
-
-/// Writes the size of an entry if it is a type.
+/// Writes the size of an entry if it is a type, by those of what it holds by value, and sets its flag if a rule on sizes
+/// may fail there.
 #[inline(always)]
 fn measure(
     alloc: Global,
     entries: &mut LinkedEntries<'_, '_>,
     sizes: &mut SizeTable,
+    asked: &mut Flags,
     id: EntryId,
 ) -> Result<(), AllocError>
     requires places { HasSizePlaces (units_held entries.old) sizes.old id }
+    requires room { length (entries_held entries.old) < flag_count asked.old }
     requires untyped { OnlyTypesAreSized (units_held entries.old) (size_at sizes.old) }
     ensures same { OnOk result (units_held entries.new ≡ units_held entries.old) }
     ensures size { OnOk result (sizes.new
         ≡ slice_set sizes.old id (cap_size (2 ^ 63) (size_line (units_held entries.old) (size_at sizes.old) id))) }
+    ensures room { OnOk result (flag_count asked.new ≡ flag_count asked.old) }
+    ensures asked { OnOk result ((k : ℕ) → flag_at asked.new k ≡ ((may_fail (entry_in (units_held entries.old) id)
+        (cap_size (2 ^ 63) (size_line (units_held entries.old) (size_at sizes.old) id)) && nat_eq k id)
+        || flag_at asked.old k)) }
 {
-    if !entries.decl(id).is_type() {
+    let decl = entries.decl(id);
+    if !decl.is_type() {
+        asked.set_if(id.number(), decl.tag() == DW_TAG_member);
         return Ok(());
     }
-    measure_type(alloc, entries, sizes, id)
+    let entry = entries.at(id);
+    let size = capped_size(entries, sizes, id, &entry, kind_of(&entry));
+    asked.set_if(id.number(), may_fail(&entry, size));
+    sizes.set(alloc, id, size)
 }
 
-/// The capped sizes of all entries, one after another in the order of the ranks.
+/// The capped sizes of all entries, one after another in the order of the ranks, and a flag for each at which a rule on
+/// sizes may fail.
 fn measure_all(
     alloc: Global,
     entries: &mut LinkedEntries<'_, '_>,
     order: &Order,
-) -> Result<SizeTable, AllocError>
+) -> Result<(SizeTable, Flags), AllocError>
     requires { IsOrderOf (by_value (units_held entries.old)) order.now }
     ensures same { OnOk result (units_held entries.new ≡ units_held entries.old) }
-    ensures long { IfOk result (λ table. length table ≡ length (entries_held entries.old)) }
-    ensures lines { IfOk result (λ table. ObeysCappedLines (units_held entries.old) (size_at table)) }
+    ensures long { IfOk result (λ made. length made.0 ≡ length (entries_held entries.old)) }
+    ensures lines { IfOk result (λ made. ObeysCappedLines (units_held entries.old) (size_at made.0)) }
+    ensures asked { IfOk result (λ made. TellAsked (units_held entries.old) (size_at made.0) made.1) }
 {
     let mut sizes = SizeTable::none(alloc, entries.count())?;
+    let mut asked = Flags::none(alloc, entries.count())?;
     for rank in 0..order.count() {
         let id = entries.id(order.node(rank));
-        measure(alloc, entries, &mut sizes, id)?;
+        measure(alloc, entries, &mut sizes, &mut asked, id)?;
     }
-    Ok(sizes)
+    Ok((sizes, asked))
 }
 
 /// The one table of sizes, or the first fault of sizes. The order is that of the graph of the entries' steps by value.
@@ -167,8 +164,8 @@ pub fn sizes(
     ensures fault { IfErr result (IfPlainFault (IsFirstSizeFault (units_of links.now.entries.now))) }
 {
     let mut linked = LinkedEntries::new(entries, links.tables());
-    let sizes = measure_all(alloc, &mut linked, order)?;
-    if let Some(found) = first_broken(alloc, &mut linked, &sizes)? {
+    let (sizes, asked) = measure_all(alloc, &mut linked, order)?;
+    if let Some(found) = first_broken(alloc, &mut linked, &sizes, &asked)? {
         return Err(linked.fault(alloc, found.0, found.1));
     }
     Ok(sizes)

@@ -127,10 +127,7 @@ impl Numbers {
         if let Some(last) = self.large.pop() {
             return Some(last);
         }
-        match self.small.pop() {
-            Some(last) => Some(last as usize),
-            None => None,
-        }
+        Some(self.small.pop()? as usize)
     }
 
     /// Takes all numbers away.

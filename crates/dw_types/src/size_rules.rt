@@ -3,30 +3,28 @@
 
 ghost use Rattle.std.specs.Prelude.{◌≡◌, ◌^◌, ◌<◌, ◌≤◌, ◌≤ℤ◌, ℕ, pos, List, false, true, length, IfOk, IfSome, OnOk};
 ghost use Rattle.dw_forms.specs.Codes.{is_type_tag};
-ghost use Rattle.dw_forms.specs.KeptDecls.{decl_view};
 ghost use Rattle.dw_entries.specs.Entries.{entries_of};
 ghost use Rattle.dw_entries.specs.Failures.{IsLeast};
 ghost use Rattle.dw_entries.specs.Units.{DebugUnit};
 ghost use Rattle.dw_links.specs.Constants.{natural_of};
-ghost use Rattle.dw_types.specs.SizeFaults.{differ, fails_size, has_no_size, has_wrong_size, is_asked};
-ghost use Rattle.dw_types.specs.SizeFaults.{is_too_great};
-ghost use Rattle.dw_types.specs.SizeFaults.{reads_own, wants_own};
+ghost use Rattle.dw_types.specs.SizeFaults.{differ, fails_size, has_no_size, has_wrong_size, is_too_great};
+ghost use Rattle.dw_types.specs.SizeFaults.{type_may_fail, reads_own, wants_own};
 ghost use Rattle.dw_types.specs.Sizes.{ObeysSizeLines};
 ghost use Rattle.dw_types.specs.SizeTables.{size_at, HasSizePlaces, Size};
-ghost use Rattle.dw_types.specs.StoredSizes.{ObeysCappedLines};
+ghost use Rattle.dw_types.specs.StoredSizes.{ObeysCappedLines, TellAsked};
 ghost use Rattle.dw_types.specs.Extents.{bits_end_past, end_past, ends_past, is_outside, start_of};
 ghost use Rattle.dw_types.specs.Entries.{byte_size, entry_in};
 ghost use Rattle.dw_types.specs.Held.{entries_held, units_held};
 ghost use Rattle.dw_types.specs.TypeFailures.{IsFirstFound};
 ghost use Rattle.dw_types.specs.Kinds.{has_members, kind_of};
 
+use crate::flags::Flags;
 use crate::kind::{Kind, is_enumeration, kind_of};
 use crate::linked::LinkedEntries;
 use crate::shape_rules::{is_plain, stands_alone};
 use crate::size_table::SizeTable;
 use dw_entries::constants::*;
 use dw_entries::{EntryAt, EntryId, Rule};
-use dw_forms::DeclAt;
 use dw_links::Constant;
 use std::alloc::{AllocError, Global};
 
@@ -81,8 +79,7 @@ fn start_of(member: &EntryAt<'_, '_>) -> Option<i128>
 {
     let location = Constant::read(member, DW_AT_data_member_location);
     if location.is_present() {
-        let bytes = location.number()?;
-        return Some(bytes * 8);
+        return Some(location.number()? * 8);
     }
     let offset = Constant::read(member, DW_AT_data_bit_offset);
     if offset.is_present() {
@@ -253,59 +250,38 @@ fn broken_size(
     Ok(None)
 }
 
-/// Whether a rule on sizes may fail at an entry, which has this declaration: at a type with no size or one that is too
-/// great, at an enumeration, or at a member.
+/// Whether a rule on sizes may fail at a type that has this size or none.
 #[inline(always)]
-fn is_asked(sizes: &SizeTable, id: EntryId, decl: DeclAt<'_>) -> bool
-    requires { id < length sizes.now }
-    ensures { result ≡ is_asked (decl_view decl.entry).tag (size_at sizes.now id) }
+pub(crate) fn may_fail(entry: &EntryAt<'_, '_>, size: Option<u64>) -> bool
+    requires { IfSome size (λ _. has_no_size entry.now ≡ false) }
+    ensures { result ≡ type_may_fail entry.now size }
 {
-    if decl.is_type() {
-        !matches!(sizes.get(id), Some(size) if size < 1 << 63)
-            || matches!(decl.tag(), DW_TAG_enumeration_type)
-    } else {
-        matches!(decl.tag(), DW_TAG_member)
-    }
+    lacks_size(entry, size) || is_too_great(size) || matches!(entry.tag(), DW_TAG_enumeration_type)
 }
 
-/// The first entry from one on at which a rule on sizes may fail, or how many entries there are.
-fn next_asked(entries: &LinkedEntries<'_, '_>, sizes: &SizeTable, from: usize) -> usize
-    requires from { from ≤ length (entries_held entries.now) }
-    requires long { length sizes.now ≡ length (entries_held entries.now) }
-    ensures within { (from ≤ result) × (result ≤ length (entries_held entries.now)) }
-    ensures none { (k : ℕ) → from ≤ k → k < result
-        → is_asked (entry_in (units_held entries.now) k).head.decl.tag (size_at sizes.now k) ≡ false }
-{
-    let count = entries.count();
-    for node in from..count {
-        let id = entries.id(node);
-        if is_asked(sizes, id, entries.decl(id)) {
-            return node;
-        }
-    }
-    count
-}
-
-/// The first entry that violates a rule on sizes, by the sizes of all, and its least rule.
+/// The first entry that violates a rule on sizes, by the sizes of all and the flags of those at which one may fail, and
+/// its least rule.
 pub(crate) fn first_broken(
     alloc: Global,
     entries: &mut LinkedEntries<'_, '_>,
     sizes: &SizeTable,
+    asked: &Flags,
 ) -> Result<Option<(EntryId, Rule)>, AllocError>
     requires long { length sizes.now ≡ length (entries_held entries.old) }
     requires lines { ObeysCappedLines (units_held entries.old) (size_at sizes.now) }
+    requires asked { TellAsked (units_held entries.old) (size_at sizes.now) asked.now }
     ensures same { OnOk result (units_held entries.new ≡ units_held entries.old) }
     ensures first { IfOk result
         (IsFirstFound (entries_held entries.old) (fails_size (units_held entries.old) (size_at sizes.now))) }
 {
     let count = entries.count();
-    let mut node = next_asked(entries, sizes, 0);
+    let mut node = asked.next(0, count);
     while node < count {
         let id = entries.id(node);
         if let Some(rule) = broken_size(alloc, entries, sizes, id)? {
             return Ok(Some((id, rule)));
         }
-        let next = next_asked(entries, sizes, node + 1);
+        let next = asked.next(node + 1, count);
         node = next;
     }
     Ok(None)

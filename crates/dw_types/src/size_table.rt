@@ -53,10 +53,7 @@ impl SizeTable {
         requires { IfSome target (λ to. to < length self.now) }
         ensures { result ≡ size_to (size_at self.now) target }
     {
-        match target {
-            Some(to) => self.get(to),
-            None => None,
-        }
+        self.get(target?)
     }
 
     /// Writes the size of an entry, which is at most 2^63.

@@ -20,13 +20,13 @@ returns-then-is_present c =
     rw given c.number.ensures.value
 
 pub returns-then-not-reads_bounds : goal.returns-then-not-reads_bounds
-returns-then-not-reads_bounds c = search (rules)
+returns-then-not-reads_bounds c = search rules
 
 pub returns-in_err-upper : goal.returns-in_err-upper
-returns-in_err-upper c = search (rules)
+returns-in_err-upper c = search rules
 
 pub returns-in_err-lower : goal.returns-in_err-lower
-returns-in_err-lower c = search (rules)
+returns-in_err-lower c = search rules
 
 pub overflow_sub-result : goal.overflow_sub-result
 overflow_sub-result c = search (rules, to_z-of_z, wide, wide-difference)

@@ -2,7 +2,7 @@ use Rattle.std.proofs.Common.{◌≡◌, ◌<◌, ◌≤◌, length, get_or, ◌
 use Rattle.dw_types.specs.Held.{units_held}
 use Rattle.dw_types.specs.SizeTables.{size_at}
 use Rattle.dw_types.proofs.SizeLineLemmas.{capped_line}
-use Rattle.dw_types.proofs.SizeRankLemmas.{last-obeys, next-filled, next-typed, next_sizes, node-in}
+use Rattle.dw_types.proofs.SizeRankLemmas.{last-obeys, last-tell, next-filled, next-tell, next-typed, next_sizes, node-in}
 use Rattle.dw_types.proofs.measuring.measure_all.Goals as goal
 
 pub measure-requires-clause-places : goal.measure-requires-clause-places
@@ -34,11 +34,14 @@ loop-rank-preserved c =
     let size : c.measure.new.sizes
     ≡ next_sizes us order h sizes rank below long = rw (c.loop-rank.invariant.1, c.id-id.ensures, c.node.ensures) at
     c.in_ok-measure.ensures.size in
+    let set = rw (c.loop-rank.invariant.1, c.id-id.ensures, c.node.ensures) at c.in_ok-measure.ensures.asked in
     rw size (
       length-set sizes node (capped_line us (size_at sizes) node) ∙ long,
       c.in_ok-measure.ensures.same ∙ c.loop-rank.invariant.1,
       next-filled us order h sizes rank below long c.loop-rank.invariant.2,
       next-typed us order h sizes rank below long c.loop-rank.invariant.3,
+      rw c.in_ok-measure.ensures.room c.loop-rank.invariant.4,
+      next-tell us order h sizes rank below long c.loop-rank.asked c.measure.new.asked set c.loop-rank.invariant.5,
     )
 
 pub returns-clause-lines : goal.returns-clause-lines
@@ -47,3 +50,10 @@ returns-clause-lines c =
     c.loop-rank-test.false in
     last-obeys (units_held c.args.entries.now) c.args.order.now c.requires c.loop-rank.sizes c.loop-rank.rank over
     c.loop-rank.invariant.2
+
+pub returns-clause-asked : goal.returns-clause-asked
+returns-clause-asked c =
+    let over : length c.args.order.now.by_rank ≤ c.loop-rank.rank = rw (← c.count-rank-end.ensures)
+    c.loop-rank-test.false in
+    last-tell (units_held c.args.entries.now) c.args.order.now c.requires c.loop-rank.sizes c.loop-rank.asked
+    c.loop-rank.rank over c.loop-rank.invariant.4 c.loop-rank.invariant.5

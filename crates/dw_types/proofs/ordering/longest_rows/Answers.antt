@@ -16,7 +16,7 @@ loop-rank-init g c = (
 )
 
 pub one_above-most-requires-clause-node : goal.one_above-most-requires-clause-node
-one_above-most-requires-clause-node g c = search (rules)
+one_above-most-requires-clause-node g c = search rules
 
 pub one_above-most-requires-clause-fits : goal.one_above-most-requires-clause-fits
 one_above-most-requires-clause-fits g c =
@@ -29,7 +29,7 @@ one_above-most-requires-clause-fits g c =
     )
 
 pub set-requires : goal.set-requires
-set-requires g c = search (rules)
+set-requires g c = search rules
 
 pub loop-rank-preserved : goal.loop-rank-preserved
 loop-rank-preserved g c =

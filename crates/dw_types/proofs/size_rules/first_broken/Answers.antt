@@ -1,4 +1,4 @@
-use Rattle.std.proofs.Common.{◌≤◌, length, ◌∙◌, refl, arith}
+use Rattle.std.proofs.Common.{◌<◌, ◌≤◌, length, ◌∙◌, refl, arith}
 use Rattle.dw_types.specs.Held.{entries_held, units_held}
 use Rattle.dw_types.specs.SizeFaults.{fails_size}
 use Rattle.dw_types.specs.SizeTables.{size_at}
@@ -9,11 +9,12 @@ use Rattle.dw_types.proofs.size_rules.first_broken.Goals as goal
 pub loop-node-init : goal.loop-node-init
 loop-node-init c = (
   refl,
-  c.next_asked-node.ensures.within.1,
+  rw (← c.count-count.ensures) c.next-node.ensures.within.1,
   λ k below.
-      unasked-passes (units_held c.args.entries.now) (size_at c.args.sizes.now) k c.requires.lines
-      (let within = c.next_asked-node.ensures.within.1 in omega arith)
-      (c.next_asked-node.ensures.none k (omega arith) below),
+      let inside : k < length (entries_held c.args.entries.now) =
+      (let within = c.next-node.ensures.within.1 in let count = c.count-count.ensures in omega arith) in
+      unasked-passes (units_held c.args.entries.now) (size_at c.args.sizes.now) k c.requires.lines inside
+      (c.requires.asked.told k inside (c.next-node.ensures.none k (omega arith) below)),
 )
 
 pub broken_size-requires-clause-places : goal.broken_size-requires-clause-places
@@ -28,14 +29,16 @@ loop-node-preserved c =
     let us = units_held c.args.entries.now in
     let table = size_at c.args.sizes.now in
     let fails = fails_size us table in
-    let within = rw (c.in_ok-rule.ensures.same, c.loop-node.invariant.0) at c.next_asked-next.ensures.within in
-    let none = rw (c.in_ok-rule.ensures.same, c.loop-node.invariant.0) at c.next_asked-next.ensures.none in (
+    let end : c.next-next.result ≤ length (entries_held c.args.entries.now) =
+    rw (← c.count-count.ensures) c.next-next.ensures.within.1 in (
       c.in_ok-rule.ensures.same ∙ c.loop-node.invariant.0,
-      within.1,
-      pass-on fails c.loop-node.node c.next_asked-next.result c.loop-node.invariant.2
+      end,
+      pass-on fails c.loop-node.node c.next-next.result c.loop-node.invariant.2
           (rw (c.loop-node.invariant.0, c.id-id.ensures, c.in_default.is) at c.in_ok-rule.ensures.least)
           (λ k low below.
-          unasked-passes us table k c.requires.lines (let end = within.1 in omega arith) (none k low below)),
+          let inside : k < length (entries_held c.args.entries.now) = omega arith in
+          unasked-passes us table k c.requires.lines inside
+          (c.requires.asked.told k inside (c.next-next.ensures.none k low below))),
     )
 
 pub returns-in-Some-clause-first : goal.returns-in-Some-clause-first

@@ -1,0 +1,10 @@
+use Rattle.dw_types.specs.Held.{units_held}
+use Rattle.dw_types.specs.SizeTables.{size_at}
+use Rattle.dw_types.proofs.SizeRuleLemmas.{sized-line}
+use Rattle.dw_types.proofs.measuring.measure.Goals as goal
+
+pub may_fail-requires : goal.may_fail-requires
+may_fail-requires c =
+    rw c.at-entry.ensures.found
+    (sized-line (units_held c.args.entries.now) (size_at c.args.sizes.now) c.args.id c.capped_size-size.result
+    (rw c.at-entry.ensures.same at c.capped_size-size.ensures.value))
