@@ -1,19 +1,16 @@
 -- Which rules a group of failures has, and that one of them is named at a place.
-use Rattle.std.proofs.Common.{rules, ◌≡◌, ℕ, List, refl, ap, ◌∙◌, arith, ◌+◌, ◌≤◌}
+use Rattle.std.proofs.Common.{rules, ◌≡◌, ℕ, List, refl, ap, ◌∙◌, arith}
 use Rattle.dw_elf.specs.declared.sections.Sections.{Sections}
 use Rattle.dw_entries.specs.declared.fault.PlainFault.{PlainFault}
 use Rattle.dw_entries.specs.declared.fault.Fault.{Fault}
 use Rattle.dw_entries.specs.Units.{DebugUnit, AreUnits}
 use Rattle.dw_entries.specs.Places.{at_header, at_attribute}
 use Rattle.dw_forms.specs.Rules.{group_of}
-use Rattle.dw_entries.specs.Failures.{Failure, HasNone}
+use Rattle.dw_entries.specs.Failures.{Failure}
 use Rattle.dw_entries.proofs.EntryFacts.{entries_rise}
 use Rattle.dw_links.proofs.RuleGroups.{string_failures, reference_failures}
-use Rattle.dw_image.specs.FirstFault.{Group, classes, strings, references, shapes, cycles, sizes, turn_of, failures_of}
-use Rattle.dw_image.specs.FirstFault.{IsFirstIn}
-use Rattle.dw_image.specs.GroupsBefore.{HoldBefore}
+use Rattle.dw_image.specs.FirstFault.{Group, classes, strings, references, shapes, cycles, sizes, turn_of, failures_of, IsFirstIn}
 use Rattle.dw_image.proofs.RuleLemmas.{one_rule}
-use Rattle.dw_entries.proofs.NumberOrder.{three_ways}
 use Rattle.dw_image.proofs.OneFirst.{AreOneAtPlace, one_attribute}
 
 -- ---- the groups
@@ -31,23 +28,12 @@ has_group s us _ f fails = search rules
 pub rank_of : (s : Sections) (us : List DebugUnit) (group : Group) (fault : Fault) → IsFirstIn s us group fault
     → group_of fault.rule ≡ turn_of group
 rank_of s us cycles fault first = ap (λ (b : PlainFault). group_of b.rule) first.named
-rank_of s us classes fault first = ap group_of first.holds.named.rule
-    ∙ has_group s us classes first.holds.failure first.holds.fails
-rank_of s us strings fault first = ap group_of first.holds.named.rule
-    ∙ has_group s us strings first.holds.failure first.holds.fails
-rank_of s us references fault first = ap group_of first.holds.named.rule
-    ∙ has_group s us references first.holds.failure first.holds.fails
-rank_of s us shapes fault first = ap group_of first.holds.named.rule
-    ∙ has_group s us shapes first.holds.failure first.holds.fails
-rank_of s us sizes fault first = ap group_of first.holds.named.rule
-    ∙ has_group s us sizes first.holds.failure first.holds.fails
-
-second_or_later : (group : Group) → 2 ≤ turn_of group
-second_or_later classes = omega arith
-second_or_later _ = omega arith
+rank_of s us group fault first =
+    ap group_of first.holds.named.rule ∙ has_group s us group first.holds.failure first.holds.fails
 
 behind_first : (group : Group) → turn_of group ≡ 1 → ⊥
-behind_first group is = let late = second_or_later group in omega (arith, is, late)
+behind_first classes is = omega (arith, is)
+behind_first _ is = omega (arith, is)
 
 -- failures at attributes are at one attribute, where they are at one place
 abbrev HasOneAttribute : (Failure → Type 0) → Type 0
@@ -59,7 +45,6 @@ no_header at offset k same = absurd cc
 has_one_attribute : (s : Sections) (us : List DebugUnit) → AreUnits s.«abbrev».now us → (group : Group)
     → HasOneAttribute (failures_of s us group)
 has_one_attribute s us are classes f g p q here = search (rules, one_attribute, entries_rise)
-has_one_attribute s us are strings f g p q here = search (rules, one_attribute, entries_rise)
 has_one_attribute s us are _ f g p q here = search (rules, no_header, one_attribute, entries_rise)
 
 -- one failure of a group is named at a place
@@ -77,10 +62,3 @@ one_group shapes shapes same = refl
 one_group cycles cycles same = refl
 one_group sizes sizes same = refl
 one_group _ _ same = absurd (omega (arith, same))
-
-pub none_before : (s : Sections) (us : List DebugUnit) → HoldBefore s us 2
-none_before s us earlier less = absurd (let p = second_or_later earlier in omega (arith, p, less))
-
-pub one_more : (s : Sections) (us : List DebugUnit) (group : Group) → HoldBefore s us (turn_of group)
-    → HasNone (failures_of s us group) → HoldBefore s us (turn_of group + 1)
-one_more s us group before here earlier less = search (rules, three_ways, one_group)

@@ -34,7 +34,7 @@ use Rattle.dw_image.specs.Headline.{IsSpelled, IsSoundBy, IsImageOf, IsFaultOf}
 use Rattle.dw_image.proofs.OneFirst.{one_first}
 use Rattle.dw_image.specs.GroupsBefore.{HoldBefore, PassBefore}
 use Rattle.dw_image.specs.StepsAndSizes.{AreOrdered, AreMeasures}
-use Rattle.dw_image.proofs.GroupLemmas.{one_group, one_at_place, rank_of, none_before, one_more}
+use Rattle.dw_image.proofs.GroupLemmas.{one_group, one_at_place, rank_of}
 use Rattle.dw_image.proofs.MeasureLemmas.{none_by_size, first_by_size, no_cycle_holds, cycle_failure, cycle_fails, contained_of}
 use Rattle.dw_links.proofs.HeldTexts.{texts_of}
 use Rattle.dw_image.proofs.HeadlineLemmas.{classes_of, references_of}
@@ -53,7 +53,7 @@ holds_of s units valid _ = search rules
 
 -- a group where no rule fails has no first failure
 none_first : (Fails : Failure → Type 0) (fault : Fault) → HasNone Fails → IsPlainFault (IsFirst Fails) fault → ⊥
-none_first Fails fault none first = none first.holds.failure first.holds.fails
+none_first Fails fault none first = search (rules)
 
 none_named : (s : Sections) (units : List DebugUnit) (group : Group) (fault : Fault)
     → HasNone (failures_of s units group) → IsFirstIn s units group fault → ⊥
@@ -84,7 +84,7 @@ one_of_group s units group fault other spelled p q =
 one_named : (s : Sections) (units : List DebugUnit) (group : Group) (fault other : Fault) → SpellsInfo s units
     → IsFirstIn s units group fault → IsFirstIn s units group other → IsOneFault fault other
 one_named s units cycles fault other spelled p q = search (rules)
-one_named s units group fault other spelled p q = one_of_group s units group fault other spelled p q
+one_named s units group fault other spelled p q = search (rules, one_of_group)
 
 one_in_group : (s : Sections) (group : Group) (fault other : Fault) → FailsInGroup s group fault
     → FailsInGroup s group other → IsOneFault fault other
@@ -152,7 +152,7 @@ sound_image image = search (rules, sound_by, valid_by, sizes_of)
 -- the image of entries that were scanned in these sections
 pub image_of : (s : Sections) (image : Image) → image.entries.sections ≡ s → IsImageOf s image
 unfolding sections_in
-image_of s image same = subst (λ t. IsImageOf t image) same (sound_image image)
+image_of s image same = search (rules, sound_image)
 
 -- a first fault
 pub fault_of : (s : Sections) (fault : Fault) → IsFirstFault s fault → IsFaultOf s fault
@@ -172,23 +172,28 @@ faulty entries group fault before first =
       first = first;
     }))
 
+-- no group is before the first
+none_before : (group : Group) → turn_of group < 2 → ⊥
+none_before classes less = omega (arith, less)
+none_before _ less = omega (arith, less)
+
 before_strings : (entries : Entries) → HasNone (ClassFailures (units_of entries))
     → HoldBefore (sections_of entries) (units_of entries) 3
-before_strings entries none =
-    one_more (sections_of entries) (units_of entries) classes (none_before (sections_of entries) (units_of entries))
-    none
+before_strings entries none classes less = none
+before_strings entries none _ less = absurd (omega (arith, less))
 
 before_references : (entries : Entries) → HasNone (ClassFailures (units_of entries))
     → HasNone (StringFailures (sections_of entries) (units_of entries))
     → HoldBefore (sections_of entries) (units_of entries) 4
-before_references entries none nor =
-    one_more (sections_of entries) (units_of entries) strings (before_strings entries none) nor
+before_references entries none nor classes less = none
+before_references entries none nor strings less = nor
+before_references entries none nor _ less = absurd (omega (arith, less))
 
 -- the first value whose class is wrong
 pub wrong_class : (entries : Entries) (fault : Fault)
     → IsPlainFault (IsFirst (ClassFailures (units_of entries))) fault → IsFaultOf (sections_of entries) fault
 wrong_class entries fault first =
-    faulty entries classes fault (none_before (sections_of entries) (units_of entries)) first
+    faulty entries classes fault (λ earlier less. absurd (none_before earlier less)) first
 
 -- of the groups on the values of attributes the first that fails
 pub wrong_link : (entries : Entries) (fault : Fault)
@@ -252,12 +257,22 @@ module _ (links : Links) where
   us = units_of links.entries.now
 
   before_shapes : HoldBefore (sections_of links.entries.now) us 5
-  before_shapes =
-      one_more (sections_of links.entries.now) us references
-      (before_references links.entries.now links.classes links.strings) links.references
+  before_shapes classes less = links.classes
+  before_shapes strings less = links.strings
+  before_shapes references less = links.references
+  before_shapes _ less = absurd (omega (arith, less))
 
   before_cycles : HasNone (ShapeFailures us) → HoldBefore (sections_of links.entries.now) us 6
-  before_cycles none = one_more (sections_of links.entries.now) us shapes before_shapes none
+  before_cycles none shapes less = none
+  before_cycles none cycles less = absurd (omega (arith, less))
+  before_cycles none sizes less = absurd (omega (arith, less))
+  before_cycles none earlier less = before_shapes earlier (omega arith)
+
+  before_sizes : HasNone (ShapeFailures us) → HasNoCycle (by_value us)
+      → HoldBefore (sections_of links.entries.now) us 7
+  before_sizes none nor cycles less = no_cycle_holds us nor
+  before_sizes none nor sizes less = absurd (omega (arith, less))
+  before_sizes none nor earlier less = before_cycles none earlier (omega arith)
 
   pub wrong_shape : (fault : Fault) → IsPlainFault (IsFirst (ShapeFailures us)) fault
       → IsFaultOf (sections_of links.entries.now) fault
@@ -270,8 +285,7 @@ module _ (links : Links) where
   pub wrong_size : (fault : Fault) → HasNone (ShapeFailures us) → HasNoCycle (by_value us)
       → IsPlainFault (IsFirstSizeFault us) fault → IsFaultOf (sections_of links.entries.now) fault
   wrong_size fault none nor first =
-      faulty links.entries.now sizes fault
-      (one_more (sections_of links.entries.now) us cycles (before_cycles none) (no_cycle_holds us nor))
+      faulty links.entries.now sizes fault (before_sizes none nor)
       (record { holds = first_by_size us _ first.holds; cycle = first.cycle })
 
   pub pass_links : (turn : ℕ) → turn ≤ 5 → PassBefore (sections_of links.entries.now) us turn
@@ -281,10 +295,8 @@ module _ (links : Links) where
       → PassBefore (sections_of links.entries.now) us turn
   pass_ordered turn order le are =
       let falls = are.ordered.falls in
-      let before =
-      one_more (sections_of links.entries.now) us cycles (before_cycles are.shapes) (no_cycle_holds us are.contained) in
       record {
-        hold = λ earlier less. before earlier (omega (arith, less, le));
+        hold = λ earlier less. before_sizes are.shapes are.contained earlier (omega (arith, less, le));
         measured = λ late. (
           sizes_by_rank us order.ranks falls,
           is-size_table us order.ranks falls (sizes_by_rank us order.ranks falls) (exact-lines us order.ranks falls),
@@ -293,12 +305,8 @@ module _ (links : Links) where
 
   holds_all : (table : List Size) → AreMeasures us table → (group : Group)
       → HasNone (failures_of (sections_of links.entries.now) us group)
-  holds_all table are classes = links.classes
-  holds_all table are strings = links.strings
-  holds_all table are references = links.references
-  holds_all table are shapes = are.shapes
-  holds_all table are cycles = no_cycle_holds us are.contained
   holds_all table are sizes = none_by_size us (size_at table) are.sizes.one are.sizes.none
+  holds_all table are group = before_sizes are.shapes are.contained group (omega arith)
 
   pub pass_all : (turn : ℕ) (table : List Size) → AreMeasures us table
       → PassBefore (sections_of links.entries.now) us turn

@@ -29,7 +29,7 @@ use Rattle.dw_types.specs.Orders.{Ranking, IsOrderOf}
 
 -- without a closed list of steps no entry contains itself
 pub no_cycle_holds : (us : List DebugUnit) → HasNoCycle (by_value us) → HasNone (ContainsItselfAt us)
-no_cycle_holds us none f fails = none fails.nodes fails.is_cycle.closed
+no_cycle_holds us none f fails = search (rules)
 
 -- a cycle fails where it begins
 abbrev pub cycle_failure : List DebugUnit → List ℕ → Failure

@@ -1,5 +1,5 @@
 -- What the values of the unit at hand refer to.
-use Rattle.std.proofs.Common.{◌≡◌, ℕ, ◌+◌, ◌*◌, ◌<◌, ◌≤◌, Bool, true, false, length, Option, Some, None, IfNone, inl, inr, refl, sym, ap, subst, ◌∙◌, arith}
+use Rattle.std.proofs.Common.{rules, ◌≡◌, ℕ, ◌+◌, ◌*◌, ◌<◌, ◌≤◌, Bool, true, false, length, Option, Some, None, IfNone, inl, inr, refl, sym, ap, subst, ◌∙◌}
 use Rattle.std.specs.Prelude.{slice_get}
 use Rattle.std.proofs.lemmas.Option.{slice_get-get_or}
 use Rattle.dw_forms.specs.Codes.{DW_AT_str_offsets_base, DW_AT_addr_base}
@@ -48,15 +48,7 @@ pub unit_told : (i : Image) (es : Entries) (number : ℕ) (head : UnitHead) (str
       addr_base = addresses;
     })
 unfolding units_in
-unit_told i es number head strings addresses same below told of_strings of_addresses =
-    let is_head = rw same at told in
-    record {
-      within = below;
-      offset = ap (λ (x : UnitHead). x.offset) is_head;
-      header = ap (λ (x : UnitHead). x.header) is_head;
-      str_base = rw same at of_strings;
-      addr_base = rw same at of_addresses;
-    }
+unit_told i es number head strings addresses same below told of_strings of_addresses = search (rules)
 
 -- ---- targets
 
@@ -65,7 +57,7 @@ none_is_no_some e = cc
 
 image_rise : (i : Image) → OffsetsRise (entries_in i)
 unfolding units_in
-image_rise i = entries_rise _ (units_in i) i.entries.scanned.1.spells.are
+image_rise i = search (rules, entries_rise)
 
 none_fails : (i : Image) → HasNone (ReferenceFailures (units_in i))
 unfolding units_in
@@ -113,9 +105,7 @@ module _ (i : Image) (u : UnitAtHand) where
     where
       by_test : (b : Bool) → is_reference_value v ≡ b → is_reference_value v ≡ false
       by_test false is_not = is_not
-      by_test true is_one =
-          absurd (no_target v x is_one
-          (ap (λ (unit : ℕ). reach_of (entries_in i) (placed (units_in i)) unit v) x.in_unit ∙ sym is))
+      by_test true is_one = search (rules, no_target)
 
 module _ (i : Image) (u : UnitAtHand) (hand : IsAtHand i u) where
   -- ---- strings and addresses
@@ -128,11 +118,11 @@ module _ (i : Image) (u : UnitAtHand) (hand : IsAtHand i u) where
 
   pub str_is : (offset : ℕ) → HasValue i u (str offset)
       → IsStringOf (sections_in i) u.str_base (str offset) (Str offset)
-  str_is offset x = record { place = λ end. refl; text = refl; begins = its_text (str offset) x }
+  str_is offset x = search (rules, its_text)
 
   pub line_str_is : (offset : ℕ) → HasValue i u (line_str offset)
       → IsStringOf (sections_in i) u.str_base (line_str offset) (LineStr offset)
-  line_str_is offset x = record { place = λ end. refl; text = refl; begins = its_text (line_str offset) x }
+  line_str_is offset x = search (rules, its_text)
 
   string_here : (index : ℕ) → HasValue i u (str_index index) → HasStringAt (sections_in i) u.str_base index
   string_here index x =
@@ -173,10 +163,10 @@ module _ (i : Image) (u : UnitAtHand) (hand : IsAtHand i u) where
       (unit_there (units_in i) u.number hand.within))
 
   pub size_some : 1 ≤ u.header.address_size
-  size_some = elim unit_sized [ inl four ↦ omega (arith, four) | inr eight ↦ omega (arith, eight) ]
+  size_some = search (rules, unit_sized)
 
   pub size_few : u.header.address_size ≤ 8
-  size_few = elim unit_sized [ inl four ↦ omega (arith, four) | inr eight ↦ omega (arith, eight) ]
+  size_few = search (rules, unit_sized)
 
   pub address_based : (index : ℕ) → HasValue i u (addr_index index) → u.addr_base ≡ None → ⊥
   address_based index x none =

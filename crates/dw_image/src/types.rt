@@ -32,13 +32,6 @@ impl Model for TypeId {
 }
 
 impl TypeId {
-    /// The type at an entry.
-    pub(crate) fn new(entry: EntryId) -> TypeId
-        ensures { result ≡ entry }
-    {
-        TypeId { entry }
-    }
-
     /// The entry.
     pub fn entry(self) -> EntryId
         ensures { result ≡ self }
@@ -56,7 +49,7 @@ impl Image<'_> {
         ensures within { IfSome result (λ it. it < length (entries_in self.now)) }
     {
         if self.entries.decl(id).is_type() {
-            Some(TypeId::new(id))
+            Some(TypeId { entry: id })
         } else {
             None
         }
@@ -70,7 +63,7 @@ impl Image<'_> {
         ensures within { IfSome result (λ it. it < length (entries_in self.now)) }
     {
         let to = self.tables.target(&self.entries, id, DW_AT_type)?;
-        Some(TypeId::new(to))
+        Some(TypeId { entry: to })
     }
 
     /// The size of a type in bytes, below 2^63. None if its size is not known.

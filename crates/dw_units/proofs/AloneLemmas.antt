@@ -1,6 +1,5 @@
 -- One batch alone: its bytes as the whole .debug_info, beside the other sections.
-use Rattle.std.proofs.Common.{rules, ◌≡◌, ℕ, suc, ◌+◌, ◌<◌, List, [], ◌∷◌, length, take, drop, Option, None, Bor}
-use Rattle.std.proofs.Common.{refl, sym, ap, subst, ◌∙◌, arith}
+use Rattle.std.proofs.Common.{rules, ◌≡◌, ℕ, suc, ◌+◌, ◌<◌, List, [], ◌∷◌, length, take, drop, Option, None, Bor, refl, sym, ap, subst, ◌∙◌, arith}
 use Rattle.std.specs.Prelude.{slice_get, IfSome}
 use Rattle.std.proofs.lemmas.List.{drop-take}
 use Rattle.dw_elf.specs.declared.sections.Sections.{Sections}
@@ -12,7 +11,7 @@ use Rattle.dw_forms.specs.declared.rule.Rule.{Rule}
 use Rattle.dw_entries.specs.declared.entry.EntryHead.{EntryHead}
 use Rattle.dw_entries.specs.Units.{DebugUnit, AreUnits, AreFrom, SpellsInfo, unit_bytes, units_bytes}
 use Rattle.dw_entries.specs.Entries.{Entry, entries_of, node_count, start_of, placed_from, placed}
-use Rattle.dw_entries.specs.Failures.{Failure, HasNone, plain_fault_of}
+use Rattle.dw_entries.specs.Failures.{Failure, HasNone}
 use Rattle.dw_entries.specs.Faults.{Fails}
 use Rattle.dw_links.specs.Bases.{base_in}
 use Rattle.dw_entries.specs.Lookups.{entry_head}
@@ -21,18 +20,15 @@ use Rattle.dw_units.specs.declared.counts.Counts.{Counts}
 use Rattle.dw_entries.specs.EntryRules.{EachEntry}
 use Rattle.dw_image.specs.Valid.{IsValidBy}
 use Rattle.dw_links.specs.Signatures.{type_unit_of}
-use Rattle.dw_forms.specs.Rules.{group_of}
 use Rattle.dw_entries.specs.declared.fault.Fault.{Fault}
 use Rattle.dw_entries.proofs.FaultLaws.{no_list}
-use Rattle.dw_image.specs.FirstFault.{Group, strings, sizes, turn_of, failures_of}
-use Rattle.dw_image.specs.FirstFault.{IsFirstIn, IsFirstFault, in_trees, in_group}
+use Rattle.dw_image.specs.FirstFault.{Group, strings, sizes, turn_of, failures_of, IsFirstIn, IsFirstFault, in_trees, in_group}
 use Rattle.dw_image.specs.Headline.{IsFaultOf}
-use Rattle.dw_image.proofs.GroupLemmas.{rank_of}
 use Rattle.dw_image.specs.GroupsBefore.{PassBefore}
-use Rattle.dw_units.specs.ByUnit.{FailsAlone, IsMeasured, IsFirm, StaysAlone}
+use Rattle.dw_units.specs.ByUnit.{FailsAlone, IsMeasured, IsFirm, PassesBelow, StaysAlone}
 use Rattle.dw_units.specs.declared.batches.Elsewhere.{Elsewhere}
 use Rattle.dw_units.specs.declared.batches.Elsewhere.TheVariants.{Never, ByOffset, BySignature}
-use Rattle.dw_units.specs.BatchSections.{Refer}
+use Rattle.dw_units.specs.BatchSections.{IsReady, Refer}
 use Rattle.dw_units.specs.IndependentBatches.{StaysInside, HaveNoTypeUnit, StandsAlone}
 use Rattle.dw_units.specs.Counts.{AreCounts}
 use Rattle.dw_forms.specs.declared.fault.Stop.{Stop}
@@ -68,48 +64,17 @@ module _ (s own : Sections) (shares : Shares s own) where
       search (rules, string_index_in, address_index_in, base_in_own)
 
   strings_own : (us : List DebugUnit) (f : Failure) → StringFailures s us f → StringFailures own us f
-  strings_own us f fails = record {
-    number = fails.number;
-    item = fails.item;
-    is_item = fails.is_item;
-    fails = record {
-      position = fails.fails.position;
-      value = fails.fails.value;
-      has = fails.fails.has;
-      place = fails.fails.place;
-      fails = record {
-        unit = fails.fails.fails.unit;
-        in_unit = fails.fails.fails.in_unit;
-        fails =
-            string_in_own fails.fails.fails.unit.unit.header
-            (base_in (entries_of us) fails.fails.fails.unit DW_AT_str_offsets_base)
-            (base_in (entries_of us) fails.fails.fails.unit DW_AT_addr_base) (entry_head fails.item) f.attribute
-            fails.fails.value f.rule fails.fails.fails.fails;
-      };
-    };
-  }
+  strings_own us f fails = search (rules, string_in_own)
 
 shares_of : (s own : Sections) (from to : ℕ) → IsPart s from to own → Shares s own
-shares_of s own from to part = record {
-  abbrev_same = ap (λ (bytes : Bor (List ℕ)). bytes.now) part.abbrev_is;
-  str_same = ap (λ (bytes : Bor (List ℕ)). bytes.now) part.str_is;
-  line_str_same = ap (λ (bytes : Bor (List ℕ)). bytes.now) part.line_str_is;
-  str_offsets_same = ap (λ (bytes : Bor (List ℕ)). bytes.now) part.str_offsets_is;
-  addr_same = ap (λ (bytes : Bor (List ℕ)). bytes.now) part.addr_is;
-}
+shares_of s own from to part = search (rules)
 
 shares_back : (s own : Sections) → Shares s own → Shares own s
-shares_back s own shares = record {
-  abbrev_same = sym shares.abbrev_same;
-  str_same = sym shares.str_same;
-  line_str_same = sym shares.line_str_same;
-  str_offsets_same = sym shares.str_offsets_same;
-  addr_same = sym shares.addr_same;
-}
+shares_back s own shares = search (rules, shares)
 
 measured_by : (s : Sections) (group : Group) (fault : Fault) (units : List DebugUnit) → IsFirstIn s units group fault
     → IsMeasured group units
-measured_by s sizes fault units first = (first.holds.fails.table, first.holds.fails.one)
+measured_by s sizes fault units first = search (rules)
 measured_by s _ fault units first = tt
 
 module _ (s own : Sections) (shares : Shares s own) where
@@ -135,18 +100,13 @@ module _ (s own : Sections) (shares : Shares s own) where
 -- the bytes of a part
 bytes_of : (s own : Sections) (at size : ℕ) → IsPart s at (at + size) own
     → drop own.base own.info.now ≡ take size (drop at s.info.now)
-bytes_of s own at size part = rw (part.base_is, part.info_is) (drop-take at size s.info.now)
+bytes_of s own at size part = search (rules, drop-take)
 
 -- the fault of trees in a part
 pub trees_of : (s own : Sections) (at size : ℕ) → IsPart s at (at + size) own → (stop : Stop Fault)
     → IfPlainFault (Fails own.«abbrev».now own.base (drop own.base own.info.now)) stop
     → IfPlainFault (Fails s.«abbrev».now at (take size (drop at s.info.now))) stop
-trees_of s own at size part stop fails =
-    let shares = shares_of s own at (at + size) part in
-    let bytes = bytes_of s own at size part in
-    subst (λ (n : ℕ). IfPlainFault (Fails s.«abbrev».now n (take size (drop at s.info.now))) stop) part.base_is
-    (subst (λ (xs : List ℕ). IfPlainFault (Fails xs own.base (take size (drop at s.info.now))) stop) shares.abbrev_same
-    (subst (λ (xs : List ℕ). IfPlainFault (Fails own.«abbrev».now own.base xs) stop) bytes fails))
+trees_of s own at size part stop fails = search (rules, shares_of, bytes_of)
 
 -- a part of sections is one batch, these units
 pub record IsBatch (s own : Sections) (at size : ℕ) (units : List DebugUnit) : Type 0 where
@@ -159,16 +119,15 @@ pub record IsBatch (s own : Sections) (at size : ℕ) (units : List DebugUnit) :
 -- the group of the fault of a batch
 pub record IsOfGroup (s : Sections) (units : List DebugUnit) (fault : Fault) : Type 0 where
   pub group : Group
+  pub ready : IsReady s group units
   pub fails : FailsAlone s units group fault
-  pub measured : IsMeasured group units
-  pub rank : group_of fault.rule ≡ turn_of group
 
 module _ (s own : Sections) (at size : ℕ) (units : List DebugUnit) (batch : IsBatch s own at size units) where
   shares : Shares s own
-  shares = shares_of s own at (at + size) batch.part
+  shares = search (rules, shares_of)
 
   pub are_from : AreFrom at units
-  are_from = subst (λ (n : ℕ). AreFrom n units) batch.part.base_is batch.spelled.are_from
+  are_from = search (rules)
 
   pub stays : StaysAlone s units
   stays = record {
@@ -178,7 +137,7 @@ module _ (s own : Sections) (at size : ℕ) (units : List DebugUnit) (batch : Is
   }
 
   pub bytes : take size (drop at s.info.now) ≡ units_bytes units
-  bytes = sym (bytes_of s own at size batch.part) ∙ batch.spelled.spells.parts
+  bytes = search (rules, bytes_of)
 
   -- the part is sound
   pub stands : (c : Counts) → AreCounts own c → StandsAlone s units
@@ -209,24 +168,19 @@ module _ (s own : Sections) (at size : ℕ) (units : List DebugUnit) (batch : Is
   failed fault firm is = go is.first
     where
       go : IsFirstFault own fault → IsOfGroup s units fault
-      go (in_trees fails cycle) = absurd
-          (no_list own.«abbrev».now own.base (drop own.base own.info.now) units (plain_fault_of fault)
-          batch.spelled.spells fails)
+      go (in_trees fails cycle) = search (rules, no_list)
       go (in_group group fails) =
           let same : fails.units ≡ units = batch.only fails.units fails.spelled in
           let before = subst (λ (us : List DebugUnit). (earlier : Group) → turn_of earlier < turn_of group
           → HasNone (failures_of own us earlier)) same fails.before in
           let first = first_own s own shares units group fault
           (subst (λ (us : List DebugUnit). IsFirstIn own us group fault) same fails.first) in
+          let below : PassesBelow s group units = λ earlier less. none_own s own shares units earlier
+          (before earlier less) in
           record {
             group = group;
-            fails = record {
-              below = λ earlier less. none_own s own shares units earlier (before earlier less);
-              first = first;
-              firm = firm;
-            };
-            measured = measured_by s group fault units first;
-            rank = rank_of s units group fault first;
+            ready = record { stays = stays; measured = measured_by s group fault units first; below = below };
+            fails = record { below = below; first = first; firm = firm };
           }
 
 pub refer_inside : (entries : List Entry) (elsewhere : Elsewhere) → (elsewhere ≡ BySignature → ⊥)

@@ -11,13 +11,13 @@ use Rattle.dw_entries.specs.Units.{DebugUnit, Spells}
 use Rattle.dw_entries.specs.Entries.{Entry, entries_of}
 use Rattle.dw_entries.specs.Places.{at_attribute}
 use Rattle.dw_entries.specs.EntryRules.{EachEntry, HasAttribute}
-use Rattle.dw_links.specs.RulesOfAttributes.{NeverFailsAt}
+use Rattle.dw_links.specs.RulesOfAttributes.{NeverFailsAt, Rules}
 use Rattle.dw_links.proofs.ListLookups.{none_concerned}
 use Rattle.dw_units.specs.declared.batches.Elsewhere.{Elsewhere}
 use Rattle.dw_units.specs.declared.batches.Elsewhere.TheVariants.{Never, ByOffset, BySignature}
 use Rattle.dw_units.specs.BatchSections.{IsAllowed, Refer}
 use Rattle.dw_links.specs.References.{is_signature}
-use Rattle.dw_units.specs.IndependentBatches.{leaves_by, Where}
+use Rattle.dw_units.specs.IndependentBatches.{leaves_by}
 use Rattle.dw_units.specs.ByUnit.{is_offset}
 
 stays_by_form : (version size : ℕ) (f : Form) (bytes : List ℕ) (v : Datum) → (leaves_by f ≡ BySignature → ⊥)
@@ -29,6 +29,10 @@ no_offset_by_form : (version size : ℕ) (f : Form) (bytes : List ℕ) (v : Datu
     → Val version f size bytes v → is_offset v ≡ false
 unfolding laid_out
 no_offset_by_form version size f bytes v is p = search rules
+
+-- a fact of values, as a rule on attributes
+abbrev Where : (Datum → Bool) → Rules
+Where holds head attribute v rule = holds v ≡ true
 
 -- a fact that no value in a form has, no value under such a declaration has
 passes_where : (holds : Datum → Bool) (spec : AttributeSpec)

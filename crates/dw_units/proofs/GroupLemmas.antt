@@ -1,152 +1,261 @@
--- The groups of rules, and the first fault, of batches that refer to nothing outside themselves.
-use Rattle.std.proofs.Common.{rules, ◌≡◌, ◌+◌, ◌<◌, List, [], ◌∷◌, ◌++◌, length, refl, arith}
+-- The groups of rules, and the first fault, of units that refer to nothing outside themselves, with more behind them.
+use Rattle.std.proofs.Common.{rules, ◌≡◌, ℕ, ◌+◌, ◌<◌, ◌≤◌, List, [], ◌∷◌, ◌++◌, length, None, drop, refl, ap, subst, ◌∙◌, arith}
 use Rattle.std.specs.List.{AllByRecursion}
+use Rattle.std.proofs.lemmas.Grind.{flat_map-append}
 use Rattle.dw_elf.specs.declared.sections.Sections.{Sections}
 use Rattle.dw_entries.specs.declared.fault.Fault.{Fault}
-use Rattle.dw_entries.specs.Units.{DebugUnit, units_bytes}
-use Rattle.dw_entries.specs.Entries.{start_of}
-use Rattle.dw_entries.specs.Failures.{Failure, HasNone, IsFirst, IsPlainFault}
-use Rattle.dw_entries.proofs.HeadLaws.{all-append}
-use Rattle.dw_image.specs.FirstFault.{Group, classes, strings, references, shapes, cycles, sizes, turn_of, failures_of}
-use Rattle.dw_image.specs.FirstFault.{IsFirstIn, NamesCycle, in_group}
+use Rattle.dw_entries.specs.Units.{DebugUnit, AreFrom, SpellsInfo, units_bytes}
+use Rattle.dw_entries.specs.Failures.{HasNone, plain_fault_of}
+use Rattle.dw_image.specs.FirstFault.{Group, classes, strings, references, shapes, cycles, sizes, turn_of, failures_of, IsFirstIn, IsFirstFault, in_group}
+use Rattle.dw_image.specs.Valid.{IsValidBy}
 use Rattle.dw_image.proofs.MeasureLemmas.{no_cycle_holds, none_by_size}
 use Rattle.dw_units.specs.IndependentBatches.{joined, JoinsUnits, StandsAlone}
-use Rattle.dw_units.specs.ByUnit.{AreBatches, IsFirm, PassesBelow, PassesThrough, IsMeasured, FirstOfUnits}
-use Rattle.dw_units.proofs.BatchLemmas.{placed_in}
-use Rattle.dw_units.proofs.FirstLemmas.{AreOfBatches, none_of_batches, first_of_group}
-use Rattle.dw_units.proofs.TextLemmas.{apart_of, each_of, classes_batches, strings_batches}
-use Rattle.dw_units.proofs.ReferenceLemmas.{Refer, references_batches}
-use Rattle.dw_units.proofs.TypeLemmas.{contained_join, shapes_batches, cycle_batches, no_cycle_batches}
-use Rattle.dw_units.proofs.JoinLemmas.{sizes_batches, sizes_join, trees_join}
+use Rattle.dw_units.specs.ByUnit.{FailsAlone, IsFirm, PassesBelow, PassesThrough, IsMeasured, FirstOfUnits, StaysAlone}
+use Rattle.dw_units.specs.BatchSections.{IsReady}
+use Rattle.dw_units.proofs.BatchLemmas.{all_joined, from_parts}
+use Rattle.dw_units.proofs.MovedEntries.{AreTwo, part_of, stays_none}
+use Rattle.dw_units.proofs.FirstLemmas.{AreOfGroup, none_of_two, first_of_group}
+use Rattle.dw_units.proofs.TextLemmas.{classes_of_parts, strings_of_parts}
+use Rattle.dw_units.proofs.ReferenceLemmas.{at_attributes, references_of_parts}
+use Rattle.dw_units.proofs.Windows.{whole, window}
+use Rattle.dw_units.proofs.TypeLemmas.{contained_two, cycle_of_part, no_cycle_two, shapes_of_parts}
+use Rattle.dw_units.proofs.JoinLemmas.{sizes_of_parts, table_two}
 
--- no rule of a group fails at a batch alone
+-- no rule of a group fails at units alone
 abbrev Passes : Sections → Group → List DebugUnit → Type 0
 Passes s group units = HasNone (failures_of s units group)
 
--- as at a batch that stands alone
+-- units that stand alone
 pub passes_all : (s : Sections) (group : Group) (units : List DebugUnit) → StandsAlone s units → Passes s group units
 passes_all s classes units one = one.classes
 passes_all s strings units one = one.strings
 passes_all s references units one = one.references
 passes_all s shapes units one = one.shapes
 passes_all s cycles units one = no_cycle_holds units one.contained
-passes_all s sizes units one = none_by_size units one.sizes.0 one.sizes.1.one one.sizes.1.none
+passes_all s sizes units one = search (rules, none_by_size)
 
-pub measured_all : (s : Sections) (group : Group) (units : List DebugUnit) → StandsAlone s units
-    → IsMeasured group units
-measured_all s sizes units one = (one.sizes.0, one.sizes.1.one)
+measured_all : (s : Sections) (group : Group) (units : List DebugUnit) → StandsAlone s units → IsMeasured group units
+measured_all s sizes units one = search (rules)
 measured_all s _ units one = tt
 
--- an earlier group is none on sizes
-before_sizes : (group earlier : Group) → turn_of earlier < turn_of group → turn_of earlier < 7
-before_sizes sizes earlier less = less
-before_sizes _ earlier less = omega (arith, less)
+pub ready_all : (s : Sections) (group : Group) (units : List DebugUnit) → StandsAlone s units → IsReady s group units
+ready_all s group units one = record {
+  stays = record { are = one.are; no_type_unit = one.no_type_unit; stays = one.stays };
+  measured = measured_all s group units one;
+  below = λ earlier less. passes_all s earlier units one;
+}
 
-measured_less : (group : Group) → turn_of group < 7 → (bs : List (List DebugUnit))
-    → AllByRecursion (IsMeasured group) bs
-measured_less sizes less bs = absurd (omega (arith, less))
-measured_less _ less [] = tt
-measured_less group less (units ∷ bs) = (tt, measured_less group less bs)
+-- units that are ready for a group are ready for the groups before it
+measured_before : (group later : Group) → turn_of group ≤ turn_of later → (units : List DebugUnit)
+    → IsMeasured later units → IsMeasured group units
+measured_before sizes sizes le units is = is
+measured_before sizes _ le units is = absurd (omega (arith, le))
+measured_before _ _ le units is = tt
 
-pub measured_before : (group earlier : Group) → turn_of earlier < turn_of group → (bs : List (List DebugUnit))
-    → AllByRecursion (IsMeasured earlier) bs
-measured_before group earlier less bs = measured_less earlier (before_sizes group earlier less) bs
+pub ready_before : (s : Sections) (group later : Group) → turn_of group ≤ turn_of later → (units : List DebugUnit)
+    → IsReady s later units → IsReady s group units
+ready_before s group later le units one = record {
+  stays = one.stays;
+  measured = measured_before group later le units one.measured;
+  below = λ earlier less. one.below earlier (omega (arith, less, le));
+}
 
--- the failures of a group, but for cycles, are those of the batches
-group_batches : (s : Sections) (bs : List (List DebugUnit)) → AreBatches s bs → (group : Group)
-    → (turn_of group ≡ 6 → ⊥) → AllByRecursion (IsMeasured group) bs
-    → (4 < turn_of group → AllByRecursion (Passes s references) bs)
-    → AreOfBatches bs (failures_of s (joined bs) group) (λ units. failures_of s units group)
-group_batches s bs all classes other measured refer = classes_batches s bs all
-group_batches s bs all strings other measured refer = strings_batches s bs all
-group_batches s bs all references other measured refer = references_batches s bs all
-group_batches s bs all shapes other measured refer = search (rules, shapes_batches)
-group_batches s bs all cycles other measured refer = absurd (other refl)
-group_batches s bs all sizes other measured refer =
-    sizes_batches s bs (record { apart = all; none = refer (omega arith) }) measured
+-- the failures of a group, but for cycles, are those of the parts
+of_parts : (s : Sections) (group : Group) → (turn_of group ≡ 6 → ⊥) → (all : List DebugUnit) → StaysAlone s all
+    → IsMeasured group all → AreOfGroup s group all
+of_parts s classes other all stays measured = classes_of_parts s (IsReady s classes) all
+of_parts s strings other all stays measured = strings_of_parts s (IsReady s strings) all
+of_parts s references other all stays measured = references_of_parts s (IsReady s references) all stays
+of_parts s shapes other all stays measured =
+    shapes_of_parts s (IsReady s shapes) all stays (λ units one. one.below references (omega arith))
+of_parts s cycles other all stays measured = absurd (other refl)
+of_parts s sizes other all stays measured =
+    sizes_of_parts s (IsReady s sizes) all stays (λ units one. one.below references (omega arith))
+    (λ units one. one.measured) measured
 
--- so none fails among all, if none of the rules on references does at a batch
-passes_batches : (s : Sections) (bs : List (List DebugUnit)) → AreBatches s bs → (group : Group)
-    → AllByRecursion (IsMeasured group) bs → (4 < turn_of group → AllByRecursion (Passes s references) bs)
-    → AllByRecursion (Passes s group) bs → HasNone (failures_of s (joined bs) group)
-passes_batches s bs all cycles measured refer none =
-    no_cycle_batches s bs (record { apart = all; none = refer (omega arith) }) none
-passes_batches s bs all group measured refer none =
-    none_of_batches bs (failures_of s (joined bs) group) (λ units. failures_of s units group)
-    (group_batches s bs all group (λ is. omega (arith, is)) measured refer) none
+-- ---- two lists of units
 
-module _ (s : Sections) (before : List (List DebugUnit)) (units : List DebugUnit) (behind : List (List DebugUnit))
-    (fault : Fault) (all : AreBatches s (before ++ units ∷ behind)) where
-  abbrev bs : List (List DebugUnit)
-  bs = before ++ units ∷ behind
+module _ (s : Sections) (at : ℕ) (us more : List DebugUnit) (from : AreFrom at (us ++ more)) where
+  two : (group : Group) → IsReady s group us → IsReady s group more → AreTwo s at us more
+  two group one other = record { from = from; one = one.stays; other = other.stays }
 
-  plain : (Fails : Failure → Type 0) (Alone : List DebugUnit → Failure → Type 0)
-      → AreOfBatches (before ++ units ∷ behind) Fails Alone
-      → AllByRecursion (λ batch. HasNone (Alone batch)) before → IsFirm units fault.rule
-      → IsPlainFault (IsFirst (Alone units)) fault → IsPlainFault (IsFirst Fails) fault
-  plain Fails Alone are none firm first = search (rules, first_of_group)
+  measured_two : (group : Group) → IsReady s group us → IsReady s group more → IsMeasured group (us ++ more)
+  measured_two sizes one other =
+      table_two (two sizes one other) (one.below references (omega arith)) (other.below references (omega arith))
+      one.measured other.measured
+  measured_two _ one other = tt
 
-  cycle_there : Refer s bs → NamesCycle units fault → NamesCycle (joined bs) fault
-  cycle_there refer names =
-      let i = placed_in 0 0 (start_of (joined bs)) before units behind in
-      cycle_batches s bs refer i.which
-      (record {
-        number = i.begins;
-        first = i.entry;
-        at = start_of (joined bs) + length (units_bytes (joined before));
-        units = units;
-      }) i.is fault names
+  pub passes_two : (group : Group) → IsReady s group us → IsReady s group more → Passes s group us
+      → Passes s group more → Passes s group (us ++ more)
+  passes_two cycles one other none none_behind =
+      no_cycle_two (two cycles one other) (one.below references (omega arith)) (other.below references (omega arith))
+      none none_behind
+  passes_two group one other none none_behind =
+      none_of_two s group at us more from one other
+      (of_parts s group (λ is. omega (arith, is)) (us ++ more) (whole (two group one other))
+      (measured_two group one other)) none none_behind
 
-  first_batches : (group : Group) → AllByRecursion (IsMeasured group) (before ++ units ∷ behind)
-      → (4 < turn_of group → AllByRecursion (Passes s references) bs)
-      → AllByRecursion (Passes s group) before → IsFirm units fault.rule
-      → IsFirstIn s units group fault → IsFirstIn s (joined bs) group fault
-  first_batches cycles measured refer none firm first = search (rules, cycle_there)
-  first_batches group measured refer none firm first =
-      plain (failures_of s (joined bs) group) (λ batch. failures_of s batch group)
-      (group_batches s bs all group (λ is. omega (arith, is)) measured refer) none firm first
+  pub ready_two : (group : Group) → IsReady s group us → IsReady s group more → IsReady s group (us ++ more)
+  ready_two group one other = record {
+    stays = whole (two group one other);
+    measured = measured_two group one other;
+    below = λ earlier less.
+        passes_two earlier (ready_before s earlier group (omega (arith, less)) us one)
+        (ready_before s earlier group (omega (arith, less)) more other) (one.below earlier less)
+        (other.below earlier less);
+  }
+
+  pub stand_two : StandsAlone s us → StandsAlone s more → StandsAlone s (us ++ more)
+  stand_two one other =
+      let ready = λ (group : Group). ready_all s group us one in
+      let its_ready = λ (group : Group). ready_all s group more other in
+      let none : (group : Group) → Passes s group (us ++ more) =
+      λ group. passes_two group (ready group) (its_ready group) (passes_all s group us one)
+      (passes_all s group more other) in
+      let both = two sizes (ready sizes) (its_ready sizes) in
+      let (table, is_table) = measured_two sizes (ready sizes) (its_ready sizes) in
+      record {
+        are = (whole both).are;
+        classes = none classes;
+        strings = none strings;
+        references = none references;
+        shapes = none shapes;
+        contained = contained_two both one.references other.references one.contained other.contained;
+        sizes = (
+          table,
+          record {
+            one = is_table;
+            none = λ f fails. none sizes f (record { table = table; one = is_table; fails = fails });
+          },
+        );
+        no_type_unit = (whole both).no_type_unit;
+        stays = (whole both).stays;
+      }
+
+-- no unit
+pub stand_none : (s : Sections) → StandsAlone s []
+stand_none s = record {
+  are = tt;
+  classes = λ f fails. let is = fails.is_item in absurd cc;
+  strings = λ f fails. let is = fails.is_item in absurd cc;
+  references = λ f fails. let is = (at_attributes s [] (stays_none s) f fails).is_item in absurd cc;
+  shapes = λ f fails. let is = fails.is_item in absurd cc;
+  contained = search (rules);
+  sizes = (
+    λ n. None,
+    record {
+      one = record {
+        obeys = λ node below. absurd (omega (arith, below));
+        only = λ other right node below. absurd (omega (arith, below));
+      };
+      none = λ f fails. let is = fails.is_item in absurd cc;
+    },
+  );
+  no_type_unit = tt;
+  stays = (stays_none s).stays;
+}
+
+-- ---- the laws
+
+pub valid_of : (s : Sections) (us : List DebugUnit) → StandsAlone s us → SpellsInfo s us → IsValidBy s us
+valid_of s us one spelled = record {
+  trees = spelled;
+  classes = one.classes;
+  strings = one.strings;
+  references = one.references;
+  shapes = one.shapes;
+  contained = one.contained;
+  sizes = one.sizes;
+}
+
+pub join : JoinsUnits
+join s bs all spelled =
+    valid_of s (joined bs)
+    (all_joined (StandsAlone s) (stand_none s) (stand_two s) s.base bs spelled.are_from all) spelled
+
+-- units that are ready, with others before them that pass the group and others behind
+module _ (s : Sections) (at : ℕ) (before units behind : List DebugUnit)
+    (from : AreFrom at (before ++ (units ++ behind))) where
+  rest_ready : (group : Group) → IsReady s group units → IsReady s group behind → IsReady s group (units ++ behind)
+  rest_ready =
+      ready_two s (at + length (units_bytes before)) units behind (from_parts at before (units ++ behind) from).1
+
+  pub all_ready : (group : Group) → IsReady s group before → IsReady s group units → IsReady s group behind
+      → IsReady s group (before ++ (units ++ behind))
+  all_ready group early one late =
+      ready_two s at before (units ++ behind) from group early (rest_ready group one late)
+
+  -- the first failure of the units is the first of all
+  first_there : (group : Group) (fault : Fault) → IsReady s group before → IsReady s group units
+      → IsReady s group behind → Passes s group before → IsFirm units fault.rule → IsFirstIn s units group fault
+      → IsFirstIn s (before ++ (units ++ behind)) group fault
+  first_there cycles fault early one late none firm first =
+      cycle_of_part (window (all_ready cycles early one late).stays
+      (part_of s at before units behind from early.stays one.stays) (one.below references (omega arith))) fault first
+  first_there group fault early one late none firm first = record {
+    holds =
+        first_of_group s group
+        (λ us ready. of_parts s group (λ is. omega (arith, is)) us ready.stays ready.measured) at before units behind
+        (plain_fault_of fault) from early one late (rest_ready group one late) (all_ready group early one late) none
+        firm first.holds;
+    cycle = first.cycle;
+  }
+
+-- some units pass through the group at which those behind them fail, and others pass the earlier groups
+pub first_by_parts : (s : Sections) (before units behind : List DebugUnit) (group : Group) (fault : Fault)
+    → AreFrom s.base (before ++ (units ++ behind)) → IsReady s group before → Passes s group before
+    → IsReady s group units → FailsAlone s units group fault → IsReady s group behind
+    → drop s.base s.info.now ≡ units_bytes (before ++ (units ++ behind)) → IsFirstFault s fault
+first_by_parts s before units behind group fault from early none one fails late parts =
+    let all = all_ready s s.base before units behind from group early one late in
+    in_group group (record {
+      units = before ++ (units ++ behind);
+      spelled = record { spells = record { are = all.stays.are; parts = parts }; are_from = from };
+      before = all.below;
+      first = first_there s s.base before units behind from group fault early one late none fails.firm fails.first;
+    })
+
+-- what is known of each of some batches, and of others behind them
+split : (P : List DebugUnit → Type 0) (bs others : List (List DebugUnit)) → AllByRecursion P (bs ++ others)
+    → AllByRecursion P bs × AllByRecursion P others
+split P [] others all = (tt, all)
+split P (units ∷ bs) others (one, all) = let (some, rest) = split P bs others all in ((one, some), rest)
+
+ready_each : (s : Sections) (group : Group) (P Q : List DebugUnit → Type 0)
+    → ((units : List DebugUnit) → StaysAlone s units → IsMeasured group units → P units → Q units)
+    → (bs : List (List DebugUnit)) → AllByRecursion (StaysAlone s) bs → AllByRecursion (IsMeasured group) bs
+    → AllByRecursion P bs → AllByRecursion Q bs
+ready_each s group P Q into [] stay measured all = tt
+ready_each s group P Q into (units ∷ bs) (stays, stay) (one, measured) (holds, all) =
+    (into units stays one holds, ready_each s group P Q into bs stay measured all)
 
 -- THE law
 pub first_by_unit : FirstOfUnits
 first_by_unit s before units behind group fault all measured passed fails below parts =
-    in_group group (record {
-      units = joined (before ++ units ∷ behind);
-      spelled = trees_join s (before ++ units ∷ behind) all parts;
-      before = λ earlier less.
-          passes_batches s (before ++ units ∷ behind) all earlier
-          (measured_before group earlier less (before ++ units ∷ behind))
-          (λ after. each references (omega (arith, after, less))) (each earlier less);
-      first = first_batches s before units behind fault all group measured (each references)
-          (each_of (PassesThrough s group) (Passes s group) before (λ batch passes. passes.1) passed) fails.firm
-          fails.first;
-    })
-  where
-    each : (earlier : Group) → turn_of earlier < turn_of group
-        → AllByRecursion (Passes s earlier) (before ++ units ∷ behind)
-    each earlier less =
-        all-append (Passes s earlier) before (units ∷ behind)
-        (each_of (PassesThrough s group) (Passes s earlier) before (λ batch passes. passes.0 earlier less) passed) (
-          fails.below earlier less,
-          each_of (PassesBelow s group) (Passes s earlier) behind
-              (λ batch passes. passes earlier less) below,
-        )
-
--- THE other law
-pub join : JoinsUnits
-join s bs all spelled =
-    let apart : AreBatches s bs = apart_of s bs all spelled.are_from in
-    let passes : (group : Group) → AllByRecursion (Passes s group) bs =
-    λ group. each_of (StandsAlone s) (Passes s group) bs (passes_all s group) all in
-    let measured : (group : Group) → AllByRecursion (IsMeasured group) bs =
-    λ group. each_of (StandsAlone s) (IsMeasured group) bs (measured_all s group) all in
-    let none : (group : Group) → HasNone (failures_of s (joined bs) group) =
-    λ group. passes_batches s bs apart group (measured group) (λ late. passes references) (passes group) in
-    record {
-      trees = spelled;
-      classes = none classes;
-      strings = none strings;
-      references = none references;
-      shapes = none shapes;
-      contained = contained_join s bs all spelled.are_from;
-      sizes = sizes_join s bs (record { apart = apart; none = passes references }) (measured sizes) (none sizes);
-    }
+    let same : joined (before ++ units ∷ behind) ≡ joined before ++ (units ++ joined behind) =
+    flat_map-append (λ (batch : List DebugUnit). batch) before (units ∷ behind) in
+    let from : AreFrom s.base (joined before ++ (units ++ joined behind)) = subst (AreFrom s.base) same all.follow in
+    let place : ℕ = s.base + length (units_bytes (joined before)) in
+    let (front, there) = from_parts s.base (joined before) (units ++ joined behind) from in
+    let (back, end) = from_parts place units (joined behind) there in
+    let (stay, (one_stays, stay_behind)) = split (StaysAlone s) before (units ∷ behind) all.stay in
+    let (sized, (one_sized, sized_behind)) = split (IsMeasured group) before (units ∷ behind) measured in
+    let none = stand_none s in
+    let early = all_joined (λ us. IsReady s group us × Passes s group us)
+    (ready_all s group [] none, passes_all s group [] none)
+    (λ at us more from one other. (
+      ready_two s at us more from group one.0 other.0,
+      passes_two s at us more from group one.0 other.0 one.1 other.1,
+    )) s.base before front
+    (ready_each s group (PassesThrough s group) (λ us. IsReady s group us × Passes s group us)
+    (λ us stays sizes pass. (record { stays = stays; measured = sizes; below = pass.0 }, pass.1)) before stay sized
+    passed) in
+    let late = all_joined (IsReady s group) (ready_all s group [] none)
+    (λ at us more from. ready_two s at us more from group)
+    (place + length (units_bytes units)) behind end
+    (ready_each s group (PassesBelow s group) (IsReady s group)
+    (λ us stays sizes pass. record { stays = stays; measured = sizes; below = pass }) behind stay_behind sized_behind
+    below) in
+    first_by_parts s (joined before) units (joined behind) group fault from early.0 early.1
+    (record { stays = one_stays; measured = one_sized; below = fails.below }) fails late
+    (parts ∙ ap units_bytes same)

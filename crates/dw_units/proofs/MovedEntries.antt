@@ -1,20 +1,22 @@
--- The entries of batches, each batch's those of the batch alone, with the numbers that they have among all.
-use Rattle.std.proofs.Common.{rules, ◌≡◌, ℕ, zero, suc, ◌+◌, ◌-◌, ◌<◌, ◌≤◌, ◌⊎◌, List, [], ◌∷◌, ◌++◌, length, map, Option, Some, None, refl, sym, ap, subst, ◌∙◌, inl, inr, arith, append_assoc, length-append}
+-- Units among others: their entries are those of the units alone, with the numbers that they have among all.
+use Rattle.std.proofs.Common.{rules, ◌≡◌, ℕ, suc, ◌+◌, ◌-◌, ◌<◌, ◌≤◌, ◌⊎◌, List, [], ◌∷◌, ◌++◌, length, map, Option, Some, None, refl, sym, ap, subst, ◌∙◌, inl, inr, arith, append_assoc, append-nil, length-append}
 use Rattle.std.specs.Prelude.{slice_get, option_map}
-use Rattle.std.proofs.lemmas.List.{map-append, length-map}
+use Rattle.std.proofs.lemmas.List.{map-append}
 use Rattle.std.proofs.lemmas.Option.{get_or_from_slice_get, slice_get-get_or, slice_get-map, slice_get_within}
-use Rattle.dw_entries.specs.ByNumber.{entry_of, placed_of}
+use Rattle.dw_elf.specs.declared.sections.Sections.{Sections}
+use Rattle.dw_entries.specs.ByNumber.{entry_of, no_entry, no_placed, placed_of}
 use Rattle.dw_entries.specs.Grammar.{Head, head_bytes}
 use Rattle.dw_entries.specs.Header.{unit_header_size}
 use Rattle.dw_entries.specs.Tree.{Node, Nodes, leaf, parent, none, ◌then◌, node_bytes}
 use Rattle.dw_entries.specs.Units.{DebugUnit, AreFrom, unit_bytes, units_bytes}
-use Rattle.dw_entries.specs.Entries.{Entry, node_count, first_id, node_entries, nodes_entries, entries_from, start_of, entries_of, PlacedUnit, placed_from, placed}
+use Rattle.dw_entries.specs.Entries.{Entry, node_count, first_id, node_entries, nodes_entries, entries_from, entries_of, PlacedUnit, placed_from, placed}
 use Rattle.dw_entries.proofs.EntryFacts.{length-node_entries, length-placed}
 use Rattle.dw_entries.proofs.UnitRanges.{get_front, get_behind}
-use Rattle.dw_units.specs.IndependentBatches.{joined}
-use Rattle.dw_units.proofs.BatchLemmas.{PlacedBatch, at_front, batches_from, placed_batches, AreJoined, entries_there, placed_there, from_parts}
+use Rattle.dw_links.proofs.ClassLemmas.{in_units}
+use Rattle.dw_units.specs.ByUnit.{StaysAlone}
+use Rattle.dw_units.proofs.BatchLemmas.{entries_there, placed_there, from_parts}
 
--- a number of an entry of the batch, among all entries
+-- the number of an entry of the units, among all entries
 abbrev pub moved_number : ℕ → Option ℕ → Option ℕ
 moved_number first None = None
 moved_number first (Some id) = Some (first + id)
@@ -22,7 +24,7 @@ moved_number first (Some id) = Some (first + id)
 pub none_moved : (first : ℕ) (o : Option ℕ) → moved_number first o ≡ None → o ≡ None
 none_moved first o is = search rules
 
--- an entry of the batch alone, among all: with the number of its first unit, and of its first entry
+-- an entry of the units alone, among all: the first of them has this number, as their first entry has that
 abbrev pub moved : (number first : ℕ) → Entry → Entry
 moved number first e = record {
   at = e.at;
@@ -96,81 +98,40 @@ module _ (number first : ℕ) where
       → placed_from at id_to us ≡ map (moved_unit first) (placed_from at id us)
   placed_moved id id_to at [] i = refl
   placed_moved id id_to at (v ∷ us) i =
-      rw (
-        i,
-        placed_moved (id + node_count v.root) (first + id + node_count v.root) (at + length (unit_bytes v)) us
-            (omega arith),
-      ) refl
+      search (
+        rules,
+        (placed_moved (id + node_count v.root) (first + id + node_count v.root) (at + length (unit_bytes v)) us
+            (omega arith)),
+      )
 
--- ---- the entries of a batch, and those after it
+-- ---- the entries of units, and those after them
 
--- how many entries units have, wherever they are
-pub length-units : (unit id at : ℕ) (us : List DebugUnit) → AreFrom at us
-    → length (entries_from unit id at us) ≡ length (entries_of us)
-length-units unit id at us from =
-    ap length (units_moved unit id 0 0 unit id at us (omega arith) (omega arith))
-    ∙ length-map (entries_from 0 0 at us) (moved unit id) ∙ ap length (sym (entries_there at us from))
-
-count_more : (u : DebugUnit) (us : List DebugUnit) → AreFrom (u.at + length (unit_bytes u)) us
-    → length (entries_of (u ∷ us)) ≡ node_count u.root + length (entries_of us)
-count_more u us from =
-    omega (
-      arith,
-      length-append (node_entries 0 None 0 None 0 (u.at + unit_header_size u.header.kind) u.root)
-          (entries_from 1 (0 + node_count u.root) (u.at + length (unit_bytes u)) us),
-      length-node_entries 0 None 0 None 0 (u.at + unit_header_size u.header.kind) u.root,
-      length-units 1 (0 + node_count u.root) (u.at + length (unit_bytes u)) us from,
-    )
-
-pub entries_after : (unit id at unit_to id_to to : ℕ) (us more : List DebugUnit) → AreFrom at us
-    → unit_to ≡ unit + length us → id_to ≡ id + length (entries_of us) → to ≡ at + length (units_bytes us)
+entries_after : (unit id at unit_to id_to to : ℕ) (us more : List DebugUnit) → unit_to ≡ unit + length us
+    → id_to ≡ id + length (entries_from unit id at us) → to ≡ at + length (units_bytes us)
     → entries_from unit id at (us ++ more) ≡ entries_from unit id at us ++ entries_from unit_to id_to to more
-entries_after unit id at unit_to id_to to [] more from u i p = search (rules)
-entries_after unit id at unit_to id_to to (v ∷ us) more (here, from) u i p =
+entries_after unit id at unit_to id_to to [] more u i p = search (rules)
+entries_after unit id at unit_to id_to to (v ∷ us) more u i p =
     let es : List Entry = node_entries unit None 0 None id (at + unit_header_size v.header.kind) v.root in
-    let count = count_more v us (subst (λ (n : ℕ). AreFrom (n + length (unit_bytes v)) us) (sym here) from) in
+    let fs : List Entry = entries_from (suc unit) (id + node_count v.root) (at + length (unit_bytes v)) us in
+    let count = length-node_entries unit None 0 None id (at + unit_header_size v.header.kind) v.root in
     ap (λ (xs : List Entry). es ++ xs)
-    (entries_after (suc unit) (id + node_count v.root) (at + length (unit_bytes v)) unit_to id_to to us more from
-    (omega (arith, u)) (omega (arith, i, count))
+    (entries_after (suc unit) (id + node_count v.root) (at + length (unit_bytes v)) unit_to id_to to us more
+    (omega (arith, u)) (omega (arith, i, count, length-append es fs))
     (omega (arith, p, length-append (unit_bytes v) (units_bytes us))))
-    ∙ sym (append_assoc es (entries_from (suc unit) (id + node_count v.root) (at + length (unit_bytes v)) us)
-    (entries_from unit_to id_to to more))
+    ∙ sym (append_assoc es fs (entries_from unit_to id_to to more))
 
-placed_after : (id at id_to to : ℕ) (us more : List DebugUnit) → AreFrom at us
-    → id_to ≡ id + length (entries_of us) → to ≡ at + length (units_bytes us)
+placed_after : (unit id at id_to to : ℕ) (us more : List DebugUnit)
+    → id_to ≡ id + length (entries_from unit id at us) → to ≡ at + length (units_bytes us)
     → placed_from at id (us ++ more) ≡ placed_from at id us ++ placed_from to id_to more
-placed_after id at id_to to [] more from i p = search (rules)
-placed_after id at id_to to (v ∷ us) more (here, from) i p =
-    let count = count_more v us (subst (λ (n : ℕ). AreFrom (n + length (unit_bytes v)) us) (sym here) from) in
+placed_after unit id at id_to to [] more i p = search (rules)
+placed_after unit id at id_to to (v ∷ us) more i p =
+    let es : List Entry = node_entries unit None 0 None id (at + unit_header_size v.header.kind) v.root in
+    let fs : List Entry = entries_from (suc unit) (id + node_count v.root) (at + length (unit_bytes v)) us in
+    let count = length-node_entries unit None 0 None id (at + unit_header_size v.header.kind) v.root in
     ap (λ (xs : List PlacedUnit). record { at = at; first = id; unit = v } ∷ xs)
-    (placed_after (id + node_count v.root) (at + length (unit_bytes v)) id_to to us more from
-    (omega (arith, i, count))
+    (placed_after (suc unit) (id + node_count v.root) (at + length (unit_bytes v)) id_to to us more
+    (omega (arith, i, count, length-append es fs))
     (omega (arith, p, length-append (unit_bytes v) (units_bytes us))))
-
--- a batch in front: its entries among all, and those of the others
-pub batch_front : (number first at : ℕ) (units more : List DebugUnit) → AreFrom at units
-    → entries_from number first at (units ++ more)
-    ≡ map (moved number first) (entries_of units)
-    ++ entries_from (number + length units) (first + length (entries_of units)) (at + length (units_bytes units)) more
-batch_front number first at units more from =
-    entries_after number first at (number + length units) (first + length (entries_of units))
-    (at + length (units_bytes units)) units more from refl refl refl
-    ∙ ap (λ (xs : List Entry). xs ++ entries_from (number + length units) (first + length (entries_of units))
-    (at + length (units_bytes units)) more)
-    (units_moved number first 0 0 number first at units (omega arith) (omega arith)
-    ∙ ap (map (moved number first)) (sym (entries_there at units from)))
-
-placed_front : (number first at : ℕ) (units more : List DebugUnit) → AreFrom at units
-    → placed_from at first (units ++ more)
-    ≡ map (moved_unit first) (placed units)
-    ++ placed_from (at + length (units_bytes units)) (first + length (entries_of units)) more
-placed_front number first at units more from =
-    placed_after first at (first + length (entries_of units)) (at + length (units_bytes units)) units more from refl
-    refl
-    ∙ ap (λ (xs : List PlacedUnit). xs ++ placed_from (at + length (units_bytes units))
-    (first + length (entries_of units)) more)
-    (placed_moved 0 first 0 first at units (omega arith)
-    ∙ ap (map (moved_unit first)) (sym (placed_there at units from)))
 
 map_some : {X Y : Type 0} (f : X → Y) (o : Option X) (y : Y) → option_map f o ≡ Some y
     → (x : X) × (o ≡ Some x) × (f x ≡ y)
@@ -179,169 +140,230 @@ map_some f o y is = search rules
 two_ways : (i n : ℕ) → (i < n) ⊎ (n ≤ i)
 two_ways i n = grind arith
 
--- an element of a list that is moved, before others
-moved_get : {X Y : Type 0} (f : X → Y) (xs : List X) (more : List Y) (i : ℕ) (x : X) → slice_get xs i ≡ Some x
-    → slice_get (map f xs ++ more) i ≡ Some (f x)
-moved_get f xs more i x is = search (rules, slice_get_within, get_front, length-map, slice_get-map)
+-- units with more behind them: all entries, and all units as they are placed
+pub entries_both : (at : ℕ) (us more : List DebugUnit) → AreFrom at (us ++ more)
+    → entries_of (us ++ more) ≡ entries_of us ++ map (moved (length us) (length (entries_of us))) (entries_of more)
+entries_both at us more from =
+    let n : ℕ = length us in
+    let first : ℕ = length (entries_of us) in
+    let place : ℕ = at + length (units_bytes us) in
+    let (here, there) = from_parts at us more from in
+    entries_there at (us ++ more) from
+    ∙ entries_after 0 0 at n first place us more (omega arith) (omega (arith, ap length (entries_there at us here)))
+    refl
+    ∙ ap (λ (xs : List Entry). xs ++ entries_from n first place more) (sym (entries_there at us here))
+    ∙ ap (λ (xs : List Entry). entries_of us ++ xs)
+    (units_moved n first 0 0 n first place more (omega arith) (omega arith)
+    ∙ ap (map (moved n first)) (sym (entries_there place more there)))
 
-moved_found : {X Y : Type 0} (f : X → Y) (xs : List X) (more : List Y) (i : ℕ) (y : Y) → i < length xs
-    → slice_get (map f xs ++ more) i ≡ Some y → (x : X) × (slice_get xs i ≡ Some x) × (f x ≡ y)
-moved_found f xs more i y below is = search (rules, map_some, slice_get-map, get_front, length-map)
+placed_both : (at : ℕ) (us more : List DebugUnit) → AreFrom at (us ++ more)
+    → placed (us ++ more) ≡ placed us ++ map (moved_unit (length (entries_of us))) (placed more)
+placed_both at us more from =
+    let first : ℕ = length (entries_of us) in
+    let place : ℕ = at + length (units_bytes us) in
+    let (here, there) = from_parts at us more from in
+    placed_there at (us ++ more) from
+    ∙ placed_after 0 0 at first place us more (omega (arith, ap length (entries_there at us here))) refl
+    ∙ ap (λ (xs : List PlacedUnit). xs ++ placed_from place first more) (sym (placed_there at us here))
+    ∙ ap (λ (xs : List PlacedUnit). placed us ++ xs)
+    (placed_moved 0 first 0 first place more (omega arith)
+    ∙ ap (map (moved_unit first)) (sym (placed_there place more there)))
 
--- an element of the list behind
-moved_behind : {X Y : Type 0} (f : X → Y) (xs : List X) (more : List Y) (i j : ℕ) → i ≡ length xs + j
-    → slice_get (map f xs ++ more) i ≡ slice_get more j
-moved_behind f xs more i j is = search (rules, length-map, get_behind)
+-- the elements of a list with a moved one behind it
+module _ {X : Type 0} (f : X → X) (xs ys zs : List X) (is : zs ≡ xs ++ map f ys) where
+  get_first : (i : ℕ) (x : X) → slice_get xs i ≡ Some x → slice_get zs i ≡ Some x
+  get_first i x is_x =
+      ap (λ (l : List X). slice_get l i) is ∙ get_front xs (map f ys) i (slice_get_within xs i x is_x) ∙ is_x
 
--- an entry among all: the batch that it is of, and which entry of the batch alone
-pub record Found (batches : List PlacedBatch) (id : ℕ) (e : Entry) : Type 0 where
-  pub which : ℕ
-  pub place : PlacedBatch
-  pub is_place : slice_get batches which ≡ Some place
+  get_moved : (i : ℕ) (x : X) → slice_get ys i ≡ Some x → slice_get zs (length xs + i) ≡ Some (f x)
+  get_moved i x is_x =
+      let none : length xs + i - length xs ≡ i = omega arith in
+      ap (λ (l : List X). slice_get l (length xs + i)) is ∙ get_behind xs (map f ys) (length xs + i) (omega arith)
+      ∙ ap (slice_get (map f ys)) none ∙ slice_get-map f ys i ∙ ap (option_map f) is_x
+
+  get_either : (i : ℕ) (x : X) → slice_get zs i ≡ Some x
+      → (slice_get xs i ≡ Some x)
+      ⊎ ((j : ℕ) × (y : X) × (slice_get ys j ≡ Some y) × (i ≡ length xs + j) × (f y ≡ x))
+  get_either i x is_x = go (two_ways i (length xs))
+    where
+      here : slice_get (xs ++ map f ys) i ≡ Some x
+      here = ap (λ (l : List X). slice_get l i) (sym is) ∙ is_x
+
+      go : (i < length xs) ⊎ (length xs ≤ i)
+          → (slice_get xs i ≡ Some x)
+          ⊎ ((j : ℕ) × (y : X) × (slice_get ys j ≡ Some y) × (i ≡ length xs + j) × (f y ≡ x))
+      go (inl below) = inl (sym (get_front xs (map f ys) i below) ∙ here)
+      go (inr past) =
+          let (y, is_y, same) = map_some f (slice_get ys (i - length xs)) x
+          (sym (slice_get-map f ys (i - length xs)) ∙ sym (get_behind xs (map f ys) i past) ∙ here) in
+          inr (i - length xs, y, is_y, omega (arith, past), same)
+
+-- ---- some units among all
+
+-- an entry among all is one of these units, the first of which has this number, as its first entry has that
+pub record IsIn (number first : ℕ) (units : List DebugUnit) (i : ℕ) (e : Entry) : Type 0 where
   pub inner : ℕ
   pub entry : Entry
-  pub is_entry : slice_get (entries_of place.units) inner ≡ Some entry
-  pub begins : id ≡ place.first + inner
-  pub same : moved place.number place.first entry ≡ e
+  pub is_entry : slice_get (entries_of units) inner ≡ Some entry
+  pub begins : i ≡ first + inner
+  pub same : moved number first entry ≡ e
 
-found_from : (number first at : ℕ) (bs : List (List DebugUnit)) (i : ℕ) (e : Entry) → AreFrom at (joined bs)
-    → slice_get (entries_from number first at (joined bs)) i ≡ Some e
-    → Found (batches_from number first at bs) (first + i) e
-found_from number first at [] i e from is = absurd cc
-found_from number first at (units ∷ bs) i e from is =
-    go (λ j. found_from (number + length units) (first + length (entries_of units)) (at + length (units_bytes units)) bs
-    j e parts.1) (two_ways i (length (entries_of units)))
+-- or it is one of other units: before these, or behind them
+pub data IsOut (number first : ℕ) (units : List DebugUnit) (i : ℕ) (e : Entry) : Type 0 where
+  early : e.unit < number → i < first → IsOut number first units i e
+  late : number + length units ≤ e.unit
+      → ((k : ℕ) → e.parent ≡ Some k → first + length (entries_of units) ≤ k) → IsOut number first units i e
+
+-- these units are among all, and stay alone: their entries and themselves, by their numbers among all
+pub record IsPart (s : Sections) (all : List DebugUnit) (number first : ℕ) (units : List DebugUnit) : Type 0 where
+  pub stays : StaysAlone s units
+  pub get : (inner : ℕ) (d : Entry) → slice_get (entries_of units) inner ≡ Some d
+      → slice_get (entries_of all) (first + inner) ≡ Some (moved number first d)
+  pub unit_get : (j : ℕ) (q : PlacedUnit) → slice_get (placed units) j ≡ Some q
+      → slice_get (placed all) (number + j) ≡ Some (moved_unit first q)
+  pub covers : (i : ℕ) (e : Entry) → slice_get (entries_of all) i ≡ Some e
+      → IsIn number first units i e ⊎ IsOut number first units i e
+
+-- an entry is of one of the units
+pub unit_below : (s : Sections) (units : List DebugUnit) → StaysAlone s units → (inner : ℕ) (e : Entry)
+    → slice_get (entries_of units) inner ≡ Some e → e.unit < length units
+unit_below s units stays inner e is =
+    in_units s.«abbrev».now (units_bytes units) units inner e (record { are = stays.are; parts = refl }) is
+
+pub some_moved : (first : ℕ) (o : Option ℕ) (id : ℕ) → moved_number first o ≡ Some id
+    → (k : ℕ) × (o ≡ Some k) × (first + k ≡ id)
+some_moved first o id is = search rules
+
+unmoved_number : (o : Option ℕ) → moved_number 0 o ≡ o
+unmoved_number None = refl
+unmoved_number (Some k) = let same : 0 + k ≡ k = omega arith in ap Some same
+
+unmoved : (e : Entry) → moved 0 0 e ≡ e
+unmoved e =
+    let unit : 0 + e.unit ≡ e.unit = omega arith in
+    λ i. record {
+      at = e.at;
+      unit = unit i;
+      parent = unmoved_number e.parent i;
+      depth = e.depth;
+      next = unmoved_number e.next i;
+      head = e.head;
+    }
+
+-- units after some and before others are among all
+pub part_of : (s : Sections) (at : ℕ) (before units behind : List DebugUnit)
+    → AreFrom at (before ++ (units ++ behind)) → StaysAlone s before → StaysAlone s units
+    → IsPart s (before ++ (units ++ behind)) (length before) (length (entries_of before)) units
+part_of s at before units behind from first stays = record {
+  stays = stays;
+  get = λ inner d is.
+      get_moved _ (entries_of before) (entries_of rest) _ entries inner d
+      (get_first _ (entries_of units) (entries_of behind) _ inside inner d is);
+  unit_get = λ j q is.
+      ap (λ (n : ℕ). slice_get (placed (before ++ rest)) (n + j)) (sym (length-placed before))
+      ∙ get_moved _ (placed before) (placed rest) _ (placed_both at before rest from) j q
+      (get_first _ (placed units) (placed behind) _ (placed_both place units behind there) j q is);
+  covers = λ i e is.
+      elim (get_either _ (entries_of before) (entries_of rest) _ entries i e is) [
+        | inl here ↦
+            inr (early (unit_below s before first i e here) (slice_get_within (entries_of before) i e here))
+        | inr (j, d, is_d, begins, same) ↦
+            later i e j d begins same (get_either _ (entries_of units) (entries_of behind) _ inside j d is_d)
+      ];
+}
   where
-    parts : AreFrom at units × AreFrom (at + length (units_bytes units)) (joined bs)
-    parts = from_parts at units (joined bs) from
+    rest : List DebugUnit
+    rest = units ++ behind
 
-    behind : List Entry
-    behind = entries_from (number + length units) (first + length (entries_of units))
-        (at + length (units_bytes units)) (joined bs)
+    place : ℕ
+    place = at + length (units_bytes before)
 
-    here : slice_get (map (moved number first) (entries_of units) ++ behind) i ≡ Some e
-    here = ap (λ (es : List Entry). slice_get es i)
-        (sym (batch_front number first at units (joined bs) parts.0)) ∙ is
+    there : AreFrom place rest
+    there = (from_parts at before rest from).1
 
-    go : ((j : ℕ) → slice_get behind j ≡ Some e
-        → Found (batches_from (number + length units) (first + length (entries_of units))
-        (at + length (units_bytes units)) bs) (first + length (entries_of units) + j) e)
-        → (i < length (entries_of units)) ⊎ (length (entries_of units) ≤ i)
-        → Found (batches_from number first at (units ∷ bs)) (first + i) e
-    go in_rest (inl below) =
-        let (d, is_d, same) = moved_found (moved number first) (entries_of units) behind i e below here in
-        record {
-          which = 0;
-          place = record { number = number; first = first; at = at; units = units };
-          is_place = refl;
-          inner = i;
-          entry = d;
-          is_entry = is_d;
-          begins = refl;
-          same = same;
-        }
-    go in_rest (inr past) =
-        let f = in_rest (i - length (entries_of units))
-        (sym (moved_behind (moved number first) (entries_of units) behind i (i - length (entries_of units))
-        (omega (arith, past))) ∙ here) in
-        let begins = f.begins in
-        record {
-          which = suc f.which;
-          place = f.place;
-          is_place = f.is_place;
-          inner = f.inner;
-          entry = f.entry;
-          is_entry = f.is_entry;
-          begins = omega (arith, begins, past);
-          same = f.same;
-        }
+    entries : entries_of (before ++ rest)
+        ≡ entries_of before ++ map (moved (length before) (length (entries_of before))) (entries_of rest)
+    entries = entries_both at before rest from
 
--- what a batch alone has is found among all: its entries by the number of the first, its units likewise
-module _ {X Y : Type 0} (begin : (number first : ℕ) → ℕ) (alone : List DebugUnit → List X)
-    (all : (number first at : ℕ) → List DebugUnit → List Y) (move : (number first : ℕ) → X → Y)
-    (front : (number first at : ℕ) (units more : List DebugUnit) → AreFrom at units
-    → all number first at (units ++ more) ≡ map (move number first) (alone units)
-    ++ all (number + length units) (first + length (entries_of units)) (at + length (units_bytes units)) more)
-    (count : (number first : ℕ) (units : List DebugUnit)
-    → begin (number + length units) (first + length (entries_of units)) ≡ begin number first + length (alone units))
-  where
-    get_from : (number first at : ℕ) (bs : List (List DebugUnit)) (k : ℕ) (p : PlacedBatch) (inner : ℕ) (x : X)
-        → AreFrom at (joined bs)
-        → slice_get (batches_from number first at bs) k ≡ Some p → slice_get (alone p.units) inner ≡ Some x
-        → (i : ℕ) × (begin number first + i ≡ begin p.number p.first + inner)
-        × (slice_get (all number first at (joined bs)) i ≡ Some (move p.number p.first x))
-    get_from number first at [] k p inner x from is is_x = absurd cc
-    get_from number first at (units ∷ bs) zero p inner x from is is_x =
-        at_front (λ (q : PlacedBatch). slice_get (alone q.units) inner ≡ Some x
-        → (i : ℕ) × (begin number first + i ≡ begin q.number q.first + inner)
-        × (slice_get (all number first at (joined (units ∷ bs))) i ≡ Some (move q.number q.first x))) _ p is
-        (λ here. (
-          inner,
-          refl,
-          ap (λ (ys : List Y). slice_get ys inner)
-              (front number first at units (joined bs) (from_parts at units (joined bs) from).0)
-              ∙ moved_get (move number first) (alone units) _ inner x here,
-        )) is_x
-    get_from number first at (units ∷ bs) (suc k) p inner x from is is_x =
-        let (here, rest) = from_parts at units (joined bs) from in
-        let (i, begins, got) = get_from (number + length units) (first + length (entries_of units))
-        (at + length (units_bytes units)) bs k p inner x rest is is_x in (
-          length (alone units) + i,
-          omega (arith, begins, count number first units),
-          ap (λ (ys : List Y). slice_get ys (length (alone units) + i))
-              (front number first at units (joined bs) here)
-              ∙ moved_behind (move number first) (alone units) _ (length (alone units) + i) i refl ∙ got,
-        )
+    inside : entries_of rest
+        ≡ entries_of units ++ map (moved (length units) (length (entries_of units))) (entries_of behind)
+    inside = entries_both place units behind there
 
--- ---- the same of all entries
+    later : (i : ℕ) (e : Entry) (j : ℕ) (d : Entry) → i ≡ length (entries_of before) + j
+        → moved (length before) (length (entries_of before)) d ≡ e
+        → (slice_get (entries_of units) j ≡ Some d)
+        ⊎ ((k : ℕ) × (c : Entry) × (slice_get (entries_of behind) k ≡ Some c)
+        × (j ≡ length (entries_of units) + k) × (moved (length units) (length (entries_of units)) c ≡ d))
+        → IsIn (length before) (length (entries_of before)) units i e
+        ⊎ IsOut (length before) (length (entries_of before)) units i e
+    later i e j d begins same (inl here) =
+        inl (record { inner = j; entry = d; is_entry = here; begins = begins; same = same })
+    later i e j d begins same (inr (k, c, is_c, past, also)) =
+        let unit = ap (λ (x : Entry). x.unit) same in
+        let its_unit = ap (λ (x : Entry). x.unit) also in
+        inr (late (omega (arith, unit, its_unit)) (λ m is.
+        let (a, is_a, one) = some_moved (length (entries_of before)) d.parent m
+        (ap (λ (x : Entry). x.parent) same ∙ is) in
+        let (b, is_b, two) = some_moved (length (entries_of units)) c.parent a
+        (ap (λ (x : Entry). x.parent) also ∙ is_a) in
+        omega (arith, one, two)))
 
-module _ (bs : List (List DebugUnit)) (from : AreJoined bs) where
-  pub found : (i : ℕ) (e : Entry) → slice_get (entries_of (joined bs)) i ≡ Some e → Found (placed_batches bs) i e
-  found i e is =
-      let here : 0 + i ≡ i = omega arith in
-      subst (λ (n : ℕ). Found (placed_batches bs) n e) here (found_from 0 0 (start_of (joined bs)) bs i e from is)
+pub stays_none : (s : Sections) → StaysAlone s []
+stays_none s = record { are = tt; no_type_unit = tt; stays = λ id e is. absurd cc }
 
-  pub get : (k : ℕ) (p : PlacedBatch) (inner : ℕ) (d : Entry)
-      → slice_get (placed_batches bs) k ≡ Some p → slice_get (entries_of p.units) inner ≡ Some d
-      → slice_get (entries_of (joined bs)) (p.first + inner) ≡ Some (moved p.number p.first d)
-  get k p inner d is is_d =
-      let (i, begins, got) = get_from (λ number first. first) entries_of entries_from moved batch_front
-      (λ number first units. refl) 0 0 (start_of (joined bs)) bs k p inner d from is is_d in
-      let there : p.first + inner ≡ i = omega (arith, begins) in
-      ap (slice_get (entries_of (joined bs))) there ∙ got
+-- of two lists of units, the first and the second; and each entry is of one of them
+module _ (s : Sections) (at : ℕ) (us more : List DebugUnit) (from : AreFrom at (us ++ more)) where
+  pub front : StaysAlone s us → IsPart s (us ++ more) 0 0 us
+  front stays = part_of s at [] us more from (stays_none s) stays
 
-  pub unit_get : (k : ℕ) (p : PlacedBatch) (j : ℕ) (q : PlacedUnit)
-      → slice_get (placed_batches bs) k ≡ Some p → slice_get (placed p.units) j ≡ Some q
-      → slice_get (placed (joined bs)) (p.number + j) ≡ Some (moved_unit p.first q)
-  unit_get k p j q is is_q =
-      let (i, begins, got) = get_from (λ number first. number) placed (λ number first at us. placed_from at first us)
-      (λ number first. moved_unit first) placed_front
-      (λ number first units. ap (λ (n : ℕ). number + n) (sym (length-placed units)))
-      0 0 (start_of (joined bs)) bs k p j q from is is_q in
-      let there : p.number + j ≡ i = omega (arith, begins) in
-      ap (slice_get (placed (joined bs))) there ∙ got
+  pub behind : StaysAlone s us → StaysAlone s more
+      → IsPart s (us ++ more) (length us) (length (entries_of us)) more
+  behind first stays =
+      subst (λ (xs : List DebugUnit). IsPart s (us ++ xs) (length us) (length (entries_of us)) more) (append-nil more)
+      (part_of s at us more [] (subst (λ (xs : List DebugUnit). AreFrom at (us ++ xs)) (sym (append-nil more)) from)
+      first stays)
 
-  -- the same by number
-  module _ (k : ℕ) (p : PlacedBatch) (is : slice_get (placed_batches bs) k ≡ Some p) (inner : ℕ) where
-    got : inner < length (entries_of p.units) → slice_get (entries_of (joined bs)) (p.first + inner)
-        ≡ Some (moved p.number p.first (entry_of (entries_of p.units) inner))
-    got inside = search (rules, get, slice_get-get_or)
+  pub halves : (i : ℕ) (e : Entry) → slice_get (entries_of (us ++ more)) i ≡ Some e
+      → IsIn 0 0 us i e ⊎ IsIn (length us) (length (entries_of us)) more i e
+  halves i e is =
+      elim (get_either _ (entries_of us) (entries_of more) _ (entries_both at us more from) i e is) [
+        | inl here ↦
+            let begins : i ≡ 0 + i = omega arith in
+            inl (record { inner = i; entry = e; is_entry = here; begins = begins; same = unmoved e })
+        | inr (j, d, is_d, begins, same) ↦
+            inr (record { inner = j; entry = d; is_entry = is_d; begins = begins; same = same })
+      ]
 
-    pub entry_within : inner < length (entries_of p.units)
-        → p.first + inner < length (entries_of (joined bs))
-    entry_within inside = search (rules, slice_get_within, got)
+-- units that stay alone, and others behind them
+pub record AreTwo (s : Sections) (at : ℕ) (us more : List DebugUnit) : Type 0 where
+  pub from : AreFrom at (us ++ more)
+  pub one : StaysAlone s us
+  pub other : StaysAlone s more
 
-    pub entry_at : inner < length (entries_of p.units) → entry_of (entries_of (joined bs)) (p.first + inner)
-        ≡ moved p.number p.first (entry_of (entries_of p.units) inner)
-    entry_at inside = search (rules, get_or_from_slice_get, got)
+-- the same by number
+module _ {s : Sections} {all : List DebugUnit} {number first : ℕ} {units : List DebugUnit}
+    (p : IsPart s all number first units) (inner : ℕ) where
+  got : inner < length (entries_of units) → slice_get (entries_of all) (first + inner)
+      ≡ Some (moved number first (entry_of (entries_of units) inner))
+  got inside =
+      p.get inner (entry_of (entries_of units) inner) (slice_get-get_or (entries_of units) inner no_entry inside)
 
-    got_unit : inner < length p.units → slice_get (placed (joined bs)) (p.number + inner)
-        ≡ Some (moved_unit p.first (placed_of (placed p.units) inner))
-    got_unit inside = search (rules, unit_get, slice_get-get_or, length-placed)
+  pub entry_within : inner < length (entries_of units) → first + inner < length (entries_of all)
+  entry_within inside = search (rules, slice_get_within, got)
 
-    pub unit_within : inner < length p.units → p.number + inner < length (placed (joined bs))
-    unit_within inside = search (rules, slice_get_within, got_unit)
+  pub entry_at : inner < length (entries_of units) → entry_of (entries_of all) (first + inner)
+      ≡ moved number first (entry_of (entries_of units) inner)
+  entry_at inside = search (rules, get_or_from_slice_get, got)
 
-    pub unit_at : inner < length p.units → placed_of (placed (joined bs)) (p.number + inner)
-        ≡ moved_unit p.first (placed_of (placed p.units) inner)
-    unit_at inside = search (rules, get_or_from_slice_get, got_unit)
+  got_unit : inner < length units → slice_get (placed all) (number + inner)
+      ≡ Some (moved_unit first (placed_of (placed units) inner))
+  got_unit inside =
+      p.unit_get inner (placed_of (placed units) inner)
+      (slice_get-get_or (placed units) inner no_placed (omega (arith, inside, length-placed units)))
+
+  pub unit_within : inner < length units → number + inner < length (placed all)
+  unit_within inside = search (rules, slice_get_within, got_unit)
+
+  pub unit_at : inner < length units → placed_of (placed all) (number + inner)
+      ≡ moved_unit first (placed_of (placed units) inner)
+  unit_at inside = search (rules, get_or_from_slice_get, got_unit)

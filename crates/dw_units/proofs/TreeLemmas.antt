@@ -1,7 +1,5 @@
 -- Whole units, and then bytes at which a rule of trees fails: it fails there in the sections.
-use Rattle.std.proofs.Common.{◌≡◌, ℕ, ◌+◌, ◌≤◌, List, [], ◌∷◌, ◌++◌, length, take, drop, Result, Ok, Err}
-use Rattle.std.proofs.Common.{refl, sym, ap, subst, ◌∙◌, arith, append_assoc, append-nil, Bool, true, false, length-append}
-use Rattle.std.proofs.Common.{ltb}
+use Rattle.std.proofs.Common.{rules, ◌≡◌, ℕ, ◌+◌, ◌≤◌, List, [], ◌∷◌, ◌++◌, length, take, drop, Result, Ok, Err, refl, sym, ap, subst, ◌∙◌, arith, append_assoc, append-nil, Bool, true, false, length-append, ltb}
 use Rattle.std.proofs.lemmas.Grind.{flat_map-append}
 use Rattle.dw_forms.specs.declared.rule.Rule.{Rule}
 use Rattle.dw_entries.specs.declared.fault.PlainFault.{PlainFault}
@@ -43,12 +41,7 @@ trees_first s before rest broken are parts fails =
 taken_before : (n : ℕ) (bytes more : List ℕ) → n ≤ length bytes
     → taken_at UnitCut n (bytes ++ more) ≡ Ok (take n bytes, drop n bytes ++ more)
 unfolding taken_at
-taken_before n bytes more long =
-    rw (
-      le-ltb (length (bytes ++ more)) n (omega (arith, long, length-append bytes more)),
-      take-append-le n bytes more long,
-      drop-append-le n bytes more long,
-    ) refl
+taken_before n bytes more long = search (rules, le-ltb, length-append, take-append-le, drop-append-le)
 
 taken_short : (n : ℕ) (bytes : List ℕ) → ltb (length bytes) n ≡ true → taken_at UnitCut n bytes ≡ Err UnitCut
 unfolding taken_at
@@ -78,10 +71,8 @@ after_more n true content more long = go (ltb (length content) n) refl
   where
     go : (short : Bool) → ltb (length content) n ≡ short
         → after_length n true (content ++ more) ≡ after_length n true (content ++ [])
-    go true short = absurd (long (rw (taken_short n content short) refl))
-    go false fits =
-        let within = ltb-false (length content) n fits in
-        rw (taken_before n content more within, taken_before n content [] within) refl
+    go true short = search (rules, taken_short)
+    go false fits = search (rules, ltb-false, taken_before)
 
 -- a unit that is not cut is read from its own bytes alone
 unit_more : (bytes more : List ℕ) → (unit_at bytes ≡ Err UnitCut → ⊥) → unit_at (bytes ++ more) ≡ unit_at bytes
@@ -105,10 +96,7 @@ unit_more bytes more whole = go (ltb (length bytes) 4) refl
 header_more : (size : ℕ) (bytes more : List ℕ) → (header_at size bytes ≡ Err UnitCut → ⊥)
     → header_at size (bytes ++ more) ≡ header_at size bytes
 unfolding header_at
-header_more size bytes more whole =
-    ap (λ (r : Result (ℕ × List ℕ) Rule). r >>= λ unit. (header_fields size unit.0).read unit.1)
-    (unit_more bytes more (λ cut.
-    whole (ap (λ (r : Result (ℕ × List ℕ) Rule). r >>= λ unit. (header_fields size unit.0).read unit.1) cut)))
+header_more size bytes more whole = search (rules, unit_more)
 
 no_elements : (xs : List ℕ) → length xs ≡ 0 → xs ≡ []
 no_elements [] is = refl

@@ -19,7 +19,6 @@ use Rattle.dw_types.specs.Sizes.{array_size, element_count, elements_by, factor_
 use Rattle.dw_types.specs.SizeFaults.{fails_size, has_no_size}
 use Rattle.dw_links.proofs.TableLemmas.{target_within}
 use Rattle.dw_types.proofs.SiblingLemmas.{children-all, parent_is, parent-first}
-use Rattle.dw_units.proofs.BatchLemmas.{PlacedBatch}
 use Rattle.dw_units.proofs.MovedEntries.{moved_number, moved}
 use Rattle.dw_units.proofs.ReferenceLemmas.{eqb_moved}
 use Rattle.dw_units.proofs.Windows.{IsWindow}
@@ -64,29 +63,29 @@ past_moved : (number first : ℕ) (container : Size) (e : Entry) (size : Size)
 past_moved number first None e size = refl
 past_moved number first (Some n) e size = refl
 
-module _ (all : List DebugUnit) (p : PlacedBatch) (w : IsWindow all p) where
+module _ {all : List DebugUnit} {number first : ℕ} {units : List DebugUnit}
+    (w : IsWindow all number first units) where
   -- ---- children
 
-  child_moved : (inner k : ℕ) → k < length (entries_of p.units)
-      → is_child (entries_of all) (p.first + inner) (p.first + k) ≡ is_child (entries_of p.units) inner k
+  child_moved : (inner k : ℕ) → k < length (entries_of units)
+      → is_child (entries_of all) (first + inner) (first + k) ≡ is_child (entries_of units) inner k
   child_moved inner k within = search (rules, parent_of_moved)
 
-  no_child : (inner k : ℕ) → inner < length (entries_of p.units) → k < length (entries_of all)
-      → ((j : ℕ) → j < length (entries_of p.units) → k ≡ p.first + j → ⊥)
-      → is_child (entries_of all) (p.first + inner) k ≡ false
+  no_child : (inner k : ℕ) → inner < length (entries_of units) → k < length (entries_of all)
+      → ((j : ℕ) → j < length (entries_of units) → k ≡ first + j → ⊥)
+      → is_child (entries_of all) (first + inner) k ≡ false
   no_child inner k inside below outside =
-      false_from_ne_true (is_child (entries_of all) (p.first + inner) k) (λ yes.
+      false_from_ne_true (is_child (entries_of all) (first + inner) k) (λ yes.
       let (j, within, here) = w.children k inner below inside
-      (parent_is (entry_in all k).parent (p.first + inner) yes) in
+      (parent_is (entry_in all k).parent (first + inner) yes) in
       outside j within here)
 
-  children_moved : (inner : ℕ) → inner < length (entries_of p.units)
-      → children_of (entries_of all) (p.first + inner)
-      ≡ map (λ (k : ℕ). p.first + k) (children_of (entries_of p.units) inner)
+  children_moved : (inner : ℕ) → inner < length (entries_of units)
+      → children_of (entries_of all) (first + inner)
+      ≡ map (λ (k : ℕ). first + k) (children_of (entries_of units) inner)
   unfolding children_of
   children_moved inner inside =
-      let first : ℕ = p.first in
-      let n : ℕ = length (entries_of p.units) in
+      let n : ℕ = length (entries_of units) in
       let rest : ℕ = length (entries_of all) - (first + n) in
       let within = w.within (n - 1) (omega (arith, inside)) in
       let P : ℕ → Bool = is_child (entries_of all) (first + inner) in
@@ -98,8 +97,8 @@ module _ (all : List DebugUnit) (p : PlacedBatch) (w : IsWindow all p) where
       (λ k low high. no_child inner k inside (omega (arith, high, within))
       (λ j j_in is. omega (arith, is, low, j_in))) in
       let middle : filter P (range_with_len (0 + first) n)
-      ≡ map (λ (k : ℕ). first + k) (children_of (entries_of p.units) inner) =
-      filter_moved first P (is_child (entries_of p.units) inner) n 0 (0 + first) (omega arith)
+      ≡ map (λ (k : ℕ). first + k) (children_of (entries_of units) inner) =
+      filter_moved first P (is_child (entries_of units) inner) n 0 (0 + first) (omega arith)
       (λ k low high. child_moved inner k (omega (arith, high))) in
       rw (
         range_split first (n + rest) 0 (length (entries_of all)) (omega (arith, within, inside)),
@@ -109,78 +108,78 @@ module _ (all : List DebugUnit) (p : PlacedBatch) (w : IsWindow all p) where
 
   -- ---- the number of elements of an array
 
-  factor_same : (k : ℕ) → k < length (entries_of p.units) → factor_of all (p.first + k) ≡ factor_of p.units k
-  factor_same k within = rw (count_same all p w k within, w.entries k within) refl
+  factor_same : (k : ℕ) → k < length (entries_of units) → factor_of all (first + k) ≡ factor_of units k
+  factor_same k within = rw (count_same w k within, w.entries k within) refl
 
   module _ (inner : ℕ) where
-    subranges_same : (ks : List ℕ) → All (IsChildOf (entries_of p.units) inner) ks
-        → list_any (λ child. is_subrange (entry_in all child)) (map (λ (k : ℕ). p.first + k) ks)
-        ≡ list_any (λ child. is_subrange (entry_in p.units child)) ks
+    subranges_same : (ks : List ℕ) → All (IsChildOf (entries_of units) inner) ks
+        → list_any (λ child. is_subrange (entry_in all child)) (map (λ (k : ℕ). first + k) ks)
+        ≡ list_any (λ child. is_subrange (entry_in units child)) ks
     subranges_same [] are = refl
     subranges_same (k ∷ ks) are =
         let here = w.entries k (are 0 k (omega arith)).0 in
         let more = subranges_same ks (λ j d below. are (suc j) d (omega (arith, below))) in
         λ i. is_subrange (here i) || more i
 
-    factors_same : (ks : List ℕ) → All (IsChildOf (entries_of p.units) inner) ks
-        → map (factor_of all) (map (λ (k : ℕ). p.first + k) ks) ≡ map (factor_of p.units) ks
+    factors_same : (ks : List ℕ) → All (IsChildOf (entries_of units) inner) ks
+        → map (factor_of all) (map (λ (k : ℕ). first + k) ks) ≡ map (factor_of units) ks
     factors_same [] are = refl
     factors_same (k ∷ ks) are =
         let here = factor_same k (are 0 k (omega arith)).0 in
         let more = factors_same ks (λ j d below. are (suc j) d (omega (arith, below))) in
         λ i. here i ∷ more i
 
-  elements_same : (inner : ℕ) → inner < length (entries_of p.units)
-      → element_count all (p.first + inner) ≡ element_count p.units inner
+  elements_same : (inner : ℕ) → inner < length (entries_of units)
+      → element_count all (first + inner) ≡ element_count units inner
   elements_same inner inside =
-      let ks = children_of (entries_of p.units) inner in
-      let are = children-all (entries_of p.units) inner in
+      let ks = children_of (entries_of units) inner in
+      let are = children-all (entries_of units) inner in
       ap (elements_by all) (children_moved inner inside)
       ∙ (λ i. if subranges_same inner ks are i then product_of (factors_same inner ks are i) else None)
 
   -- ---- sizes, by a table of all and one of the batch alone that agree
 
   module _ (table lone : ℕ → Size)
-      (agree : (k : ℕ) → k < length (entries_of p.units) → table (p.first + k) ≡ lone k) where
-    to_moved : (o : Option ℕ) → ((k : ℕ) → o ≡ Some k → k < length (entries_of p.units))
-        → size_to table (moved_number p.first o) ≡ size_to lone o
+      (agree : (k : ℕ) → k < length (entries_of units) → table (first + k) ≡ lone k) where
+    to_moved : (o : Option ℕ) → ((k : ℕ) → o ≡ Some k → k < length (entries_of units))
+        → size_to table (moved_number first o) ≡ size_to lone o
     to_moved None below = refl
     to_moved (Some k) below = agree k (below k refl)
 
-    type_moved : (inner : ℕ) → inner < length (entries_of p.units)
-        → size_to table (type_target all (p.first + inner)) ≡ size_to lone (type_target p.units inner)
+    type_moved : (inner : ℕ) → inner < length (entries_of units)
+        → size_to table (type_target all (first + inner)) ≡ size_to lone (type_target units inner)
     type_moved inner inside = search (rules, to_moved, target_within)
 
-    signature_moved : (inner : ℕ) → inner < length (entries_of p.units)
-        → size_to table (signature_target all (p.first + inner)) ≡ size_to lone (signature_target p.units inner)
+    signature_moved : (inner : ℕ) → inner < length (entries_of units)
+        → size_to table (signature_target all (first + inner)) ≡ size_to lone (signature_target units inner)
     signature_moved inner inside = search (rules, to_moved, target_within)
 
-    parent_moved : (inner : ℕ) → inner < length (entries_of p.units)
-        → size_to table (entry_in all (p.first + inner)).parent ≡ size_to lone (entry_in p.units inner).parent
+    parent_moved : (inner : ℕ) → inner < length (entries_of units)
+        → size_to table (entry_in all (first + inner)).parent ≡ size_to lone (entry_in units inner).parent
     parent_moved inner inside = search (rules, to_moved, parent-first)
 
-    array_moved : (inner : ℕ) → inner < length (entries_of p.units)
-        → array_size all table (p.first + inner) ≡ array_size p.units lone inner
+    array_moved : (inner : ℕ) → inner < length (entries_of units)
+        → array_size all table (first + inner) ≡ array_size units lone inner
     array_moved inner inside = search (rules, elements_same, type_moved)
 
-    kind_moved : (kind : Kind) (inner : ℕ) → inner < length (entries_of p.units)
-        → size_of_kind kind all table (p.first + inner) ≡ size_of_kind kind p.units lone inner
+    kind_moved : (kind : Kind) (inner : ℕ) → inner < length (entries_of units)
+        → size_of_kind kind all table (first + inner) ≡ size_of_kind kind units lone inner
     kind_moved Declared inner inside = signature_moved inner inside
     kind_moved OwnSized inner inside = search (rules)
     kind_moved Pointer inner inside = search (rules)
     kind_moved Alias inner inside = type_moved inner inside
-    kind_moved Enumeration inner inside = rw (type_moved inner inside, w.entries inner inside) refl
-    kind_moved Array inner inside = rw (array_moved inner inside, w.entries inner inside) refl
+    kind_moved Enumeration inner inside = search (rules, type_moved)
+    kind_moved Array inner inside = search (rules, array_moved)
     kind_moved Subroutine inner inside = refl
     kind_moved NoType inner inside = refl
 
-    pub line_moved : (inner : ℕ) → inner < length (entries_of p.units)
-        → size_line all table (p.first + inner) ≡ size_line p.units lone inner
+    pub line_moved : (inner : ℕ) → inner < length (entries_of units)
+        → size_line all table (first + inner) ≡ size_line units lone inner
     line_moved inner inside = search (rules, kind_moved)
 
-    pub fails_moved : (inner : ℕ) → inner < length (entries_of p.units) → (rule : Rule)
-        → fails_size all table (p.first + inner) rule ≡ fails_size p.units lone inner rule
-    fails_moved inner inside NoSize = ap has_no_size (w.entries inner inside)
+    pub fails_moved : (inner : ℕ) → inner < length (entries_of units) → (rule : Rule)
+        → fails_size all table (first + inner) rule ≡ fails_size units lone inner rule
+    fails_moved inner inside NoSize = search (rules)
     fails_moved inner inside SizeTooGreat = rw (agree inner inside) refl
     fails_moved inner inside MemberOutside = search (rules, plain_same, parent_moved, type_moved, past_moved)
     fails_moved inner inside EnumSize = search (rules, has_target_same, type_moved)

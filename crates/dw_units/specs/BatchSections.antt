@@ -1,8 +1,8 @@
 -- State: the batches of .debug_info, each as sections of its own, and what is found of them one after another.
 use Rattle.std.specs.Prelude.{◌≡◌, ◌≢◌, ℕ, ◌+◌, ◌<◌, ◌≤◌, List, [], ◌∷◌, ◌++◌, length, drop}
-use Rattle.std.specs.List.{AllByRecursion, count_by}
+use Rattle.std.specs.List.{count_by}
 use Rattle.dw_elf.specs.declared.sections.Sections.{Sections}
-use Rattle.dw_entries.specs.Units.{DebugUnit, units_bytes}
+use Rattle.dw_entries.specs.Units.{DebugUnit, AreFrom, units_bytes}
 use Rattle.dw_entries.specs.Entries.{Entry, entries_of}
 use Rattle.dw_entries.specs.EntryRules.{EachEntry}
 use Rattle.dw_image.specs.Lookups.{is_type_entry}
@@ -11,16 +11,15 @@ use Rattle.dw_forms.specs.declared.rule.Rule.{Rule}
 use Rattle.dw_forms.specs.declared.rule.Rule.TheVariants.{UnitCut}
 use Rattle.dw_forms.specs.Rules.{group_of}
 use Rattle.dw_image.specs.GroupsBefore.{PassBefore}
-use Rattle.dw_image.specs.FirstFault.{Group, turn_of}
+use Rattle.dw_image.specs.FirstFault.{Group}
 use Rattle.dw_image.specs.Headline.{IsFaultOf}
 use Rattle.dw_units.specs.declared.counts.Counts.{Counts}
 use Rattle.dw_units.specs.declared.checking.Found.{Found}
 use Rattle.dw_units.specs.declared.checking.Found.TheVariants as found
 use Rattle.dw_units.specs.declared.batches.Elsewhere.{Elsewhere}
 use Rattle.dw_units.specs.declared.batches.Elsewhere.TheVariants.{Never, ByOffset, BySignature}
-use Rattle.dw_units.specs.ByUnit.{AreBatches, HasNoOffset, IsFirm, PassesBelow, PassesThrough}
-use Rattle.dw_units.specs.ByUnit.{IsMeasured, FailsAlone}
-use Rattle.dw_units.specs.IndependentBatches.{joined, StaysInside, StandsAlone}
+use Rattle.dw_units.specs.ByUnit.{HasNoOffset, IsFirm, PassesBelow, PassesThrough, IsMeasured, FailsAlone, StaysAlone}
+use Rattle.dw_units.specs.IndependentBatches.{StaysInside, StandsAlone}
 use Rattle.dw_units.specs.Counts.{AreCounts, sums}
 
 -- batches of these sizes are at the front of the bytes, and these bytes follow
@@ -63,35 +62,41 @@ pub data IsFoundAfter (own : Sections) (units : List DebugUnit) : (so_far more :
   fails : (so_far : Found) (fault : Fault) → IsLess so_far fault.rule → IsFaultOf own fault → IsFirm units fault.rule
       → IsFoundAfter own units so_far (found.Fault fault)
 
--- the fault is the least of these batches: of the first batch in the least group
-pub record HasLeast (s : Sections) (batches : List (List DebugUnit)) (fault : Fault) : Type 0 where
-  pub before : List (List DebugUnit)
+-- units stay alone, no rule of an earlier group fails at them, and where sizes are asked they have their table
+pub record IsReady (s : Sections) (group : Group) (units : List DebugUnit) : Type 0 where
+  pub stays : StaysAlone s units
+  pub measured : IsMeasured group units
+  pub below : PassesBelow s group units
+
+-- the fault is the least of these units: of the first batch in the least group
+pub record HasLeast (s : Sections) (us : List DebugUnit) (fault : Fault) : Type 0 where
+  pub before : List DebugUnit
   pub units : List DebugUnit
-  pub behind : List (List DebugUnit)
+  pub behind : List DebugUnit
   pub group : Group
-  pub are : batches ≡ before ++ units ∷ behind
-  pub measured : AllByRecursion (IsMeasured group) batches
-  pub passed : AllByRecursion (PassesThrough s group) before
+  pub are : us ≡ before ++ (units ++ behind)
+  pub early : IsReady s group before
+  pub passed : PassesThrough s group before
+  pub one : IsReady s group units
   pub fails : FailsAlone s units group fault
-  pub below : AllByRecursion (PassesBelow s group) behind
-  pub rank : group_of fault.rule ≡ turn_of group
+  pub late : IsReady s group behind
 
--- the batches each stand alone, and these are the counts of their units
-pub record AreCounted (s : Sections) (batches : List (List DebugUnit)) (c : Counts) : Type 0 where
-  pub alone : AllByRecursion (StandsAlone s) batches
-  pub unit_count : c.units ≡ length (joined batches)
-  pub entry_count : c.entries ≡ length (entries_of (joined batches))
-  pub type_count : c.types ≡ count_by is_type_entry (entries_of (joined batches))
+-- the units stand alone, and these are their counts
+pub record AreCounted (s : Sections) (us : List DebugUnit) (c : Counts) : Type 0 where
+  pub alone : StandsAlone s us
+  pub unit_count : c.units ≡ length us
+  pub entry_count : c.entries ≡ length (entries_of us)
+  pub type_count : c.types ≡ count_by is_type_entry (entries_of us)
 
--- this is found of the batches
-abbrev pub IsFoundOf : Sections → List (List DebugUnit) → Found → Type 0
-IsFoundOf s batches (found.Sound c) = AreCounted s batches c
-IsFoundOf s batches (found.Fault fault) = HasLeast s batches fault
+-- this is found of the units
+abbrev pub IsFoundOf : Sections → List DebugUnit → Found → Type 0
+IsFoundOf s us (found.Sound c) = AreCounted s us c
+IsFoundOf s us (found.Fault fault) = HasLeast s us fault
 
--- batches have the bytes from the base up to an offset, and this is found of them
+-- units have the bytes from the base up to an offset, and this is found of them
 pub record IsFoundUpTo (s : Sections) (at : ℕ) (it : Found) : Type 0 where
-  pub batches : List (List DebugUnit)
-  pub apart : AreBatches s batches
-  pub at_is : at ≡ s.base + length (units_bytes (joined batches))
-  pub bytes : drop s.base s.info.now ≡ units_bytes (joined batches) ++ drop at s.info.now
-  pub of_batches : IsFoundOf s batches it
+  pub units : List DebugUnit
+  pub from : AreFrom s.base units
+  pub at_is : at ≡ s.base + length (units_bytes units)
+  pub bytes : drop s.base s.info.now ≡ units_bytes units ++ drop at s.info.now
+  pub of_units : IsFoundOf s units it

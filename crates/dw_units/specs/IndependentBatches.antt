@@ -1,6 +1,6 @@
 -- Chapter: batches of units that refer to nothing outside themselves. A batch is some units, one after another, as
 -- those that share an abbreviation table. If each batch is valid by itself, all are valid together.
-use Rattle.std.specs.Prelude.{◌≡◌, ℕ, Bool, true, false, List, None}
+use Rattle.std.specs.Prelude.{◌≡◌, ℕ, false, List, None}
 use Rattle.std.specs.List.{AllByRecursion, flat_map}
 use Rattle.dw_elf.specs.declared.sections.Sections.{Sections}
 use Rattle.dw_forms.specs.declared.form.Form.{Form}
@@ -13,7 +13,6 @@ use Rattle.dw_entries.specs.Entries.{Entry, entries_of}
 use Rattle.dw_entries.specs.EntryRules.{EachEntry, HasAttribute}
 use Rattle.dw_entries.specs.Failures.{HasNone}
 use Rattle.dw_links.specs.Classes.{ClassFailures}
-use Rattle.dw_links.specs.RulesOfAttributes.{Rules}
 use Rattle.dw_links.specs.Signatures.{type_unit_of}
 use Rattle.dw_links.specs.Strings.{StringFailures}
 use Rattle.dw_links.specs.References.{is_signature, ReferenceFailures}
@@ -60,7 +59,3 @@ leaves_by RefAddr = ByOffset
 leaves_by RefSig8 = BySignature
 leaves_by Indirect = BySignature
 leaves_by _ = Never
-
--- a fact of values, as a rule on attributes
-abbrev pub Where : (Datum → Bool) → Rules
-Where holds head attribute v rule = holds v ≡ true

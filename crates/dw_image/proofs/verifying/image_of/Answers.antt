@@ -3,8 +3,7 @@ use Rattle.dw_image.specs.StepsAndSizes.{AreMeasures}
 use Rattle.std.proofs.lemmas.Result.{err_from_is_err_and}
 use Rattle.dw_entries.proofs.StopLaws.{faulty_weaker}
 use Rattle.std.proofs.Common.{rules, refl, arith}
-use Rattle.dw_image.proofs.JoinLemmas.{wrong_class, wrong_link, wrong_size, image_of}
-use Rattle.dw_image.proofs.JoinLemmas.{pass_classes, pass_links, pass_ordered, pass_all}
+use Rattle.dw_image.proofs.JoinLemmas.{wrong_class, wrong_link, wrong_size, image_of, pass_classes, pass_links, pass_ordered, pass_all}
 use Rattle.dw_image.proofs.verifying.image_of.Goals as goal
 
 pub returns-in_err-check_classes-clause-fault : goal.returns-in_err-check_classes-clause-fault

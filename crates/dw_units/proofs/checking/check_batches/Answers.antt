@@ -1,9 +1,16 @@
 use Rattle.std.proofs.Common.{arith}
-use Rattle.dw_units.proofs.CountLemmas.{found_in, found_by_trees, none_left, none_so_far}
+use Rattle.dw_units.proofs.CountLemmas.{fits_in, found_in, found_by_trees, none_left, none_so_far}
 use Rattle.dw_units.proofs.checking.check_batches.Goals as goal
 
 pub loop-k-init : goal.loop-k-init
 loop-k-init c = (none_so_far c.args.sections.now, rw c.in-Some.is at c.in_ok-sizes.ensures)
+
+pub verify_next-requires : goal.verify_next-requires
+verify_next-requires c =
+    let end = c.len-k-end.ensures in
+    let below = c.loop-k-test.true in
+    fits_in c.args.sections.now c.loop-k.at c.loop-k.so_far c.loop-k.invariant.0 c.in-Some.sizes.items c.loop-k.k
+    c.index-size.result.now (omega (arith, end, below)) c.index-size.ensures c.loop-k.invariant.1
 
 pub returns-in-Err-Fault : goal.returns-in-Err-Fault
 returns-in-Err-Fault c =
