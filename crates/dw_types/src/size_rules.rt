@@ -122,7 +122,7 @@ fn wants_own(entry: &EntryAt<'_, '_>, kind: Kind) -> bool
 }
 
 /// Whether the byte size is negative where it is read, or none is there where one is wanted.
-#[inline(always)]
+#[inline(never)]
 fn has_no_size(entry: &EntryAt<'_, '_>) -> bool
     ensures { result ≡ has_no_size entry.now }
 {
