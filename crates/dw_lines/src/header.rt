@@ -3,10 +3,8 @@
 ghost use Rattle.std.specs.Prelude.{◌≡◌, ◌+◌, ◌≤◌, ◌<◌, ◌⊎◌, length, take, drop, IfOk};
 ghost use Rattle.dw_forms.specs.BaseFormats.{fixed_number};
 ghost use Rattle.dw_forms.specs.ValueReading.{Gives};
-ghost use Rattle.dw_lines.specs.Header.{byte as byte_format, number as number_format, path as path_format, numbers_of};
-ghost use Rattle.dw_lines.specs.Header.{content as content_format, version as version_format, length_end};
-ghost use Rattle.dw_lines.specs.Header.{address_size as size_format, maximum_operations as maximum_format};
-ghost use Rattle.dw_lines.specs.Header.{parameters as parameters_format, standard_opcode_lengths as lengths_format};
+ghost use Rattle.dw_lines.specs.Header as spec;
+ghost use Rattle.dw_lines.specs.Header.{numbers_of, length_end};
 
 use crate::program::Parameters;
 use crate::rule::LineRule;
@@ -32,7 +30,7 @@ pub(crate) fn fixed(cut: LineRule, size: usize, bytes: &[u8]) -> Result<(u64, &[
 
 /// A byte, and the bytes after it.
 pub(crate) fn byte(bytes: &[u8]) -> Result<(u8, &[u8]), LineRule>
-    ensures { Gives (λ x. (x.0, x.1.now)) result (byte_format.read bytes.now) }
+    ensures { Gives (λ x. (x.0, x.1.now)) result (spec.byte.read bytes.now) }
 {
     match bytes {
         [byte, rest @ ..] => Ok((*byte, rest)),
@@ -42,7 +40,7 @@ pub(crate) fn byte(bytes: &[u8]) -> Result<(u8, &[u8]), LineRule>
 
 /// An unsigned LEB128 number, and the bytes after it.
 pub(crate) fn number(bytes: &[u8]) -> Result<(u64, &[u8]), LineRule>
-    ensures exact { Gives (λ x. (x.0, x.1.now)) result (number_format.read bytes.now) }
+    ensures exact { Gives (λ x. (x.0, x.1.now)) result (spec.number.read bytes.now) }
     ensures shorter { IfOk result (λ x. length x.1.now < length bytes.now) }
 {
     let (number, len) = read_uleb(bytes)?;
@@ -51,7 +49,7 @@ pub(crate) fn number(bytes: &[u8]) -> Result<(u64, &[u8]), LineRule>
 
 /// A path up to a zero byte, and the bytes after that.
 pub(crate) fn path(bytes: &[u8]) -> Result<(&[u8], &[u8]), LineRule>
-    ensures exact { Gives (λ x. (x.0.now, x.1.now)) result (path_format.read bytes.now) }
+    ensures exact { Gives (λ x. (x.0.now, x.1.now)) result (spec.path.read bytes.now) }
     ensures shorter { IfOk result (λ x. length x.1.now < length bytes.now) }
 {
     let Some(len) = memchr(0, bytes) else {
@@ -63,7 +61,7 @@ pub(crate) fn path(bytes: &[u8]) -> Result<(&[u8], &[u8]), LineRule>
 /// The bytes of a program after its length, and the bytes after the program.
 #[tactic(auto, unfolding(crate::specs::Header::content, dw_forms::specs::BaseFormats::taken_at))]
 pub(crate) fn content(bytes: &[u8]) -> Result<(&[u8], &[u8]), LineRule>
-    ensures exact { Gives (λ x. (x.0.now, x.1.now)) result (content_format.read bytes.now) }
+    ensures exact { Gives (λ x. (x.0.now, x.1.now)) result (spec.content.read bytes.now) }
     ensures short { IfOk result (λ x. length x.0.now < length_end) }
     // The program is after the four bytes of its length.
     ensures within { IfOk result (λ x. 4 + length x.0.now ≤ length bytes.now) }
@@ -82,7 +80,7 @@ pub(crate) fn content(bytes: &[u8]) -> Result<(&[u8], &[u8]), LineRule>
 /// The version.
 #[tactic(auto, unfolding(crate::specs::Header::version))]
 pub(crate) fn version(bytes: &[u8]) -> Result<(u16, &[u8]), LineRule>
-    ensures { Gives (λ x. (x.0, x.1.now)) result (version_format.read bytes.now) }
+    ensures { Gives (λ x. (x.0, x.1.now)) result (spec.version.read bytes.now) }
 {
     let (version, rest) = fixed(LineRule::LineCut, 2, bytes)?;
     if 2 <= version && version <= 5 {
@@ -94,7 +92,7 @@ pub(crate) fn version(bytes: &[u8]) -> Result<(u16, &[u8]), LineRule>
 /// The bytes after the size of an address, which only headers of version 5 have. It is that of the unit.
 #[tactic(auto, unfolding(crate::specs::Header::address_size))]
 pub(crate) fn address_size(version: u16, size: u8, bytes: &[u8]) -> Result<&[u8], LineRule>
-    ensures { Gives (λ x. (size, x.now)) result ((size_format version size).read bytes.now) }
+    ensures { Gives (λ x. (size, x.now)) result ((spec.address_size version size).read bytes.now) }
 {
     if version < 5 {
         return Ok(bytes);
@@ -110,7 +108,7 @@ pub(crate) fn address_size(version: u16, size: u8, bytes: &[u8]) -> Result<&[u8]
 /// The field maximum_operations_per_instruction, which versions before 4 don't have.
 #[tactic(auto, unfolding(crate::specs::Header::maximum_operations))]
 fn maximum_operations(version: u16, bytes: &[u8]) -> Result<(u8, &[u8]), LineRule>
-    ensures { Gives (λ x. (x.0, x.1.now)) result ((maximum_format version).read bytes.now) }
+    ensures { Gives (λ x. (x.0, x.1.now)) result ((spec.maximum_operations version).read bytes.now) }
 {
     if version < 4 {
         return Ok((1, bytes));
@@ -126,7 +124,7 @@ pub(crate) fn parameters(
     bytes: &[u8],
 ) -> Result<(Parameters, &[u8]), LineRule>
     requires { (size ≡ 4) ⊎ (size ≡ 8) }
-    ensures { Gives (λ x. (numbers_of x.0, x.1.now)) result ((parameters_format version size).read bytes.now) }
+    ensures { Gives (λ x. (numbers_of x.0, x.1.now)) result ((spec.parameters version size).read bytes.now) }
 {
     let (minimum, rest) = byte(bytes)?;
     let (maximum, rest) = maximum_operations(version, rest)?;
@@ -159,7 +157,7 @@ pub(crate) fn standard_opcode_lengths(
     bytes: &[u8],
 ) -> Result<(&[u8], &[u8]), LineRule>
     requires { 1 ≤ opcode_base }
-    ensures { Gives (λ x. (x.0.now, x.1.now)) result ((lengths_format opcode_base).read bytes.now) }
+    ensures { Gives (λ x. (x.0.now, x.1.now)) result ((spec.standard_opcode_lengths opcode_base).read bytes.now) }
 {
     let count = usize::from(opcode_base - 1);
     if bytes.len() < count {

@@ -74,15 +74,11 @@ impl Row {
     /// An operation advance.
     #[inline(always)]
     #[tactic(auto, unfolding(crate::specs::Machine::advanced))]
-    pub(crate) fn advance(
-        &mut self,
-        parameters: &Parameters,
-        operations: u64,
-    ) -> Result<(), LineRule>
-        ensures { Changes result (advanced parameters.now operations self.old) self.old self.new }
+    pub(crate) fn advance(&mut self, parameters: &Parameters, advance: u64) -> Result<(), LineRule>
+        ensures { Changes result (advanced parameters.now advance self.old) self.old self.new }
     {
         let least = u128::from(parameters.minimum_instruction_length);
-        let sum = u128::from(self.op_index) + u128::from(operations);
+        let sum = u128::from(self.op_index) + u128::from(advance);
         let most = u128::from(parameters.maximum_operations_per_instruction);
         if most == 1 {
             return self.add_bytes(least * sum, 0);
@@ -142,10 +138,7 @@ impl Row {
             // DW_LNS_set_column
             5 => {
                 let (column, rest) = unsigned(LineRule::OpcodeCut, bytes)?;
-                match u32::try_from(column) {
-                    Ok(column) => self.column = column,
-                    Err(_) => return Err(LineRule::RowLine),
-                }
+                self.column = u32::try_from(column).map_err(|_| LineRule::RowLine)?;
                 return Ok(rest);
             }
             // DW_LNS_negate_stmt

@@ -3,6 +3,7 @@
 ghost use Rattle.std.specs.Prelude.{◌≡◌, ◌≤◌, length};
 ghost use Rattle.dw_lines.specs.Machine.{cleared, last_after, row_turn, then_turn, turn};
 ghost use Rattle.dw_lines.specs.Opcodes.{Special, extended_opcode, opcode_after};
+ghost use Rattle.dw_lines.specs.Rows.{Yields, program_run};
 ghost use Rattle.dw_lines.specs.Turns.{Turns};
 ghost use Rattle.dw_lines.specs.declared.program.Parameters.{Parameters as AnyParameters};
 
@@ -163,7 +164,6 @@ pub struct Rows<'p, 'a> {
 }
 
 impl Rows<'_, '_> {
-    ghost use Rattle.dw_lines.specs.Rows.{Yields};
     ghost use Rattle.dw_lines.specs.RowsLeft.{run_left};
 
     /// The next row, or none after the last. Returns the first rule that the program violates, at its place; the rows
@@ -196,7 +196,6 @@ impl Rows<'_, '_> {
 }
 
 impl<'a> Program<'a> {
-    ghost use Rattle.dw_lines.specs.Rows.{program_run};
     ghost use Rattle.dw_lines.specs.RowsLeft.{run_left};
 
     /// The rows of the program.

@@ -5,12 +5,8 @@ ghost use Rattle.dw_elf.specs.Elf.{IsAfterLastZero};
 ghost use Rattle.dw_forms.specs.Stops.{GivesOrMemory};
 ghost use Rattle.dw_forms.specs.Value.{view};
 ghost use Rattle.dw_forms.specs.ValueReading.{Gives};
-ghost use Rattle.dw_lines.specs.Files.{path_or_end as path_format, string_at as string_format, files4 as files4_format};
-ghost use Rattle.dw_lines.specs.Files.{file_or_end as file4_format, content_format};
-ghost use Rattle.dw_lines.specs.Files.{directories4 as directories4_format, directories5 as directories5_format};
-ghost use Rattle.dw_lines.specs.Files.{table_head as head_format, has_kind as has_kind_in, files5 as files5_format};
-ghost use Rattle.dw_lines.specs.Files.{with_value as value_format, may_have as may_have_form, entry as entry_format_of};
-ghost use Rattle.dw_lines.specs.Files.{tables as tables_format, are_contents, path_view, file_view};
+ghost use Rattle.dw_lines.specs.Files as spec;
+ghost use Rattle.dw_lines.specs.Files.{are_contents, content_format, path_view, file_view};
 ghost use Rattle.dw_lines.specs.Header.{length_end};
 ghost use Rattle.dw_lines.specs.Repeats.{times};
 
@@ -24,7 +20,7 @@ use std::alloc::Global;
 /// A path in versions 2 to 4, or none where an empty one ends a table; and the bytes after it.
 #[tactic(auto, unfolding(crate::specs::Files::path_or_end))]
 fn path_or_end(bytes: &[u8]) -> Result<(Option<LinePath<'_>>, &[u8]), LineRule>
-    ensures exact { Gives (λ x. (option_map path_view x.0, x.1.now)) result (path_format.read bytes.now) }
+    ensures exact { Gives (λ x. (option_map path_view x.0, x.1.now)) result (spec.path_or_end.read bytes.now) }
     ensures shorter { IfOk result (λ x. length x.1.now < length bytes.now) }
 {
     let (path, rest) = path(bytes)?;
@@ -37,7 +33,7 @@ fn path_or_end(bytes: &[u8]) -> Result<(Option<LinePath<'_>>, &[u8]), LineRule>
 /// A file after so many directories, or none at the table's end; and the bytes after it.
 #[tactic(auto, unfolding(crate::specs::Files::file_or_end))]
 fn file_or_end(count: usize, bytes: &[u8]) -> Result<(Option<FileEntry<'_>>, &[u8]), LineRule>
-    ensures exact { Gives (λ x. (option_map file_view x.0, x.1.now)) result ((file4_format count).read bytes.now) }
+    ensures exact { Gives (λ x. (option_map file_view x.0, x.1.now)) result ((spec.file_or_end count).read bytes.now) }
     ensures shorter { IfOk result (λ x. length x.1.now < length bytes.now) }
 {
     let (path, rest) = path_or_end(bytes)?;
@@ -45,24 +41,17 @@ fn file_or_end(count: usize, bytes: &[u8]) -> Result<(Option<FileEntry<'_>>, &[u
         return Ok((None, rest));
     };
     let (directory, rest) = number(rest)?;
-    let directory = in_directory(count, directory)?;
+    let mut file = FileEntry { path, ..NO_FILE };
+    file.directory = in_directory(count, directory)?;
     let (_time, rest) = number(rest)?;
     let (_size, rest) = number(rest)?;
-    let file = FileEntry {
-        path,
-        directory,
-        md5: None,
-    };
     Ok((Some(file), rest))
 }
 
 /// The directories of versions 2 to 4, and the bytes after their table.
-fn directories4<'a>(
-    alloc: Global,
-    bytes: &'a [u8],
-) -> Result<(Vec<LinePath<'a>>, &'a [u8]), Stop<LineRule>>
+fn directories4(alloc: Global, bytes: &[u8]) -> Result<(Vec<LinePath<'_>>, &[u8]), Stop<LineRule>>
     requires { length bytes.now < length_end }
-    ensures exact { GivesOrMemory (λ x. (map path_view x.0.items, x.1.now)) result (directories4_format.read bytes.now) }
+    ensures exact { GivesOrMemory (λ x. (map path_view x.0.items, x.1.now)) result (spec.directories4.read bytes.now) }
     ensures within { IfOk result (λ x. length x.1.now ≤ length bytes.now) }
 {
     let mut paths = Vec::new(alloc);
@@ -85,7 +74,7 @@ fn files4<'a>(
     bytes: &'a [u8],
 ) -> Result<(Vec<FileEntry<'a>>, &'a [u8]), Stop<LineRule>>
     requires { length bytes.now < length_end }
-    ensures { GivesOrMemory (λ x. (map file_view x.0.items, x.1.now)) result ((files4_format count).read bytes.now) }
+    ensures { GivesOrMemory (λ x. (map file_view x.0.items, x.1.now)) result ((spec.files4 count).read bytes.now) }
 {
     let mut files = Vec::new(alloc);
     files.push(NO_FILE)?;
@@ -120,7 +109,7 @@ pub(crate) struct Content {
 
 /// Whether a content of this kind may have a form. The forms of strings by index are left out: they need the unit.
 fn may_have(kind: u64, form: Form) -> bool
-    ensures { result ≡ may_have_form kind form }
+    ensures { result ≡ spec.may_have kind form }
 {
     // Of a content that the standard does not name, the form alone says how long it is.
     let is_named = kind >= DW_LNCT_path && kind <= DW_LNCT_MD5;
@@ -141,7 +130,7 @@ fn may_have(kind: u64, form: Form) -> bool
 
 /// Whether one of the contents is of this kind.
 fn has_kind(contents: &[Content], kind: u64) -> bool
-    ensures { result ≡ has_kind_in kind contents.now }
+    ensures { result ≡ spec.has_kind kind contents.now }
 {
     contents.iter().any(|content| content.kind == kind)
 }
@@ -191,7 +180,7 @@ fn contents(alloc: Global, count: u8, bytes: &[u8]) -> Result<(Vec<Content>, &[u
 /// a byte at least.
 #[tactic(auto, unfolding(crate::specs::Files::table_head, crate::specs::Files::entry_format))]
 fn table_head(alloc: Global, bytes: &[u8]) -> Result<(Vec<Content>, u64, &[u8]), Stop<LineRule>>
-    ensures { GivesOrMemory (λ x. ((x.0.items, x.1), x.2.now)) result (head_format.read bytes.now) }
+    ensures { GivesOrMemory (λ x. ((x.0.items, x.1), x.2.now)) result (spec.table_head.read bytes.now) }
 {
     let (count, rest) = byte(bytes)?;
     let (contents, rest) = contents(alloc, count, rest)?;
@@ -210,7 +199,7 @@ fn table_head(alloc: Global, bytes: &[u8]) -> Result<(Vec<Content>, u64, &[u8]),
 fn string_at(section: &[u8], end: usize, offset: u32) -> Result<LinePath<'_>, LineRule>
     requires { IsAfterLastZero section.now end }
     ensures { (bytes : List ℕ) → Gives (λ p. (path_view p, bytes)) result
-        ((string_format section.now offset).read bytes) }
+        ((spec.string_at section.now offset).read bytes) }
 {
     if (offset as usize) < end {
         return Ok(LinePath::Section(&section[offset as usize..]));
@@ -226,7 +215,7 @@ fn with_value<'a>(
     value: Value<'a>,
 ) -> Result<FileEntry<'a>, LineRule>
     ensures { (bytes : List ℕ) → Gives (λ e. (file_view e, bytes)) result
-        ((value_format sections.now kind (file_view entry.entry) (view value.entry)).read bytes) }
+        ((spec.with_value sections.now kind (file_view entry.entry) (view value.entry)).read bytes) }
 {
     let path = match value {
         Value::Text(string) => LinePath::Header(string),
@@ -256,7 +245,7 @@ fn entry<'a>(
     bytes: &'a [u8],
 ) -> Result<(FileEntry<'a>, &'a [u8]), LineRule>
     ensures { Gives (λ x. (file_view x.0, x.1.now)) result
-        ((entry_format_of sections.now contents.now).read bytes.now) }
+        ((spec.entry sections.now contents.now).read bytes.now) }
 {
     let mut entry = NO_FILE;
     let mut rest = bytes;
@@ -278,7 +267,7 @@ fn directories5<'a>(
     bytes: &'a [u8],
 ) -> Result<(Vec<LinePath<'a>>, &'a [u8]), Stop<LineRule>>
     ensures { GivesOrMemory (λ x. (map path_view x.0.items, x.1.now)) result
-        ((directories5_format sections.now).read bytes.now) }
+        ((spec.directories5 sections.now).read bytes.now) }
 {
     let (contents, count, rest) = table_head(alloc, bytes)?;
     let mut paths = Vec::new(alloc);
@@ -300,7 +289,7 @@ fn files5<'a>(
     bytes: &'a [u8],
 ) -> Result<(Vec<FileEntry<'a>>, &'a [u8]), Stop<LineRule>>
     ensures { GivesOrMemory (λ x. (map file_view x.0.items, x.1.now)) result
-        ((files5_format sections.now directories).read bytes.now) }
+        ((spec.files5 sections.now directories).read bytes.now) }
 {
     let (contents, count, rest) = table_head(alloc, bytes)?;
     let mut files = Vec::new(alloc);
@@ -330,7 +319,7 @@ pub(crate) fn tables<'a>(
         first_file = x.1.first;
       },
       x.2.now,
-    )) result ((tables_format sections.now version).read bytes.now) }
+    )) result ((spec.tables sections.now version).read bytes.now) }
 {
     if version < 5 {
         let (directories, rest) = directories4(alloc, bytes)?;
