@@ -5,12 +5,12 @@ use Rattle.std.specs.List.{AllAdjacentBelow}
 use Rattle.std.specs.Prelude.{option_and_then, slice_get}
 use Rattle.std.proofs.lemmas.Bool.{cases_lt, cases_order}
 use Rattle.std.proofs.lemmas.List.{get_or_default}
-use Rattle.dw_forms.specs.Stops.{IfFault}
 use Rattle.dw_forms.specs.declared.fault.Stop.{Stop}
+use Rattle.dw_forms.specs.Stops.{IfFault}
 use Rattle.dw_forms.specs.declared.fault.Stop.TheVariants.{Fault, Memory}
+use Rattle.dw_entries.specs.declared.entries.Entries.{Entries}
 use Rattle.dw_entries.proofs.Firsts.{same_some}
 use Rattle.dw_entries.specs.Views.{units_of}
-use Rattle.dw_entries.specs.declared.entries.Entries.{Entries}
 use Rattle.dw_lines.specs.Programs.{program_end}
 use Rattle.dw_lines.specs.declared.fault.LineFault.{LineFault}
 use Rattle.dw_lines.specs.declared.program.Program.{Program}

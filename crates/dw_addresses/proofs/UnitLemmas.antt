@@ -3,15 +3,13 @@ use Rattle.std.proofs.Common.{◌≡◌, ℕ, ◌<◌, length, Some, sym, ap, su
 use Rattle.std.specs.Prelude.{slice_get}
 use Rattle.std.proofs.lemmas.Option.{slice_get_within, slice_get-get_or}
 use Rattle.dw_entries.specs.declared.entries.Entries.{Entries}
-use Rattle.dw_entries.specs.ByNumber.{no_placed, no_unit, placed_of, unit_of}
-use Rattle.dw_entries.specs.Entries.{PlacedUnit, placed}
+use Rattle.dw_entries.specs.ByNumber.{no_placed, no_unit, placed_of, unit_of, PlacedUnit}
 use Rattle.dw_entries.specs.Header.{IsSize}
-use Rattle.dw_entries.specs.UnitLaws.{unit_sized}
 use Rattle.dw_entries.specs.Units.{DebugUnit}
-use Rattle.dw_entries.specs.Views.{all_entries, all_units, units_of}
+use Rattle.dw_entries.specs.Views.{all_entries, all_units, units_of, placed}
 use Rattle.dw_entries.proofs.EntryFacts.{length-placed, unit_placed, first_entry}
 use Rattle.dw_entries.proofs.Firsts.{same_some}
-use Rattle.dw_entries.proofs.HeadLaws.{all_get}
+use Rattle.dw_entries.proofs.HeadLaws.{all_get, unit_sized}
 use Rattle.dw_ranges.specs.EntryRanges.{head_in}
 use Rattle.dw_addresses.specs.Reading.{IsOne}
 use Rattle.dw_addresses.specs.declared.named.Named.{Named}

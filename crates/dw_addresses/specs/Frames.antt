@@ -2,8 +2,7 @@
 -- source file: where the address is, or the call of the function inlined there (DWARF 5, 2.14, 3.3.8 and 6.2.2).
 use Rattle.std.specs.Prelude.{◌≡◌, ℕ, List, [], ◌∷◌, ◌++◌, Option, Some, None, option_and_then, option_map}
 use Rattle.std.specs.Option.{unwrap_or}
-use Rattle.dw_entries.specs.ByNumber.{entry_of}
-use Rattle.dw_entries.specs.Entries.{Entry}
+use Rattle.dw_entries.specs.ByNumber.{entry_of, Entry}
 use Rattle.dw_entries.specs.Lookups.{value_at_entry}
 use Rattle.dw_forms.specs.Codes.{DW_AT_call_file}
 use Rattle.dw_lines.specs.declared.row.Row.{Row}

@@ -1,7 +1,7 @@
 -- Chapter: the line programs that the units of a file name (DWARF 5, 3.1.1 and 6.2), and the rules on them.
 use Rattle.std.specs.Prelude.{◌≡◌, ℕ, ◌+◌, ◌<◌, ◌≤◌, ◌⊎◌, length, Option, Some, None, Ok, Err, option_and_then}
-use Rattle.dw_entries.specs.Views.{units_of}
 use Rattle.dw_entries.specs.declared.entries.Entries.{Entries}
+use Rattle.dw_entries.specs.Views.{units_of}
 use Rattle.dw_lines.specs.Programs.{program_end, program_from, program_view}
 use Rattle.dw_lines.specs.Rows.{program_run}
 use Rattle.dw_lines.specs.declared.fault.LineFault.{LineFault}

@@ -2,9 +2,9 @@
 use Rattle.std.specs.Prelude.{ℕ, zero, suc, List, Option, None, option_and_then}
 use Rattle.std.specs.Option.{option_or}
 use Rattle.dw_forms.specs.Codes.{DW_AT_abstract_origin, DW_AT_name, DW_AT_specification}
+use Rattle.dw_entries.specs.declared.entries.Entries.{Entries}
 use Rattle.dw_entries.specs.ByNumber.{entry_of}
 use Rattle.dw_entries.specs.Views.{all_entries, all_units, sections_of}
-use Rattle.dw_entries.specs.declared.entries.Entries.{Entries}
 use Rattle.dw_links.specs.AttributeTexts.{text_at}
 use Rattle.dw_links.specs.Targets.{target_of}
 use Rattle.dw_ranges.specs.EntryRanges.{head_in}

@@ -1,8 +1,8 @@
 -- State: the line programs that units name, and those of them that were read.
 use Rattle.std.specs.Prelude.{◌≡◌, ◌≢◌, ℕ, suc, ◌-◌, ◌<◌, ◌≤◌, ◌⊎◌, List, length, Option, Some, None, All, Contains}
 use Rattle.std.specs.Prelude.{slice_get, slice_index_or}
-use Rattle.dw_entries.specs.Views.{units_of}
 use Rattle.dw_entries.specs.declared.entries.Entries.{Entries}
+use Rattle.dw_entries.specs.Views.{units_of}
 use Rattle.dw_lines.specs.Programs.{program_end}
 use Rattle.dw_addresses.specs.declared.line_index.LineIndex.{LineIndex}
 use Rattle.dw_lines.specs.declared.sections.LineSections.{LineSections}

@@ -1,23 +1,19 @@
 -- How far the pass over a unit's body has come.
 use Rattle.std.proofs.Common.{rules, ◌≡◌, ◌≢◌, ℕ, suc, ◌+◌, ◌-◌, ◌<◌, ◌≤◌, Bool, map, true, false, cond, List, [], ◌∷◌, ◌++◌, length, Some, Ok, Err, refl, sym, ap, ◌∙◌, append_assoc, append-nil, arith, length-append, eqb, subst}
 use Rattle.std.proofs.lemmas.List.{length-reverse}
-use Rattle.dw_entries.specs.declared.records.Record.{Record}
-use Rattle.dw_entries.specs.declared.fault.PlainFault.{PlainFault}
 use Rattle.dw_entries.specs.Header.{HeaderKind, fits_tag, unit_header_size}
 use Rattle.dw_entries.specs.Grammar.{Declaration, Context, Head, head_bytes, IsHead, declared}
-use Rattle.dw_entries.specs.Tree.{Node, node_bytes, leaf, parent}
 use Rattle.dw_entries.specs.Items.{IsItem, Item, entry, null, AreItems, entry_decl, item_bytes, items_bytes, node_items, depth_along, root_depth, tree_depth}
 use Rattle.dw_forms.specs.Formats.{mapped, choose, failing}
 use Rattle.dw_entries.specs.ItemFormats.{Failing, item, first_head, failing_by, head_by, fitting_head, code}
 use Rattle.dw_entries.specs.Units.{nulls_bytes, head_of}
-use Rattle.dw_entries.specs.Faults.{Front, in_unit, BodyFails}
-use Rattle.dw_entries.specs.Walk.{Level, Walk, walk_of, open_list, enter, leave, step, walk_along}
+use Rattle.dw_entries.specs.Faults.{Front, in_unit, BodyFails, PlainFault}
+use Rattle.dw_entries.specs.Walk.{Level, Walk, walk_of, open_list, enter, leave, step, walk_along, Record}
 use Rattle.dw_entries.specs.Stopped.{TreeOf}
 use Rattle.dw_entries.specs.Records.{tree_records}
 use Rattle.dw_entries.specs.ItemLaws.{item_some, item_from, head_from}
 use Rattle.dw_forms.specs.WithBytes.{read_fails, read_takes}
-use Rattle.dw_entries.proofs.HeadLaws.{all-append}
-use Rattle.dw_entries.proofs.ItemLaws.{items_bytes-append, node_of, node_spelled, nulls_spelled, depth_along-append}
+use Rattle.dw_entries.proofs.ItemLaws.{items_bytes-append, node_of, node_spelled, nulls_spelled, depth_along-append, all-append, Node, node_bytes, leaf, parent}
 use Rattle.dw_entries.proofs.WalkLaws.{length-link_last, along_root}
 use Rattle.dw_forms.specs.Leb.{Uleb}
 use Rattle.dw_forms.specs.declared.rule.Rule.TheVariants.{NoUnitEntry}

@@ -1,12 +1,12 @@
 -- The attributes that are passed, up to the first one that a test holds for.
-use Rattle.std.proofs.Common.{rules, ◌≡◌, ℕ, zero, suc, false, List, [], ◌∷◌, ◌++◌, map, length, take, drop, sym, ap, ◌∙◌, subst, append-nil, Bool}
+use Rattle.std.proofs.Common.{rules, ◌≡◌, ℕ, zero, suc, false, List, [], ◌∷◌, ◌++◌, map, length, take, drop, subst, append-nil, Bool}
 use Rattle.std.specs.List.{list_any}
 use Rattle.std.proofs.lemmas.Bool.{or_parts}
 use Rattle.std.proofs.lemmas.List.{take-append-drop, length-map}
-use Rattle.dw_forms.specs.declared.attributes.Attributes.{Attributes}
+pub use Rattle.dw_forms.specs.declared.attributes.Attributes.{Attributes}
 use Rattle.dw_forms.specs.Chains.{items_of}
 use Rattle.dw_forms.specs.Suffixes.{specs_in, IsFrom, Ends}
-use Rattle.dw_forms.proofs.SuffixLaws.{specs_ends, first_specs, follow}
+pub use Rattle.dw_forms.proofs.SuffixLaws.{specs_ends, first_specs, follow}
 use Rattle.dw_entries.specs.Grammar.{Datum, AttributeSpec, Context, Attribute, AreAttributes}
 use Rattle.dw_entries.specs.EntryRules.{value_of}
 use Rattle.dw_entries.specs.PassedAttributes.{ArePassed, IsNextOf, TakesFirst}
@@ -54,8 +54,7 @@ next_found Passes items left behind k found steps rest are = record {
 pub none_found : (Passes : AttributeSpec → Type 0) (items left : List (ℕ × Datum)) (k : ℕ) → left ≡ []
     → left ≡ drop k items → ArePassed Passes (take k items) → ArePassed Passes items
 none_found Passes items left k ends rest are =
-    let parts : take k items ≡ items = sym (append-nil (take k items))
-    ∙ ap (λ (xs : List (ℕ × Datum)). take k items ++ xs) (sym ends ∙ rest) ∙ take-append-drop k items in
+    let parts : take k items ≡ items = search (rules, append-nil, (take-append-drop k items)) in
     subst (ArePassed Passes) parts are
 
 -- the first attribute of those that a search found is taken

@@ -2,17 +2,12 @@
 use Rattle.std.proofs.Common.{rules, ◌≡◌, ℕ, zero, suc, ◌+◌, ◌-◌, ◌<◌, ◌≤◌, List, [], ◌∷◌, ◌++◌, length, get_or, Option, Some, None, refl, sym, ◌∙◌, inl, inr, arith, ◌⊎◌, slice_get}
 use Rattle.std.proofs.lemmas.Bool.{cases_lt}
 use Rattle.std.proofs.lemmas.Option.{slice_get_within, slice_get-get_or}
-use Rattle.dw_entries.specs.Grammar.{head_bytes}
-use Rattle.dw_entries.specs.Header.{unit_header_size}
-use Rattle.dw_entries.specs.Tree.{Node, Nodes, leaf, parent, none, ◌then◌, node_bytes}
-use Rattle.dw_entries.specs.Units.{DebugUnit, unit_bytes}
-use Rattle.dw_entries.specs.Entries.{Entry, node_count, first_id, node_entries, nodes_entries, entries_from, entries_of, start_of}
+use Rattle.dw_entries.specs.Tree.{Node, Nodes, leaf, parent, none, ◌then◌, node_bytes, head_bytes}
+use Rattle.dw_entries.specs.Entries.{Entry, node_count, first_id, node_entries, nodes_entries, entries_from, entries_of, start_of, DebugUnit, unit_bytes}
 use Rattle.dw_entries.specs.ByNumber.{entry_of}
-use Rattle.dw_entries.specs.Scanned.{Tables, UnitRecord, Record, found_units, Scanned}
-use Rattle.dw_entries.proofs.EntryFacts.{length-node_entries, kept_get}
+use Rattle.dw_entries.proofs.EntryFacts.{length-node_entries, kept_get, unit_header_size}
 use Rattle.dw_entries.proofs.FindLaws.{entries_counted}
-use Rattle.dw_entries.proofs.KeptLaws.{found_entry, kept_entry, one_some}
-use Rattle.dw_entries.proofs.UnitRanges.{get_front, get_behind}
+use Rattle.dw_entries.proofs.UnitRanges.{get_front, get_behind, found_entry, kept_entry, one_some, Tables, UnitRecord, Record, found_units, Scanned}
 
 -- one of these entries, numbered from id, is the parent, and is one less deep
 pub record HasParent (es : List Entry) (id k : ℕ) (e : Entry) : Type 0 where

@@ -2,12 +2,11 @@
 use Rattle.std.proofs.Common.{rules, ◌≡◌, ℕ, zero, suc, ◌+◌, ◌-◌, ◌<◌, ◌≤◌, List, [], ◌∷◌, ◌++◌, length, take, drop, Option, Some, None, refl, sym, ap, ◌∙◌, append_assoc, add-zero, arith, length-append, length-take-le, take-append-drop, drop-cons, slice_get}
 use Rattle.std.specs.List.{AllByRecursion}
 use Rattle.std.proofs.lemmas.Option.{slice_get-map, slice_get-get_or, slice_get_within, get_or_from_slice_get}
-use Rattle.dw_entries.specs.Grammar.{head_bytes}
-use Rattle.dw_entries.specs.Header.{unit_header_size}
-use Rattle.dw_entries.specs.Tree.{Node, Nodes, leaf, parent, none, ◌then◌, node_bytes}
+pub use Rattle.dw_entries.specs.Header.{unit_header_size}
+use Rattle.dw_entries.specs.Tree.{Node, Nodes, leaf, parent, none, ◌then◌, node_bytes, head_bytes}
 use Rattle.dw_entries.specs.Units.{DebugUnit, head_of, unit_bytes, AreUnits, units_bytes}
-use Rattle.dw_entries.specs.Entries.{Entry, node_count, nodes_count, first_id, node_entries, nodes_entries, entries_from, start_of, entries_of, PlacedUnit, placed_from, placed}
-use Rattle.dw_entries.specs.ByNumber.{placed_of}
+pub use Rattle.dw_entries.specs.Entries.{Entry, node_count, nodes_count, first_id, node_entries, nodes_entries, entries_from, start_of, entries_of, PlacedUnit, placed_from, placed}
+pub use Rattle.dw_entries.specs.ByNumber.{placed_of}
 use Rattle.dw_entries.specs.Scanned.{Record, record_of, records_of}
 use Rattle.dw_entries.specs.EntryRules.{OffsetsRise}
 use Rattle.dw_entries.proofs.HeadLaws.{all-append, get_behind}

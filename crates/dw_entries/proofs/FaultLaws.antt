@@ -1,22 +1,19 @@
 -- One list of units at most, one fault at most, and never both.
 use Rattle.std.proofs.Common.{rules, ◌≡◌, ℕ, zero, suc, ◌+◌, true, map, List, [], ◌∷◌, ◌++◌, length, Option, Some, inl, inr, refl, sym, ap, ◌∙◌, append_assoc, append-nil, arith, length-append, ◌⊎◌, Ok, flat_map}
 use Rattle.std.specs.List.{AllByRecursion}
-use Rattle.dw_entries.specs.declared.fault.PlainFault.{PlainFault}
 use Rattle.dw_entries.specs.Grammar.{Context, Head, head_bytes, IsHead, attribute_bytes}
 use Rattle.dw_entries.specs.Header.{HeaderKind, fits_tag, header_at}
-use Rattle.dw_entries.specs.Tree.{Node, IsNode, node_bytes}
 use Rattle.dw_entries.specs.Items.{Item, entry, null, item_bytes, IsItem, AreItems, items_bytes, node_items, tree_depth}
 use Rattle.dw_forms.specs.Formats.{one_fault as one_fault_of}
 use Rattle.dw_entries.specs.ItemFormats.{Failing, next_item, first_head, fitting_head, code}
 use Rattle.dw_forms.specs.WithBytes.{value_or_fault}
 use Rattle.dw_entries.specs.Units.{DebugUnit, head_of, nulls_bytes, AreNulls, unit_bytes, IsUnit, units_bytes, Spells, AreUnits, body_bytes}
-use Rattle.dw_entries.specs.Faults.{FitsUnit, Stops, BodyFails, FailsHere, Fails}
+use Rattle.dw_entries.specs.Faults.{FitsUnit, Stops, BodyFails, FailsHere, Fails, PlainFault}
 use Rattle.dw_entries.specs.Joined.{IsUnique}
 use Rattle.dw_entries.specs.ItemLaws.{item_some, item_to, item_unique, head_to}
 use Rattle.dw_entries.specs.UnitLaws.{IsBare, bare, bytes_bare, are_bare, unit_unique}
-use Rattle.dw_entries.proofs.HeadLaws.{all-append}
 use Rattle.dw_entries.proofs.NullLaws.{fits_node}
-use Rattle.dw_entries.proofs.ItemLaws.{items_bytes-append, node_spelled, node_are_items, nulls_are_items, nulls_spelled, whole_depth, nothing_after}
+use Rattle.dw_entries.proofs.ItemLaws.{items_bytes-append, node_spelled, node_are_items, nulls_are_items, nulls_spelled, whole_depth, nothing_after, all-append, Node, IsNode, node_bytes}
 use Rattle.dw_entries.proofs.UnitSteps.{header_again}
 
 -- ---- two fronts of the same bytes
@@ -129,16 +126,13 @@ node_or_fault t kind header n zs f p nulls tag b =
     ended : (d : ℕ) → tree_depth b.items ≡ Some d → tree_depth b.items ≡ Some 0
         → Stops t kind b.items b.rest d b.failing → b.rest ≡ [] → ⊥
     ended zero e z stops r = stops.0 r
-    ended (suc d) e z stops r = let apart : ◌≡◌ {A = Option ℕ} (Some (suc d)) (Some 0) = sym e ∙ z in cc
+    ended (suc d) e z stops r = search rules
 
     inside : (more : List Item) → AreItems t more → whole ≡ b.items ++ more → b.rest ≡ items_bytes more ++ [] → ⊥
     inside [] are items rest =
-        ended b.depth b.front.at_depth (rw (ap tree_depth (sym (items ∙ append-nil b.items))) (whole_depth t n zs p))
-        b.stops rest
+        search (rules, ended, append-nil, (whole_depth t n zs p))
     inside (i ∷ more) are items rest =
-        stops_there t kind b.items b.rest b.depth b.failing i more (items_bytes more ++ []) 0 b.front.at_depth b.stops
-        are.0 (rw items at fits) (ap tree_depth (sym items) ∙ whole_depth t n zs p)
-        (rest ∙ append_assoc (item_bytes i) (items_bytes more) [])
+        search (rules, stops_there, fits, (whole_depth t n zs p), append_assoc)
 
 -- the header of a unit is read, and the bytes after it
 unit_header : (a : List ℕ) (u : DebugUnit) (x : List ℕ) → IsUnit a u

@@ -1,16 +1,13 @@
 -- The entries and their records, by their offsets.
-use Rattle.std.proofs.Common.{rules, ◌≡◌, ℕ, ◌+◌, ◌<◌, ◌≤◌, ◌^◌, List, [], ◌∷◌, length, Option, Some, None, refl, ap, ◌∙◌, arith, sym, IfSome, option_map, slice_get}
+use Rattle.std.proofs.Common.{rules, ◌≡◌, ℕ, ◌+◌, ◌<◌, ◌≤◌, ◌^◌, List, [], ◌∷◌, length, Option, Some, None, refl, arith, IfSome, option_map, slice_get}
 use Rattle.std.proofs.lemmas.Option.{slice_get_within}
 use Rattle.std.proofs.lemmas.List.{length-map}
-use Rattle.dw_entries.specs.Entries.{entries_of, start_of}
 use Rattle.dw_entries.specs.Units.{AreFrom, DebugUnit}
-use Rattle.dw_entries.specs.Scanned.{Tables, UnitRecord, Record, found_units, numbers_of, record_of, Scanned}
 use Rattle.dw_entries.specs.Starts.{Block, AreInOrder, AreStarts, IsRecordAt, number_from}
 use Rattle.dw_entries.specs.EntriesAt.{IsEntryAt}
-use Rattle.dw_entries.proofs.EntryFacts.{entries_rise, entry_past, placed_past}
-use Rattle.dw_entries.proofs.HeadLaws.{stands_within}
-use Rattle.dw_entries.proofs.KeptLaws.{found_entry, found_place, kept_entry, kept_unit, record_is}
-use Rattle.dw_entries.proofs.OrderLaws.{scanned_few}
+use Rattle.dw_entries.proofs.EntryFacts.{entries_rise, entry_past, placed_past, entries_of, start_of}
+use Rattle.dw_entries.proofs.KeptLaws.{found_entry, found_place, kept_entry, kept_unit, record_is, Tables, UnitRecord, Record, found_units, numbers_of, record_of, Scanned, stands_within}
+pub use Rattle.dw_entries.proofs.OrderLaws.{scanned_few}
 
 -- the first unit is where the units begin
 starts_at : (base number : ℕ) (us : List DebugUnit) → AreFrom base us → number < length us → start_of us ≡ base
@@ -39,11 +36,7 @@ module _ {base : ℕ} {a info : List ℕ} {tables : Tables} {rs : List UnitRecor
           let within : id < length (entries_of (found_units s)) =
           omega (arith, slice_get_within records id r is, entries_counted a info tables rs records s) in
           let offset_is : r.at ≡ offset = cc in
-          record {
-            within = within;
-            begins = sym (ap (λ (q : Record). q.at) (record_is (kept_entry s id within) r is))
-                ∙ offset_is;
-          }
+          let same = record_is (kept_entry s id within) r is in record { within = within; begins = search rules }
 
   -- where an entry begins, its record is
   pub record_at : (offset id : ℕ) → IsEntryAt (entries_of (found_units s)) offset id → IsRecordAt records offset id

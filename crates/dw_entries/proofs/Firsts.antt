@@ -4,9 +4,9 @@ use Rattle.std.proofs.lemmas.Option.{slice_get_within}
 use Rattle.dw_forms.specs.Value.{Datum}
 use Rattle.dw_forms.specs.Rules.{number_of}
 use Rattle.dw_entries.specs.Entries.{Entry}
-use Rattle.dw_entries.specs.Places.{Place, at_header, at_entry, at_attribute, IsBefore, offset_of}
-use Rattle.dw_entries.specs.Failures.{PlainFault, Rule, Failure, Precedes, Names, HasNone, IsFirst, IsLeast}
-use Rattle.dw_entries.specs.EntryRules.{OffsetsRise, values_of, HasAttribute, AtAttributes, InList, AtEntries}
+pub use Rattle.dw_entries.specs.Places.{Place, at_header, at_entry, at_attribute, IsBefore, offset_of}
+pub use Rattle.dw_entries.specs.Failures.{PlainFault, Rule, Failure, Precedes, Names, HasNone, IsFirst, IsLeast}
+pub use Rattle.dw_entries.specs.EntryRules.{OffsetsRise, values_of, HasAttribute, AtAttributes, InList, AtEntries}
 use Rattle.dw_entries.proofs.NumberOrder.{three_ways}
 
 -- the place is the entry at this offset, or an attribute of it

@@ -5,12 +5,11 @@ use Rattle.std.proofs.lemmas.List.{length-replicate}
 use Rattle.std.proofs.lemmas.Option.{slice_get_within, get_or_from_slice_get}
 use Rattle.dw_entries.specs.Grammar.{Context, head_bytes, attribute_bytes, IsHead}
 use Rattle.dw_entries.specs.Header.{unit_header_size}
-use Rattle.dw_entries.specs.UnitLaws.{unit_sized}
+pub use Rattle.dw_entries.specs.UnitLaws.{unit_sized, DebugUnit, context_of, body_bytes, nulls_bytes, unit_bytes, IsUnit, AreUnits, units_bytes, Spells, AreFrom}
 use Rattle.dw_entries.specs.Items.{entry}
 use Rattle.dw_entries.specs.ItemFormats.{code}
 use Rattle.dw_entries.specs.ItemLaws.{item_some}
 use Rattle.dw_entries.specs.Tree.{Node, Nodes, leaf, parent, none, ◌then◌, IsNode, AreNodes, node_bytes, nodes_bytes}
-use Rattle.dw_entries.specs.Units.{DebugUnit, context_of, body_bytes, nulls_bytes, unit_bytes, IsUnit, AreUnits, units_bytes, Spells, AreFrom}
 use Rattle.dw_entries.specs.Entries.{Entry, node_count, first_id, node_entries, nodes_entries, entries_from, start_of, entries_of}
 use Rattle.dw_entries.specs.ByNumber.{unit_of}
 

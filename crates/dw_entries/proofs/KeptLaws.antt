@@ -13,18 +13,16 @@ use Rattle.dw_forms.proofs.ChainLaws.{item_some, item_within}
 use Rattle.dw_forms.proofs.KeptLaws.{own_numbers, numbers_find}
 use Rattle.dw_forms.proofs.SpecLaws.{decl_specs}
 use Rattle.dw_entries.specs.declared.header.UnitType.{UnitType}
-use Rattle.dw_entries.specs.declared.units.UnitHead.{UnitHead}
 use Rattle.dw_entries.specs.Grammar.{Declaration, declared_in, attribute_bytes}
 use Rattle.dw_entries.specs.Header.{UnitHeader, type_of}
 use Rattle.dw_entries.specs.ItemFormats.{Failing, code}
 use Rattle.dw_forms.specs.WithBytes.{ok_pair}
-use Rattle.dw_entries.specs.Units.{DebugUnit}
-use Rattle.dw_entries.specs.Entries.{Entry, entries_of, PlacedUnit, placed}
+use Rattle.dw_entries.specs.Entries.{Entry, entries_of, PlacedUnit, placed, DebugUnit}
 use Rattle.dw_entries.specs.ByNumber.{no_entry, no_unit, entry_of, placed_of, unit_of}
-use Rattle.dw_entries.specs.Scanned.{Tables, UnitRecord, Record, found_units, tables_among, table_of, numbers_of, record_of, IsRecordOfUnit, Scanned}
-use Rattle.dw_entries.specs.Lookups.{IsKeptIn, HasSpecsIn, unit_head}
+pub use Rattle.dw_entries.specs.Scanned.{Tables, UnitRecord, Record, found_units, tables_among, table_of, numbers_of, record_of, IsRecordOfUnit, Scanned}
+use Rattle.dw_entries.specs.Lookups.{IsKeptIn, HasSpecsIn, unit_head, UnitHead}
 use Rattle.dw_entries.proofs.ScanLaws.{rest_of}
-use Rattle.dw_entries.proofs.HeadLaws.{Stands, head_stands, stands_code, stands_within}
+pub use Rattle.dw_entries.proofs.HeadLaws.{Stands, head_stands, stands_code, stands_within}
 use Rattle.dw_entries.proofs.EntryFacts.{unit_placed, length-placed, kept_get, HasFirst, first_entry}
 
 pub one_some : {A : Type 0} (o : Option A) (x y : A) → o ≡ Some x → o ≡ Some y → x ≡ y
@@ -47,8 +45,7 @@ pub unit_kept : (tables : Tables) (rs : List UnitRecord) (ps : List PlacedUnit) 
     → (r : UnitRecord) × (slice_get rs k ≡ Some r) × IsRecordOfUnit tables r p
 unit_kept tables rs ps zip k p is =
     let m = AllZip-right (IsRecordOfUnit tables) rs ps zip k in
-    let at_p : IsSomeAnd (slice_get rs k) (λ r. IsRecordOfUnit tables r p) = rw is at m in
-    some_and (slice_get rs k) (λ r. IsRecordOfUnit tables r p) at_p
+    some_and (slice_get rs k) (λ r. IsRecordOfUnit tables r p) (rw is at m)
 
 -- the entry of a number, of those that were found
 abbrev pub found_entry : {base : ℕ} {a info : List ℕ} {tables : Tables} {rs : List UnitRecord} {records : List Record}

@@ -2,10 +2,7 @@
 use Rattle.std.proofs.Common.{rules, ◌≡◌, ℕ, Bool, true, false, List, length, Some, Ok, Err, refl, subst, Result, sym, nat_lt}
 use Rattle.std.specs.Prelude.{⊤}
 use Rattle.std.specs.Bool.{OnTrue}
-use Rattle.dw_forms.specs.declared.leading_steps.Lead.{Lead}
 use Rattle.dw_forms.specs.declared.leading_steps.Lead.TheVariants as lead
-use Rattle.dw_forms.specs.declared.abbrev.AttributeSpec.{AttributeSpec}
-use Rattle.dw_forms.specs.declared.form.Form.{Form}
 use Rattle.dw_forms.specs.declared.form.Form.TheVariants.{Ref4, Strp, Strx1, Strx2, Addrx}
 use Rattle.dw_forms.specs.declared.value.ValueFault.TheVariants.{Cut}
 use Rattle.dw_forms.specs.declared.value.Value.{Value}
@@ -16,8 +13,8 @@ use Rattle.dw_forms.specs.ValueFormats.{laid_out}
 use Rattle.dw_forms.specs.ValueReading.{layout_at, uleb_then}
 use Rattle.dw_forms.specs.LeadingWalks.{lead_of}
 use Rattle.dw_forms.proofs.LeadLaws.{lead_says}
-use Rattle.dw_entries.specs.Led.{IsMade, IsRead, is_index_lead, is_offset_lead, leads_on}
-use Rattle.dw_entries.specs.Leading.{form_of_lead}
+use Rattle.dw_entries.specs.Led.{IsMade, IsRead, is_index_lead, is_offset_lead, leads_on, Lead, Form}
+use Rattle.dw_entries.specs.Leading.{form_of_lead, AttributeSpec}
 use Rattle.dw_forms.specs.WithBytes.{ok_pair}
 use Rattle.dw_entries.specs.Values.{IsCutValue}
 use Rattle.dw_forms.specs.declared.value.ValueFault.{ValueFault}

@@ -1,8 +1,7 @@
 -- One step of a walk over the values that may lead elsewhere.
-use Rattle.std.proofs.Common.{rules, ◌≡◌, ℕ, ◌-◌, ◌≤◌, List, [], ◌∷◌, ◌++◌, length, take, drop, map, Ok, ap, subst}
+use Rattle.std.proofs.Common.{rules, ◌≡◌, ℕ, ◌-◌, ◌≤◌, List, [], ◌∷◌, ◌++◌, length, take, drop, map, Ok, subst}
 use Rattle.std.proofs.lemmas.Bool.{ltb-false}
 use Rattle.std.proofs.lemmas.List.{take-append-drop}
-use Rattle.dw_forms.specs.declared.attributes.Attributes.{Attributes}
 use Rattle.dw_forms.specs.declared.leading_steps.Lead.TheVariants as lead
 use Rattle.dw_forms.specs.declared.leading_steps.Step.{Step}
 use Rattle.dw_forms.specs.Chains.{Numbered, items_of}
@@ -13,12 +12,11 @@ use Rattle.dw_forms.proofs.ChainLaws.{chain_none}
 use Rattle.dw_forms.proofs.PassSteps.{run, items_append}
 use Rattle.dw_forms.proofs.WalkSteps.{GoesTo, goes_to, step_lead}
 use Rattle.dw_entries.specs.EntryRules.{value_of}
-use Rattle.dw_entries.specs.Grammar.{AttributeSpec, Context, AreAttributes}
 use Rattle.dw_entries.specs.Leading.{BeginsWithLead, PassesOver}
 use Rattle.dw_entries.specs.declared.values.Values.{Values}
 use Rattle.dw_entries.specs.ValueLaws.{left_unique}
-use Rattle.dw_entries.specs.Values.{value_context, Left}
-use Rattle.dw_entries.proofs.ChosenSteps.{front_passed}
+use Rattle.dw_entries.specs.Values.{value_context, Left, AttributeSpec, Context, AreAttributes}
+use Rattle.dw_entries.proofs.ChosenSteps.{front_passed, Attributes}
 use Rattle.dw_entries.proofs.PassLaws.{Passed, those}
 use Rattle.dw_entries.proofs.ScanLaws.{rest_of}
 
@@ -93,8 +91,7 @@ module _ (v : Values) (step : Step) (skip : ℕ) (is : IsFirstStep (numbered v.a
   over m =
       let values = map value_of v.left.0.0 in
       let k = length front in
-      let same : m.0.0 ≡ here.others =
-      ap (λ (z : Left x (specs_in there) slice). z.0.0) (left_unique x (specs_in there) slice m left_there) in
+      let same = left_unique x (specs_in there) slice m left_there in
       record {
         passed = take k values;
         parts = search (rules, take-append-drop, here);

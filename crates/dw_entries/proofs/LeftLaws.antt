@@ -1,20 +1,16 @@
 -- The attributes of an entry that stand in .debug_info, and the value of one of them.
-use Rattle.std.proofs.Common.{rules, ◌≡◌, ℕ, ◌+◌, List, ◌++◌, length, map, None, false, ap, [], ◌∷◌, ◌≢◌, All, flat_map}
+use Rattle.std.proofs.Common.{rules, ◌≡◌, ℕ, ◌+◌, List, ◌++◌, length, map, None, false, [], ◌∷◌, ◌≢◌, All, flat_map}
 use Rattle.std.proofs.lemmas.Bool.{ne_eqb}
 use Rattle.std.proofs.lemmas.Option.{slice_get-get_or}
 use Rattle.std.proofs.lemmas.List.Folds.{list_any_none}
-use Rattle.dw_entries.specs.Grammar.{AttributeSpec, AreAttributes, attribute_bytes, Context, Attribute}
 use Rattle.dw_entries.specs.Header.{UnitHeader, version_of, IsSize}
-use Rattle.dw_entries.specs.UnitLaws.{unit_sized}
-use Rattle.dw_entries.specs.Scanned.{Tables, UnitRecord, Record, Scanned}
 use Rattle.dw_entries.specs.EntryRules.{value_of, values_of}
 use Rattle.dw_entries.specs.ValuePlaces.{placed_values, placed_values_from}
-use Rattle.dw_entries.specs.Values.{value_context, Left}
-use Rattle.dw_entries.specs.ValueLaws.{left_unique}
+use Rattle.dw_entries.specs.Values.{value_context, Left, AttributeSpec, AreAttributes, attribute_bytes, Context, Attribute}
 use Rattle.dw_entries.specs.Lookups.{declares, value_at_entry}
-use Rattle.dw_entries.proofs.HeadLaws.{all_get}
-use Rattle.dw_entries.proofs.KeptLaws.{KeptEntry, found_entry, found_unit}
-use Rattle.dw_entries.proofs.ValueSteps.{value_of_none}
+use Rattle.dw_entries.proofs.HeadLaws.{all_get, unit_sized}
+use Rattle.dw_entries.proofs.KeptLaws.{KeptEntry, found_entry, found_unit, Tables, UnitRecord, Record, Scanned}
+use Rattle.dw_entries.proofs.ValueSteps.{value_of_none, left_unique}
 
 -- the table of a unit has no part in its attributes
 without_table : (x : Context) (specs : List AttributeSpec) (bs : List Attribute) → AreAttributes x specs bs
@@ -48,10 +44,7 @@ module _ {base : ℕ} {a info : List ℕ} {tables : Tables} {rs : List UnitRecor
       → map value_of m.0.0 ≡ values_of (found_entry s id).head
   unfolding left_here
   values_here m =
-      let same : m.0.0 ≡ (found_entry s id).head.attributes = ap
-      (λ (z : Left (value_context version header.address_size) specs bytes). z.0.0)
-      (left_unique (value_context version header.address_size) specs bytes m left_here) in
-      ap (map value_of) same
+      let same = left_unique (value_context version header.address_size) specs bytes m left_here in search rules
 
   -- with their places, if the bytes start where the code ends
   pub placed_here : (start : ℕ) → start ≡ (found_entry s id).at + length (found_entry s id).head.code
@@ -59,10 +52,7 @@ module _ {base : ℕ} {a info : List ℕ} {tables : Tables} {rs : List UnitRecor
       → placed_values_from start m.0.0 ≡ placed_values (found_entry s id)
   unfolding left_here
   placed_here start start_is m =
-      let same : m.0.0 ≡ (found_entry s id).head.attributes = ap
-      (λ (z : Left (value_context version header.address_size) specs bytes). z.0.0)
-      (left_unique (value_context version header.address_size) specs bytes m left_here) in
-      λ i. placed_values_from (start_is i) (same i)
+      let same = left_unique (value_context version header.address_size) specs bytes m left_here in search rules
 
 -- ---- the value of one attribute
 

@@ -3,9 +3,7 @@ use Rattle.std.proofs.Common.{rules, ◌≡◌, ◌≢◌, ℕ, ◌+◌, ◌-◌
 use Rattle.std.proofs.lemmas.List.Concat.{flat_map-append}
 use Rattle.dw_entries.specs.declared.records.Record.{Record}
 use Rattle.dw_forms.specs.declared.rule.Rule.TheVariants.{LeftOver}
-use Rattle.dw_entries.specs.Grammar.{Context}
 use Rattle.dw_entries.specs.Header.{HeaderKind, fits_tag, unit_header_size}
-use Rattle.dw_entries.specs.Tree.{Node, leaf, parent, node_bytes}
 use Rattle.dw_entries.specs.Items.{Item, null, items_bytes, node_items}
 use Rattle.dw_entries.specs.ItemFormats.{Failing, code}
 use Rattle.dw_entries.specs.Units.{AreNulls, nulls_bytes, head_of}
@@ -13,8 +11,7 @@ use Rattle.dw_entries.specs.Faults.{BeginsNoNull, FitsUnit, in_unit, BodyFails}
 use Rattle.dw_entries.specs.Stopped.{TreeOf, AreAllNulls, NullsThen}
 use Rattle.dw_entries.specs.ItemLaws.{code_has_byte}
 use Rattle.dw_forms.specs.WithBytes.{read_takes}
-use Rattle.dw_entries.proofs.HeadLaws.{all-append}
-use Rattle.dw_entries.proofs.ItemLaws.{items_bytes-append, node_are_items, node_spelled, nulls_are_items, nulls_spelled, whole_depth}
+use Rattle.dw_entries.proofs.ItemLaws.{items_bytes-append, node_are_items, node_spelled, nulls_are_items, nulls_spelled, whole_depth, all-append, Node, leaf, parent, node_bytes, Context}
 
 -- some nulls were taken, and this is what is left
 pub record NullsTo (bytes rest : List ℕ) : Type 0 where

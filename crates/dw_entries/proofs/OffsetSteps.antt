@@ -1,10 +1,7 @@
 -- One attribute whose value is an offset of four bytes.
 use Rattle.std.proofs.Common.{rules, ◌≡◌, ℕ, ◌≤◌, ◌-◌, true, List, [], ◌∷◌, length, take, drop, map, Some, Result, Ok, Err, refl, IfSome}
-use Rattle.dw_forms.specs.declared.abbrev.AttributeSpec.{AttributeSpec}
 use Rattle.dw_forms.specs.declared.attributes.Attributes.{Attributes}
-use Rattle.dw_forms.specs.declared.form.Form.{Form}
 use Rattle.dw_forms.specs.declared.form.Form.TheVariants.{Ref4, Strp}
-use Rattle.dw_forms.specs.declared.leading_steps.Lead.{Lead}
 use Rattle.dw_forms.specs.declared.leading_steps.Lead.TheVariants as lead
 use Rattle.dw_forms.specs.declared.value.ValueFault.{ValueFault}
 use Rattle.dw_forms.specs.Steps.{◌>>=◌}
@@ -12,14 +9,10 @@ use Rattle.dw_forms.specs.Suffixes.{Ends, specs_in}
 use Rattle.dw_forms.specs.Value.{Datum, fixed, str}
 use Rattle.dw_forms.specs.ValueFormats.{laid_out}
 use Rattle.dw_forms.specs.ValueReading.{fixed_at, layout_at, value_at}
-use Rattle.dw_entries.specs.declared.values.Values.{Values}
-use Rattle.dw_entries.specs.EntryRules.{value_of}
-use Rattle.dw_entries.specs.Leading.{BeginsWithForm, BeginsWithLead, ReadsFirst, form_of_lead}
-use Rattle.dw_entries.specs.Led.{is_offset_lead, offset_by}
-use Rattle.dw_entries.specs.Values.{Left, value_context}
-use Rattle.dw_entries.specs.ValuesLeft.{specs_left}
-use Rattle.dw_entries.proofs.OverLaws.{form_fits}
-use Rattle.dw_entries.proofs.ValueSteps.{form_reads, left_after, reads_first, steps_after}
+use Rattle.dw_entries.specs.Leading.{BeginsWithForm, BeginsWithLead, ReadsFirst, form_of_lead, AttributeSpec}
+use Rattle.dw_entries.specs.Led.{is_offset_lead, offset_by, Lead, Form}
+use Rattle.dw_entries.proofs.OverLaws.{form_fits, specs_left, Values}
+use Rattle.dw_entries.proofs.ValueSteps.{form_reads, left_after, reads_first, steps_after, value_of, Left, value_context}
 
 -- there is one
 pub offset_on : (l : Lead) → is_offset_lead l ≡ true → l ≡ lead.Nothing → ⊥

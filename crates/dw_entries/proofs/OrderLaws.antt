@@ -2,11 +2,9 @@
 use Rattle.std.proofs.Common.{rules, ℕ, suc, ◌+◌, ◌≤◌, List, [], ◌∷◌, ◌++◌, length, map, Option, Some, None, arith, length-append, length-drop}
 use Rattle.std.proofs.lemmas.List.{map-append}
 use Rattle.dw_entries.specs.Scanned.{Tables, UnitRecord, Record, record_of, Scanned}
-use Rattle.dw_entries.specs.Grammar.{Context, head_bytes}
 use Rattle.dw_entries.specs.Header.{unit_header_size}
-use Rattle.dw_entries.specs.UnitLaws.{unit_sized}
-use Rattle.dw_entries.specs.Tree.{Node, Nodes, leaf, parent, none, ◌then◌, IsNode, AreNodes, node_bytes, nodes_bytes}
-use Rattle.dw_entries.specs.Units.{nulls_bytes, DebugUnit, context_of, unit_bytes, AreUnits, units_bytes}
+use Rattle.dw_entries.specs.UnitLaws.{unit_sized, nulls_bytes, DebugUnit, context_of, unit_bytes, AreUnits, units_bytes}
+use Rattle.dw_entries.specs.Tree.{Node, Nodes, leaf, parent, none, ◌then◌, IsNode, AreNodes, node_bytes, nodes_bytes, Context, head_bytes}
 use Rattle.dw_entries.specs.Entries.{Entry, node_count, first_id, node_entries, nodes_entries, entries_from}
 use Rattle.dw_entries.specs.Records.{records_from}
 use Rattle.dw_entries.specs.Items.{entry}

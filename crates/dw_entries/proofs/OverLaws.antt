@@ -2,29 +2,21 @@
 use Rattle.std.proofs.Common.{rules, ◌≡◌, ℕ, zero, suc, ◌<◌, ◌≤◌, ◌-◌, take, drop, Ok, true, false, List, [], ◌∷◌, ◌++◌, length, map, Option, Some, None, refl, sym, ap, ◌∙◌, append_assoc, length-append, IfNone, IfSome}
 use Rattle.std.proofs.lemmas.Bool.{or_parts}
 use Rattle.std.specs.List.{list_any}
-use Rattle.dw_forms.specs.declared.attributes.Attributes.{Attributes}
-use Rattle.dw_forms.specs.declared.leading_steps.Lead.{Lead}
 use Rattle.dw_forms.specs.declared.leading_steps.Lead.TheVariants as lead
 use Rattle.dw_forms.specs.declared.leading_steps.Step.{Step}
-use Rattle.dw_forms.specs.declared.form.Form.{Form}
 use Rattle.dw_forms.specs.LeadingWalks.{does_lead, lead_of, IsFirstStep}
 use Rattle.dw_forms.specs.Suffixes.{Ends, nodes_of, numbered, specs_in}
 use Rattle.dw_forms.specs.ValueReading.{value_at}
-use Rattle.dw_forms.proofs.SuffixLaws.{first_specs}
-use Rattle.dw_entries.specs.declared.values.Values.{Values}
-use Rattle.dw_entries.specs.ValuesLeft.{specs_left, values_left}
-use Rattle.dw_entries.proofs.ValueSteps.{item_passed, steps_after}
+pub use Rattle.dw_entries.specs.ValuesLeft.{specs_left, values_left, Values}
+use Rattle.dw_entries.proofs.ValueSteps.{item_passed, steps_after, value_of, Left, value_context, Datum, AttributeSpec, Context}
 use Rattle.dw_forms.proofs.LeadLaws.{lead_says}
 use Rattle.dw_forms.proofs.PartLaws.{none_both}
 use Rattle.dw_forms.proofs.WalkSteps.{step_none, step_nothing}
-use Rattle.dw_entries.specs.EntryRules.{value_of}
-use Rattle.dw_entries.specs.Grammar.{Datum, AttributeSpec, Context}
-use Rattle.dw_entries.specs.Led.{item_of, leads_on, LeadsNext}
+use Rattle.dw_entries.specs.Led.{item_of, leads_on, LeadsNext, Lead, Form}
 use Rattle.dw_entries.specs.declared.led.Led.{Led}
 use Rattle.dw_entries.specs.Leading.{BeginsWithForm, BeginsWithLead, DoesNotLead, PassesOver, ReadsFirst, StepsTo, form_of_lead}
 use Rattle.dw_entries.specs.PassedAttributes.{ArePassed, IsNextOf, IsPassed}
-use Rattle.dw_entries.specs.Values.{Left, value_context}
-use Rattle.dw_entries.proofs.ChosenSteps.{all_passed}
+use Rattle.dw_entries.proofs.ChosenSteps.{all_passed, Attributes, first_specs}
 use Rattle.dw_entries.proofs.LeadValues.{lead_form}
 
 both_passed : (xs ys : List (ℕ × Datum)) → ArePassed DoesNotLead xs → ArePassed DoesNotLead ys

@@ -1,25 +1,19 @@
 -- Values that are passed together, and the value after them.
 use Rattle.std.proofs.Common.{rules, ◌≡◌, ◌≢◌, ℕ, zero, suc, ◌+◌, ◌-◌, Bool, true, false, List, [], ◌∷◌, ◌++◌, length, take, drop, map, Option, Some, None, Result, Ok, Err, refl, sym, ap, ◌∙◌, append_assoc, length-append, length-drop, arith, ◌&&◌, slice_index_or, option_map, flat_map, slice_range}
 use Rattle.std.proofs.lemmas.Bool.{ne_eqb, eq-eqb}
-use Rattle.dw_forms.specs.declared.value.ValueFault.{ValueFault}
-use Rattle.dw_forms.specs.FormCodes.{is_allowed}
 use Rattle.dw_forms.specs.declared.form.Form.TheVariants.{Flag}
 use Rattle.dw_forms.specs.declared.value.Value.{Value}
 use Rattle.dw_forms.specs.Value.{view}
 use Rattle.dw_forms.specs.Sizes.{rest_at, are_allowed}
 use Rattle.dw_forms.specs.KnownValues.{values_end}
 use Rattle.dw_forms.specs.FirstPlaces.{StandsFirst, value_behind, ReadsFirst, AnswersFirst}
-use Rattle.dw_entries.specs.Grammar.{Datum, AttributeSpec, Context, Attribute, IsAttribute, AreAttributes, attribute_bytes}
 use Rattle.dw_entries.specs.ItemFormats.{bytes_after, attributes}
 use Rattle.dw_forms.specs.WithBytes.{bind_ok}
-use Rattle.dw_entries.specs.EntryRules.{value_of}
 use Rattle.dw_entries.specs.Lookups.{value_in}
 use Rattle.dw_entries.specs.OwnBytes.{IsRest}
 use Rattle.dw_entries.specs.ValuePlaces.{placed_values_from}
-use Rattle.dw_entries.specs.Values.{Left}
-use Rattle.dw_entries.specs.ValueLaws.{left_unique}
-use Rattle.dw_entries.proofs.ReadingSteps.{attributes_turn, attribute_ends, value_again}
-use Rattle.dw_entries.proofs.ValueSteps.{value_of_none}
+use Rattle.dw_entries.proofs.ReadingSteps.{attributes_turn, attribute_ends, value_again, ValueFault}
+use Rattle.dw_entries.proofs.ValueSteps.{value_of_none, value_of, Left, left_unique, Datum, AttributeSpec, Context, Attribute, IsAttribute, AreAttributes, attribute_bytes, is_allowed}
 use Rattle.dw_entries.proofs.LeftLaws.{declares_none}
 
 -- ---- values that are read, one by one or together
@@ -134,9 +128,7 @@ module _ (x : Context) (specs front back : List AttributeSpec) (parts : specs �
       → values_end x.version x.address_size front bytes ≡ Ok rest → (n : Left x back rest)
       → map value_of n.0.0 ≡ drop k (map value_of l.0.0)
   left_rest k k_is rest e n =
-      let m = left_on rest e in
-      ap (λ (z : Left x back rest). map value_of z.0.0) (left_unique x back rest n m.0) ∙ m.1
-      ∙ ap (λ (i : ℕ). drop i (map value_of l.0.0)) (sym k_is)
+      let m = left_on rest e in let one = left_unique x back rest n m.0 in search rules
 
   -- with their places
   placed_on : (rest : List ℕ) → values_end x.version x.address_size front bytes ≡ Ok rest
@@ -154,12 +146,10 @@ module _ (x : Context) (specs front back : List AttributeSpec) (parts : specs �
       ≡ drop k (placed_values_from (length section - length bytes) l.0.0)
   placed_rest k k_is rest e section is n =
       let m = placed_on rest e in
-      ap (λ (z : Left x back rest). placed_values_from (length section - length rest) z.0.0)
-      (left_unique x back rest n m.0)
-      ∙ ap (λ (i : ℕ). placed_values_from i m.0.0.0)
-      (start_of section bytes those.before rest is (passed_parts rest e))
-      ∙ m.1 (length section - length bytes)
-      ∙ ap (λ (i : ℕ). drop i (placed_values_from (length section - length bytes) l.0.0)) (sym k_is)
+      let one = left_unique x back rest n m.0 in
+      let start = start_of section bytes those.before rest is (passed_parts rest e) in
+      let those_placed = m.1 (length section - length bytes) in
+      search rules
 
 -- ---- the value of the first attribute with a code
 

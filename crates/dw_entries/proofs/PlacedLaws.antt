@@ -7,10 +7,8 @@ use Rattle.dw_forms.specs.ValueFormats.{Val, laid_out, counted_bytes, leb_counte
 use Rattle.dw_forms.specs.ValueLaws.{named_plain}
 use Rattle.dw_entries.specs.Grammar.{Datum, Attribute}
 use Rattle.dw_entries.specs.ItemFormats.{code}
-use Rattle.dw_entries.specs.Scanned.{Tables, UnitRecord, Record, Scanned, found_units}
 use Rattle.dw_entries.specs.Entries.{Entry}
-use Rattle.dw_entries.proofs.HeadLaws.{stands_within}
-use Rattle.dw_entries.proofs.KeptLaws.{KeptEntry, found_entry, values_are}
+use Rattle.dw_entries.proofs.KeptLaws.{KeptEntry, found_entry, values_are, Tables, UnitRecord, Record, Scanned, found_units, stands_within}
 use Rattle.dw_entries.proofs.ScanLaws.{rest_of}
 use Rattle.dw_entries.specs.OwnBytes.{bytes_of, EndsAt, HasNoZero, IsRest, Leaves}
 use Rattle.dw_entries.specs.ValuePlaces.{FollowCode, placed_value, placed_values_from}

@@ -2,9 +2,8 @@
 use Rattle.std.proofs.Common.{rules, ◌≡◌, ℕ, true, List, [], ◌∷◌, Result, Ok, Err, refl, ◌++◌}
 use Rattle.dw_forms.specs.Formats.{as_other}
 use Rattle.dw_forms.specs.Steps.{◌>>=◌}
-use Rattle.dw_entries.specs.Grammar.{Datum, AttributeSpec, Context, Attribute, IsAttribute}
-use Rattle.dw_forms.specs.declared.value.ValueFault.{ValueFault}
-use Rattle.dw_forms.specs.FormCodes.{is_allowed}
+use Rattle.dw_entries.specs.Grammar.{Datum, AttributeSpec, Context, Attribute, IsAttribute, is_allowed}
+pub use Rattle.dw_forms.specs.declared.value.ValueFault.{ValueFault}
 use Rattle.dw_forms.specs.ValueReading.{value_at}
 use Rattle.dw_forms.specs.Sizes.{rest_at}
 use Rattle.dw_entries.specs.ItemFormats.{Failing, failing_by, value_rule, bytes_after, value_in, as_attribute, attribute, attributes}

@@ -1,17 +1,14 @@
 -- The entries of one unit, by their offsets.
 use Rattle.std.proofs.Common.{rules, ◌≡◌, ℕ, ◌+◌, ◌<◌, ◌≤◌, ◌^◌, List, length, arith}
 use Rattle.std.proofs.lemmas.Option.{slice_get-get_or}
-use Rattle.dw_entries.specs.Units.{DebugUnit}
-use Rattle.dw_entries.specs.Entries.{Entry, entries_of, PlacedUnit, placed}
+use Rattle.dw_entries.specs.Entries.{Entry, entries_of, PlacedUnit, placed, DebugUnit}
 use Rattle.dw_entries.specs.ByNumber.{end_in, entry_of, placed_of}
-use Rattle.dw_entries.specs.Scanned.{Tables, UnitRecord, Record, found_units, Scanned}
 use Rattle.dw_entries.specs.EntriesAt.{IsEntryAt, IsEntryIn, ReachesInUnit}
 use Rattle.dw_entries.specs.EntryRules.{OffsetsRise}
 use Rattle.dw_entries.proofs.NumberOrder.{three_ways}
 use Rattle.dw_entries.proofs.HeadLaws.{stands_within}
-use Rattle.dw_entries.proofs.KeptLaws.{found_entry, kept_entry}
 use Rattle.dw_entries.proofs.EntryFacts.{length-placed}
-use Rattle.dw_entries.proofs.UnitRanges.{range_of_unit, unit_in_range}
+use Rattle.dw_entries.proofs.UnitRanges.{range_of_unit, unit_in_range, found_entry, kept_entry, Tables, UnitRecord, Record, found_units, Scanned}
 
 -- ---- the entry of a unit at an offset
 

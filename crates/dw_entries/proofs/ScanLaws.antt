@@ -13,14 +13,11 @@ use Rattle.dw_entries.specs.declared.fault.PlainFault.{PlainFault}
 use Rattle.dw_forms.specs.declared.fault.Stop.{Stop}
 use Rattle.dw_forms.specs.declared.fault.Stop.TheVariants.{Memory, Fault as Breaks}
 use Rattle.dw_forms.specs.Stops.{IfFault}
-use Rattle.dw_entries.specs.Header.{unit_header_size}
-use Rattle.dw_entries.specs.UnitLaws.{unit_some}
-use Rattle.dw_entries.specs.Units.{DebugUnit, unit_bytes, AreUnits, units_bytes, AreFrom}
-use Rattle.dw_entries.specs.Entries.{Entry, node_count, node_entries, entries_from, start_of, PlacedUnit, placed_from, placed}
+use Rattle.dw_entries.specs.UnitLaws.{unit_some, DebugUnit, unit_bytes, AreUnits, units_bytes, AreFrom}
 use Rattle.dw_entries.specs.Records.{records_from}
 use Rattle.dw_entries.specs.Scanned.{Tables, UnitRecord, Record, table_of, numbers_of, record_of, IsRecordOfUnit, Scanned}
 use Rattle.dw_entries.specs.Stopped.{UnitTaken}
-use Rattle.dw_entries.proofs.EntryFacts.{IsOfUnit, entries_from-append, length-entries_from, node_unit, units_count}
+use Rattle.dw_entries.proofs.EntryFacts.{IsOfUnit, entries_from-append, length-entries_from, node_unit, units_count, Entry, node_count, node_entries, entries_from, start_of, PlacedUnit, placed_from, placed, unit_header_size}
 use Rattle.dw_entries.proofs.HeadLaws.{all-append}
 use Rattle.dw_entries.proofs.OrderLaws.{few_entries}
 
@@ -137,8 +134,7 @@ upto_next a info base header old new len u t =
     let before : ℕ → ℕ → ℕ = numbers_of (tables_in old.tables) old.units.items in
     let numbers : ℕ → ℕ → ℕ = numbers_of tables (old.units.items ++ t.record_is ∷ []) in
     let left : drop (header + len) info
-    ≡ t.after = sym (drop-drop _ _ info) ∙ ap (drop len) t.parts
-    ∙ drop_at (unit_bytes v) t.after len (sym t.len_is) in
+    ≡ t.after = search (rules, drop-drop, (drop_at (unit_bytes v) t.after len)) in
     let same : records ≡ records_from numbers 0 0 base u.units =
     u.places ∙ records_same before numbers 0 0 base u.units
     (λ n less. numbers_stay (tables_in old.tables) tables old.units.items (placed_from base 0 u.units) t.record_is n
@@ -205,8 +201,7 @@ upto_end a info base header kept u e =
         spells = record { are = u.are; parts = whole };
         are_from = u.are_from;
         kept = search (rules, placed_there);
-        entries =
-            u.places ∙ sym (records_there numbers base u.units u.are_from);
+        entries = search (rules, records_there);
       },
     )
 
@@ -243,14 +238,13 @@ rest_next a info base rest old new len u t =
     record {
       upto = search (rules, upto_next);
       rest_is = search (rules, drop-drop);
-      long = omega (arith, ap length cut, length-drop len rest);
+      long = search (rules, cut, length-drop);
     }
 
 pub rest_fewer : (a rest : List ℕ) (at : ℕ) (old new : Kept) (len : ℕ) → UnitTaken a rest at old new len
     → length (take (length rest - len) (drop len rest)) < length rest
 rest_fewer a rest at old new len t =
-    let (within, some) = taken_within a rest at old new len t in
-    omega (arith, ap length (rest_of len rest within), length-drop len rest)
+    let (within, some) = taken_within a rest at old new len t in search (rules, rest_of, length-drop)
 
 pub rest_end : (a info : List ℕ) (base : ℕ) (rest : List ℕ) (kept : Kept) → UptoRest a info base rest kept
     → length rest ≡ 0 → Scanned base a info (tables_in kept.tables) kept.units.items kept.records.items

@@ -3,16 +3,14 @@ use Rattle.std.proofs.Common.{rules, ◌≡◌, ℕ, zero, suc, ◌+◌, ◌-◌
 use Rattle.std.specs.List.Sorted.{IsPartitionPoint, IsNonDecreasingBy}
 use Rattle.std.proofs.lemmas.Bool.{cases_lt}
 use Rattle.std.proofs.lemmas.Option.{slice_get_within, slice_get-get_or, slice_get_cases}
-use Rattle.dw_entries.specs.Header.{unit_header_size}
-use Rattle.dw_entries.specs.Units.{DebugUnit, unit_bytes}
-use Rattle.dw_entries.specs.Entries.{Entry, node_count, start_of, entries_of, PlacedUnit, placed_from, placed}
+use Rattle.dw_entries.specs.Entries.{Entry, node_count, start_of, entries_of, PlacedUnit, placed_from, placed, DebugUnit, unit_bytes}
 use Rattle.dw_entries.specs.ByNumber.{end_in}
-use Rattle.dw_entries.specs.Scanned.{Tables, UnitRecord, Record, found_units, Scanned}
-use Rattle.dw_entries.proofs.EntryFacts.{IsOfUnit, has_unit, length-entries_from, length-node_entries, node_unit, place_of, unit_entries, units_count}
+pub use Rattle.dw_entries.specs.Scanned.{Tables, UnitRecord, Record, found_units, Scanned}
+use Rattle.dw_entries.proofs.EntryFacts.{IsOfUnit, has_unit, length-entries_from, length-node_entries, node_unit, place_of, unit_entries, units_count, unit_header_size}
 use Rattle.dw_entries.proofs.FindLaws.{entries_counted}
 use Rattle.dw_entries.proofs.HeadLaws.{all_get}
 pub use Rattle.dw_entries.proofs.HeadLaws.{get_front, get_behind}
-use Rattle.dw_entries.proofs.KeptLaws.{found_entry, found_place, kept_entry, kept_unit, one_some, units_counted}
+pub use Rattle.dw_entries.proofs.KeptLaws.{found_entry, found_place, kept_entry, kept_unit, one_some, units_counted}
 use Rattle.dw_entries.proofs.NumberOrder.{three_ways}
 use Rattle.dw_entries.proofs.ScanLaws.{few_units}
 
@@ -144,8 +142,7 @@ module _ {base : ℕ} {a info : List ℕ} {tables : Tables} {rs : List UnitRecor
     -- an entry is of a unit
     pub some_unit : 0 < length rs
     some_unit =
-        let k = kept_entry s id within in
-        let w = slice_get_within rs (found_entry s id).unit k.unit_record k.is_unit_record in omega arith
+        let k = kept_entry s id within in search (rules, slice_get_within)
 
     -- the first unit begins with the first entry
     pub some_before : 0 < n

@@ -7,14 +7,13 @@ use Rattle.dw_forms.specs.AbbrevTables.{tables_in, AreTablesOf}
 use Rattle.dw_forms.specs.Chains.{chain_in}
 use Rattle.dw_forms.specs.KeptDecls.{table_in, decl_number_in}
 use Rattle.dw_forms.specs.TableStarts.{IsTableIn, Stay}
-use Rattle.dw_entries.specs.Header.{UnitHeader, IsSize, unit_header_size, header_and_body, header_at, unit_at}
+use Rattle.dw_entries.specs.Header.{UnitHeader, IsSize, unit_header_size, header_and_body, header_at, unit_at, Rule}
 use Rattle.dw_forms.specs.Front.{Takes}
 use Rattle.dw_entries.specs.HeaderLaws.{IsSized, Read, is_sized, unit_format}
 use Rattle.dw_entries.specs.Tree.{node_bytes}
 use Rattle.dw_entries.specs.Units.{context_by, nulls_bytes}
 use Rattle.dw_entries.specs.Stopped.{TreeOf, UnitTaken}
 use Rattle.dw_forms.specs.Steps.{◌>>=◌}
-use Rattle.dw_forms.specs.declared.rule.Rule.{Rule}
 use Rattle.dw_forms.specs.WithBytes.{bind_ok, read_takes}
 use Rattle.dw_forms.specs.Readers.{read_is}
 

@@ -2,12 +2,9 @@
 use Rattle.std.proofs.Common.{rules, ◌≡◌, ℕ, ◌+◌, ◌<◌, ◌≤◌, List, [], ◌∷◌, length, map, drop, ap, arith, length-drop, add-one, drop-cons}
 use Rattle.std.proofs.lemmas.List.{nil_from_length}
 use Rattle.std.proofs.lemmas.Option.{slice_get-get_or}
-use Rattle.dw_entries.specs.declared.units.UnitHead.{UnitHead}
-use Rattle.dw_entries.specs.Units.{DebugUnit}
-use Rattle.dw_entries.specs.Entries.{placed}
-use Rattle.dw_entries.specs.ByNumber.{placed_of}
-use Rattle.dw_entries.specs.Lookups.{unit_head}
-use Rattle.dw_entries.proofs.EntryFacts.{length-placed}
+use Rattle.dw_entries.specs.Entries.{placed, DebugUnit}
+use Rattle.dw_entries.specs.Lookups.{unit_head, UnitHead}
+use Rattle.dw_entries.proofs.EntryFacts.{length-placed, placed_of}
 
 pub unit_turn : (us : List DebugUnit) (n : ℕ) (h : UnitHead) → n < length us
     → h ≡ unit_head (placed_of (placed us) n)

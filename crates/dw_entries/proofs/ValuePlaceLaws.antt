@@ -4,11 +4,10 @@ use Rattle.std.proofs.lemmas.Bool.{eq-eqb}
 use Rattle.std.proofs.lemmas.List.{length-map}
 use Rattle.std.specs.List.{list_any}
 use Rattle.dw_forms.specs.AttributeLists.{has_this}
-use Rattle.dw_entries.specs.Entries.{Entry}
 use Rattle.dw_entries.specs.EntryRules.{value_of, values_of}
 use Rattle.dw_entries.specs.Grammar.{Datum, AttributeSpec, Context, Attribute, AreAttributes}
-use Rattle.dw_entries.specs.Lookups.{value_at_entry, value_in}
-use Rattle.dw_entries.specs.ValuePlaces.{PlacedValue, end_of, placed_value_at, placed_value_in, placed_values, placed_values_from}
+use Rattle.dw_entries.specs.Lookups.{value_at_entry, value_in, Entry}
+pub use Rattle.dw_entries.specs.ValuePlaces.{PlacedValue, end_of, placed_value_at, placed_value_in, placed_values, placed_values_from}
 
 values_from : (at : ℕ) (attributes : List Attribute)
     → map (λ (p : PlacedValue). (p.attribute, p.value)) (placed_values_from at attributes) ≡ map value_of attributes

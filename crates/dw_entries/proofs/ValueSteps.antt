@@ -2,25 +2,22 @@
 use Rattle.std.proofs.Common.{rules, ◌≡◌, ℕ, ◌≤◌, List, [], ◌∷◌, ◌++◌, ◌-◌, length, take, drop, map, Option, Some, None, Result, Ok, Err, refl, sym, ap, ◌∙◌, append_assoc, true, false, flat_map, unwrap_or, IfSome}
 use Rattle.dw_forms.specs.declared.attributes.Attributes.{Attributes}
 use Rattle.dw_forms.specs.declared.form.Form.{Form}
-use Rattle.dw_forms.specs.declared.value.ValueFault.{ValueFault}
-use Rattle.dw_forms.specs.FormCodes.{is_allowed}
 use Rattle.dw_forms.specs.Sizes.{rest_at}
 use Rattle.dw_forms.specs.Steps.{◌>>=◌}
 use Rattle.dw_forms.specs.Suffixes.{Ends, specs_in}
 use Rattle.dw_forms.specs.ValueReading.{value_at}
 use Rattle.dw_forms.proofs.SuffixLaws.{first_specs}
-use Rattle.dw_entries.specs.declared.values.Values.{Values}
-use Rattle.dw_entries.specs.Grammar.{Datum, AttributeSpec, Context, Attribute, IsAttribute, AreAttributes, attribute_bytes}
+pub use Rattle.dw_entries.specs.Grammar.{Datum, AttributeSpec, Context, Attribute, IsAttribute, AreAttributes, attribute_bytes, is_allowed}
 use Rattle.dw_forms.specs.WithBytes.{ok_pair}
 use Rattle.dw_entries.specs.Leading.{BeginsWithForm, DoesNotLead, ReadsFirst}
 use Rattle.dw_entries.specs.PassedAttributes.{IsPassed}
-use Rattle.dw_entries.specs.EntryRules.{value_of}
+pub use Rattle.dw_entries.specs.EntryRules.{value_of}
 use Rattle.dw_entries.specs.Lookups.{declares, value_in}
-use Rattle.dw_entries.specs.Values.{Left, value_context}
-use Rattle.dw_entries.specs.ValuesLeft.{BeginWith, specs_left}
-use Rattle.dw_entries.proofs.ReadingSteps.{value_again}
+pub use Rattle.dw_entries.specs.Values.{Left, value_context}
+use Rattle.dw_entries.specs.ValuesLeft.{BeginWith, specs_left, Values}
+use Rattle.dw_entries.proofs.ReadingSteps.{value_again, ValueFault}
 use Rattle.dw_entries.proofs.ScanLaws.{rest_of}
-use Rattle.dw_entries.specs.ValueLaws.{left_unique}
+pub use Rattle.dw_entries.specs.ValueLaws.{left_unique}
 
 -- the first attribute, and those after it
 pub record Goes (x : Context) (s : AttributeSpec) (ss : List AttributeSpec) (bytes : List ℕ)
@@ -62,13 +59,13 @@ module _ (x : Context) (gs : List AttributeSpec) (s : AttributeSpec) (ss : List 
     pub steps : (m : Left x ss rest) → map value_of l.0.0 ≡ (s.attribute, v) ∷ map value_of m.0.0
     unfolding next_left
     steps m =
-        let same : m.0.0 ≡ left_goes.others = ap (λ (z : Left x ss rest). z.0.0) (left_unique x ss rest m next_left) in
+        let same = left_unique x ss rest m next_left in
         search (rules, left_goes, first_value)
 
     pub takes : (m : Left x ss rest) → BeginWith l.0.0 m.0.0 bytes rest (s.attribute, v)
     unfolding next_left
     takes m =
-        let same : m.0.0 ≡ left_goes.others = ap (λ (z : Left x ss rest). z.0.0) (left_unique x ss rest m next_left) in
+        let same = left_unique x ss rest m next_left in
         record {
           attribute = left_goes.first;
           left = search (rules, left_goes, same);

@@ -1,14 +1,12 @@
 -- The pass over a tree's items makes the tree's entries.
 use Rattle.std.proofs.Common.{rules, ◌≡◌, ℕ, zero, suc, ◌+◌, true, false, List, [], ◌∷◌, ◌++◌, length, map, Option, Some, None, refl, sym, ap, ◌∙◌, append_assoc, append-nil, arith, length-append}
 use Rattle.std.proofs.lemmas.List.{length-map, map-append}
-use Rattle.dw_entries.specs.Grammar.{Context, Head, head_bytes}
-use Rattle.dw_entries.specs.Tree.{Node, Nodes, leaf, parent, none, ◌then◌, IsNode, AreNodes, node_bytes, nodes_bytes}
+use Rattle.dw_entries.specs.Tree.{Node, Nodes, leaf, parent, none, ◌then◌, IsNode, AreNodes, node_bytes, nodes_bytes, Context, Head, head_bytes}
 use Rattle.dw_entries.specs.Items.{Item, null, node_items, nodes_items}
-use Rattle.dw_entries.specs.Entries.{node_count, first_id, node_entries, nodes_entries}
 use Rattle.dw_entries.specs.Scanned.{Record, record_of}
 use Rattle.dw_entries.specs.Records.{tree_records}
 use Rattle.dw_entries.specs.Walk.{Level, Walk, link, link_last, walk_along}
-use Rattle.dw_entries.proofs.EntryFacts.{length-node_entries}
+use Rattle.dw_entries.proofs.EntryFacts.{length-node_entries, node_count, first_id, node_entries, nodes_entries}
 
 length-link : (k id : ℕ) (rs : List Record) → length (link k id rs) ≡ length rs
 length-link k id [] = refl

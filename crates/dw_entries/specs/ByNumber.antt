@@ -1,10 +1,8 @@
 -- Chapter: entries and units by number. Past the last one, all is zero, absent or empty.
 use Rattle.std.specs.Prelude.{ℕ, ◌+◌, List, [], None, false, slice_index_or}
 use Rattle.dw_entries.specs.declared.header.HeaderKind.TheVariants.{Version4}
-use Rattle.dw_entries.specs.Grammar.{Head}
-use Rattle.dw_entries.specs.Tree.{leaf}
-use Rattle.dw_entries.specs.Units.{DebugUnit}
-use Rattle.dw_entries.specs.Entries.{Entry, node_count, PlacedUnit}
+use Rattle.dw_entries.specs.Tree.{leaf, Head}
+pub use Rattle.dw_entries.specs.Entries.{Entry, node_count, PlacedUnit, DebugUnit}
 
 -- a head without attributes
 abbrev no_head : Head

@@ -1,9 +1,8 @@
 -- Chapter: the entries of the units in rising offset, each with its place in the tree.
 use Rattle.std.specs.Prelude.{ℕ, suc, ◌+◌, List, [], ◌∷◌, ◌++◌, length, Option, Some, None}
-use Rattle.dw_entries.specs.Grammar.{Head, head_bytes}
 use Rattle.dw_entries.specs.Header.{unit_header_size}
-use Rattle.dw_entries.specs.Tree.{Node, Nodes, leaf, parent, none, ◌then◌, node_bytes}
-use Rattle.dw_entries.specs.Units.{DebugUnit, unit_bytes}
+use Rattle.dw_entries.specs.Tree.{Node, Nodes, leaf, parent, none, ◌then◌, node_bytes, Head, head_bytes}
+pub use Rattle.dw_entries.specs.Units.{DebugUnit, unit_bytes}
 
 -- an entry: the offset of its first byte in .debug_info, the number of its unit, the number of the entry that it is a
 -- child of, how many entries are above it, the number of its next sibling, and its head

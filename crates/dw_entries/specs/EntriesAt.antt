@@ -1,7 +1,6 @@
 -- Chapter: which entry is at an offset, of .debug_info or of a unit.
 use Rattle.std.specs.Prelude.{◌≡◌, ℕ, ◌+◌, ◌<◌, List, length}
-use Rattle.dw_entries.specs.Entries.{Entry, PlacedUnit}
-use Rattle.dw_entries.specs.ByNumber.{entry_of, placed_of}
+pub use Rattle.dw_entries.specs.ByNumber.{entry_of, placed_of, Entry, PlacedUnit}
 
 -- the entry with this number begins at the offset
 pub record IsEntryAt (entries : List Entry) (offset id : ℕ) : Type 0 where

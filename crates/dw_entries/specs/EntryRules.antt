@@ -3,7 +3,7 @@ use Rattle.std.specs.Prelude.{◌≡◌, ℕ, ◌<◌, List, Some, slice_get, ma
 use Rattle.dw_entries.specs.Grammar.{Datum, Attribute, Head}
 use Rattle.dw_entries.specs.Entries.{Entry}
 use Rattle.dw_entries.specs.Places.{Place, at_attribute}
-use Rattle.dw_entries.specs.Failures.{Rule, Failure}
+pub use Rattle.dw_entries.specs.Failures.{Rule, Failure}
 
 -- an attribute without its spelling: its code and its value
 abbrev pub value_of : Attribute → ℕ × Datum

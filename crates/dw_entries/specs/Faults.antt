@@ -2,15 +2,13 @@
 use Rattle.std.specs.Prelude.{◌≡◌, ◌≢◌, ℕ, zero, suc, true, ◌+◌, List, [], ◌∷◌, ◌++◌, length, Some, Result, Ok, Err}
 use Rattle.dw_forms.specs.declared.fault.AbbrevFault.{AbbrevFault}
 use Rattle.dw_forms.specs.AbbrevReading.{table_at}
-use Rattle.dw_forms.specs.declared.rule.Rule.{Rule}
 use Rattle.dw_forms.specs.declared.rule.Rule.TheVariants.{NoUnitEntry, LeftOver}
 use Rattle.dw_entries.specs.declared.fault.Section.TheVariants.{Abbrev, Info}
-use Rattle.dw_entries.specs.declared.fault.PlainFault.{PlainFault}
-use Rattle.dw_entries.specs.Grammar.{Declaration, Context, IsNull}
-use Rattle.dw_entries.specs.Header.{UnitHeader, HeaderKind, fits_tag, unit_header_size, header_at}
+pub use Rattle.dw_entries.specs.declared.fault.PlainFault.{PlainFault}
+use Rattle.dw_entries.specs.Header.{UnitHeader, HeaderKind, fits_tag, unit_header_size, header_at, Rule}
 use Rattle.dw_entries.specs.ItemFormats.{Failing, failing_by, next_item}
 use Rattle.dw_entries.specs.Items.{Item, entry, null, AreItems, items_bytes, tree_depth}
-use Rattle.dw_entries.specs.Units.{DebugUnit, context_by, AreUnits, units_bytes}
+use Rattle.dw_entries.specs.Units.{DebugUnit, context_by, AreUnits, units_bytes, Declaration, Context, IsNull}
 
 -- the fault of a table
 abbrev pub in_table : AbbrevFault → PlainFault

@@ -2,7 +2,7 @@
 use Rattle.std.specs.Prelude.{◌≡◌, ℕ, true, false, List, [], ◌∷◌, ◌++◌, Option, Some, ◌==◌, find, flat_map}
 pub use Rattle.dw_forms.specs.declared.abbrev.AttributeSpec.{AttributeSpec}
 pub use Rattle.dw_forms.specs.Abbrev.{Declaration}
-use Rattle.dw_forms.specs.FormCodes.{is_allowed}
+pub use Rattle.dw_forms.specs.FormCodes.{is_allowed}
 use Rattle.dw_forms.specs.Leb.{Uleb}
 pub use Rattle.dw_forms.specs.Value.{Datum}
 use Rattle.dw_forms.specs.ValueFormats.{Val}

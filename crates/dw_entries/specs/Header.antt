@@ -4,7 +4,7 @@ use Rattle.dw_forms.specs.BaseFormats.{fixed_number, so_many}
 use Rattle.dw_forms.specs.Codes.{DW_TAG_compile_unit, DW_TAG_partial_unit, DW_TAG_type_unit}
 use Rattle.dw_forms.specs.Formats.{Format, and_then, nothing, failing, mapped, inside, choose, tested}
 use Rattle.dw_forms.specs.Steps.{◌>>=◌}
-use Rattle.dw_forms.specs.declared.rule.Rule.{Rule}
+pub use Rattle.dw_forms.specs.declared.rule.Rule.{Rule}
 use Rattle.dw_forms.specs.declared.rule.Rule.TheVariants.{UnitCut, Not32Bit, BadVersion, BadUnitType, BadAddressSize}
 use Rattle.dw_forms.specs.declared.rule.Rule.TheVariants.{BadAbbrevOffset}
 pub use Rattle.dw_entries.specs.declared.header.HeaderKind.{HeaderKind}

@@ -6,13 +6,12 @@ use Rattle.std.proofs.Props.{props}
 use mathlib.Core.Logic.{∥∥₁_elim}
 use Rattle.byteorder.specs.Endian.{little_number}
 use Rattle.dw_forms.specs.Formats.{Format, tested_is, apart}
-use Rattle.dw_forms.specs.declared.rule.Rule.{Rule}
 use Rattle.dw_forms.specs.declared.rule.Rule.TheVariants.{Not32Bit, BadVersion, BadUnitType, BadAddressSize}
 use Rattle.dw_forms.specs.declared.rule.Rule.TheVariants.{BadAbbrevOffset}
 use Rattle.dw_entries.specs.declared.header.HeaderKind.TheVariants.{CompileUnit, PartialUnit, TypeUnit}
 use Rattle.dw_entries.specs.Choices.{size_unique}
 use Rattle.dw_entries.specs.Header.{unit_header_size, IsSize, field, address_size, abbrev_offset, version4, kind_fields}
-use Rattle.dw_entries.specs.Header.{UnitHeader, HeaderKind, version5, header_fields, header_and_body}
+use Rattle.dw_entries.specs.Header.{UnitHeader, HeaderKind, version5, header_fields, header_and_body, Rule}
 use Rattle.dw_forms.specs.Spans.{Spans, spans_then, spans_mapped, spans_end, spans_nothing, spans_choose, spans_tested}
 use Rattle.dw_forms.specs.Spans.{spans_failing}
 use Rattle.dw_forms.specs.WithBytes.{squashed}

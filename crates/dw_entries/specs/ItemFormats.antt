@@ -8,16 +8,14 @@ use Rattle.dw_forms.specs.declared.value.ValueFault.{ValueFault}
 use Rattle.dw_forms.specs.declared.value.ValueFault.TheVariants as value
 use Rattle.dw_forms.specs.BaseFormats.{uleb}
 use Rattle.dw_forms.specs.Datums.{Datum-set}
-use Rattle.dw_forms.specs.FormCodes.{is_allowed}
 use Rattle.dw_forms.specs.Formats.{Format, and_then, nothing, failing, choose, found, mapped, renamed}
 use Rattle.dw_forms.specs.Steps.{◌>>=◌}
 use Rattle.dw_forms.specs.ValueFormats.{attribute_value}
-use Rattle.dw_forms.specs.declared.rule.Rule.{Rule}
 use Rattle.dw_forms.specs.declared.rule.Rule.TheVariants.{NoUnitEntry, WrongUnitTag, UndeclaredCode, Cut, BadNumber}
 use Rattle.dw_forms.specs.declared.rule.Rule.TheVariants.{BadIndirect, FormVersion}
 pub use Rattle.dw_entries.specs.declared.fault.Failing.{Failing}
-use Rattle.dw_entries.specs.Grammar.{Datum, Declaration, AttributeSpec, Context, declared, Attribute, Head}
-use Rattle.dw_entries.specs.Header.{HeaderKind, fits_tag}
+use Rattle.dw_entries.specs.Grammar.{Datum, Declaration, AttributeSpec, Context, declared, Attribute, Head, is_allowed}
+use Rattle.dw_entries.specs.Header.{HeaderKind, fits_tag, Rule}
 use Rattle.dw_entries.specs.Items.{Item, entry, null}
 use Rattle.dw_forms.specs.WithBytes.{with_bytes, squashed}
 

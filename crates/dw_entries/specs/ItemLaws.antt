@@ -2,11 +2,10 @@
 use Rattle.std.proofs.Common.{◌≡◌, ℕ, ◌<◌, Bool, true, false, cond, List, [], ◌∷◌, ◌++◌, Option, Some, None, eqb, refl}
 use Rattle.std.proofs.Common.{sym, ap, subst, ◌∙◌, append-nil, arith, length, length-append, eqb-true, flat_map}
 use Rattle.dw_forms.specs.declared.rule.Rule.TheVariants.{WrongUnitTag, FormVersion}
-use Rattle.dw_forms.specs.FormCodes.{is_allowed}
 use Rattle.dw_forms.specs.Formats.{nothing, failing, choose, mapped}
 use Rattle.dw_forms.specs.Leb.{Uleb}
 use Rattle.dw_entries.specs.Grammar.{Declaration, Context, declared_in, declared, Attribute, IsAttribute, AreAttributes}
-use Rattle.dw_entries.specs.Grammar.{AttributeSpec, attribute_bytes, Head, head_bytes, IsHead}
+use Rattle.dw_entries.specs.Grammar.{AttributeSpec, attribute_bytes, Head, head_bytes, IsHead, is_allowed}
 use Rattle.dw_entries.specs.ItemFormats.{failing_by, value_in, valued, attribute, attributes, code, as_head, head_by}
 use Rattle.dw_entries.specs.ItemFormats.{item}
 use Rattle.dw_entries.specs.Items.{Item, entry, null, item_bytes, IsItem}

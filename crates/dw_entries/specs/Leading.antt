@@ -1,16 +1,14 @@
 -- State: the attributes of an entry that are left of a walk over those whose values may lead elsewhere.
 use Rattle.std.specs.Prelude.{◌≡◌, ℕ, false, List, ◌∷◌, ◌++◌, Option, Some, None}
 use Rattle.std.specs.List.{list_any}
-use Rattle.dw_forms.specs.declared.abbrev.AttributeSpec.{AttributeSpec}
-use Rattle.dw_forms.specs.declared.form.Form.{Form}
+pub use Rattle.dw_forms.specs.declared.abbrev.AttributeSpec.{AttributeSpec}
 use Rattle.dw_forms.specs.declared.form.Form.TheVariants.{Ref4, Strp, Strx1, Strx2, Addrx}
-use Rattle.dw_forms.specs.declared.leading_steps.Lead.{Lead}
 use Rattle.dw_forms.specs.declared.leading_steps.Lead.TheVariants as lead
 use Rattle.dw_forms.specs.Suffixes.{specs_in}
 use Rattle.dw_forms.specs.Value.{Datum}
 use Rattle.dw_forms.specs.LeadingWalks.{does_lead, lead_of}
 use Rattle.dw_entries.specs.declared.leads.Leading.{Leading}
-use Rattle.dw_entries.specs.Led.{IsRead}
+use Rattle.dw_entries.specs.Led.{IsRead, Lead, Form}
 use Rattle.dw_entries.specs.PassedAttributes.{ArePassed}
 use Rattle.dw_entries.specs.ValuesLeft.{values_left}
 

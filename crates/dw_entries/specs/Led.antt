@@ -2,8 +2,8 @@
 use Rattle.std.specs.Prelude.{◌≡◌, ℕ, Bool, true, false, List, ◌∷◌, ◌++◌, Ok}
 use Rattle.std.specs.List.{list_any}
 use Rattle.dw_forms.specs.declared.abbrev.AttributeSpec.{AttributeSpec}
-use Rattle.dw_forms.specs.declared.form.Form.{Form}
-use Rattle.dw_forms.specs.declared.leading_steps.Lead.{Lead}
+pub use Rattle.dw_forms.specs.declared.form.Form.{Form}
+pub use Rattle.dw_forms.specs.declared.leading_steps.Lead.{Lead}
 use Rattle.dw_forms.specs.declared.leading_steps.Lead.TheVariants as lead
 use Rattle.dw_forms.specs.Codes.{DW_AT_type, DW_AT_sibling, DW_AT_specification}
 use Rattle.dw_forms.specs.Value.{Datum, view, ref_unit, str, str_index, addr_index}

@@ -10,11 +10,11 @@ use Rattle.dw_forms.specs.KeptDecls.{decl_of}
 use Rattle.dw_forms.specs.Value.{Datum}
 use Rattle.dw_entries.specs.declared.entry.EntryHead.{EntryHead}
 use Rattle.dw_entries.specs.declared.entry.Head.{Head}
-use Rattle.dw_entries.specs.declared.units.UnitHead.{UnitHead}
+pub use Rattle.dw_entries.specs.declared.units.UnitHead.{UnitHead}
 use Rattle.dw_entries.specs.Header.{type_of}
 use Rattle.dw_entries.specs.Units.{head_of}
-use Rattle.dw_entries.specs.Entries.{Entry, PlacedUnit}
-use Rattle.dw_entries.specs.EntryRules.{values_of}
+pub use Rattle.dw_entries.specs.Entries.{Entry, PlacedUnit}
+pub use Rattle.dw_entries.specs.EntryRules.{values_of}
 
 -- the declaration is one of these
 abbrev pub IsKeptIn : Decls → Declaration → Type 0

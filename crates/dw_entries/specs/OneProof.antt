@@ -8,9 +8,8 @@ use Rattle.std.specs.List.{AllByRecursion-prop, AllZip}
 use Rattle.dw_entries.specs.Entries.{PlacedUnit}
 use Rattle.dw_entries.specs.Grammar.{AttributeSpec, Context, Attribute, AreAttributes, Head, IsHead, IsNull}
 use Rattle.dw_entries.specs.Tree.{Node, Nodes, leaf, parent, none, ◌then◌, IsNode, AreNodes}
-use Rattle.dw_entries.specs.Units.{DebugUnit, unit_bytes, AreNulls, IsUnit, AreUnits, Spells, AreFrom}
 use Rattle.dw_entries.specs.Scanned.{Tables, UnitRecord, Record, IsRecordOfUnit, AreScanned, Scanned}
-use Rattle.dw_entries.specs.UnitLaws.{one_list}
+use Rattle.dw_entries.specs.UnitLaws.{one_list, DebugUnit, unit_bytes, AreNulls, IsUnit, AreUnits, Spells, AreFrom}
 
 IsEnded-prop : (bytes : List ℕ) → IsProp (IsEnded bytes)
 IsEnded-prop [] = hlevel props

@@ -1,8 +1,7 @@
 -- State: what is kept of the entries of a tree and of units.
 use Rattle.std.proofs.Common.{refl, ◌≡◌, ℕ, List, None, map}
 use Rattle.dw_entries.specs.Tree.{Node}
-use Rattle.dw_entries.specs.Units.{DebugUnit}
-use Rattle.dw_entries.specs.Entries.{node_entries, entries_from, start_of}
+use Rattle.dw_entries.specs.Entries.{node_entries, entries_from, start_of, DebugUnit}
 use Rattle.dw_entries.specs.Scanned.{Record, record_of, records_of}
 
 -- the entries of a tree of this unit, by the numbers of the declarations by their codes; the first entry has number id

@@ -10,10 +10,9 @@ use Rattle.dw_forms.specs.KeptDecls.{decl_number_in}
 use Rattle.dw_forms.specs.TableStarts.{Stay}
 use Rattle.dw_entries.specs.Scanned.{UnitRecord, Record, IsRecordOfUnit}
 use Rattle.dw_entries.specs.Failures.{Fault, PlainFault, IsPlainFault}
-use Rattle.dw_entries.specs.Grammar.{Declaration, Context}
 use Rattle.dw_entries.specs.Header.{HeaderKind, fits_tag, unit_header_size}
 use Rattle.dw_entries.specs.Tree.{Node, IsNode, node_bytes}
-use Rattle.dw_entries.specs.Units.{DebugUnit, IsUnit, unit_bytes, AreNulls, nulls_bytes, head_of}
+use Rattle.dw_entries.specs.Units.{DebugUnit, IsUnit, unit_bytes, AreNulls, nulls_bytes, head_of, Declaration, Context}
 use Rattle.dw_entries.specs.Records.{tree_records}
 use Rattle.dw_forms.specs.declared.fault.Stop.{Stop}
 use Rattle.dw_forms.specs.declared.fault.Stop.TheVariants as stops

@@ -8,8 +8,8 @@ use Rattle.dw_forms.specs.AbbrevReading.{table_at}
 use Rattle.dw_entries.specs.declared.header.UnitHeader.{UnitHeader}
 use Rattle.dw_entries.specs.Grammar.{Declaration, Context, IsNull}
 use Rattle.dw_entries.specs.Tree.{Node, IsNode}
-use Rattle.dw_entries.specs.Units.{DebugUnit, context_by, context_of, nulls_bytes, AreNulls, body_bytes, unit_bytes}
-use Rattle.dw_entries.specs.Units.{IsUnit, AreUnits, units_bytes, Spells, AreFrom}
+pub use Rattle.dw_entries.specs.Units.{DebugUnit, context_by, context_of, nulls_bytes, AreNulls, body_bytes, unit_bytes}
+pub use Rattle.dw_entries.specs.Units.{IsUnit, AreUnits, units_bytes, Spells, AreFrom}
 use Rattle.dw_entries.specs.Joined.{IsUnique, one_row}
 use Rattle.dw_entries.specs.HeaderLaws.{IsSized, sized, headers_apart}
 use Rattle.dw_entries.specs.ItemLaws.{code_has_byte}

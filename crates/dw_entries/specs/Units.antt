@@ -7,7 +7,7 @@ use Rattle.dw_forms.specs.AbbrevTables.{tables_in}
 use Rattle.dw_forms.specs.Chains.{chain_in}
 use Rattle.dw_forms.specs.KeptDecls.{table_in, decl_number_in}
 use Rattle.dw_entries.specs.declared.records.UnitContext.{UnitContext}
-use Rattle.dw_entries.specs.Grammar.{Declaration, Context, Head, IsNull}
+pub use Rattle.dw_entries.specs.Grammar.{Declaration, Context, Head, IsNull}
 use Rattle.dw_entries.specs.Header.{UnitHeader, version_of, fits_tag, header_and_body}
 use Rattle.dw_entries.specs.Tree.{Node, leaf, parent, IsNode, node_bytes}
 

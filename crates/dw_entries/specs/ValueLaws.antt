@@ -2,12 +2,11 @@
 use Rattle.std.proofs.Common.{◌≡◌, ℕ, List, sym, ◌∙◌, flat_map}
 use mathlib.Core.HLevel.{Σ_prop_path}
 use Rattle.std.proofs.Props.{props}
-use Rattle.dw_entries.specs.Grammar.{AttributeSpec, Context, Attribute, attribute_bytes}
 use Rattle.dw_entries.specs.ItemFormats.{attributes}
 use Rattle.dw_entries.specs.ItemLaws.{attributes_to}
 use Rattle.dw_forms.specs.WithBytes.{one_value}
 use Rattle.dw_entries.specs.OneProof.{AreAttributes-prop}
-use Rattle.dw_entries.specs.Values.{Begin, Left}
+use Rattle.dw_entries.specs.Values.{Begin, Left, AttributeSpec, Context, Attribute, attribute_bytes}
 
 Begin-prop : (x : Context) (specs : List AttributeSpec) (bytes : List ℕ) (found : List Attribute × List ℕ)
     → IsProp (Begin x specs bytes found)

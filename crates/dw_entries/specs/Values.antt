@@ -3,7 +3,7 @@ use Rattle.std.specs.Prelude.{◌≡◌, ℕ, List, [], ◌++◌, Err, flat_map}
 use Rattle.dw_forms.specs.declared.form.Form.{Form}
 use Rattle.dw_forms.specs.declared.value.ValueFault.TheVariants.{Cut}
 use Rattle.dw_forms.specs.ValueReading.{value_at}
-use Rattle.dw_entries.specs.Grammar.{AttributeSpec, Context, Attribute, attribute_bytes, AreAttributes}
+pub use Rattle.dw_entries.specs.Grammar.{AttributeSpec, Context, Attribute, attribute_bytes, AreAttributes}
 
 -- what values are read by in a unit of this version with addresses of this size: no table is needed
 abbrev pub value_context : ℕ → ℕ → Context

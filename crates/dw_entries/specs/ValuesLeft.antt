@@ -3,7 +3,7 @@ use Rattle.std.specs.Prelude.{◌≡◌, ℕ, ◌-◌, List, ◌∷◌, ◌++◌
 use Rattle.dw_forms.specs.declared.value.Value.{Value}
 use Rattle.dw_forms.specs.Suffixes.{specs_in}
 use Rattle.dw_forms.specs.Value.{view}
-use Rattle.dw_entries.specs.declared.values.Values.{Values}
+pub use Rattle.dw_entries.specs.declared.values.Values.{Values}
 use Rattle.dw_entries.specs.EntryRules.{value_of}
 use Rattle.dw_entries.specs.Grammar.{Datum, AttributeSpec, Attribute}
 use Rattle.dw_entries.specs.ValuePlaces.{PlacedValue, placed_values_from}

@@ -1,9 +1,8 @@
 -- State: the sections, the units and the entries that a scan found.
 use Rattle.std.specs.Prelude.{List}
 use Rattle.dw_elf.specs.declared.sections.Sections.{Sections}
-use Rattle.dw_entries.specs.declared.entries.Entries.{Entries}
-use Rattle.dw_entries.specs.Units.{DebugUnit}
-use Rattle.dw_entries.specs.Entries.{Entry, entries_of, PlacedUnit, placed}
+pub use Rattle.dw_entries.specs.declared.entries.Entries.{Entries}
+pub use Rattle.dw_entries.specs.Entries.{Entry, entries_of, PlacedUnit, placed, DebugUnit}
 use Rattle.dw_entries.specs.Scanned.{found_units}
 
 -- the sections that were scanned

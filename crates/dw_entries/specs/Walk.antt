@@ -1,7 +1,7 @@
 -- State: one pass over the items of a tree: the entries so far, and the open lists of children, the innermost first.
 use Rattle.std.specs.Prelude.{ℕ, zero, suc, ◌+◌, Bool, true, false, List, [], ◌∷◌, ◌++◌, length, reverse, Option, Some}
 use Rattle.std.specs.Prelude.{None}
-use Rattle.dw_entries.specs.declared.records.Record.{Record}
+pub use Rattle.dw_entries.specs.declared.records.Record.{Record}
 pub use Rattle.dw_entries.specs.declared.tree.Level.{Level}
 use Rattle.dw_forms.specs.Abbrev.{Declaration}
 use Rattle.dw_entries.specs.Items.{Item, entry, null, item_bytes}

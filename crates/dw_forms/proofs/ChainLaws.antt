@@ -1,9 +1,8 @@
 -- Chains of items that are kept, as one more is kept.
-use Rattle.std.proofs.Common.{rules, ◌≡◌, ℕ, zero, suc, ◌+◌, ◌-◌, ◌<◌, ◌≤◌, Bool, true, false, cond, List, [], ◌∷◌, ◌++◌, length, map, Option, Some, None, refl, sym, ap, ◌∙◌, inl, inr, append_assoc, append-nil, arith}
+use Rattle.std.proofs.Common.{rules, ◌≡◌, ℕ, zero, suc, ◌+◌, ◌-◌, ◌<◌, ◌≤◌, Bool, true, false, cond, List, [], ◌∷◌, ◌++◌, length, map, Some, refl, sym, ap, ◌∙◌, inl, inr, append_assoc, append-nil, arith, ◌⊎◌, ◌||◌, get_or, length-append}
 use Rattle.std.proofs.lemmas.Grind.{common_steps}
-use Rattle.std.specs.Prelude.{◌⊎◌, ◌||◌, get_or}
 use Rattle.std.specs.List.{list_any}
-use Rattle.std.proofs.lemmas.List.{length-append, length-map, map-append, get_or_append_left, get_or_at}
+use Rattle.std.proofs.lemmas.List.{length-map, map-append, get_or_append_left, get_or_at}
 use Rattle.std.proofs.Math.ListN.{get_or-eq_default}
 use Rattle.std.proofs.lemmas.Option.{slice_get_past, slice_get-get_or}
 use Rattle.dw_forms.specs.Chains.{Numbered, items_of, chain_in, chains_from, chains_of, item_of, number_where, AreNumbered}
@@ -33,14 +32,14 @@ unfolding chains_from
 first_from chains [] n within = refl
 first_from chains (j ∷ items) n within =
     let t = (numbered (length chains) j ∷ chain_in chains j.1) ∷ [] in
-    first_from (chains ++ t) items n (omega (arith, within, length-append chains t))
+    first_from (chains ++ t) items n (omega (arith, length-append chains t))
     ∙ get_or_append_left chains t [] n within
 
 pub chains_long : {X : Type 0} → (items : List (X × ℕ)) → length (chains_of items) ≡ suc (length items)
-chains_long items = omega (arith, long_from ([] ∷ []) items)
+chains_long items = search (rules, long_from)
 
 pub chain_none : {X : Type 0} → (items : List (X × ℕ)) → chain_in (chains_of items) 0 ≡ []
-chain_none items = first_from ([] ∷ []) items 0 (omega arith)
+chain_none items = search (rules, first_from)
 
 module _ {X : Type 0} (items : List (X × ℕ)) (k : X × ℕ) where
   pub chains_more : chains_of (items ++ k ∷ [])
@@ -73,7 +72,7 @@ item_last (x ∷ items) k = item_last items k
 numbered_more : {X : Type 0} → (items : List (X × ℕ)) (k : X × ℕ) (chain : List (Numbered X)) → AreNumbered items chain
     → AreNumbered (items ++ k ∷ []) chain
 numbered_more items k [] are = tt
-numbered_more items k (n ∷ chain) are = (item_more items k n.number n.item are.0, numbered_more items k chain are.1)
+numbered_more items k (n ∷ chain) are = search (rules, item_more, (numbered_more items k chain are.1))
 
 three_ways : (i j : ℕ) → ((i < j) ⊎ (i ≡ j)) ⊎ (j < i)
 three_ways i j = grind arith
@@ -91,11 +90,11 @@ numbered_from front (k ∷ items) chains long are n =
     (omega (arith, length-append chains (new ∷ []), length-append front (k ∷ [])))
     (λ m. elim (three_ways m (length chains)) [
       | inl (inl less) ↦ rw (get_or_append_left chains (new ∷ []) [] m less)
-          (numbered_more front k (chain_in chains m) (are m))
+          (numbered_more front k _ (are m))
       | inl (inr same) ↦ rw (get_or_at chains new [] [] m (sym same)) (
         ap (item_of (front ++ k ∷ [])) long
             ∙ item_last front k,
-        numbered_more front k (chain_in chains k.1) (are k.1),
+        numbered_more front k _ (are k.1),
       )
       | inr past ↦ rw (get_or-eq_default (chains ++ new ∷ []) [] {n = m}
           (omega (arith, length-append chains (new ∷ [])))) tt
@@ -166,7 +165,7 @@ module _ {X : Type 0} (p q : X → Bool) (narrower : (c : X) → p c ≡ true �
   none_narrows : (chains : List (List (Numbered X))) (n : ℕ) → 0 < length chains → chain_in chains 0 ≡ []
       → chain_in chains n ≡ [] → Narrows chains n
   unfolding number_where
-  none_narrows chains n some none is = record { within = rw is some; same = rw (is, none) refl }
+  none_narrows chains n some none is = search rules
 
   longer_narrows : (chains : List (List (Numbered X))) (new : List (Numbered X)) (n : ℕ) → n < length chains
       → Narrows chains n → Narrows (chains ++ new ∷ []) n
@@ -187,7 +186,7 @@ module _ {X : Type 0} (p q : X → Bool) (narrower : (c : X) → p c ≡ true �
       let first = numbered (length chains) k in
       let new = first ∷ chain_in chains k.1 in
       let more : length (chains ++ new ∷ []) ≡ length chains + 1 = omega (arith, length-append chains (new ∷ [])) in
-      let still_none : chain_in (chains ++ new ∷ []) 0 ≡ [] = get_or_append_left chains (new ∷ []) [] 0 some ∙ none in
+      let still_none : chain_in (chains ++ new ∷ []) 0 ≡ [] = search (rules, get_or_append_left) in
       narrows_from (chains ++ new ∷ []) items (omega arith) still_none
       (λ m. elim (three_ways m (length chains)) [
         | inl (inl less) ↦ longer_narrows chains new m less (are m)
@@ -210,7 +209,7 @@ pub item_within : {X : Type 0} → (items : List (X × ℕ)) (number : ℕ) (d :
 item_within items zero d is = omega arith
 item_within {X} [] (suc n) d is = search (rules, slice_get_past)
 item_within (x ∷ items) (suc zero) d is = omega arith
-item_within (x ∷ items) (suc (suc n)) d is = let within = item_within items (suc n) d is in omega (arith, within)
+item_within (x ∷ items) (suc (suc n)) d is = search (rules, (item_within items (suc n) d is))
 
 -- the item that is read at the place before a number
 pub item_read : {X : Type 0} → (items : List (X × ℕ)) (number : ℕ) (x : X × ℕ) → 0 < number → number ≤ length items
@@ -232,12 +231,12 @@ map_from : {X Y : Type 0} → (f : X → Y) (chains : List (List (Numbered X))) 
     → chain_in (chains_from (map (map (mapped f)) chains) (map (λ (x : X × ℕ). (f x.0, x.1)) items)) n
     ≡ map (mapped f) (chain_in (chains_from chains items) n)
 unfolding chains_from
-map_from f chains [] n = at_map (map (mapped f)) chains n []
+map_from f chains [] n = at_map _ chains n []
 map_from {X} {Y} f chains (x ∷ items) n =
     let new = numbered (length chains) x ∷ chain_in chains x.1 in
     let number : length (map (map (mapped f)) chains) ≡ length chains = length-map chains (map (mapped f)) in
     let more : map (map (mapped f)) (chains ++ new ∷ [])
-    ≡ map (map (mapped f)) chains ++ map (mapped f) new ∷ [] = map-append (map (mapped f)) chains (new ∷ []) in
+    ≡ map (map (mapped f)) chains ++ map (mapped f) new ∷ [] = search (rules, map-append) in
     let same : (map (map (mapped f)) chains
     ++ (numbered (length (map (map (mapped f)) chains)) (f x.0, x.1) ∷ chain_in (map (map (mapped f)) chains) x.1)
     ∷ []) ≡ map (map (mapped f)) (chains ++ new ∷ []) =
@@ -263,7 +262,7 @@ where_map test f (n ∷ chain) = (λ i. cond (test (f n.item)) n.number (where_m
 
 -- a number that is some item's is above 0
 pub item_some : {X : Type 0} → (items : List (X × ℕ)) (number : ℕ) (x : X) → item_of items number ≡ Some x → 0 < number
-item_some {X} items zero x is = let no : ◌≡◌ {A = Option X} None (Some x) = is in absurd cc
+item_some {X} items zero x is = search rules
 item_some items (suc number) x is = omega arith
 
 none_here : (number more : ℕ) (has b : Bool) → (number ≡ 0 → ⊥) → (more ≡ 0 → has ≡ false) → cond b number more ≡ 0

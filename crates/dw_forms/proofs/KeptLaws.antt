@@ -1,25 +1,54 @@
--- Tables of declarations that are kept, as one more is kept, and how codes are found in them.
-use Rattle.std.proofs.Common.{rules, ◌≡◌, ℕ, zero, suc, ◌-◌, ◌<◌, ◌≤◌, Bool, true, false, cond, List, [], ◌∷◌, ◌++◌, length, map, Option, Some, None, refl, sym, ap, subst, ◌∙◌, arith}
-use Rattle.std.specs.Prelude.{◌==◌, find, get_or}
-use Rattle.std.specs.BTreeMap.{BTreeMap}
+-- Tables of declarations that are kept, as one more is kept, and how codes are found in them by their labels.
+use Rattle.std.proofs.Common.{subst, sym, rules, ◌≡◌, ℕ, ◌<◌, ◌≤◌, Option, Some, None, refl, arith, ◌==◌, lt-ltb, le-ltb, nat_cmp, BTreeMap, zero, suc, ◌-◌, Bool, true, false, cond, List, [], ◌∷◌, ◌++◌, length, map, ap, ◌∙◌, find, get_or, length-append, eq-eqb, ne_eqb}
+use Rattle.std.specs.BTreeMap.{get}
+use Rattle.std.proofs.lemmas.Bool.{cases_lt, cases_eq}
+use Rattle.dw_forms.specs.Labels.{long_label, label, HasLabel, AreLabels, LabelsStay}
 use Rattle.std.proofs.lemmas.Grind.{common_steps}
 use Rattle.std.proofs.lemmas.Option.{slice_get_past}
-use Rattle.std.proofs.lemmas.List.{length-append, length-map, map-append, get_or-map}
-use Rattle.dw_forms.specs.declared.attribute_lists.Node.{Node}
-use Rattle.dw_forms.specs.declared.chains.Link.{Link}
+use Rattle.std.proofs.lemmas.List.{length-map, map-append, get_or-map}
 use Rattle.dw_forms.specs.declared.leading_steps.Step.{Step}
-use Rattle.dw_forms.specs.declared.decl.KeptDecl.{KeptDecl}
 use Rattle.dw_forms.specs.Abbrev.{Declaration}
 use Rattle.dw_forms.specs.AbbrevReading.{has_code}
-use Rattle.dw_forms.specs.Chains.{Numbered, items_of, chain_in, chains_of, item_of, number_where, AreNumbered, codes_of, codes_in, number_in as code_number}
-use Rattle.dw_forms.specs.KeptDecls.{kept_view, decls_of, tables_of, table_in, decl_of, decl_number_in, AreWithin, HaveDeclCodes, HaveLabels}
-use Rattle.dw_forms.specs.Labels.{label, HasLabel, AreLabels, LabelsStay}
+use Rattle.dw_forms.specs.Chains.{chains_of, Numbered, items_of, chain_in, item_of, number_where, AreNumbered, codes_of, codes_in, number_in as code_number, Link}
+use Rattle.dw_forms.specs.KeptDecls.{kept_view, decls_of, tables_of, table_in, decl_of, decl_number_in, AreWithin, HaveDeclCodes, HaveLabels, Node, KeptDecl}
 use Rattle.dw_forms.specs.DeclaredLists.{HasList}
 use Rattle.dw_forms.specs.Offsets.{Stay}
 use Rattle.dw_forms.proofs.ChainLaws.{chain_map, where_map, chains_long, chain_none, chains_more, are_numbered, item_read, where_alike, none_has, some_has}
-use Rattle.dw_forms.proofs.LabelLaws.{same_labels}
 use Rattle.dw_forms.proofs.CodeLaws.{codes_long, number_within}
 use Rattle.dw_forms.proofs.ListStarts.{lists_stay}
+
+-- ---- labels of codes are apart
+
+module _ (long : BTreeMap ℕ ℕ) (labels : AreLabels long) where
+  short_is : (code : ℕ) → code < 0x10000 → label long code ≡ code
+  short_is code short = search (rules, lt-ltb)
+
+  long_is : (code : ℕ) → 0x10000 ≤ code → label long code ≡ long_label (get nat_cmp long code)
+  long_is code far = rw (le-ltb code 0x10000 far) refl
+
+  long_far : (code : ℕ) (found : Option ℕ) → get nat_cmp long code ≡ found → 0x10000 ≤ long_label found
+  long_far code None is = omega arith
+  long_far code (Some found) is = search rules
+
+  same_long : (code other own : ℕ) (found : Option ℕ) → get nat_cmp long code ≡ Some own
+      → get nat_cmp long other ≡ found → own ≡ long_label found → code ≡ other
+  same_long code other own None is none same = search rules
+  same_long code other own (Some found) is there same = search rules
+
+  far_label : (code other : ℕ) (own : Option ℕ) → get nat_cmp long code ≡ own → HasLabel long code
+      → 0x10000 ≤ code → label long code ≡ label long other → code ≡ other
+  far_label code other None is has high same = absurd (has high is)
+  far_label code other (Some found) is has high same = search (rules, long_is, cases_lt, short_is, same_long)
+
+  same_label : (code other : ℕ) → HasLabel long code → label long code ≡ label long other → code ≡ other
+  same_label code other has same = search (rules, cases_lt, short_is, long_is, long_far, far_label)
+
+-- a label is found for its own code alone
+pub same_labels : (long : BTreeMap ℕ ℕ) (code other : ℕ) → AreLabels long → HasLabel long code
+    → (label long code == label long other) ≡ (code == other)
+same_labels long code other labels has = search (rules, cases_eq, eq-eqb, ne_eqb, same_label)
+
+-- ---- tables of declarations that are kept, as one more is kept
 
 abbrev pub part : List Node → KeptDecl → Declaration × ℕ
 part nodes k = (kept_view nodes k, k.rest)
@@ -30,10 +59,10 @@ decls_long : (nodes : List Node) (kept : List KeptDecl) → length (decls_of nod
 decls_long nodes kept = length-map kept (part nodes)
 
 pub tables_long : (nodes : List Node) (kept : List KeptDecl) → length (tables_of nodes kept) ≡ suc (length kept)
-tables_long nodes kept = chains_long (decls_of nodes kept) ∙ ap suc (decls_long nodes kept)
+tables_long nodes kept = search (rules, chains_long, decls_long)
 
 pub table_none : (nodes : List Node) (kept : List KeptDecl) → chain_in (tables_of nodes kept) 0 ≡ []
-table_none nodes kept = chain_none (decls_of nodes kept)
+table_none nodes kept = chain_none _
 
 pub tables_more : (nodes : List Node) (kept : List KeptDecl) (k : KeptDecl)
     → tables_of nodes (kept ++ k ∷ [])
@@ -66,7 +95,7 @@ pub has_stays : (old new : List Node) (first : ℕ) (step : Step) (bits : ℕ) (
 has_stays old new first step bits declared whole stay has = search (rules, lists_stay, length-append)
 
 pub within_stays : (old new : List Node) (kept : List KeptDecl) → Stay old new → AreWithin old kept → AreWithin new kept
-within_stays old new kept stay within k d less = has_stays old new _ _ _ _ _ stay (within k d less)
+within_stays old new kept stay within k d less = search (rules, has_stays)
 
 -- ---- how codes are found
 
@@ -74,8 +103,7 @@ codes_parts : (long : BTreeMap ℕ ℕ) (nodes : List Node) (kept : List KeptDec
     → map {B = ℕ × ℕ} (λ (k : KeptDecl). (label long k.code, k.rest)) kept
     ≡ map {B = ℕ × ℕ} (λ (x : Declaration × ℕ). (label long x.0.code, x.1)) (decls_of nodes kept)
 codes_parts long nodes [] = refl
-codes_parts long nodes (k ∷ kept) =
-    (λ i. (label long k.code, k.rest) ∷ (codes_parts long nodes kept i))
+codes_parts long nodes (k ∷ kept) = search (rules, (codes_parts long nodes kept))
 
 abbrev or_else : {X : Type 0} → X → Option X → X
 or_else x None = x
@@ -123,7 +151,7 @@ coded_stay links old new kept stay has are = are ∙ sym (map_same kept has) whe
 
 pub labels_stay : (old new : BTreeMap ℕ ℕ) (kept : List KeptDecl) → LabelsStay old new → HaveLabels old kept
     → HaveLabels new kept
-labels_stay old new kept stay has k d less = (stay (get_or kept k d).code (has k d less)).1
+labels_stay old new kept stay has k d less = search rules
 
 -- a code is found by a label that it was given just now
 pub labelled_is : (links : List Link) (old new : BTreeMap ℕ ℕ) (nodes : List Node) (kept : List KeptDecl)
@@ -156,7 +184,7 @@ numbers_find nodes kept (n ∷ table) code are = search (rules, found_first, (nu
 
 pub own_numbers : (nodes : List Node) (kept : List KeptDecl) (table : ℕ)
     → AreNumbered (decls_of nodes kept) (chain_in (tables_of nodes kept) table)
-own_numbers nodes kept table = are_numbered (decls_of nodes kept) table
+own_numbers nodes kept table = search (rules, are_numbered)
 
 pub none_code : (nodes : List Node) (kept : List KeptDecl) (table code : ℕ)
     → decl_number_in (chain_in (tables_of nodes kept) table) code ≡ 0
@@ -179,8 +207,7 @@ found_by links long nodes kept table code labels has are =
 
 pub found_within : (links : List Link) (long : BTreeMap ℕ ℕ) (kept : List KeptDecl) (table found : ℕ)
     → HaveDeclCodes links long kept → code_number (codes_in links table) found ≤ length kept
-found_within links long kept table found are =
-    omega (arith, number_within links table found, links_long links long kept are)
+found_within links long kept table found are = search (rules, number_within, links_long)
 
 -- the declaration that is read at the place before a number
 pub decl_read : (nodes : List Node) (kept : List KeptDecl) (number : ℕ) (x : KeptDecl) → 0 < number

@@ -1,14 +1,13 @@
 -- What a lead says of the attribute that has it.
-use Rattle.std.proofs.Common.{rules, ◌≡◌, ◌≢◌, ℕ, Bool, true, false, refl}
-use Rattle.std.specs.Prelude.{⊤, ◌==◌, ◌||◌, if◌then◌else◌}
-use Rattle.std.proofs.lemmas.Bool.{eqb-true, eqb-false}
+use Rattle.std.proofs.Common.{rules, ◌≡◌, ◌≢◌, ℕ, Bool, true, false, refl, ◌==◌, ◌||◌, if◌then◌else◌, eqb-true}
+use Rattle.std.specs.Prelude.{⊤}
+use Rattle.std.proofs.lemmas.Bool.{eqb-false}
 use Rattle.dw_forms.specs.declared.abbrev.AttributeSpec.{AttributeSpec}
 use Rattle.dw_forms.specs.declared.form.Form.{Form}
 use Rattle.dw_forms.specs.declared.form.Form.TheVariants.{Ref4, Strp, Strx1, Strx2, Addrx}
-use Rattle.dw_forms.specs.declared.leading_steps.Lead.{Lead}
 use Rattle.dw_forms.specs.declared.leading_steps.Lead.TheVariants as lead
 use Rattle.dw_forms.specs.Codes.{DW_AT_type, DW_AT_sibling, DW_AT_specification, DW_AT_import, DW_AT_signature}
-use Rattle.dw_forms.specs.LeadingWalks.{does_lead, lead_by, lead_of}
+use Rattle.dw_forms.specs.LeadingWalks.{does_lead, lead_by, lead_of, Lead}
 
 -- an attribute of this form and code has a lead, and this says so much of it
 abbrev pub Says : Lead → Form → ℕ → Bool → Type 0
@@ -33,8 +32,8 @@ reference_says : (code : ℕ) (b : Bool) (a1 a2 a3 a4 a5 : Bool) → (code == DW
     (if a2 then lead.Sibling else (if a3 then lead.Specification else (if a4 || a5 then lead.Other else lead.Entry))))
     Ref4 code b
 reference_says code b true a2 a3 a4 a5 e1 e2 e3 e4 e5 = (refl, eqb-true code DW_AT_type e1)
-reference_says code b false true a3 a4 a5 e1 e2 e3 e4 e5 = (refl, eqb-true code DW_AT_sibling e2)
-reference_says code b false false true a4 a5 e1 e2 e3 e4 e5 = (refl, eqb-true code DW_AT_specification e3)
+reference_says code b false true a3 a4 a5 e1 e2 e3 e4 e5 = search (rules, eqb-true)
+reference_says code b false false true a4 a5 e1 e2 e3 e4 e5 = search (rules, eqb-true)
 reference_says code b false false false true a5 e1 e2 e3 e4 e5 = tt
 reference_says code b false false false false true e1 e2 e3 e4 e5 = tt
 reference_says code b false false false false false e1 e2 e3 e4 e5 = search (rules, eqb-false)
@@ -50,12 +49,12 @@ other_says form code false = refl
 
 -- by the form
 by_form : (form : Form) (spec : AttributeSpec) → Says (lead_by form spec) form spec.attribute (does_lead spec)
-by_form Ref4 spec = reference_says spec.attribute (does_lead spec) _ _ _ _ _ refl refl refl refl refl
+by_form Ref4 spec = search (rules, reference_says)
 by_form Strp spec = search (rules, value_says)
 by_form Strx1 spec = search (rules, value_says)
 by_form Strx2 spec = search (rules, value_says)
 by_form Addrx spec = search (rules, value_says)
-by_form form spec = other_says form spec.attribute (does_lead spec)
+by_form form spec = search (rules, other_says)
 
 -- what the lead of an attribute says of it is so
 pub lead_says : (spec : AttributeSpec) (l : Lead) → lead_of spec ≡ l → Says l spec.form spec.attribute (does_lead spec)

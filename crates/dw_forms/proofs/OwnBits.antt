@@ -1,16 +1,70 @@
--- An attribute that is looked for has a bit of its own.
-use Rattle.std.proofs.Common.{rules, ◌≡◌, ◌≢◌, ℕ, zero, suc, ◌*◌, ◌+◌, ◌^◌, ◌<◌, ◌≤◌, true, false, List, [], ◌∷◌, length, All, refl, sym, ap, ◌∙◌, inl, inr, arith}
-use Rattle.std.specs.Prelude.{◌==◌, ◌||◌, ◌↔◌, Bool, not, IsTrue, bit_or, bit_and}
+-- Attributes that are looked for have bits of their own, and a declaration has no more attributes than there are codes.
+use Rattle.std.proofs.Common.{◌≢◌, ℕ, ◌<◌, ◌≤◌, eqb, List, ◌∷◌, length, map, sym, ◌∙◌, All, arith, AllPairs, eqb-true, rules, ◌≡◌, ◌⊎◌, inl, inr, true, [], refl, zero, suc, ◌*◌, ◌+◌, ◌^◌, false, ap, ◌==◌, ◌||◌, ◌↔◌, Bool, not, IsTrue, bit_or, bit_and, eq-eqb, ne_eqb}
+use Rattle.std.proofs.lemmas.Bool.Decides.{Decides-eqb}
+use Rattle.std.proofs.lemmas.List.{get_or-map, length-map}
+use Rattle.std.proofs.lemmas.List.Folds.{Any-from_list_any}
+use Rattle.std.proofs.lemmas.Map.Made.{IsDistinct-from_AllPairs}
+use Rattle.std.proofs.lemmas.Map.Steps.{length-le_from_distinct_below}
+use Rattle.std.proofs.lemmas.List.Elements.{All-cons, All-map}
+use Rattle.std.proofs.lemmas.List.Kept.{AllPairs-cons}
+use Rattle.dw_forms.specs.declared.form.Form.TheVariants.{Addr}
+use Rattle.dw_forms.specs.declared.abbrev.AttributeSpec.{AttributeSpec}
+use Rattle.dw_forms.specs.Abbrev.{AreAttributeSpecs, attribute_of}
+use Rattle.dw_forms.specs.Sizes.{are_allowed}
 use Rattle.std.specs.Int.{bit_at}
 use Rattle.std.specs.List.{list_any}
 use Rattle.std.proofs.lemmas.Bool.{cases_eq}
 use Rattle.std.proofs.lemmas.Nat.{pow_pos}
 use Rattle.std.proofs.lemmas.Nat.Bits.{bit_at_or, bit_at-pow_same, bit_at-pow_other, bit_at-zero, bit_at-lt, and_pow}
-use Rattle.dw_forms.specs.declared.abbrev.AttributeSpec.{AttributeSpec}
 use Rattle.dw_forms.specs.AbbrevReading.{has_attribute}
-use Rattle.dw_forms.specs.AttributeBits.{place_from, bit_of, asked, own_bits, AreBitsOf}
-use Rattle.dw_forms.proofs.BitLaws.{eq_true, differ}
+use Rattle.dw_forms.specs.AttributeBits.{place_from, bit_of, own_bits, AreBitsOf}
 use Rattle.dw_forms.specs.Keys.{lacks_from, lacks_test}
+
+-- ---- a declaration has no more attributes than there are codes
+
+-- no attribute has the code 0
+codes : List AttributeSpec → List ℕ
+codes specs = 0 ∷ map attribute_of specs
+
+any_spec : AttributeSpec
+any_spec = record { attribute = 0; form = Addr }
+
+codes_apart : (specs : List AttributeSpec) → AreAttributeSpecs specs → AllPairs (λ x y. x ≢ y) (codes specs)
+unfolding codes
+codes_apart specs a =
+    AllPairs-cons (λ x y. x ≢ y) 0 (map attribute_of specs)
+    (All-map (λ n. 0 ≢ n) attribute_of specs (λ k d lt none. omega (arith, (a.each k d lt).some)))
+    (λ i j d lt long same.
+    let len = length-map specs attribute_of in
+    let first = get_or-map attribute_of specs i any_spec d (omega arith) in
+    let second = get_or-map attribute_of specs j any_spec d (omega arith) in
+    a.distinct i j any_spec lt (omega arith) (sym first ∙ same ∙ second))
+
+codes_small : (specs : List AttributeSpec) → AreAttributeSpecs specs → All (λ n. n < 0x10000) (codes specs)
+unfolding codes
+codes_small specs a =
+    All-cons (λ n. n < 0x10000) 0 (map attribute_of specs) (omega arith)
+    (All-map (λ n. n < 0x10000) attribute_of specs (λ k d lt. omega (arith, (a.each k d lt).small)))
+
+pub few_specs : (specs : List AttributeSpec) → AreAttributeSpecs specs → length specs ≤ 0xffff
+unfolding codes
+few_specs specs a =
+    let distinct = IsDistinct-from_AllPairs Decides-eqb (codes specs) (codes_apart specs a) in
+    let few = length-le_from_distinct_below (codes specs) 0x10000 distinct
+    (λ q h. let c = Any-from_list_any (eqb q) (codes specs) h in
+    omega (arith, eqb-true q c.1 c.4, codes_small specs a c.0 c.1 c.2, c.3)) in
+    omega (arith, length-map specs attribute_of)
+
+-- ---- version 5 has all forms
+
+in_5 : (specs : List AttributeSpec) → true ≡ are_allowed 5 specs
+in_5 [] = refl
+in_5 (spec ∷ specs) = in_5 specs
+
+pub all_allowed : (version : ℕ) (specs : List AttributeSpec) → (version ≡ 4) ⊎ (version ≡ 5) → version ≢ 4
+    → true ≡ are_allowed version specs
+all_allowed version specs (inl four) other = absurd (other four)
+all_allowed version specs (inr five) other = search (rules, in_5)
 
 -- ---- bits as factors
 
@@ -25,10 +79,10 @@ one_of (suc b) p less some = omega arith
 -- ---- the places of codes
 
 place_here : (k code c : ℕ) (codes : List ℕ) → code ≡ c → place_from k (c ∷ codes) code ≡ k
-place_here k code c codes same = rw (eq_true code c same) refl
+place_here k code c codes same = search rules
 
 place_there : (k code c : ℕ) (codes : List ℕ) → code ≢ c → place_from k (c ∷ codes) code ≡ place_from (suc k) codes code
-place_there k code c codes other = rw (differ code c other) refl
+place_there k code c codes other = search rules
 
 place_least : (k code : ℕ) (codes : List ℕ) → k ≤ place_from k codes code
 place_least k code [] = omega arith
@@ -54,10 +108,10 @@ own_place k code other (c ∷ codes) less same = elim (cases_eq code c) [
 
 pub own_bit : (code other : ℕ) → bit_of code < own_bits → bit_of other ≡ bit_of code → other ≡ code
 unfolding bit_of
-own_bit code other less same = own_place 0 code other asked less same
+own_bit code other less same = search (rules, own_place)
 
 same_test : (code other : ℕ) → bit_of code < own_bits → (bit_of other == bit_of code) ≡ (other == code)
-same_test code other own = search (rules, cases_eq, eq_true, differ, own_bit)
+same_test code other own = search (rules, cases_eq, eq-eqb, ne_eqb, own_bit)
 
 -- ---- the bits of a list
 
@@ -65,21 +119,21 @@ pub no_bits : AreBitsOf [] 0
 no_bits i = rw (bit_at-zero i) refl
 
 or_one : (bits place i : ℕ) → (bit_at (bit_or bits (2 ^ place)) i == 1) ≡ ((place == i) || (bit_at bits i == 1))
-or_one bits place i = search (rules, cases_eq, bit_at-pow_same, eq_true, bit_at_or, bit_at-lt, bit_at-pow_other, differ)
+or_one bits place i = search (rules, cases_eq, bit_at-pow_same, eq-eqb, bit_at_or, bit_at-lt, bit_at-pow_other, ne_eqb)
 
 pub more_bits : (bits bit : ℕ) (spec : AttributeSpec) (specs : List AttributeSpec) → bit ≡ 2 ^ bit_of spec.attribute
     → AreBitsOf specs bits → AreBitsOf (spec ∷ specs) (bit_or bits bit)
-more_bits bits bit spec specs is are i = rw (is, or_one bits (bit_of spec.attribute) i, are i) refl
+more_bits bits bit spec specs is are i = search (rules, or_one)
 
 -- the same test of codes and of their bits
 any_own : (code : ℕ) (specs : List AttributeSpec) → bit_of code < own_bits
     → list_any (λ (spec : AttributeSpec). bit_of spec.attribute == bit_of code) specs ≡ has_attribute code specs
 any_own code [] own = refl
-any_own code (spec ∷ specs) own = rw (same_test code spec.attribute own, any_own code specs own) refl
+any_own code (spec ∷ specs) own = search (rules, same_test, (any_own code specs own))
 
 module _ (bits mask code : ℕ) (is : mask ≡ 2 ^ bit_of code) where
   masked : bit_and bits mask ≡ bit_at bits (bit_of code) * 2 ^ bit_of code
-  masked = ap (bit_and bits) is ∙ and_pow bits (bit_of code)
+  masked = search (rules, bit_and, and_pow)
 
   pub zero_bit : bit_and bits mask ≡ 0 → bit_at bits (bit_of code) ≡ 0
   zero_bit none = search (rules, no_product, pow_pos, masked)

@@ -1,14 +1,12 @@
 -- Lists of attributes that go on as another list: where the next attribute of a kind is, and what comes before it.
-use Rattle.std.proofs.Common.{rules, ◌≡◌, ℕ, zero, suc, ◌-◌, ◌<◌, ◌≤◌, Bool, true, false, List, [], ◌∷◌, ◌++◌, length, refl, sym, ap, subst, ◌∙◌, arith}
-use Rattle.std.specs.Prelude.{◌||◌, get_or}
+use Rattle.std.proofs.Common.{rules, ◌≡◌, ℕ, zero, suc, ◌-◌, ◌<◌, ◌≤◌, Bool, true, false, List, [], ◌∷◌, ◌++◌, length, refl, sym, ap, subst, ◌∙◌, arith, ◌||◌, get_or}
 use Rattle.std.specs.List.{list_any}
 use Rattle.std.proofs.lemmas.List.{get_or_default}
 use Rattle.dw_forms.specs.declared.abbrev.AttributeSpec.{AttributeSpec}
-use Rattle.dw_forms.specs.declared.attribute_lists.Node.{Node}
 use Rattle.dw_forms.specs.Chains.{Numbered, items_of, number_where}
-use Rattle.dw_forms.specs.AttributeLists.{spec_of, specs_of, numbered_in, AreKnown, IsKnown, EndsWith}
+use Rattle.dw_forms.specs.AttributeLists.{spec_of, numbered_in, AreKnown, IsKnown, EndsWith, Node}
 use Rattle.dw_forms.proofs.ChainLaws.{chain_none, where_first, where_later}
-use Rattle.dw_forms.proofs.NodeSteps.{node_read}
+use Rattle.dw_forms.proofs.NodeLaws.{node_read}
 
 -- ---- some list
 
@@ -24,7 +22,7 @@ Falls bound (n ∷ list) = (n.number ≤ bound) × (0 < n.number) × Falls (n.nu
 
 falls_less : (few many : ℕ) (list : List (Numbered AttributeSpec)) → few ≤ many → Falls few list → Falls many list
 falls_less few many [] le falls = tt
-falls_less few many (n ∷ list) le falls = (omega (arith, falls.0), falls.1, falls.2)
+falls_less few many (n ∷ list) le falls = search (rules, falls)
 
 -- a list begins with its number
 abbrev pub StartsAt : ℕ → List (Numbered AttributeSpec) → Type 0
@@ -46,40 +44,39 @@ module _ (nodes : List Node) (known : AreKnown nodes) where
           )
 
   falls_to : (bound number : ℕ) → number ≤ bound → number ≤ length nodes → Falls number (numbered_in nodes number)
-  falls_to bound zero le within = rw (chain_none (specs_of nodes)) tt
+  falls_to bound zero le within = rw (chain_none _) tt
   falls_to zero (suc k) le within = absurd (omega arith)
   falls_to (suc bound) (suc k) le within =
-      let (n, is) = known_at (suc k) (omega arith) within in
+      let (n, is) = known_at _ (omega arith) within in
       let less = is.next in
       rw is.begins (
         omega arith,
         omega arith,
-        falls_less n.next (suc k - 1) (numbered_in nodes n.next)
-            (omega arith) (falls_to bound n.next (omega arith) (omega (arith, within))),
+        falls_less n.next _ _
+            (omega arith) (falls_to bound n.next (omega arith) (omega arith)),
       )
 
   pub falls : (number : ℕ) → number ≤ length nodes → Falls number (numbered_in nodes number)
-  falls number within = falls_to number number (omega arith) within
+  falls number within = search (rules, falls_to)
 
   pub starts : (number : ℕ) → number ≤ length nodes → StartsAt number (numbered_in nodes number)
-  starts zero within = rw (chain_none (specs_of nodes)) refl
+  starts zero within = rw (chain_none _) refl
   starts (suc k) within = let (n, is) = known_at (suc k) (omega arith) within in rw is.begins refl
 
 -- a number before a list is above the list's
 pub head_above : (bound to : ℕ) (m : Numbered AttributeSpec) (before list : List (Numbered AttributeSpec))
     → Falls bound (m ∷ (before ++ list)) → StartsAt to list → to < m.number
 head_above bound to m [] [] falls starts = omega (arith, starts, falls.1)
-head_above bound to m [] (n ∷ list) falls starts = omega (arith, starts, falls.1, falls.2.0)
+head_above bound to m [] (n ∷ list) falls starts = search (rules, starts, falls)
 head_above bound to m (r ∷ before) list falls starts =
-    let less = head_above (m.number - 1) to r before list falls.2 starts in
-    omega (arith, falls.1, falls.2.0)
+    search (rules, falls, starts, (head_above (m.number - 1) to r before list falls.2 starts))
 
 -- a member of a list has a number of at most the list's
 pub member_below : (bound : ℕ) (before : List (Numbered AttributeSpec)) (n : Numbered AttributeSpec)
     (list : List (Numbered AttributeSpec)) → Falls bound (before ++ n ∷ list) → n.number ≤ bound
 member_below bound [] n list falls = falls.0
 member_below bound (m ∷ before) n list falls =
-    let less = member_below (m.number - 1) before n list falls.2 in omega (arith, falls.0)
+    search (rules, falls, (member_below (m.number - 1) before n list falls.2))
 
 -- ---- the next attribute of a kind
 
@@ -98,7 +95,7 @@ none_both false b e f = f
 
 first_passes : (test : AttributeSpec → Bool) (n m : Numbered AttributeSpec) (xs ys : List (Numbered AttributeSpec))
     → n ∷ xs ≡ m ∷ ys → test n.item ≡ true → test m.item ≡ true
-first_passes test n m xs ys e is = (λ i. test (sym (first_is n m xs ys e).0 i).item) ∙ is
+first_passes test n m xs ys e is = search (rules, first_is)
 
 no_first : (m : Numbered AttributeSpec) (list : List (Numbered AttributeSpec)) → [] ≡ m ∷ list → ⊥
 no_first m list e = cc
@@ -130,15 +127,15 @@ module _ (test : AttributeSpec → Bool) (nodes : List Node) (known : AreKnown n
   split_to bound zero le within = search (rules, chain_none, no_first)
   split_to zero (suc k) le within = absurd (omega arith)
   split_to (suc bound) (suc k) le within =
-      let (n, is) = known_at nodes known (suc k) (omega arith) within in
+      let (n, is) = known_at nodes known _ (omega arith) within in
       let less = is.next in
-      split_here (suc k) n (test (spec_of n)) is refl
-      (split_to bound n.next (omega arith) (omega (arith, within)))
+      split_here _ n (test (spec_of n)) is refl
+      (split_to bound n.next (omega arith) (omega arith))
 
   -- the list up to the next attribute of the kind
   pub split : (number : ℕ) → number ≤ length nodes
       → IsSplit test nodes number (number_where test (numbered_in nodes number))
-  split number within = split_to number number (omega arith) within
+  split number within = search (rules, split_to)
 
 -- where the next attribute of a kind is not before a list, none before it is of the kind
 none_here : (test : AttributeSpec → Bool) (bound to : ℕ) (m : Numbered AttributeSpec)
@@ -181,7 +178,6 @@ part_at to z zs (x ∷ front) (y ∷ before) list falls starts less e =
     let p = part_at to z zs front before list falls starts less same.1 in
     record {
       others = p.others;
-      parts = (λ i. same.0 i ∷ before)
-          ∙ (λ i. x ∷ p.parts i);
+      parts = search rules;
       goes = p.goes;
     }

@@ -1,18 +1,16 @@
 -- The place of a declaration is kept as declarations are added, and it is the one that is found.
-use Rattle.std.proofs.Common.{rules, ◌≡◌, ◌≢◌, ℕ, zero, suc, ◌+◌, ◌<◌, Bool, true, false, List, [], ◌∷◌, ◌++◌, length, get_or, Option, Some, None, refl, sym, ◌∙◌, All, arith}
-use Rattle.std.specs.Prelude.{find, option_and_then, slice_get, IfSome, IfNone, is_some, ◌||◌, ◌==◌}
+use Rattle.std.proofs.Common.{rules, ◌≡◌, ◌≢◌, ℕ, zero, suc, ◌+◌, ◌<◌, Bool, true, false, List, [], ◌∷◌, ◌++◌, length, get_or, Option, Some, None, refl, sym, ◌∙◌, All, arith, find, option_and_then, slice_get, IfSome, IfNone, is_some, ◌||◌, ◌==◌, eq-eqb, length-append, nat_cmp, BTreeMap}
 use Rattle.std.specs.List.{list_any}
-use Rattle.std.specs.Ordering.{nat_cmp}
-use Rattle.std.specs.BTreeMap.{BTreeMap, get}
-use Rattle.std.proofs.lemmas.Bool.{eq-eqb, cases_lt}
-use Rattle.std.proofs.lemmas.List.{get_or_append_left, get_or_at, length-append}
+use Rattle.std.specs.BTreeMap.{get}
+use Rattle.std.proofs.lemmas.Bool.{cases_lt, or_right}
+use Rattle.std.proofs.lemmas.List.{get_or_append_left, get_or_at}
 use Rattle.std.proofs.lemmas.List.Elements.{All-map}
-use Rattle.dw_forms.specs.declared.abbrev.Decl.{Decl}
-use Rattle.dw_forms.specs.Abbrev.{table_view, views}
+use Rattle.dw_forms.specs.Abbrev.{table_view, views, Decl}
 use Rattle.dw_forms.specs.AbbrevReading.{has_code}
 use Rattle.dw_forms.specs.Places.{IsIndex, IsPlace, StandsAt}
-use Rattle.dw_forms.proofs.AbbrevSteps.{has_code_views, find_views}
-use Rattle.dw_forms.specs.Keys.{Apart, Lacks, lacks_from, lacks_test, apart_push, find_at, find_none}
+use Rattle.dw_forms.proofs.DeclLaws.{has_code_views, find_views}
+use Rattle.dw_forms.specs.Keys.{Apart, Lacks, lacks_from, lacks_test, apart_push}
+use Rattle.dw_forms.proofs.SpelledLists.{find_at, find_none}
 
 abbrev pub code_of_decl : Decl → ℕ
 code_of_decl d = d.code
@@ -43,24 +41,20 @@ none_view ds code lacks =
 
 -- ---- whether it is found
 
-any_more : (b c : Bool) → c ≡ true → (b || c) ≡ true
-any_more true c e = refl
-any_more false c e = e
-
 any_at : (ds : List Decl) (code i : ℕ) (d : Decl) → i < length ds → (get_or ds i d).code ≡ code
     → list_any (λ e. e.code == code) ds ≡ true
 any_at [] code i d lt same = absurd (omega arith)
 any_at (e ∷ ds) code zero d lt same = rw (eq-eqb e.code code same) refl
-any_at (e ∷ ds) code (suc i) d lt same = any_more (e.code == code) _ (any_at ds code i d (omega arith) same)
+any_at (e ∷ ds) code (suc i) d lt same = or_right _ _ (any_at ds code i d (omega arith) same)
 
 any_none : (ds : List Decl) (code : ℕ) → Lacks code_of_decl code ds → list_any (λ e. e.code == code) ds ≡ false
 any_none ds code lacks = lacks_test code_of_decl code ds lacks
 
 pub has_place : (ds : List Decl) (code : ℕ) (o : Option ℕ) → IsPlace ds code o → is_some o ≡ has_code code (views ds)
-has_place [] code (Some i) place = absurd (omega (arith, place.0))
+has_place [] code (Some i) place = absurd (omega arith)
 has_place (d ∷ ds) code (Some i) place =
     sym (has_code_views code (d ∷ ds) ∙ any_at (d ∷ ds) code i d place.0 (place.1 d))
-has_place ds code None lacks = sym (has_code_views code ds ∙ any_none ds code lacks)
+has_place ds code None lacks = search (rules, has_code_views, any_none)
 
 -- ---- the place that is found
 
@@ -73,7 +67,7 @@ slice_views (e ∷ ds) (suc i) d lt = slice_views ds i d (omega arith)
 pub stands_at : (ds : List Decl) (code : ℕ) (o : Option ℕ) → IsPlace ds code o
     → IfSome o (λ place. StandsAt (views ds) place code)
 stands_at ds code None lacks = tt
-stands_at [] code (Some i) place = absurd (omega (arith, place.0))
+stands_at [] code (Some i) place = absurd (omega arith)
 stands_at (d ∷ ds) code (Some i) place = (table_view (get_or (d ∷ ds) i d), slice_views (d ∷ ds) i d place.0, place.1 d)
 
 pub none_stands : (ds : List Decl) (code : ℕ) (o : Option ℕ) → IsPlace ds code o
@@ -84,6 +78,6 @@ none_stands ds code (Some i) place = tt
 pub find_place : (ds : List Decl) (code : ℕ) (o : Option ℕ) → Apart code_of_decl ds → IsPlace ds code o
     → find (λ d. d.code == code) (views ds) ≡ option_and_then (slice_get (views ds)) o
 find_place ds code None apart lacks = sym (none_view ds code lacks)
-find_place [] code (Some i) apart place = absurd (omega (arith, place.0))
+find_place [] code (Some i) apart place = absurd (omega arith)
 find_place (d ∷ ds) code (Some i) apart place =
-    sym (found_view (d ∷ ds) code i d (get_or (d ∷ ds) i d) apart place refl) ∙ sym (slice_views (d ∷ ds) i d place.0)
+    sym (found_view (d ∷ ds) code i d _ apart place refl) ∙ sym (slice_views (d ∷ ds) i d place.0)

@@ -1,17 +1,118 @@
--- Chains that begin with a run: codes that count up while the numbers of their links count down.
-use Rattle.std.proofs.Common.{rules, ◌≡◌, ℕ, zero, suc, ◌+◌, ◌-◌, ◌/◌, ◌%◌, ◌^◌, ◌<◌, ◌≤◌, Bool, true, false, List, ◌∷◌, ◌++◌, drop, refl, sym, ap, ◌∙◌, arith}
-use Rattle.std.specs.Prelude.{◌==◌}
-use Rattle.std.specs.Int.{bit_at}
+-- Codes that have the same lowest bits, and chains that begin with a run: codes that count up while the numbers of
+-- their links count down.
+use Rattle.std.proofs.Common.{rules, ◌≡◌, ℕ, zero, suc, ◌+◌, ◌%◌, ◌^◌, ◌<◌, ◌≤◌, Bool, true, false, refl, sym, ◌∙◌, inl, inr, arith, ◌==◌, not, bit_xor, eqb-true, ◌-◌, ◌/◌, List, ◌∷◌, ◌++◌, drop, ap, take-append-drop, eq-eqb, ne_eqb}
+use Rattle.std.specs.Int.{bit_at, w64, trailing_zeros}
+use Rattle.std.proofs.lemmas.Bool.{eqb-false, cases_eq, and_parts}
+use Rattle.std.proofs.lemmas.Nat.{xor_lt}
+use Rattle.std.proofs.lemmas.Nat.Bits.{bit_at-lt, bit_at-zero, bit_at_xor, bit_at-trailing_zeros, same_from_bits_below, bit_at_lowest, bit_at-suc}
+use Rattle.dw_forms.specs.Chains.{same_bit, agrees, parts, Numbered, number_where, number_in, run_from, IsRun}
 use Rattle.std.proofs.Math.Nat.{pow-suc}
-use Rattle.std.proofs.lemmas.List.{take-append-drop}
-use Rattle.std.proofs.lemmas.Nat.Bits.{bit_at_lowest, bit_at-suc}
-use Rattle.dw_forms.specs.CodeBits.{agrees, parts}
-use Rattle.dw_forms.specs.Chains.{Numbered, number_where, number_in, run_from, IsRun}
-use Rattle.dw_forms.proofs.BitLaws.{eq_true, differ, agrees_from, agreed_below, parts_on, parts_self}
+
+-- ---- codes that have the same bits below a place
+
+pub agrees_less : (code place other : ℕ) → agrees code (suc place) other ≡ true → agrees code place other ≡ true
+unfolding agrees
+agrees_less code place other e = search (rules, and_parts)
+
+agrees_at : (code place other : ℕ) → agrees code (suc place) other ≡ true → bit_at code place ≡ bit_at other place
+unfolding agrees
+agrees_at code place other e = search (rules, eqb-true, and_parts)
+
+agrees_below : (code place later other : ℕ) → place ≤ later → agrees code later other ≡ true
+    → agrees code place other ≡ true
+agrees_below code place zero other less e = search rules
+agrees_below code place (suc later) other less e = elim (cases_eq place (suc later)) [
+  | inl same ↦ (λ i. agrees code (same i) other) ∙ e
+  | inr fewer ↦ agrees_below code place later other (omega arith) (agrees_less code later other e)
+]
+
+pub agreed_below : (code place other : ℕ) → agrees code place other ≡ true → (i : ℕ) → i < place
+    → bit_at code i ≡ bit_at other i
+agreed_below code place other e i less = search (rules, agrees_at, agrees_below)
+
+pub agrees_from : (code place other : ℕ) → ((i : ℕ) → i < place → bit_at code i ≡ bit_at other i)
+    → agrees code place other ≡ true
+unfolding agrees
+agrees_from code zero other same = refl
+agrees_from code (suc place) other same =
+    search (rules, eq-eqb, (agrees_from code place other (λ i less. same i (omega arith))))
+
+pub agrees_same : (code place other : ℕ) → other ≡ code → agrees code place other ≡ true
+agrees_same code place other same = search (rules, agrees_from)
+
+-- a code that agrees below a place may stand for the other one
+agrees_as : (code place first other : ℕ) → agrees code place first ≡ true
+    → agrees first place other ≡ agrees code place other
+unfolding agrees
+agrees_as code zero first other e = refl
+agrees_as code (suc place) first other e =
+    rw (agrees_as code place first other (agrees_less code place first e), agrees_at code place first e) refl
+
+-- also at the place, where both have the same bit
+pub parts_as : (code place first other : ℕ) → agrees code place first ≡ true → same_bit code place first ≡ true
+    → parts first place other ≡ parts code place other
+parts_as code place first other e same = search (rules, agrees_as, eqb-true)
+
+other_bit : (a b c : ℕ) → a < 2 → b < 2 → c < 2 → (a == b) ≡ false → not (b == c) ≡ (a == c)
+other_bit a b c la lb lc apart = search (rules, cases_eq, ne_eqb, eqb-false, eq-eqb)
+
+-- where they have not, what differs from one there agrees with the other
+pub parts_turned : (code place first other : ℕ) → agrees code place first ≡ true → same_bit code place first ≡ false
+    → parts first place other ≡ agrees code (suc place) other
+unfolding agrees
+parts_turned code place first other e apart = search (rules, agrees_as, other_bit, bit_at-lt)
+
+pub agrees_on : (code place other : ℕ) → agrees code place other ≡ true → same_bit code place other ≡ true
+    → agrees code (suc place) other ≡ true
+unfolding agrees
+agrees_on code place other e same = rw (e, same) refl
+
+pub parts_on : (code place other : ℕ) → agrees code place other ≡ true → same_bit code place other ≡ false
+    → parts code place other ≡ true
+parts_on code place other e apart = rw (e, apart) refl
+
+-- a code that first differs at a later place agrees below this one
+pub parts_later : (code place later other : ℕ) → place ≤ later → parts code later other ≡ true
+    → agrees code place other ≡ true
+parts_later code place later other less e = search (rules, agrees_below, and_parts)
+
+-- the code itself differs nowhere
+pub parts_self : (code place : ℕ) → parts code place code ≡ false
+parts_self code place = search (rules, agrees_same, eq-eqb)
+
+-- ---- the lowest place at which two codes ne_eqb
+
+same_bits : (a b : ℕ) → a < 2 → b < 2 → (a + b) % 2 ≡ 0 → b ≡ a
+same_bits a b la lb e = omega arith
+
+pub same_codes : (a b : ℕ) → a < 2 ^ 64 → b < 2 ^ 64 → bit_xor a b ≡ 0 → b ≡ a
+same_codes a b la lb e =
+    same_from_bits_below 64 b a lb la
+    (λ i less. same_bits (bit_at a i) (bit_at b i) (bit_at-lt a i) (bit_at-lt b i)
+    (sym (bit_at_xor a b i) ∙ (λ j. bit_at (e j) i) ∙ bit_at-zero i))
+
+pub parts_lowest : (a b : ℕ) → a < 2 ^ 64 → b < 2 ^ 64 → (bit_xor a b ≡ 0 → ⊥)
+    → (trailing_zeros w64 (bit_xor a b) < 64) × (parts a (trailing_zeros w64 (bit_xor a b)) b ≡ true)
+parts_lowest a b la lb some =
+    let low = trailing_zeros w64 (bit_xor a b) in
+    let lowest = bit_at-trailing_zeros w64 (bit_xor a b) (omega arith) (xor_lt 64 a b la lb) in
+    let bit = lowest.1 in (
+      lowest.0,
+      parts_on a low b
+          (agrees_from a low b (λ i less. sym (same_bits (bit_at a i) (bit_at b i) (bit_at-lt a i) (bit_at-lt b i)
+          (sym (bit_at_xor a b i) ∙ lowest.2 i less))))
+          (ne_eqb (bit_at a low) (bit_at b low) (λ e. omega (arith, bit_at_xor a b low))),
+    )
+
+-- codes that agree at all places are the same
+pub agrees_all : (code other : ℕ) → code < 2 ^ 64 → other < 2 ^ 64 → agrees code 64 other ≡ true → other ≡ code
+agrees_all code other lc lo e =
+    same_from_bits_below 64 other code lo lc
+    (λ i less. sym (agreed_below code 64 other e i less))
 
 -- ---- numbers at a distance of a power of two
 
--- codes at a smaller distance differ below the place
+-- codes at a smaller distance ne_eqb below the place
 apart : (place code far : ℕ) → 0 < far → far < 2 ^ place
     → ((i : ℕ) → i < place → bit_at code i ≡ bit_at (code + far) i) → ⊥
 apart zero code far some less same = omega arith
@@ -34,14 +135,14 @@ same_below (suc place) code (suc i) less =
     search (rules, bit_at-suc, half_more, (same_below place (code / 2) i (omega arith)))
 
 other_there : (place code : ℕ) → bit_at code place ≡ bit_at (code + 2 ^ place) place → ⊥
-other_there zero code same = omega (arith, bit_at_lowest code, bit_at_lowest (code + 1))
+other_there zero code same = search (rules, bit_at_lowest)
 other_there (suc place) code same =
     other_there place (code / 2)
     (sym (bit_at-suc code place) ∙ same ∙ bit_at-suc (code + 2 ^ suc place) place
     ∙ (λ i. bit_at (half_more place code i) place))
 
 parts_there : (code place : ℕ) → parts code place (code + 2 ^ place) ≡ true
-parts_there code place = search (rules, parts_on, agrees_from, same_below, differ, other_there)
+parts_there code place = search (rules, parts_on, agrees_from, same_below, ne_eqb, other_there)
 
 none_before : (code place far : ℕ) → far < 2 ^ place → parts code place (code + far) ≡ false
 none_before code place zero less = search (rules, parts_self)
@@ -70,16 +171,15 @@ run_where test (suc run) code number (suc far) more less passes none =
 
 run_parts : (chain : List (Numbered ℕ)) (run code number : ℕ) → IsRun chain run code number
     → chain ≡ run_from run code number ++ drop run chain
-run_parts chain run code number is =
-    sym (take-append-drop run chain) ∙ (λ i. is i ++ drop run chain)
+run_parts chain run code number is = search (rules, take-append-drop)
 
 -- a code by its distance
 run_number : (chain : List (Numbered ℕ)) (run code number i : ℕ) → IsRun chain run code number → i < run
     → number_in chain (code + i) ≡ number - i
 run_number chain run code number i is less =
     (λ j. number_in (run_parts chain run code number is j) (code + i))
-    ∙ run_where (λ c. c == code + i) run code number i (drop run chain) less (eq_true (code + i) (code + i) refl)
-    (λ j l. differ (code + j) (code + i) (λ e. omega arith))
+    ∙ run_where (λ c. c == code + i) run code number i (drop run chain) less (eq-eqb (code + i) (code + i) refl)
+    (λ j l. ne_eqb (code + j) (code + i) (λ e. omega arith))
 
 pub run_found : (chain : List (Numbered ℕ)) (run base number code : ℕ) → IsRun chain run base number → base ≤ code
     → code - base < run → number - (code - base) ≡ number_in chain code

@@ -1,19 +1,14 @@
 -- Attributes are found in lists that end with a short one, also with one attribute more.
-use Rattle.std.proofs.Common.{rules, ◌≡◌, ◌≢◌, ℕ, zero, suc, ◌+◌, ◌-◌, ◌<◌, ◌≤◌, Bool, true, false, cond, List, [], ◌∷◌, ◌++◌, length, take, drop, refl, sym, ap, subst, ◌∙◌, inl, inr, arith}
-use Rattle.std.specs.Prelude.{◌==◌, nat_lt, get_or}
-use Rattle.std.proofs.lemmas.Bool.{cases_eq, lt-ltb, le-ltb, ltb-true, ltb-false}
-use Rattle.std.proofs.lemmas.List.{length-append, map-append, take-append-drop, length-drop, get_or_append_left, get_or_at}
-use Rattle.dw_forms.specs.declared.abbrev.AttributeSpec.{AttributeSpec}
-use Rattle.dw_forms.specs.declared.attribute_lists.Node.{Node}
-use Rattle.dw_forms.specs.declared.chains.Link.{Link}
+use Rattle.std.proofs.lemmas.Grind.{common_steps}
+use Rattle.std.proofs.Common.{rules, ◌≡◌, ◌≢◌, ℕ, zero, suc, ◌+◌, ◌-◌, ◌<◌, ◌≤◌, Bool, true, false, cond, List, [], ◌∷◌, ◌++◌, length, refl, sym, ap, subst, ◌∙◌, inl, inr, arith, ◌==◌, nat_lt, get_or, lt-ltb, le-ltb, ltb-true, ltb-false, length-append, take-append-drop, length-drop, eq-eqb, ne_eqb}
+use Rattle.std.proofs.lemmas.Bool.{cases_eq}
+use Rattle.std.proofs.lemmas.List.{map-append, get_or_append_left, get_or_at}
 use Rattle.dw_forms.specs.Abbrev.{attribute_of}
-use Rattle.dw_forms.specs.AbbrevReading.{has_attribute}
-use Rattle.dw_forms.specs.AttributeLists.{SHORT, specs_of, numbered_in, list_in, has_this, link_of, links_of, long_part, short_part, Knows, IsKnown, IsJoined, HasShortRest, IsLongNode, AreSearched}
-use Rattle.dw_forms.specs.Chains.{Numbered, codes_in, number_in, number_where, AreNumbered, AreMore, AreBranches, AreBelow, AreFound}
-use Rattle.dw_forms.proofs.BitLaws.{eq_true, differ}
-use Rattle.dw_forms.proofs.BranchLaws.{none_where}
+use Rattle.dw_forms.specs.AbbrevReading.{has_attribute, AttributeSpec}
+use Rattle.dw_forms.specs.AttributeLists.{SHORT, specs_of, numbered_in, list_in, has_this, link_of, links_of, long_part, short_part, Knows, IsKnown, IsJoined, HasShortRest, IsLongNode, AreSearched, Node}
+use Rattle.dw_forms.specs.Chains.{Numbered, codes_in, number_in, number_where, AreNumbered, AreMore, AreBranches, AreBelow, AreFound, Link}
+use Rattle.dw_forms.proofs.CodeLaws.{none_where, own, codes_none, old_codes, new_codes, found_stay, found_more}
 use Rattle.dw_forms.proofs.ChainLaws.{where_map, where_first, where_later, are_numbered, item_some}
-use Rattle.dw_forms.proofs.CodeLaws.{own, codes_none, old_codes, new_codes, found_stay, found_more}
 use Rattle.dw_forms.proofs.NodeLaws.{attribute_in, old_list, new_list, links_long, has}
 
 -- ---- the first number in a chain and others after it
@@ -46,10 +41,10 @@ found_after test specs (n ∷ before) others are none =
 
 module _ (nodes : List Node) (number : ℕ) (n : Node) (is : IsKnown nodes number n) (code : ℕ) where
   pub found_here : n.attribute ≡ code → number ≡ attribute_in nodes number code
-  found_here same = search (rules, where_first, eq_true)
+  found_here same = search (rules, where_first, eq-eqb)
 
   pub found_later : (n.attribute ≡ code → ⊥) → attribute_in nodes n.next code ≡ attribute_in nodes number code
-  found_later other = search (rules, where_later, differ)
+  found_later other = search (rules, where_later, ne_eqb)
 
   pub one_less : length (numbered_in nodes number) ≡ suc (length (numbered_in nodes n.next))
   one_less = ap length is.begins
@@ -62,7 +57,7 @@ found_nowhere test (n ∷ list) none = absurd (omega arith)
 
 pub none_left : (nodes : List Node) (number code : ℕ) → length (numbered_in nodes number) ≡ 0
     → 0 ≡ attribute_in nodes number code
-none_left nodes number code none = found_nowhere (has_this code) (numbered_in nodes number) none
+none_left nodes number code none = search (rules, found_nowhere)
 
 -- ---- what is found in the chain of a list, and what in the short list after it
 
@@ -104,8 +99,7 @@ module _ (nodes : List Node) (number chain short : ℕ) (is : IsJoined nodes num
 pub rest_read : (branches : List ℕ) (nodes : List Node) (number : ℕ) (n : Node) → AreSearched branches nodes
     → 0 < number → number ≤ length nodes → n ≡ get_or nodes (number - 1) n → HasShortRest branches nodes number n
 rest_read branches nodes zero n are some within read = absurd (omega arith)
-rest_read branches nodes (suc k) n are some within read =
-    are.rests k n within (read ∙ ap (λ (m : ℕ). get_or nodes m n) (omega arith))
+rest_read branches nodes (suc k) n are some within read = search rules
 
 short_rest : (nodes : List Node) (rest : ℕ) → rest ≤ length nodes → length (numbered_in nodes rest) ≤ SHORT
     → IsJoined nodes rest 0 rest
@@ -115,9 +109,7 @@ pub rest_joined : (branches : List ℕ) (nodes : List Node) (rest short : ℕ) (
     → rest ≤ length nodes → Knows (numbered_in nodes rest) next → HasShortRest branches nodes rest next
     → (SHORT < next.count → short ≡ get_or branches (next.branches - 1) 0) → (next.count ≤ SHORT → short ≡ rest)
     → nat_lt SHORT next.count ≡ b → IsJoined nodes rest (cond b rest 0) short
-rest_joined branches nodes rest short next true within knows has long_is short_is b_is =
-    let long = ltb-true SHORT next.count b_is in
-    rw (long_is long) (has long).joined
+rest_joined branches nodes rest short next true within knows has long_is short_is b_is = search (rules, ltb-true, has)
 rest_joined branches nodes rest short next false within knows has long_is short_is b_is =
     search (rules, ltb-false, short_rest)
 
@@ -138,10 +130,7 @@ pushed_searched branches short nodes are = search (rules, more_searched, found_s
 module _ (old pushed new : List ℕ) (short : ℕ) (is : pushed ≡ old ++ short ∷ []) (more : AreMore pushed new) where
   pub branches_kept : (nodes : List Node) → AreSearched old nodes → AreFound new (links_of nodes)
       → AreSearched new nodes
-  branches_kept nodes are found =
-      more_searched pushed new nodes
-      (subst (λ (branches : List ℕ). AreSearched branches nodes) (sym is) (pushed_searched old short nodes are)) found
-      more
+  branches_kept nodes are found = grind (arith, common_steps, more_searched, pushed_searched)
 
   pub short_kept : (from : ℕ) → from ≡ length pushed → (0 < from) × (get_or new (from - 1) 0 ≡ short)
   short_kept from from_is = search (rules, length-append, get_or_at)
@@ -149,10 +138,8 @@ module _ (old pushed new : List ℕ) (short : ℕ) (is : pushed ≡ old ++ short
 -- ---- one attribute more
 
 long_more : (count : ℕ) (b : Bool) → nat_lt SHORT count ≡ b → nat_lt (suc SHORT) (count + 1) ≡ b
-long_more count true is =
-    let less = ltb-true SHORT count is in lt-ltb (suc SHORT) (count + 1) (omega arith)
-long_more count false is =
-    let few = ltb-false SHORT count is in le-ltb (suc SHORT) (count + 1) (omega arith)
+long_more count true is = search (rules, ltb-true, lt-ltb)
+long_more count false is = search (rules, ltb-false, le-ltb)
 
 -- a list that is not short has one attribute more before its last 32
 one_more : (list : List (Numbered AttributeSpec)) → SHORT ≤ length list
@@ -161,11 +148,11 @@ one_more list many = omega arith
 
 long_part_more : (n : Numbered AttributeSpec) (list : List (Numbered AttributeSpec)) → SHORT ≤ length list
     → long_part (n ∷ list) ≡ n ∷ long_part list
-long_part_more n list many = (λ i. take (one_more list many i) (n ∷ list))
+long_part_more n list many = search (rules, one_more)
 
 short_part_more : (n : Numbered AttributeSpec) (list : List (Numbered AttributeSpec)) → SHORT ≤ length list
     → short_part (n ∷ list) ≡ short_part list
-short_part_more n list many = (λ i. drop (one_more list many i) (n ∷ list))
+short_part_more n list many = search (rules, one_more)
 
 no_branches : (branches : List ℕ) (links : List Link) (code : ℕ) → AreBranches branches 0 0 code (codes_in links 0)
 no_branches branches links code = search (rules, none_where)

@@ -1,22 +1,17 @@
 -- A value of a form with one size is skipped by that size, and the values of a declaration by the sum of theirs.
-use Rattle.std.proofs.Common.{rules, arith, ◌≡◌, ℕ, ◌+◌, ◌<◌, ◌≤◌, Bool, true, false, cond, List, [], ◌∷◌, length, drop, Option, Some, None}
-use Rattle.std.proofs.Common.{Ok, Err, refl, sym, subst, ◌∙◌, arith}
-use Rattle.std.proofs.lemmas.Bool.{lt-ltb, le-ltb, cases_lt}
-use Rattle.std.proofs.lemmas.List.{drop-drop, length-drop}
-use Rattle.dw_forms.specs.declared.form.Form.{Form}
+use Rattle.std.proofs.Common.{rules, arith, ◌≡◌, ℕ, ◌+◌, ◌<◌, ◌≤◌, Bool, true, false, cond, List, [], ◌∷◌, length, drop, Option, Some, None, Ok, Err, refl, sym, subst, ◌∙◌, lt-ltb, le-ltb, drop-drop, length-drop}
+use Rattle.std.proofs.lemmas.Bool.{cases_lt}
 use Rattle.dw_forms.specs.declared.form.Form.TheVariants as form
 use Rattle.dw_forms.specs.declared.value.ValueFault.TheVariants.{Cut}
-use Rattle.dw_forms.specs.declared.abbrev.AttributeSpec.{AttributeSpec}
 use Rattle.dw_forms.specs.BaseFormats.{taken_at}
-use Rattle.dw_forms.specs.FormCodes.{is_allowed}
-use Rattle.dw_forms.specs.FormTable.{layout_of}
-use Rattle.dw_forms.specs.KnownValues.{rest_beyond}
+use Rattle.dw_forms.specs.FormCodes.{Form}
+use Rattle.dw_forms.specs.KnownValues.{rest_beyond, AttributeSpec}
 use Rattle.dw_forms.specs.Readers.{read_is}
-use Rattle.dw_forms.specs.Sizes.{size_of, fixed_size_of, rest_at, plus, allowed_size, fixed_sum, ValuesEnd}
+use Rattle.dw_forms.specs.Sizes.{size_of, fixed_size_of, rest_at, plus, fixed_sum, ValuesEnd}
 use Rattle.dw_forms.specs.Steps.{◌>>=◌}
 use Rattle.dw_forms.specs.Value.{Layout, fixed, exactly, nothing}
 use Rattle.dw_forms.specs.ValueFormats.{laid_out}
-use Rattle.dw_forms.specs.ValueReading.{layout_at, value_at}
+use Rattle.dw_forms.specs.ValueReading.{layout_at}
 use Rattle.dw_forms.specs.WithBytes.{bind_ok}
 
 pub some_is : {A : Type 0} {x y : A} → ◌≡◌ {A = Option A} (Some x) (Some y) → x ≡ y
@@ -38,14 +33,14 @@ layout_cut : (layout : Layout) (n : ℕ) (bytes : List ℕ) → size_of layout �
 unfolding laid_out taken_at
 layout_cut (fixed size of) n bytes e = search (rules, some_is, cases_lt, lt-ltb, le-ltb)
 layout_cut (exactly size of) n bytes e = search (rules, some_is, cases_lt, lt-ltb, le-ltb)
-layout_cut (nothing datum) n bytes e = rw (← some_is e) (sym (cut_long 0 bytes (omega arith)))
+layout_cut (nothing datum) n bytes e = search (rules, some_is, cut_long)
 layout_cut _ n bytes e = absurd (never_none e)
 
 pub rest_cut : (version : ℕ) (f : Form) (size n : ℕ) (bytes : List ℕ) → fixed_size_of size f ≡ Some n
     → rest_at version f size bytes ≡ rest_beyond n bytes
 unfolding rest_at
 rest_cut version form.Indirect size n bytes e = absurd (never_none e)
-rest_cut version g size n bytes e = layout_cut (layout_of size g) n bytes e
+rest_cut version g size n bytes e = search (rules, layout_cut)
 
 pub rest_skips : (version : ℕ) (f : Form) (size n : ℕ) (bytes : List ℕ) → fixed_size_of size f ≡ Some n
     → n ≤ length bytes → rest_at version f size bytes ≡ Ok (drop n bytes)
@@ -55,7 +50,7 @@ rest_skips version f size n bytes e le = rest_cut version f size n bytes e ∙ c
 
 parts_of : (o p : Option ℕ) (n : ℕ) → plus o p ≡ Some n
     → (a : ℕ) × (b : ℕ) × (o ≡ Some a) × (p ≡ Some b) × (n ≡ a + b)
-parts_of (Some a) (Some b) n e = (a, b, refl, refl, sym (some_is e))
+parts_of (Some a) (Some b) n e = search (rules, some_is)
 parts_of _ _ n e = absurd (never_none e)
 
 allowed_of : (b : Bool) (o : Option ℕ) (n : ℕ) → cond b o None ≡ Some n → (b ≡ true) × (o ≡ Some n)
@@ -70,11 +65,11 @@ unfolding rest_at
 values_skip version size [] n bytes e le = rw (← some_is e) refl
 values_skip version size (spec ∷ specs) n bytes e le =
     let (first, others, is_first, are_others, total) =
-    parts_of (allowed_size version size spec.form) (fixed_sum version size specs) n e in
-    let (allowed, sized) = allowed_of (is_allowed version spec.form) (fixed_size_of size spec.form) first is_first in
-    let (v, read, rest) = bind_ok (value_at version spec.form size bytes) (λ x. Ok x.1) (drop first bytes)
+    parts_of _ _ n e in
+    let (allowed, sized) = allowed_of _ _ first is_first in
+    let (v, read, rest) = bind_ok _ (λ x. Ok x.1) _
     (rest_skips version spec.form size first bytes sized (omega arith)) in
-    let more = values_skip version size specs others (drop first bytes) are_others
+    let more = values_skip version size specs others _ are_others
     (omega (arith, length-drop first bytes)) in (
       allowed,
       v.0,

@@ -1,16 +1,13 @@
 -- Each attribute that is kept, and those of the declarations.
-use Rattle.std.proofs.Common.{◌≡◌, ℕ, zero, suc, ◌<◌, List, [], ◌∷◌, length, map, Some, sym, ap, subst, ◌∙◌, arith}
-use Rattle.std.specs.Prelude.{All, Contains, get_or, slice_get}
+use Rattle.std.proofs.Common.{rules, ◌≡◌, ℕ, zero, suc, ◌<◌, List, [], ◌∷◌, length, map, Some, sym, ap, subst, ◌∙◌, arith, All, Contains, get_or, slice_get}
 use Rattle.std.proofs.lemmas.List.{length-map, get_or-map}
 use Rattle.std.proofs.lemmas.List.Elements.{All-nil, All-cons}
 use Rattle.std.proofs.lemmas.Option.{slice_get_read}
-use Rattle.dw_forms.specs.declared.attribute_lists.Node.{Node}
 use Rattle.dw_forms.specs.declared.abbrev.AttributeSpec.{AttributeSpec}
-use Rattle.dw_forms.specs.declared.decl.KeptDecl.{KeptDecl}
 use Rattle.dw_forms.specs.Abbrev.{Declaration}
-use Rattle.dw_forms.specs.AttributeLists.{spec_of, specs_of, numbered_in}
+use Rattle.dw_forms.specs.AttributeLists.{spec_of, specs_of, numbered_in, Node}
 use Rattle.dw_forms.specs.Chains.{Numbered, items_of, item_of, AreNumbered}
-use Rattle.dw_forms.specs.KeptDecls.{kept_view, decl_of}
+use Rattle.dw_forms.specs.KeptDecls.{kept_view, decl_of, KeptDecl}
 use Rattle.dw_forms.proofs.ChainLaws.{are_numbered}
 use Rattle.dw_forms.proofs.SizeLaws.{some_is, never_none}
 
@@ -36,10 +33,8 @@ number_kept (x ∷ nodes) (suc (suc n)) spec is =
 
 list_kept : (nodes : List Node) (list : List (Numbered AttributeSpec)) → AreNumbered (specs_of nodes) list
     → All (λ (spec : AttributeSpec). Kept nodes spec) (items_of list)
-list_kept nodes [] are = All-nil (λ (spec : AttributeSpec). Kept nodes spec)
-list_kept nodes (n ∷ list) are =
-    All-cons (λ (spec : AttributeSpec). Kept nodes spec) n.item (items_of list)
-    (number_kept nodes n.number n.item are.0) (list_kept nodes list are.1)
+list_kept nodes [] are = search (rules, All-nil)
+list_kept nodes (n ∷ list) are = search (rules, All-cons, number_kept, (list_kept nodes list are.1))
 
 kept_of : (nodes : List Node) (kept : List KeptDecl) (number : ℕ) (d : Declaration) → decl_of nodes kept number ≡ Some d
     → (k : KeptDecl) × (kept_view nodes k ≡ d)

@@ -1,23 +1,59 @@
--- Lists that are spelled element after element up to an end, no key twice: one element more, one less, and reading in a
--- loop.
-use Rattle.std.proofs.Common.{◌≡◌, ℕ, zero, suc, ◌<◌, List, [], ◌∷◌, ◌++◌, length, Option, Some, None, Result, Ok, Err, refl, sym, ap, subst, ◌∙◌, append_assoc, arith}
-use Rattle.dw_forms.specs.declared.fault.Stop.{Stop}
-use Rattle.dw_forms.specs.declared.fault.Stop.TheVariants as stops
+-- Lists whose elements have different keys, and lists that are spelled element after element up to an end: one element
+-- more, one less, and reading in a loop.
+use Rattle.std.proofs.Common.{rules, ◌≡◌, ◌≢◌, ℕ, zero, suc, ◌<◌, eqb, List, [], ◌∷◌, length, get_or, Some, None, refl, sym, ◌∙◌, arith, find, eq-eqb, ne_eqb, ◌++◌, Option, Result, Ok, Err, ap, subst, append_assoc}
+use Rattle.std.proofs.lemmas.List.Kept.{AllPairs-cons}
+use Rattle.dw_forms.specs.Keys.{Apart, Lacks}
 use Rattle.dw_forms.specs.Elements.{NextOf}
 use Rattle.dw_forms.specs.Front.{Takes}
-use Rattle.dw_forms.specs.Keys.{Lacks, apart_cons, apart_first, apart_rest}
-use Rattle.dw_forms.specs.ListFormats.{SpellsList, FailsAfter, ReadsNext, list_from, list_of, list_again, list_format}
-use Rattle.dw_forms.specs.Readers.{not_both, takes, joined}
-use Rattle.dw_forms.specs.Stops.{FailsOrMemory}
+use Rattle.dw_forms.specs.ListFormats.{SpellsList, ReadsNext, list_from, list_of, list_again, list_format}
+use Rattle.dw_forms.specs.Readers.{takes, joined}
+use Rattle.dw_forms.specs.Stops.{FailsOrMemory, Stop}
 use Rattle.dw_forms.specs.WithBytes.{ok_pair}
 use Rattle.dw_forms.proofs.SizeLaws.{some_is, never_none}
+use Rattle.dw_forms.specs.declared.fault.Stop.TheVariants as stops
+
+-- ---- lists whose elements have different keys, and the first element with a key
+
+module _ {X : Type 0} (key : X → ℕ) where
+  pub apart_cons : (x : X) (xs : List X) → Lacks key (key x) xs → Apart key xs → Apart key (x ∷ xs)
+  apart_cons x xs lacks apart = search (rules, AllPairs-cons)
+
+  pub apart_first : (x : X) (xs : List X) → Apart key (x ∷ xs) → Lacks key (key x) xs
+  apart_first x xs apart = λ k d lt same. apart 0 (suc k) d (omega arith) (omega arith) (sym same)
+
+  pub apart_rest : (x : X) (xs : List X) → Apart key (x ∷ xs) → Apart key xs
+  apart_rest x xs apart = λ i j d less long. apart (suc i) (suc j) d (omega arith) (omega arith)
+
+  -- ---- the first with a key
+
+  found_first : (n : ℕ) (x : X) (xs : List X) → key x ≡ n → find (λ y. eqb (key y) n) (x ∷ xs) ≡ Some x
+  found_first n x xs e = rw (eq-eqb (key x) n e) refl
+
+  found_later : (n : ℕ) (x : X) (xs : List X) → key x ≢ n
+      → find (λ y. eqb (key y) n) (x ∷ xs) ≡ find (λ y. eqb (key y) n) xs
+  found_later n x xs ne = rw (ne_eqb (key x) n ne) refl
+
+  pub find_at : (n : ℕ) (xs : List X) (i : ℕ) (d : X) → Apart key xs → i < length xs → key (get_or xs i d) ≡ n
+      → find (λ y. eqb (key y) n) xs ≡ Some (get_or xs i d)
+  find_at n [] i d apart lt same = absurd (omega arith)
+  find_at n (x ∷ xs) zero d apart lt same = found_first n x xs same
+  find_at n (x ∷ xs) (suc i) d apart lt same =
+      found_later n x xs (λ here. apart 0 (suc i) d (omega arith) lt (here ∙ sym same))
+      ∙ find_at n xs i d (apart_rest x xs apart) (omega arith) same
+
+  pub find_none : (n : ℕ) (xs : List X) → Lacks key n xs → find (λ y. eqb (key y) n) xs ≡ None
+  find_none n [] lacks = refl
+  find_none n (x ∷ xs) lacks =
+      found_later n x xs (lacks 0 x (omega arith)) ∙ find_none n xs (λ k d lt. lacks (suc k) d (omega arith))
+
+-- ---- lists that are spelled element after element up to an end, no key twice
 
 -- the next element, or the end, is at the front of the bytes
 pub taken : {X E : Type 0} {key : X → ℕ} {Spells : List ℕ → X → Type 0} {End : List ℕ → Type 0}
     {Fails : List X → List ℕ → E → Type 0} {next : List X → List ℕ → Result (Option X × List ℕ) E} {cut : E}
     → ReadsNext key Spells End Fails next cut → (bytes : List ℕ) (o : Option X) (rest : List ℕ)
     → next [] bytes ≡ Ok (o, rest) → Takes (NextOf key Spells End []) bytes o rest
-taken {Fails = Fails} {next = next} h bytes o rest e = takes (next []) _ (Fails []) (h.is_reader []) bytes o rest e
+taken {Fails = Fails} {next = next} h bytes o rest e = search (rules, takes)
 
 module _ {X E : Type 0} {key : X → ℕ} {Spells : List ℕ → X → Type 0} {End : List ℕ → Type 0}
     {Fails : List X → List ℕ → E → Type 0} {next : List X → List ℕ → Result (Option X × List ℕ) E} {cut : E}
@@ -27,7 +63,7 @@ module _ {X E : Type 0} {key : X → ℕ} {Spells : List ℕ → X → Type 0} {
 
   whole_at : (bytes : List ℕ) (xs : List X) (rest : List ℕ) → list_of next cut bytes ≡ Ok (xs, rest)
       → Takes Whole bytes xs rest
-  whole_at = takes (list_of next cut) Whole (FailsAfter key Spells Fails []) (list_format h).is_reader
+  whole_at = takes _ Whole _ (list_format h).is_reader
 
   pub list_more : (bytes after rest : List ℕ) (x : X) (xs : List X) → next [] bytes ≡ Ok (Some x, after)
       → list_of next cut after ≡ Ok (xs, rest) → Lacks key (key x) xs → list_of next cut bytes ≡ Ok (x ∷ xs, rest)
@@ -103,7 +139,7 @@ module _ {X E : Type 0} (next : List X → List ℕ → Result (Option X × List
   -- where the first element is broken, no list begins
   pub none_broken : (bytes : List ℕ) (fault : E) → next [] bytes ≡ Err fault → (xs : List X) (rest : List ℕ)
       → list_of next cut bytes ≡ Ok (xs, rest) → ⊥
-  none_broken bytes fault e xs rest is = not_both (sym (list_fault bytes fault e) ∙ is)
+  none_broken bytes fault e xs rest is = search (rules, list_fault)
 
   -- ---- reading in a loop
 
@@ -122,7 +158,7 @@ module _ {X E : Type 0} (next : List X → List ℕ → Result (Option X × List
       → ReadsOn (earlier ++ x ∷ []) after total
   unfolding list_from
   goes_further earlier rest after x total (zero, lt, same) e shorter = absurd (omega arith)
-  goes_further earlier rest after x total (suc bound, lt, same) e shorter = (bound, omega arith, sym (rw e refl) ∙ same)
+  goes_further earlier rest after x total (suc bound, lt, same) e shorter = search rules
 
   pub goes_wrong : (error : Stop E) (earlier : List X) (rest : List ℕ) (total : Result (List X × List ℕ) E)
       → ReadsOn earlier rest total → FailsOrMemory error (next earlier rest) → FailsOrMemory error total

@@ -1,16 +1,80 @@
--- One byte more of a LEB128 number.
+-- LEB128 numbers of one byte and of two, one byte more of such a number, and what a call says that reads a value.
+use Rattle.std.proofs.Common.{rules, ◌≡◌, ℕ, ◌+◌, ◌*◌, ◌%◌, ◌<◌, ◌≤◌, List, [], ◌∷◌, length, get_or, Result, Ok, arith, bit_and, lt-ltb, le-ltb, drop, Err, ap, ◌∙◌, IfOk, IfErr, OnErr, length-append, length-drop, zero, suc, ◌^◌, refl, to_z, of_z, pos, ◌-ℤ◌}
+use Rattle.std.proofs.lemmas.Nat.{and_mask, shl_whole, mul-add-lt, pow-add, one_shl}
+use Rattle.dw_forms.specs.LebReading.{spelling_from, uleb_at, NumberFault}
+use Rattle.dw_forms.specs.Formats.{Format}
+use Rattle.dw_forms.specs.Front.{BeginsWith, BeginsWithNone}
+use Rattle.dw_forms.specs.LebLaws.{Numbers, number_again, leb}
+use Rattle.dw_forms.specs.Readers.{read_is, takes, reader_begins, reader_none, reader_fails}
+use Rattle.dw_forms.specs.ValueReading.{Gives}
 use Rattle.std.proofs.lemmas.Grind.{common_steps}
-use Rattle.std.proofs.Common.{rules, ◌≡◌, ℕ, zero, suc, ◌+◌, ◌*◌, ◌^◌, ◌%◌, ◌<◌, ◌≤◌, List, length, get_or, drop, Ok, Err, refl, ◌∙◌, arith, to_z, of_z}
-use Rattle.std.specs.Prelude.{bit_and, pos, ◌-ℤ◌}
 use Rattle.std.specs.Int.{w128}
 use Rattle.std.proofs.lemmas.Int.{ints}
 use Rattle.std.proofs.Math.Nat.{pow-suc, pow-le-pow_right}
 use Rattle.std.proofs.Math.Numerals.{add-one}
-use Rattle.std.proofs.lemmas.Nat.{and_mask, shl_whole, mul-add-lt, pow-add, one_shl}
-use Rattle.std.proofs.lemmas.Bool.{lt-ltb, le-ltb}
 use Rattle.std.proofs.lemmas.List.{at_drop_more, at_drop_all}
 use Rattle.dw_forms.specs.declared.leb.NumberFault.TheVariants.{Cut, BadNumber}
-use Rattle.dw_forms.specs.LebReading.{spelling_from}
+
+-- ---- numbers of one byte, and of two
+
+pub uleb_one : (bytes : List ℕ) (n : ℕ) → 1 ≤ length bytes → n ≡ get_or bytes 0 0 → get_or bytes 0 0 < 128
+    → ◌≡◌ {A = Result (ℕ × ℕ) NumberFault} (Ok (n, 1)) (uleb_at bytes)
+unfolding uleb_at spelling_from
+uleb_one [] n some e low = absurd (omega arith)
+uleb_one (b ∷ bytes) n some e low = search (rules, lt-ltb)
+
+two_bytes : (a b : ℕ) (bytes : List ℕ) (n : ℕ) → n ≡ a % 128 + 128 * b → 128 ≤ a → b < 128
+    → ◌≡◌ {A = Result (ℕ × ℕ) NumberFault} (Ok (n, 2)) (uleb_at (a ∷ b ∷ bytes))
+unfolding uleb_at spelling_from
+two_bytes a b bytes n e high low = search (rules, le-ltb, lt-ltb)
+
+pub uleb_two : (bytes : List ℕ) (low high : ℕ) → 2 ≤ length bytes → low ≡ bit_and (get_or bytes 0 0) 127
+    → high ≡ get_or bytes 1 0
+    → 128 ≤ get_or bytes 0 0 → get_or bytes 1 0 < 128
+    → ◌≡◌ {A = Result (ℕ × ℕ) NumberFault} (Ok (low + 128 * high, 2)) (uleb_at bytes)
+uleb_two [] low high some l h more less = absurd (omega arith)
+uleb_two (a ∷ []) low high some l h more less = absurd (omega arith)
+uleb_two (a ∷ b ∷ bytes) low high some l h more less =
+    let mask = and_mask a 7 in
+    two_bytes a b bytes (low + 128 * high) (omega arith) more less
+
+-- ---- what a call says that reads a value at the front of some bytes
+
+module _ {X V E : Type 0} (f : Format V E) (view : X → V) (bytes : List ℕ) where
+  -- the call gives what reading gives, and how many bytes it takes
+  abbrev pub IsRead : Result (X × ℕ) E → Type 0
+  IsRead r = Gives (λ x. (view x.0, drop x.1 bytes)) r (f.read bytes)
+
+  pub found_by : (r : Result (X × ℕ) E) → IfOk r (λ x. x.1 ≤ length bytes) → IsRead r
+      → IfOk r (λ x. BeginsWith f.Spells bytes (view x.0) x.1)
+  found_by (Ok x) within e = grind (arith, common_steps, length-drop, reader_begins)
+  found_by (Err d) within e = tt
+
+  pub none_by : (r : Result (X × ℕ) E) → IsRead r → OnErr r (BeginsWithNone f.Spells bytes)
+  none_by (Ok x) e = tt
+  none_by (Err d) e = search (rules, reader_none)
+
+  pub fails_by : (r : Result (X × ℕ) E) → IsRead r → IfErr r (f.Fails bytes)
+  fails_by (Ok x) e = tt
+  fails_by (Err d) e = search (rules, reader_fails)
+
+-- ---- numbers
+
+module _ {V : Type 0} (n : Numbers V) (bytes : List ℕ) where
+  pub number_read : (r : Result (V × ℕ) NumberFault) → r ≡ n.at bytes → IsRead (leb n) (λ v. v) bytes r
+  number_read (Ok x) e = search rules
+  number_read (Err f) e = search rules
+
+  pub number_within : (r : Result (V × ℕ) NumberFault) → r ≡ n.at bytes → IfOk r (λ x. x.1 ≤ length bytes)
+  number_within (Ok x) e =
+      let rest = drop x.1 bytes in
+      let t = takes (leb n).read n.Spells (leb n).Fails (leb n).is_reader bytes x.0 rest (number_read (Ok x) e) in
+      let len : x.1 ≡ length t.text =
+      (λ i. (read_is (e ∙ ap n.at t.parts ∙ number_again n t.text rest x.0 t.spelled) i).1) in
+      omega (arith, ap length t.parts, length-append t.text rest)
+  number_within (Err f) e = tt
+
+-- ---- one byte more of a LEB128 number
 
 -- seven bits a place
 sevens : (k : ℕ) → 2 ^ (7 * k) ≡ 128 ^ k

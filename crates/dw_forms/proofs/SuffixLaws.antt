@@ -1,25 +1,20 @@
 -- Attributes from one on: the first of them, those after it, and those from the next one of a kind on.
 use Rattle.std.proofs.lemmas.Grind.{common_steps}
-use Rattle.std.proofs.Common.{rules, ◌≡◌, ◌≢◌, ℕ, ◌-◌, ◌≤◌, Bool, true, false, List, [], ◌∷◌, ◌++◌, length, Result, Ok, Err, refl, sym, ap, ◌∙◌, append-nil, arith}
-use Rattle.std.specs.Prelude.{All, find, Some, None}
+use Rattle.std.proofs.Common.{rules, ◌≡◌, ◌≢◌, ℕ, ◌≤◌, Bool, true, false, List, [], ◌∷◌, ◌++◌, length, Result, Ok, Err, refl, sym, ap, ◌∙◌, append-nil, arith, All, find, Some, None, eqb-true, length-append, take_at}
 use Rattle.std.specs.List.{list_any, slice_range}
-use Rattle.std.proofs.lemmas.Bool.{eqb-true}
-use Rattle.std.proofs.lemmas.List.{length-append, get_or_append_left, get_or_at, take_at}
+use Rattle.std.proofs.lemmas.List.{get_or_append_left, get_or_at}
 use Rattle.std.proofs.lemmas.List.Folds.{find-append}
-use Rattle.dw_forms.specs.declared.abbrev.AttributeSpec.{AttributeSpec}
-use Rattle.dw_forms.specs.declared.attribute_lists.Node.{Node}
-use Rattle.dw_forms.specs.declared.attributes.Attributes.{Attributes}
-use Rattle.dw_forms.specs.declared.value.ValueFault.{ValueFault}
-use Rattle.dw_forms.specs.AttributeLists.{IsKnown, spec_of, numbered_in, specs_of, has_this, varies}
+use Rattle.dw_forms.specs.AttributeLists.{IsKnown, spec_of, has_this, Node}
 use Rattle.dw_forms.specs.Chains.{Numbered, items_of, number_where}
 use Rattle.dw_forms.specs.FirstPlaces.{StandsFirst, ReadsFirst, value_behind}
-use Rattle.dw_forms.specs.KnownValues.{values_end, known_flag, flag_by, flag_in, known_sum, rest_beyond, whole_in}
+use Rattle.dw_forms.specs.KnownValues.{values_end, known_flag, flag_by, flag_in, rest_beyond, whole_in, AttributeSpec}
 use Rattle.dw_forms.specs.Steps.{◌>>=◌}
-use Rattle.dw_forms.specs.Suffixes.{nodes_of, numbered, specs_in, Ends, IsFrom}
+use Rattle.dw_forms.specs.Suffixes.{nodes_of, numbered, specs_in, Ends, IsFrom, Attributes}
 use Rattle.dw_forms.specs.Value.{Datum}
-use Rattle.dw_forms.specs.ValueReading.{value_at}
+use Rattle.dw_forms.specs.ValueReading.{value_at, ValueFault}
 use Rattle.dw_forms.proofs.ChainLaws.{chain_none, are_numbered, none_has, some_has}
-use Rattle.dw_forms.specs.Keys.{lacks_from, find_none}
+use Rattle.dw_forms.specs.Keys.{lacks_from}
+use Rattle.dw_forms.proofs.SpelledLists.{find_none}
 use Rattle.dw_forms.specs.Abbrev.{attribute_of}
 use Rattle.dw_forms.proofs.PartLaws.{IsSplit, split}
 use Rattle.dw_forms.proofs.PassSteps.{items_append, run}
@@ -28,7 +23,7 @@ use Rattle.dw_forms.proofs.PassSteps.{items_append, run}
 
 -- there are none at the list 0
 pub none_there : (a : Attributes) → a.first ≡ 0 → numbered a ≡ []
-none_there a none = ap (numbered_in (nodes_of a)) none ∙ chain_none (specs_of (nodes_of a))
+none_there a none = search (rules, chain_none)
 
 -- the first attribute, and those after it
 pub first_ends : (a rest : Attributes) (n : Node) → IsKnown (nodes_of a) a.first n → nodes_of rest ≡ nodes_of a
@@ -42,22 +37,22 @@ none_ends a rest same none = search (rules, append-nil, chain_none)
 -- the attributes in another list that one ends with
 pub numbered_ends : (a b : Attributes) (before : List (Numbered AttributeSpec)) → Ends a b before
     → numbered a ≡ before ++ numbered b
-numbered_ends a b before e = e.parts ∙ (λ i. before ++ numbered_in (sym e.nodes i) b.first)
+numbered_ends a b before e = search rules
 
 pub specs_ends : (a b : Attributes) (before : List (Numbered AttributeSpec)) → Ends a b before
     → specs_in a ≡ items_of before ++ specs_in b
-specs_ends a b before e = ap items_of (numbered_ends a b before e) ∙ items_append before (numbered b)
+specs_ends a b before e = search (rules, numbered_ends, items_append)
 
 -- the first attribute before those after it
 pub first_specs : (all rest : Attributes) (spec : AttributeSpec)
     → Ends all rest (record { number = all.first; item = spec } ∷ []) → specs_in all ≡ spec ∷ specs_in rest
-first_specs all rest spec ends = specs_ends all rest (record { number = all.first; item = spec } ∷ []) ends
+first_specs all rest spec ends = search (rules, specs_ends)
 
 -- ---- those from the next one of a kind on
 
 module _ (test : AttributeSpec → Bool) (all : Attributes) where
   parted : IsSplit test (nodes_of all) all.first (number_where test (numbered all))
-  parted = split test (nodes_of all) all.lists.now.known all.first all.within
+  parted = search (rules, split)
 
   -- they are among those that are kept
   pub number_is_within : number_where test (numbered all) ≤ length (nodes_of all)
@@ -96,7 +91,7 @@ none_from test all none is = search (rules, none, none_number)
 -- the one of a code
 pub found_within : (all : Attributes) (code found : ℕ) → found ≡ number_where (has_this code) (numbered all)
     → found ≤ length (nodes_of all)
-found_within all code found is = let w = number_is_within (has_this code) all in omega arith
+found_within all code found is = search (rules, number_is_within)
 
 -- ---- the size of all values together
 
@@ -106,29 +101,17 @@ whole_some a n is none = search (rules, none_has, are_numbered, none)
 
 pub whole_none : (a : Attributes) (n : Node) → IsKnown (nodes_of a) a.first n → (n.next_varying ≡ 0 → ⊥)
     → None ≡ whole_in 8 (specs_in a)
-whole_none a n is some = rw (some_has varies (numbered a) (λ e. some (is.knows.varying ∙ e))) refl
+whole_none a n is some = search (rules, some_has)
 
 -- values that have one size each are cut off together
 pub whole_cut : (version size : ℕ) (list : List (Numbered AttributeSpec)) (bytes : List ℕ)
     → Some size ≡ whole_in 8 (items_of list) → values_end version 8 (items_of list) bytes ≡ rest_beyond size bytes
-whole_cut version size list bytes is = by_kind (list_any varies (items_of list)) refl
-  where
-    same : Some size ≡ Some (known_sum 8 (items_of list)) → size ≡ known_sum 8 (items_of list)
-    same e = cc
-
-    other : Some size ≡ None → ⊥
-    other e = cc
-
-    by_kind : (b : Bool) → list_any varies (items_of list) ≡ b
-        → values_end version 8 (items_of list) bytes ≡ rest_beyond size bytes
-    by_kind true e = absurd (other (is ∙ rw e refl))
-    by_kind false e = search (rules, run, same)
+whole_cut version size list bytes is = search (rules, run)
 
 -- where there are none from it on, none has the code
 pub none_has_it : (code : ℕ) (all found : Attributes) → IsFrom (has_this code) all found → specs_in found ≡ []
     → All (λ (spec : AttributeSpec). spec.attribute ≢ code) (specs_in all)
-none_has_it code all found is none =
-    lacks_from attribute_of code (specs_in all) (none_follow (has_this code) all found is none)
+none_has_it code all found is none = lacks_from attribute_of code _ (none_follow _ all found is none)
 
 -- ---- a flag, as its form says
 
@@ -165,7 +148,7 @@ stands_first code front spec back none is =
     search (rules, common_steps, length-append, attribute_of, get_or_at, eqb-true, lacks_from, get_or_append_left)
 
 front_range : (xs ys : List AttributeSpec) → slice_range (xs ++ ys) 0 (length xs) ≡ xs
-front_range xs ys = take_at xs ys (length xs - 0) (omega arith)
+front_range xs ys = search (rules, take_at)
 
 reads_front : (version size code : ℕ) (front : List AttributeSpec) (spec : AttributeSpec) (back : List AttributeSpec)
     (bytes : List ℕ) (answer : Result Datum ValueFault)
@@ -180,7 +163,7 @@ reads_front version size code front spec back bytes answer none is e = record {
 
 module _ (version size code : ℕ) (all found : Attributes) (is : IsFrom (has_this code) all found) where
   before_it : Follow (has_this code) all found
-  before_it = follow (has_this code) all found is
+  before_it = search (rules, follow)
 
   -- what comes before it
   pub before_found : (before : List (Numbered AttributeSpec)) × Ends all found before
@@ -197,7 +180,7 @@ module _ (version size code : ℕ) (all found : Attributes) (is : IsFrom (has_th
     pub before_fails : (f : ValueFault) → values_end version size (items_of before_found.0) bytes ≡ Err f
         → ReadsFirst version size (specs_in all) code bytes (Err f)
     unfolding before_found
-    before_fails f e = reads_it (Err f) (ap (value_behind version size spec.form) (sym e))
+    before_fails f e = search (rules, reads_it)
 
     module _ (mid : List ℕ) (passed : values_end version size (items_of before_found.0) bytes ≡ Ok mid) where
       value_here : (r : Result (Datum × List ℕ) ValueFault) → value_at version spec.form size mid ≡ r
@@ -208,8 +191,8 @@ module _ (version size code : ℕ) (all found : Attributes) (is : IsFrom (has_th
 
       pub it_fails : (f : ValueFault) → value_at version spec.form size mid ≡ Err f
           → ReadsFirst version size (specs_in all) code bytes (Err f)
-      it_fails f e = reads_it (Err f) (sym (value_here (Err f) e))
+      it_fails f e = reads_it _ (sym (value_here _ e))
 
       pub it_reads : (v : Datum) (more : List ℕ) → value_at version spec.form size mid ≡ Ok (v, more)
           → ReadsFirst version size (specs_in all) code bytes (Ok v)
-      it_reads v more e = reads_it (Ok v) (sym (value_here (Ok (v, more)) e))
+      it_reads v more e = reads_it _ (sym (value_here _ e))

@@ -1,6 +1,5 @@
 -- The text before the first zero byte.
-use Rattle.std.proofs.Common.{rules, ◌≡◌, ◌≢◌, ℕ, zero, suc, ◌+◌, ◌<◌, List, [], ◌∷◌, length, get_or, take, drop, Ok, Err, refl, arith}
-use Rattle.std.proofs.lemmas.List.{length-take-le}
+use Rattle.std.proofs.Common.{rules, ◌≡◌, ◌≢◌, ℕ, zero, suc, ◌+◌, ◌<◌, List, [], ◌∷◌, length, get_or, take, drop, Ok, Err, refl, arith, length-take-le}
 use Rattle.std.proofs.Math.Numerals.{add-one}
 use Rattle.dw_forms.specs.BaseFormats.{null_terminated_at}
 

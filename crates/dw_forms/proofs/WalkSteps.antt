@@ -1,17 +1,13 @@
 -- Where the first step in the list of a number goes to, and what comes before that attribute.
-use Rattle.std.proofs.Common.{rules, ◌≡◌, ℕ, zero, suc, ◌<◌, ◌≤◌, Bool, true, false, not, List, [], ◌∷◌, length, refl, sym, subst, ◌∙◌, arith}
-use Rattle.std.specs.Prelude.{◌==◌, ◌&&◌}
+use Rattle.std.proofs.Common.{rules, ◌≡◌, ℕ, zero, suc, ◌<◌, ◌≤◌, Bool, true, false, not, List, ◌∷◌, length, refl, sym, ◌∙◌, arith, ◌==◌, ◌&&◌, ne_eqb}
 use Rattle.std.specs.List.{list_any}
-use Rattle.std.proofs.lemmas.Bool.{ne_eqb, or_parts}
+use Rattle.std.proofs.lemmas.Bool.{or_parts}
 use Rattle.std.proofs.lemmas.List.Sums.{sum_by-cons}
-use Rattle.dw_forms.specs.declared.abbrev.AttributeSpec.{AttributeSpec}
-use Rattle.dw_forms.specs.declared.attribute_lists.Node.{Node}
-use Rattle.dw_forms.specs.declared.leading_steps.Step.{Step}
-use Rattle.dw_forms.specs.AttributeLists.{spec_of, numbered_in, varies, IsKnown, AreKnown, EndsWith}
+use Rattle.dw_forms.specs.AttributeLists.{spec_of, numbered_in, varies, IsKnown, AreKnown, EndsWith, Node}
 use Rattle.dw_forms.specs.Chains.{Numbered, items_of}
-use Rattle.dw_forms.specs.KnownValues.{does_vary, known_size, known_sum}
+use Rattle.dw_forms.specs.KnownValues.{does_vary, known_size, known_sum, AttributeSpec}
 use Rattle.dw_forms.specs.declared.leading_steps.Lead.TheVariants.{Nothing}
-use Rattle.dw_forms.specs.LeadingWalks.{does_lead, stops_at, step_in, skip_in, lead_of, lead_in, IsFirstStep}
+use Rattle.dw_forms.specs.LeadingWalks.{does_lead, stops_at, step_in, skip_in, lead_of, lead_in, IsFirstStep, Step}
 use Rattle.dw_forms.proofs.ChainLaws.{chain_none}
 use Rattle.dw_forms.proofs.LeadLaws.{lead_says}
 use Rattle.dw_forms.proofs.PartLaws.{first_is, known_at, none_both}
@@ -54,23 +50,7 @@ module _ (nodes : List Node) (known : AreKnown nodes) where
       → Walks nodes n.next (step_in (numbered_in nodes n.next))
       → Walks nodes number (step_in (numbered_in nodes number))
   unfolding step_in skip_in lead_in
-  walks_here number n true some is stops rest =
-      let found : step_in (numbered_in nodes number) ≡ number = rw (is.begins, stops) refl in
-      rw found (record {
-        within = omega arith;
-        none = λ e. absurd (omega arith);
-        no_lead = λ e. absurd (omega arith);
-        goes = λ other. record {
-          before = [];
-          goes = refl;
-          none_leads = refl;
-          none_varies = refl;
-          skips = λ size. rw (is.begins, stops) refl;
-          leads = λ spec list begins.
-              rw (is.begins, stops)
-              (λ i. lead_of ((first_is _ _ _ _ (sym is.begins ∙ begins)).0 i).item);
-        };
-      })
+  walks_here number n true some is stops rest = search (rules, first_is)
   walks_here number n false some is stops rest =
       let first : Numbered AttributeSpec = record { number = number; item = spec_of n } in
       let found : step_in (numbered_in nodes number) ≡ step_in (numbered_in nodes n.next) =
@@ -108,16 +88,16 @@ module _ (nodes : List Node) (known : AreKnown nodes) where
   walks_to bound zero le within = search (rules, chain_none)
   walks_to zero (suc k) le within = absurd (omega arith)
   walks_to (suc bound) (suc k) le within =
-      let (n, is) = known_at nodes known (suc k) (omega arith) within in
+      let (n, is) = known_at nodes known _ (omega arith) within in
       let less = is.next in
-      walks_here (suc k) n (stops_at (step_in (numbered_in nodes n.next)) (spec_of n)) (omega arith) is refl
-      (walks_to bound n.next (omega arith) (omega (arith, within)))
+      walks_here _ n _ (omega arith) is refl
+      (walks_to bound n.next (omega arith) (omega arith))
 
   module _ (number : ℕ) (within : number ≤ length nodes) (step : Step)
       (is : IsFirstStep (numbered_in nodes number) step)
     where
       walks : Walks nodes number step.to
-      walks = subst (Walks nodes number) (sym is.to) (walks_to number number (omega arith) within)
+      walks = search (rules, walks_to)
 
       pub step_within : step.to ≤ length nodes
       step_within = omega (arith, walks.within)
@@ -145,16 +125,11 @@ module _ (nodes : List Node) (known : AreKnown nodes) where
 
       -- where it leads to nothing, no step is made
       pub step_nothing : step.lead ≡ Nothing → step.to ≡ 0
-      step_nothing nothing = by_number step.to refl
-        where
-          by_number : (n : ℕ) → step.to ≡ n → step.to ≡ 0
-          by_number zero e = e
-          by_number (suc n) e =
-              let h = has_lead (λ none. omega (arith, none)) in absurd (lead_says h.spec Nothing (h.leads ∙ nothing))
+      step_nothing nothing = search (rules, has_lead, lead_says)
 
       -- and where it leads to something, one is
       pub step_lead : (step.lead ≡ Nothing → ⊥) → HasLead
-      step_lead something = has_lead (λ none. something (is.lead ∙ walks.no_lead none))
+      step_lead something = search (rules, has_lead, walks)
 
       pub goes_to : (step.to ≡ 0 → ⊥) → GoesTo nodes number step.to
       goes_to other = walks.goes other

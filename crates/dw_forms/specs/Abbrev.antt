@@ -1,24 +1,19 @@
 -- Chapter: abbreviation tables (DWARF 5, 7.5.3): which bytes spell which declarations, and which fault is where none
 -- is.
-use Rattle.std.proofs.Common.{ap}
-use Rattle.std.specs.Prelude.{◌≡◌, ◌≢◌, ℕ, ◌+◌, ◌<◌, ◌≤◌, ◌-◌, Bool, true, false, List, [], ◌++◌, length, drop}
-use Rattle.std.specs.Prelude.{map, ℤ, All, AllPairs, Option, Some, None, not, nat_lt, ◌==◌, ◌&&◌, ◌||◌, if◌then◌else◌}
-use Rattle.dw_forms.specs.declared.form.Form.{Form}
+use Rattle.std.proofs.Common.{ap, ◌≡◌, ◌≢◌, ℕ, ◌+◌, ◌<◌, ◌≤◌, ◌-◌, Bool, true, false, List, [], ◌++◌, length, drop, map}
+use Rattle.std.proofs.Common.{ℤ, All, AllPairs, Option, Some, None, not, nat_lt, ◌==◌, ◌&&◌, ◌||◌, if◌then◌else◌}
 use Rattle.dw_forms.specs.declared.form.Form.TheVariants.{ImplicitConst}
 use Rattle.dw_forms.specs.declared.abbrev.AttributeSpec.{AttributeSpec}
-use Rattle.dw_forms.specs.declared.abbrev.Decl.{Decl}
+pub use Rattle.dw_forms.specs.declared.abbrev.Decl.{Decl}
 use Rattle.dw_forms.specs.declared.rule.Rule.{Rule}
-use Rattle.dw_forms.specs.declared.rule.Rule.TheVariants.{AbbrevCut, CodeTwice, BadTag, BadChildren}
-use Rattle.dw_forms.specs.declared.rule.Rule.TheVariants.{BadPair, UnknownForm, AttributeTwice}
-use Rattle.dw_forms.specs.declared.fault.DeclFault.{DeclFault}
-use Rattle.dw_forms.specs.declared.fault.AbbrevFault.{AbbrevFault}
-use Rattle.dw_forms.specs.AbbrevFaults.{decl_fault_of, fault_at}
+use Rattle.dw_forms.specs.declared.rule.Rule.TheVariants.{AbbrevCut, CodeTwice, BadTag, BadChildren, BadPair}
+use Rattle.dw_forms.specs.declared.rule.Rule.TheVariants.{UnknownForm, AttributeTwice}
+use Rattle.dw_forms.specs.Faults.{decl_fault_of, fault_at, DeclFault, AbbrevFault}
 use Rattle.dw_forms.specs.Elements.{Elements, SpellsElement, SpellsEnd, NextFails}
-use Rattle.dw_forms.specs.FormCodes.{form_of}
+use Rattle.dw_forms.specs.FormCodes.{form_of, Form}
 use Rattle.dw_forms.specs.Formats.{Format, and_then, nothing, failing, mapped, choose, found, tested, renamed}
-use Rattle.dw_forms.specs.BaseFormats.{uleb}
 use Rattle.dw_forms.specs.Formats.{then_some}
-use Rattle.dw_forms.specs.BaseFormats.{sleb, byte}
+use Rattle.dw_forms.specs.BaseFormats.{uleb, sleb, byte}
 use Rattle.dw_forms.specs.Keys.{Apart}
 use Rattle.dw_forms.specs.LebLaws.{uleb_some}
 use Rattle.dw_forms.specs.ListFormats.{SpellsEach, SpellsList, up_to_end, list_format, reads_renamed}

@@ -3,14 +3,13 @@ use Rattle.std.specs.Prelude.{ℕ, List, length, drop, Option, Bool, Result, Ok,
 use Rattle.std.specs.List.{list_any}
 use Rattle.dw_forms.specs.Steps.{◌>>=◌}
 use Rattle.dw_forms.specs.declared.form.Form.{Form}
-use Rattle.dw_forms.specs.declared.abbrev.AttributeSpec.{AttributeSpec}
-use Rattle.dw_forms.specs.declared.fault.DeclFault.{DeclFault}
-use Rattle.dw_forms.specs.declared.fault.AbbrevFault.{AbbrevFault}
+pub use Rattle.dw_forms.specs.declared.abbrev.AttributeSpec.{AttributeSpec}
+pub use Rattle.dw_forms.specs.declared.fault.DeclFault.{DeclFault}
 use Rattle.dw_forms.specs.Abbrev.{Declaration, number, signed_number, pair, constant, specifications, attributes}
 use Rattle.dw_forms.specs.Abbrev.{children, tag_and_children, declarations, table}
 use Rattle.dw_forms.specs.Elements.{next_at}
 use Rattle.dw_forms.specs.Formats.{as_other}
-use Rattle.dw_forms.specs.AbbrevFaults.{fault_at}
+use Rattle.dw_forms.specs.Faults.{fault_at, AbbrevFault}
 
 -- an unsigned number, and the bytes after it; so for all below
 abbrev pub unsigned_at : List ℕ → Result (ℕ × List ℕ) DeclFault

@@ -1,4 +1,4 @@
--- State: the attributes of a list as bits.
+-- State: the attributes of a list as bits, and the attributes that a declaration has so far.
 use Rattle.std.specs.Prelude.{◌≡◌, ℕ, suc, ◌+◌, ◌%◌, ◌==◌, if◌then◌else◌, List, [], ◌∷◌}
 use Rattle.std.specs.Int.{bit_at}
 use Rattle.std.specs.List.{list_any}
@@ -9,6 +9,9 @@ use Rattle.dw_forms.specs.Codes.{DW_AT_abstract_origin, DW_AT_count, DW_AT_data_
 use Rattle.dw_forms.specs.Codes.{DW_AT_encoding, DW_AT_specification, DW_AT_type, DW_AT_byte_stride, DW_AT_signature}
 use Rattle.dw_forms.specs.Codes.{DW_AT_data_bit_offset, DW_AT_str_offsets_base, DW_AT_addr_base, DW_AT_low_pc}
 use Rattle.dw_forms.specs.Codes.{DW_AT_high_pc, DW_AT_ranges, DW_AT_decl_file, DW_AT_call_file}
+use Rattle.std.specs.Ordering.{nat_cmp}
+use Rattle.std.specs.BTreeSet.{BTreeSet, contains}
+use Rattle.dw_forms.specs.AbbrevReading.{has_attribute}
 
 -- the attributes that rules and declarations look for
 abbrev pub asked : List ℕ
@@ -36,3 +39,7 @@ bit_of code = place_from 0 asked code
 abbrev pub AreBitsOf : List AttributeSpec → ℕ → Type 0
 AreBitsOf specs bits =
     (i : ℕ) → (bit_at bits i == 1) ≡ list_any (λ (spec : AttributeSpec). bit_of spec.attribute == i) specs
+
+-- the codes are those of these attributes
+abbrev pub AreSeen : List AttributeSpec → BTreeSet ℕ → Type 0
+AreSeen specs codes = (a : ℕ) → contains nat_cmp codes a ≡ has_attribute a specs

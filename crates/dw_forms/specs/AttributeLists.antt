@@ -2,12 +2,10 @@
 -- any entry is read. A list is a chain of attributes.
 use Rattle.std.specs.Prelude.{◌≡◌, ℕ, suc, ◌+◌, ◌-◌, ◌*◌, ◌<◌, ◌≤◌, ◌==◌, nat_lt, if◌then◌else◌, List, [], ◌∷◌, ◌++◌}
 use Rattle.std.specs.Prelude.{length, map, take, drop, get_or, Bool, true, false, Option, Some, None}
-use Rattle.dw_forms.specs.declared.abbrev.AttributeSpec.{AttributeSpec}
-use Rattle.dw_forms.specs.declared.attribute_lists.Node.{Node}
-use Rattle.dw_forms.specs.declared.chains.Link.{Link}
+pub use Rattle.dw_forms.specs.declared.attribute_lists.Node.{Node}
 use Rattle.dw_forms.specs.Abbrev.{AreAttributeSpecs}
-use Rattle.dw_forms.specs.AbbrevReading.{has_attribute}
-use Rattle.dw_forms.specs.Chains.{Numbered, items_of, chain_in, chains_of, codes_in, number_where, AreFound}
+use Rattle.dw_forms.specs.AbbrevReading.{has_attribute, AttributeSpec}
+use Rattle.dw_forms.specs.Chains.{Numbered, items_of, chain_in, chains_of, codes_in, number_where, AreFound, Link}
 use Rattle.dw_forms.specs.KnownValues.{known_sum, does_vary}
 use Rattle.dw_forms.specs.Classes.{is_open}
 use Rattle.dw_forms.specs.AttributeBits.{AreBitsOf}

@@ -1,17 +1,15 @@
 -- Chapter: the formats that others are made of: one byte, so many bytes, a number of so many bytes, text up to a zero
 -- byte, and LEB128 numbers.
-use Rattle.std.proofs.Common.{◌≡◌, ℕ, zero, suc, ◌<◌, false, cond, ltb, List, [], ◌∷◌, ◌++◌, length, take, drop}
-use Rattle.std.proofs.Common.{Result, Ok, Err, refl, sym, ap, ◌∙◌, inl, inr, All, append_assoc, arith}
-use Rattle.std.specs.Prelude.{MatchResult, ℤ}
+use Rattle.std.proofs.Common.{◌≡◌, ℕ, zero, suc, ◌<◌, false, cond, ltb, List, [], ◌∷◌, ◌++◌, length, take, drop, Result}
+use Rattle.std.proofs.Common.{Ok, Err, refl, sym, ap, ◌∙◌, inl, inr, All, append_assoc, arith, MatchResult, ℤ, take_at}
+use Rattle.std.proofs.Common.{drop_at, take-append-drop, length-take, length-append}
 use Rattle.byteorder.specs.Endian.{little_number}
 use Rattle.std.proofs.lemmas.Bool.{lt-ltb, le-ltb, cases_lt}
-use Rattle.std.proofs.lemmas.List.{take_at, drop_at, take-append-drop, length-take, length-append}
 use Rattle.std.proofs.lemmas.List.Elements.{All-nil, All-cons, All-head, All-tail}
-use Rattle.dw_forms.specs.declared.leb.NumberFault.{NumberFault}
-use Rattle.dw_forms.specs.Formats.{Format, mapped}
+use Rattle.dw_forms.specs.Formats.{Format, format_of, mapped}
 use Rattle.dw_forms.specs.Front.{Takes}
-use Rattle.dw_forms.specs.LebLaws.{leb, unsigned, signed}
-use Rattle.dw_forms.specs.Readers.{HasFront, reader_of}
+use Rattle.dw_forms.specs.LebLaws.{leb, unsigned, signed, NumberFault}
+use Rattle.dw_forms.specs.Readers.{HasFront}
 use Rattle.dw_forms.specs.Steps.{◌>>=◌}
 
 -- ---- one byte
@@ -84,14 +82,7 @@ module _ {E : Type 0} (cut : E) (size : ℕ) where
 
   -- so many bytes, or this fault where there are fewer
   abbrev pub so_many : Format (List ℕ) E
-  so_many = record {
-    read = taken_at cut size;
-    Spells = Exactly size;
-    Fails = IsTooShort cut size;
-    is_reader = reader_of (taken_at cut size) (Exactly size) (IsTooShort cut size) taken_again taken_refuses
-        taken_front;
-    refuses = taken_refuses;
-  }
+  so_many = format_of (taken_at cut size) (Exactly size) (IsTooShort cut size) taken_again taken_refuses taken_front
 
   -- a number of so many bytes, lowest first
   abbrev pub fixed_number : Format ℕ E
@@ -167,13 +158,7 @@ module _ {E : Type 0} (cut : E) where
 
   -- bytes up to a zero byte, or this fault where none is zero
   abbrev pub zero_ended : Format (List ℕ) E
-  zero_ended = record {
-    read = null_terminated_at cut;
-    Spells = Ended;
-    Fails = TextFails cut;
-    is_reader = reader_of (null_terminated_at cut) Ended (TextFails cut) text_again text_refuses text_front;
-    refuses = text_refuses;
-  }
+  zero_ended = format_of (null_terminated_at cut) Ended (TextFails cut) text_again text_refuses text_front
 
 -- ---- numbers
 

@@ -1,9 +1,22 @@
 -- State: chains of items, in which each item is kept once. Items are numbered from 1 in the order in which they are
 -- kept. A chain is an item and the chain after it, and has the number of its first item; the chain 0 has no items.
 use Rattle.std.specs.Prelude.{◌≡◌, ℕ, zero, suc, ◌+◌, ◌-◌, ◌<◌, ◌≤◌, List, [], ◌∷◌, ◌++◌, length, take, map, Option}
-use Rattle.std.specs.Prelude.{Bool, true, None, Some, get_or, slice_get, option_map, ◌==◌, if◌then◌else◌}
-use Rattle.dw_forms.specs.declared.chains.Link.{Link}
-use Rattle.dw_forms.specs.CodeBits.{parts}
+use Rattle.std.specs.Prelude.{Bool, true, None, Some, get_or, slice_get, option_map, ◌==◌, if◌then◌else◌, ◌&&◌, not}
+pub use Rattle.dw_forms.specs.declared.chains.Link.{Link}
+use Rattle.std.specs.Int.{bit_at}
+
+-- the codes have the same bit at this place, counted from 0
+abbrev pub same_bit : ℕ → ℕ → ℕ → Bool
+same_bit code place other = bit_at code place == bit_at other place
+
+-- the codes have the same bits below this place
+unfoldable pub agrees : ℕ → ℕ → ℕ → Bool
+agrees code zero other = true
+agrees code (suc place) other = agrees code place other && same_bit code place other
+
+-- the codes have the same bits below this place, but not at it
+abbrev pub parts : ℕ → ℕ → ℕ → Bool
+parts code place other = agrees code place other && not (same_bit code place other)
 
 -- an item of a chain, and its number
 pub record Numbered (X : Type 0) : Type 0 where

@@ -9,8 +9,7 @@ use Rattle.dw_forms.specs.Codes.{DW_AT_lower_bound, DW_AT_prototyped, DW_AT_bit_
 use Rattle.dw_forms.specs.Codes.{DW_AT_abstract_origin, DW_AT_count, DW_AT_data_member_location, DW_AT_declaration}
 use Rattle.dw_forms.specs.Codes.{DW_AT_encoding, DW_AT_specification, DW_AT_type, DW_AT_byte_stride, DW_AT_signature}
 use Rattle.dw_forms.specs.Codes.{DW_AT_data_bit_offset, DW_AT_str_offsets_base, DW_AT_addr_base}
-use Rattle.dw_forms.specs.FormTable.{form_class}
-use Rattle.dw_forms.specs.declared.class.Class.{Class}
+use Rattle.dw_forms.specs.FormTable.{form_class, Class}
 use Rattle.dw_forms.specs.declared.class.Class.TheVariants.{Address, Block, Constant, WideConstant, Exprloc, Flag}
 use Rattle.dw_forms.specs.declared.class.Class.TheVariants.{ListIndex, Reference, SectionOffset, String}
 

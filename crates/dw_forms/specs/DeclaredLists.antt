@@ -4,16 +4,13 @@ use Rattle.std.specs.Prelude.{if◌then◌else◌, List, [], ◌∷◌, length, 
 use Rattle.std.specs.Option.{ForSome}
 use Rattle.std.specs.Int.{bit_at}
 use Rattle.std.specs.List.{list_any}
-use Rattle.dw_forms.specs.declared.abbrev.AttributeSpec.{AttributeSpec}
-use Rattle.dw_forms.specs.declared.known_places.KnownPlace.{KnownPlace}
-use Rattle.dw_forms.specs.declared.attribute_lists.Node.{Node}
-use Rattle.dw_forms.specs.declared.leading_steps.Step.{Step}
+pub use Rattle.dw_forms.specs.declared.known_places.KnownPlace.{KnownPlace}
 use Rattle.dw_forms.specs.AttributeBits.{bit_of, own_bits, AreBitsOf}
-use Rattle.dw_forms.specs.AttributeLists.{has_this, list_in, numbered_in, varies}
+use Rattle.dw_forms.specs.AttributeLists.{has_this, list_in, numbered_in, varies, Node}
 use Rattle.dw_forms.specs.Chains.{Numbered, items_of, number_where}
 use Rattle.dw_forms.specs.Codes.{DW_AT_declaration}
-use Rattle.dw_forms.specs.KnownValues.{flag_in, known_sum, whole_in}
-use Rattle.dw_forms.specs.LeadingWalks.{IsFirstStep}
+use Rattle.dw_forms.specs.KnownValues.{flag_in, known_sum, whole_in, AttributeSpec}
+use Rattle.dw_forms.specs.LeadingWalks.{IsFirstStep, Step}
 
 -- the attributes before the first one with this code, or all
 abbrev pub before_code : ℕ → List AttributeSpec → List AttributeSpec

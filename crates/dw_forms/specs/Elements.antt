@@ -1,12 +1,11 @@
 -- Chapter: the next element of a list, or its end, as a format. No key is there twice.
 use Rattle.std.proofs.Common.{◌≡◌, ◌≢◌, ℕ, ◌<◌, ◌==◌, Bool, true, false, cond, List, ◌++◌, length, Option, Some, None}
-use Rattle.std.proofs.Common.{Result, Ok, Err, refl, sym, ap, subst, ◌∙◌, inl, inr, append_assoc}
-use Rattle.std.specs.Prelude.{All, Any}
+use Rattle.std.proofs.Common.{Result, Ok, Err, refl, sym, ap, subst, ◌∙◌, inl, inr, append_assoc, All, Any}
 use Rattle.std.specs.List.{list_any}
-use Rattle.dw_forms.specs.Formats.{Format}
+use Rattle.dw_forms.specs.Formats.{Format, format_of}
 use Rattle.dw_forms.specs.Front.{Takes}
 use Rattle.dw_forms.specs.Keys.{Lacks, lacks_from, lacks_test, any_from, any_test}
-use Rattle.dw_forms.specs.Readers.{HasFront, front_of, reader_of, reads_on, joined}
+use Rattle.dw_forms.specs.Readers.{HasFront, front_of, reads_on, joined}
 use Rattle.dw_forms.specs.Steps.{◌>>=◌, on_option}
 
 -- what a list is made of: what an element begins with, or the end of the list; the rest of the element; and its key
@@ -127,10 +126,6 @@ module _ {H X E : Type 0} (of : Elements H X E) (earlier : List X) where
 
   -- the next element after the earlier ones, or the end
   abbrev pub element_or_end : Format (Option X) E
-  element_or_end = record {
-    read = next_at;
-    Spells = NextOf of.key (SpellsElement of) (SpellsEnd of) earlier;
-    Fails = NextFails of earlier;
-    is_reader = reader_of next_at Next (NextFails of earlier) next_again next_refuses next_front;
-    refuses = next_refuses;
-  }
+  element_or_end =
+      format_of next_at (NextOf of.key (SpellsElement of) (SpellsEnd of) earlier) (NextFails of earlier) next_again
+      next_refuses next_front

@@ -1,14 +1,10 @@
 -- State: the place of the first attribute with a code, and its value.
 use Rattle.std.specs.Prelude.{◌≡◌, ◌≢◌, ℕ, ◌<◌, List, length, Option, Some, None, Result, Ok, Err, All, slice_index_or}
 use Rattle.std.specs.List.{slice_range}
-use Rattle.dw_forms.specs.declared.abbrev.AttributeSpec.{AttributeSpec}
-use Rattle.dw_forms.specs.declared.form.Form.{Form}
-use Rattle.dw_forms.specs.declared.value.Value.{Value}
-use Rattle.dw_forms.specs.declared.value.ValueFault.{ValueFault}
 use Rattle.dw_forms.specs.Steps.{◌>>=◌}
-use Rattle.dw_forms.specs.Value.{Datum, view}
-use Rattle.dw_forms.specs.ValueReading.{value_at}
-use Rattle.dw_forms.specs.KnownValues.{values_end}
+use Rattle.dw_forms.specs.Value.{Datum, view, Value}
+use Rattle.dw_forms.specs.ValueReading.{value_at, ValueFault}
+use Rattle.dw_forms.specs.KnownValues.{values_end, Form, AttributeSpec}
 
 -- the attribute at this place has the code, and none before it has
 pub record StandsFirst (specs : List AttributeSpec) (code place : ℕ) : Type 0 where

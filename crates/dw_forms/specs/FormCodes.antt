@@ -1,7 +1,7 @@
 -- Chapter: the codes of the forms (DWARF 5, 7.5.6, table 7.6).
 -- The codes, and the forms that may refer or lead out, are made by docs/make-rules.py from docs/codes.tsv.
 use Rattle.std.specs.Prelude.{ℕ, pos, Option, List, [], ◌∷◌, find, Bool, true, false, ◌||◌, nat_le, if◌then◌else◌, ◌==◌}
-use Rattle.dw_forms.specs.declared.form.Form.{Form}
+pub use Rattle.dw_forms.specs.declared.form.Form.{Form}
 use Rattle.dw_forms.specs.declared.form.Form.TheVariants.{Addr, Block2, Block4, Data2, Data4, Data8, Text, Block}
 use Rattle.dw_forms.specs.declared.form.Form.TheVariants.{Block1, Data1, Flag, Sdata, Strp, Udata, RefAddr, Ref1, Ref2}
 use Rattle.dw_forms.specs.declared.form.Form.TheVariants.{Ref4, Ref8, RefUdata, Indirect, SecOffset, Exprloc}

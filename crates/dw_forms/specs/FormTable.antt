@@ -3,7 +3,7 @@
 use Rattle.std.specs.Prelude.{ℕ, true, Option, Some, None}
 use Rattle.dw_forms.specs.declared.form.Form.{Form}
 use Rattle.dw_forms.specs.declared.form.Form.TheVariants as form
-use Rattle.dw_forms.specs.declared.class.Class.{Class}
+pub use Rattle.dw_forms.specs.declared.class.Class.{Class}
 use Rattle.dw_forms.specs.declared.class.Class.TheVariants.{Address, Block, Constant, WideConstant, Exprloc, Flag}
 use Rattle.dw_forms.specs.declared.class.Class.TheVariants.{ListIndex, Reference, SectionOffset, String}
 use Rattle.dw_forms.specs.Value.{Layout, fixed, leb, signed_leb, counted, leb_counted, ended, exactly, nothing, named}

@@ -1,12 +1,11 @@
 -- Chapter: formats: what reads a value, which bytes spell it, and which fault is where none is spelled. The law that
 -- ties them comes with each: a format that is made of other formats has its law from theirs.
 use Rattle.std.proofs.Common.{◌≡◌, ℕ, ◌<◌, Bool, true, false, List, [], ◌++◌, length, take, Option, Some, None, Result}
-use Rattle.std.proofs.Common.{Ok, Err, refl, sym, ap, subst, ◌∙◌, inl, inr, append_assoc, arith}
-use Rattle.std.specs.Prelude.{MatchResult, ◌⊎◌}
-use Rattle.std.proofs.lemmas.List.{append-nil, take_at, length-append}
+use Rattle.std.proofs.Common.{Ok, Err, refl, sym, ap, subst, ◌∙◌, inl, inr, append_assoc, arith, MatchResult, ◌⊎◌}
+use Rattle.std.proofs.Common.{append-nil, take_at, length-append}
 use Rattle.std.proofs.lemmas.Result.{MatchResult-weaker}
 use Rattle.dw_forms.specs.Front.{Takes}
-use Rattle.dw_forms.specs.Readers.{IsReader, read_is, fault_is, reads_on, joined}
+use Rattle.dw_forms.specs.Readers.{IsReader, HasFront, reader_of, read_is, fault_is, reads_on, joined}
 use Rattle.dw_forms.specs.StepLaws.{bind_says}
 use Rattle.dw_forms.specs.Steps.{◌>>=◌}
 
@@ -18,6 +17,19 @@ pub record Format (V E : Type 0) : Type 1 where
   pub Fails : List ℕ → E → Type 0
   pub is_reader : IsReader read Spells Fails
   pub refuses : (bytes : List ℕ) (e : E) → Fails bytes e → read bytes ≡ Err e
+
+-- what reads the values that are spelled and gives the faults, where each front of some bytes has one of both
+abbrev pub format_of : {V E : Type 0} (read : List ℕ → Result (V × List ℕ) E) (Spells : List ℕ → V → Type 0)
+    (Fails : List ℕ → E → Type 0) → ((text rest : List ℕ) (v : V) → Spells text v → read (text ++ rest) ≡ Ok (v, rest))
+    → ((bytes : List ℕ) (e : E) → Fails bytes e → read bytes ≡ Err e) → ((bytes : List ℕ) → HasFront Spells Fails bytes)
+    → Format V E
+format_of read Spells Fails again refuses front = record {
+  read = read;
+  Spells = Spells;
+  Fails = Fails;
+  is_reader = reader_of read Spells Fails again refuses front;
+  refuses = refuses;
+}
 
 -- ---- one after another
 

@@ -1,15 +1,13 @@
 -- State: the abbreviation tables of a section, with each declaration kept once. A table is a chain of declarations.
 use Rattle.std.specs.Prelude.{◌≡◌, ℕ, ◌==◌, List, map, All, Option}
 use Rattle.std.specs.BTreeMap.{BTreeMap}
-use Rattle.dw_forms.specs.declared.attribute_lists.Node.{Node}
-use Rattle.dw_forms.specs.declared.chains.Link.{Link}
+pub use Rattle.dw_forms.specs.declared.attribute_lists.Node.{Node}
 use Rattle.dw_forms.specs.declared.decl.DeclAt.{DeclAt}
-use Rattle.dw_forms.specs.declared.decl.KeptDecl.{KeptDecl}
-use Rattle.dw_forms.specs.declared.known_places.KnownPlace.{KnownPlace}
+pub use Rattle.dw_forms.specs.declared.decl.KeptDecl.{KeptDecl}
 use Rattle.dw_forms.specs.Abbrev.{Declaration}
 use Rattle.dw_forms.specs.AttributeLists.{list_in, numbered_in}
-use Rattle.dw_forms.specs.DeclaredLists.{HasList, HavePlaces}
-use Rattle.dw_forms.specs.Chains.{Numbered, items_of, chain_in, chains_of, item_of, number_where, codes_of}
+use Rattle.dw_forms.specs.DeclaredLists.{HasList, HavePlaces, KnownPlace}
+use Rattle.dw_forms.specs.Chains.{Numbered, items_of, chain_in, chains_of, item_of, number_where, codes_of, Link}
 use Rattle.dw_forms.specs.Labels.{label, HasLabel}
 
 -- a declaration that is kept, with its attributes among those that are kept

@@ -1,16 +1,14 @@
 -- State: the values of a declaration that may lead elsewhere, and the steps of a walk over them.
 use Rattle.std.specs.Prelude.{◌≡◌, ◌==◌, ◌||◌, ◌&&◌, ◌+◌, ◌*◌, ◌≤◌, ℕ, Bool, not, if◌then◌else◌, List, [], ◌∷◌, length}
-use Rattle.dw_forms.specs.declared.abbrev.AttributeSpec.{AttributeSpec}
-use Rattle.dw_forms.specs.declared.form.Form.{Form}
 use Rattle.dw_forms.specs.declared.form.Form.TheVariants.{Ref4, Strp, Strx1, Strx2, Addrx}
-use Rattle.dw_forms.specs.declared.leading_steps.Lead.{Lead}
+pub use Rattle.dw_forms.specs.declared.leading_steps.Lead.{Lead}
 use Rattle.dw_forms.specs.declared.leading_steps.Lead.TheVariants as lead
-use Rattle.dw_forms.specs.declared.leading_steps.Step.{Step}
+pub use Rattle.dw_forms.specs.declared.leading_steps.Step.{Step}
 use Rattle.dw_forms.specs.Chains.{Numbered}
-use Rattle.dw_forms.specs.FormCodes.{may_lead_out, may_refer}
+use Rattle.dw_forms.specs.FormCodes.{may_lead_out, may_refer, Form}
 use Rattle.dw_forms.specs.Codes.{DW_AT_type, DW_AT_str_offsets_base, DW_AT_addr_base}
 use Rattle.dw_forms.specs.Codes.{DW_AT_sibling, DW_AT_specification, DW_AT_import, DW_AT_signature}
-use Rattle.dw_forms.specs.KnownValues.{known_size, does_vary}
+use Rattle.dw_forms.specs.KnownValues.{known_size, does_vary, AttributeSpec}
 
 -- values of the form may lead elsewhere: to a string, an address or an entry, or by another form (DWARF 5, 7.5.5)
 abbrev pub may_lead : Form → Bool

@@ -2,8 +2,8 @@
 use Rattle.std.specs.Prelude.{ℕ, ◌+◌, ◌*◌, ◌^◌, ◌%◌, List, [], ◌∷◌, Result, Ok, Err, nat_lt, Bool, ℤ, pos, negsuc, ◌-ℤ◌}
 use Rattle.std.specs.Prelude.{if◌then◌else◌}
 use Rattle.dw_forms.specs.Steps.{◌>>=◌}
-use Rattle.dw_forms.specs.declared.leb.Spelling.{Spelling}
-use Rattle.dw_forms.specs.declared.leb.NumberFault.{NumberFault}
+pub use Rattle.dw_forms.specs.declared.leb.Spelling.{Spelling}
+pub use Rattle.dw_forms.specs.declared.leb.NumberFault.{NumberFault}
 use Rattle.dw_forms.specs.declared.leb.NumberFault.TheVariants.{Cut, BadNumber}
 
 -- the first byte of these has this place, and those before it this sum

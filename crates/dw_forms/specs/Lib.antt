@@ -3,15 +3,13 @@ pub mod Leb
 pub mod Front
 pub mod Codes
 pub mod FormCodes
-pub mod ValueFaults
-pub mod AbbrevFaults
+pub mod Faults
 pub mod Rules
 pub mod Steps
 pub mod LebReading
 -- Laws.
 pub mod StepLaws
 pub mod Readers
-pub mod SpellingLaws
 pub mod LebLaws
 pub mod Keys
 -- Chapters, in reading order.
@@ -29,19 +27,16 @@ pub mod Abbrev
 pub mod AbbrevReading
 -- Laws.
 pub mod Spans
-pub mod FormLaws
 pub mod ValueLaws
 pub mod TableGrammar
 pub mod Datums
 -- State.
 pub mod Stops
 pub mod Sizes
-pub mod AttributesSoFar
 pub mod KnownValues
 pub mod AttributeBits
 pub mod Places
 pub mod FirstPlaces
-pub mod CodeBits
 pub mod Chains
 pub mod Labels
 pub mod LeadingWalks
@@ -49,7 +44,6 @@ pub mod Offsets
 pub mod AttributeLists
 pub mod DeclaredLists
 pub mod Suffixes
-pub mod SharedEnds
 pub mod ListOffsets
 pub mod KeptDecls
 pub mod TableStarts

@@ -1,13 +1,12 @@
 -- Chapter: lists as formats: element after element up to an end, and no key of them twice.
-use Rattle.std.proofs.Common.{◌≡◌, ℕ, zero, suc, ◌+◌, ◌<◌, ◌≤◌, List, [], ◌∷◌, ◌++◌, length, Option, Some, None}
-use Rattle.std.proofs.Common.{Result, Ok, Err, refl, sym, ap, subst, ◌∙◌, inl, inr, append_assoc, arith}
-use Rattle.std.specs.Prelude.{◌⊎◌}
-use Rattle.std.proofs.lemmas.List.{append-nil, length-append}
+use Rattle.std.proofs.Common.{◌≡◌, ℕ, zero, suc, ◌+◌, ◌<◌, ◌≤◌, List, [], ◌∷◌, ◌++◌, length, Option, Some, None, Result}
+use Rattle.std.proofs.Common.{Ok, Err, refl, sym, ap, subst, ◌∙◌, inl, inr, append_assoc, arith, ◌⊎◌, append-nil}
+use Rattle.std.proofs.Common.{length-append}
 use Rattle.dw_forms.specs.Elements.{Elements, SpellsElement, SpellsEnd, NextOf, NextFails, next_at, element_or_end}
-use Rattle.dw_forms.specs.Formats.{Format, renamed}
+use Rattle.dw_forms.specs.Formats.{Format, format_of, renamed}
 use Rattle.dw_forms.specs.Front.{Takes}
 use Rattle.dw_forms.specs.Keys.{Apart, apart_push, apart_lacks}
-use Rattle.dw_forms.specs.Readers.{IsReader, HasFront, front_of, reader_of, joined}
+use Rattle.dw_forms.specs.Readers.{IsReader, HasFront, front_of, joined}
 use Rattle.dw_forms.specs.Steps.{◌>>=◌, on_option}
 
 -- element after element up to the end, after the earlier ones. There are fewer than this bound
@@ -75,14 +74,8 @@ module _ {X E : Type 0} {key : X → ℕ} {Spells : List ℕ → X → Type 0} {
   Ends earlier bytes = ((after : List ℕ) × Takes (Next earlier) bytes None after) ⊎ ((e : E) × Fails earlier bytes e)
 
   -- some elements are at the front, and after them the end or a fault
-  record IsFront (earlier : List X) (bytes : List ℕ) : Type 0 where
-    items : List X
-    text : List ℕ
-    rest : List ℕ
-    parts : bytes ≡ text ++ rest
-    spelled : SpellsEach Spells (λ bytes. bytes ≡ []) items text
-    distinct : Apart key (earlier ++ items)
-    ends : Ends (earlier ++ items) rest
+  abbrev IsFront : List X → List ℕ → Type 0
+  IsFront earlier bytes = FailsAfter key Spells (λ all rest (u : Unit {0}). Ends all rest) earlier bytes tt
 
   front_none : (earlier : List X) (bytes : List ℕ) → Apart key earlier → Ends earlier bytes → IsFront earlier bytes
   front_none earlier bytes distinct ends = record {
@@ -92,7 +85,7 @@ module _ {X E : Type 0} {key : X → ℕ} {Spells : List ℕ → X → Type 0} {
     parts = refl;
     spelled = refl;
     distinct = subst (Apart key) (sym (append-nil earlier)) distinct;
-    ends = subst (λ (xs : List X). Ends xs bytes) (sym (append-nil earlier)) ends;
+    fails = subst (λ (xs : List X). Ends xs bytes) (sym (append-nil earlier)) ends;
   }
 
   front_more : (earlier : List X) (bytes : List ℕ) (x : X) (after : List ℕ) → Takes (Next earlier) bytes (Some x) after
@@ -104,7 +97,7 @@ module _ {X E : Type 0} {key : X → ℕ} {Spells : List ℕ → X → Type 0} {
     parts = joined t.text f.text f.rest bytes after t.parts f.parts;
     spelled = (t.text, f.text, refl, t.spelled.0, f.spelled);
     distinct = subst (Apart key) (append_assoc earlier (x ∷ []) f.items) f.distinct;
-    ends = subst (λ (xs : List X). Ends xs f.rest) (append_assoc earlier (x ∷ []) f.items) f.ends;
+    fails = subst (λ (xs : List X). Ends xs f.rest) (append_assoc earlier (x ∷ []) f.items) f.fails;
   }
 
   front_at : (bound : ℕ) (earlier : List X) (bytes : List ℕ) → length bytes < bound → Apart key earlier
@@ -133,7 +126,7 @@ module _ {X E : Type 0} {key : X → ℕ} {Spells : List ℕ → X → Type 0} {
   pub list_front : (bytes : List ℕ) → HasFront Whole Broken bytes
   list_front bytes =
       let f = front_at (suc (length bytes)) [] bytes (omega arith) (λ i j d lt long. absurd (omega arith)) in
-      elim f.ends [
+      elim f.fails [
         | inl (after, t) ↦ inl (
           f.items,
           after,
@@ -203,24 +196,16 @@ module _ {X E : Type 0} {key : X → ℕ} {Spells : List ℕ → X → Type 0} {
 
   -- the list as a format
   abbrev pub list_format : Format (List X) E
-  list_format = record {
-    read = list_of next cut;
-    Spells = SpellsList key Spells End;
-    Fails = FailsAfter key Spells Fails [];
-    is_reader = reader_of (list_of next cut) Whole Broken list_again list_refuses list_front;
-    refuses = list_refuses;
-  }
+  list_format =
+      format_of (list_of next cut) (SpellsList key Spells End) (FailsAfter key Spells Fails []) list_again list_refuses
+      list_front
 
 -- ---- a list of elements
 
 module _ {H X E : Type 0} (of : Elements H X E) where
   element_some : (text : List ℕ) (x : X) → SpellsElement of text x → 0 < length text
-  element_some text x s = omega (
-    arith,
-    of.some s.first s.begins s.is_first,
-    ap length s.parts,
-    length-append s.first s.others,
-  )
+  element_some text x s =
+      omega (arith, of.some s.first s.begins s.is_first, ap length s.parts, length-append s.first s.others)
 
   pub reads_next : (cut : E) → ReadsNext of.key (SpellsElement of) (SpellsEnd of) (NextFails of) (next_at of) cut
   reads_next cut = record {

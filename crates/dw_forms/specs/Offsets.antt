@@ -2,7 +2,7 @@
 use Rattle.std.specs.Prelude.{◌≡◌, ℕ, ◌<◌, ◌≤◌, ◌-◌, true, nat_eq, List, [], ◌∷◌, ◌++◌, length, get_or, slice_get}
 use Rattle.std.specs.Prelude.{Some, All}
 use Rattle.std.specs.List.{IsDistinct, list_any}
-use Rattle.dw_forms.specs.declared.offsets.Placed.{Placed}
+pub use Rattle.dw_forms.specs.declared.offsets.Placed.{Placed}
 
 -- what has this number begins at this offset
 abbrev pub BeginsAt : List ℕ → ℕ → ℕ → Type 0

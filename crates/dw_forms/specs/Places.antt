@@ -2,8 +2,7 @@
 use Rattle.std.specs.Prelude.{◌≡◌, ◌≢◌, ℕ, ◌+◌, ◌<◌, List, length, Option, Some, None, All, AllPairs, get_or, slice_get}
 use Rattle.std.specs.Ordering.{nat_cmp}
 use Rattle.std.specs.BTreeMap.{BTreeMap, get}
-use Rattle.dw_forms.specs.declared.abbrev.Decl.{Decl}
-use Rattle.dw_forms.specs.Abbrev.{Declaration}
+use Rattle.dw_forms.specs.Abbrev.{Declaration, Decl}
 
 -- the codes differ, and each that isn't its declaration's place, counted from 1, leads to that place
 pub record IsIndex (decls : List Decl) (elsewhere : BTreeMap ℕ ℕ) : Type 0 where

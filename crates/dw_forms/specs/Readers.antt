@@ -1,9 +1,7 @@
 -- Laws: readers of values: a reader finds what is spelled at the front of some bytes, whatever follows, so no spelling
 -- is a prefix of another.
-use Rattle.std.proofs.Common.{◌≡◌, ℕ, ◌-◌, List, ◌++◌, length, take, Result, Ok, Err}
-use Rattle.std.proofs.Common.{sym, ap, subst, ◌∙◌, inl, inr, append_assoc, arith}
-use Rattle.std.specs.Prelude.{MatchResult, ◌⊎◌}
-use Rattle.std.proofs.lemmas.List.{take_at, length-append}
+use Rattle.std.proofs.Common.{◌≡◌, ℕ, ◌-◌, List, ◌++◌, length, take, Result, Ok, Err, sym, ap, subst, ◌∙◌, inl, inr}
+use Rattle.std.proofs.Common.{append_assoc, arith, MatchResult, ◌⊎◌, take_at, length-append}
 use Rattle.std.proofs.lemmas.Result.{MatchResult-at_ok, MatchResult-at_err}
 use Rattle.dw_forms.specs.Front.{BeginsWith, BeginsWithNone, Takes}
 

@@ -2,14 +2,12 @@
 -- declaration.
 use Rattle.std.specs.Prelude.{◌≡◌, ℕ, ◌+◌, List, [], ◌∷◌, Bool, true, if◌then◌else◌, Option, Some, None, Result, Ok}
 use Rattle.std.specs.List.{list_all}
-use Rattle.dw_forms.specs.declared.form.Form.{Form}
-use Rattle.dw_forms.specs.declared.value.ValueFault.{ValueFault}
 use Rattle.dw_forms.specs.declared.abbrev.AttributeSpec.{AttributeSpec}
-use Rattle.dw_forms.specs.FormCodes.{is_allowed}
+use Rattle.dw_forms.specs.FormCodes.{is_allowed, Form}
 use Rattle.dw_forms.specs.Steps.{◌>>=◌}
 use Rattle.dw_forms.specs.Value.{Datum, Layout, fixed, exactly, nothing}
 use Rattle.dw_forms.specs.FormTable.{layout_of}
-use Rattle.dw_forms.specs.ValueReading.{value_at}
+use Rattle.dw_forms.specs.ValueReading.{value_at, ValueFault}
 
 -- the size that all values in this layout have
 abbrev pub size_of : Layout → Option ℕ

@@ -1,6 +1,5 @@
 -- Laws: how many bytes the values of a format take, and what holds of the values, from the parts of the format.
-use Rattle.std.proofs.Common.{◌≡◌, ℕ, ◌+◌, Bool, true, false, List, length, sym, ap, subst, arith}
-use Rattle.std.proofs.lemmas.List.{length-append}
+use Rattle.std.proofs.Common.{◌≡◌, ℕ, ◌+◌, Bool, true, false, List, length, sym, ap, subst, arith, length-append}
 use Rattle.dw_forms.specs.Formats.{Format, and_then, nothing, failing, mapped, choose, tested, tested_is}
 
 -- after so many bytes, each value ends at this place, and this holds of it

@@ -1,6 +1,6 @@
 -- State: what a call returns, unless memory ran out.
 use Rattle.std.specs.Prelude.{◌≡◌, Result, Ok, Err}
-use Rattle.dw_forms.specs.declared.fault.Stop.{Stop}
+pub use Rattle.dw_forms.specs.declared.fault.Stop.{Stop}
 use Rattle.dw_forms.specs.declared.fault.Stop.TheVariants as stops
 
 -- this holds of the fault, unless memory ran out

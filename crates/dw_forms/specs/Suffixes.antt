@@ -2,13 +2,11 @@
 use Rattle.std.specs.Borrow.{Bor}
 use Rattle.std.specs.Prelude.{◌≡◌, List, [], ◌∷◌, Bool, Option, Some, None}
 use Rattle.dw_forms.specs.declared.abbrev.AttributeSpec.{AttributeSpec}
-use Rattle.dw_forms.specs.declared.attribute_lists.Node.{Node}
-use Rattle.dw_forms.specs.declared.attributes.Attributes.{Attributes}
+pub use Rattle.dw_forms.specs.declared.attributes.Attributes.{Attributes}
 use Rattle.dw_forms.specs.declared.decl.DeclAt.{DeclAt}
-use Rattle.dw_forms.specs.declared.leading_steps.Step.{Step}
 use Rattle.dw_forms.specs.Chains.{Numbered, items_of, number_where}
-use Rattle.dw_forms.specs.AttributeLists.{numbered_in, EndsWith}
-use Rattle.dw_forms.specs.LeadingWalks.{IsFirstStep}
+use Rattle.dw_forms.specs.AttributeLists.{numbered_in, EndsWith, Node}
+use Rattle.dw_forms.specs.LeadingWalks.{IsFirstStep, Step}
 
 -- all attributes that are kept
 abbrev pub nodes_of : Attributes → List Node

@@ -1,17 +1,13 @@
 -- State: the tables that begin at offsets of a section.
 use Rattle.std.specs.Prelude.{◌≡◌, ℕ, suc, ◌<◌, ◌≤◌, List, [], ◌∷◌, ◌++◌, length, get_or, drop}
 use Rattle.std.specs.Prelude.{Option, Some, None, Ok, Err, false, true, ◌⊎◌}
-use Rattle.dw_forms.specs.declared.fault.DeclFault.{DeclFault}
-use Rattle.dw_forms.specs.declared.attribute_lists.Node.{Node}
-use Rattle.dw_forms.specs.declared.decl.KeptDecl.{KeptDecl}
-use Rattle.dw_forms.specs.declared.offsets.Placed.{Placed}
 use Rattle.dw_forms.specs.Abbrev.{Declaration}
-use Rattle.dw_forms.specs.AbbrevReading.{has_code, decl_at, table_at}
+use Rattle.dw_forms.specs.AbbrevReading.{has_code, decl_at, table_at, DeclFault}
 use Rattle.dw_forms.specs.Chains.{chain_in}
 use Rattle.dw_forms.specs.DeclaredLists.{HasList}
-use Rattle.dw_forms.specs.KeptDecls.{Tables, kept_view, table_in}
+use Rattle.dw_forms.specs.KeptDecls.{Tables, kept_view, table_in, Node, KeptDecl}
 pub use Rattle.dw_forms.specs.Offsets.{Stay}
-use Rattle.dw_forms.specs.Offsets.{BeginsAt, AreApart, AreAlong, AreNew}
+use Rattle.dw_forms.specs.Offsets.{BeginsAt, AreApart, AreAlong, AreNew, Placed}
 
 -- the table that begins at this offset of the section is the one of this number
 pub record IsTableIn (section : List ℕ) (tables : Tables) (offset number : ℕ) : Type 0 where

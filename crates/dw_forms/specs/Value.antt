@@ -1,6 +1,6 @@
 -- Chapter: the values of attributes, and how their bytes can be laid out (DWARF 5, 7.5.5 and 7.5.6).
 use Rattle.std.specs.Prelude.{ℕ, List, Bool, not, ◌==◌, ℤ}
-use Rattle.dw_forms.specs.declared.value.Value.{Value}
+pub use Rattle.dw_forms.specs.declared.value.Value.{Value}
 use Rattle.dw_forms.specs.declared.value.Value.TheVariants as value
 
 -- a value without where its bytes lie in memory

@@ -1,14 +1,11 @@
 -- Chapter: which bytes spell which value in which form (DWARF 5, 7.5.5 and 7.5.6).
 use Rattle.std.specs.Prelude.{ℕ, List, Bool, false, Option, ℤ}
-use Rattle.dw_forms.specs.declared.form.Form.{Form}
 use Rattle.dw_forms.specs.declared.form.Form.TheVariants as form
-use Rattle.dw_forms.specs.declared.value.ValueFault.{ValueFault}
 use Rattle.dw_forms.specs.declared.value.ValueFault.TheVariants.{Cut, BadIndirect}
-use Rattle.dw_forms.specs.ValueFaults.{value_fault_of}
-use Rattle.dw_forms.specs.FormCodes.{form_of, is_allowed}
+use Rattle.dw_forms.specs.Faults.{value_fault_of, ValueFault}
+use Rattle.dw_forms.specs.FormCodes.{form_of, is_allowed, Form}
 use Rattle.dw_forms.specs.Formats.{Format, and_then, nothing as no_bytes, failing, mapped, choose, found, renamed}
-use Rattle.dw_forms.specs.BaseFormats.{uleb}
-use Rattle.dw_forms.specs.BaseFormats.{sleb, so_many, fixed_number, zero_ended}
+use Rattle.dw_forms.specs.BaseFormats.{uleb, sleb, so_many, fixed_number, zero_ended}
 use Rattle.dw_forms.specs.Value.{Datum, Layout, fixed, leb, signed_leb, counted, leb_counted, ended, exactly, nothing}
 use Rattle.dw_forms.specs.Value.{named}
 use Rattle.dw_forms.specs.FormTable.{layout_of}

@@ -1,11 +1,10 @@
 -- Chapter: a value read from left to right, or the first fault.
 use Rattle.std.specs.Prelude.{◌≡◌, ℕ, List, drop, Option, Result, Ok, Err}
 use Rattle.dw_forms.specs.declared.form.Form.{Form}
-use Rattle.dw_forms.specs.declared.value.Value.{Value}
-use Rattle.dw_forms.specs.declared.value.ValueFault.{ValueFault}
+pub use Rattle.dw_forms.specs.declared.value.ValueFault.{ValueFault}
 use Rattle.dw_forms.specs.declared.value.ValueFault.TheVariants.{Cut}
 use Rattle.dw_forms.specs.BaseFormats.{taken_at, null_terminated_at, fixed_number}
-use Rattle.dw_forms.specs.Value.{Datum, view, Layout}
+use Rattle.dw_forms.specs.Value.{Datum, view, Layout, Value}
 use Rattle.dw_forms.specs.ValueFormats.{leb_number, counted_bytes, leb_counted_bytes}
 use Rattle.dw_forms.specs.ValueFormats.{laid_out, named_value, attribute_value}
 

@@ -1,7 +1,6 @@
 -- Chapter: formats whose values keep their bytes, and what holds of each format.
 use Rattle.std.proofs.Common.{◌≡◌, ℕ, ◌-◌, List, ◌++◌, length, take, Result, Ok, Err, refl, sym, ap, ◌∙◌, arith}
-use Rattle.std.proofs.Common.{length-append, take_at}
-use Rattle.std.specs.Prelude.{MatchResult}
+use Rattle.std.proofs.Common.{length-append, take_at, MatchResult}
 use mathlib.Core.Logic.{∥∥₁_elim}
 use Rattle.std.proofs.lemmas.Result.{MatchResult-weaker}
 use Rattle.dw_forms.specs.Formats.{Format}

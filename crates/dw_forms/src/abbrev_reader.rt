@@ -4,11 +4,11 @@ ghost use Rattle.std.specs.Prelude.{◌≡◌, ◌<◌, ◌≤◌, ℕ, [], ◌�
 ghost use Rattle.std.specs.Prelude.{IfOk, IfErr, IfSome, OnOk};
 ghost use Rattle.dw_forms.specs.Front.{BeginsWith, BeginsWithNone};
 ghost use Rattle.dw_forms.specs.Abbrev.{table_view, Decls, IsCode16, TableFails};
-ghost use Rattle.dw_forms.specs.AttributesSoFar.{AreSeen};
+ghost use Rattle.dw_forms.specs.AttributeBits.{AreSeen};
 ghost use Rattle.dw_forms.specs.AbbrevReading.{has_attribute, has_code, unsigned_at, signed_at};
 ghost use Rattle.dw_forms.specs.AbbrevReading.{form_at, begun_at, pair_at, tagged_at, attributes_of, children_byte_at};
 ghost use Rattle.dw_forms.specs.AbbrevReading.{decl_at, table_at};
-ghost use Rattle.dw_forms.specs.AbbrevFaults.{fault_at};
+ghost use Rattle.dw_forms.specs.Faults.{fault_at};
 ghost use Rattle.dw_forms.specs.Formats.{as_other};
 ghost use Rattle.dw_forms.specs.Stops.{IfFault, GivesOrMemory};
 ghost use Rattle.dw_forms.specs.ValueReading.{Gives};

@@ -2,10 +2,9 @@
 
 ghost use Rattle.std.specs.Prelude.{◌≡◌, ◌≢◌, ◌+◌, ◌-◌, ◌^◌, ◌<◌, ◌≤◌, List, [], length, get_or, if◌then◌else◌};
 ghost use Rattle.std.specs.Prelude.{IfOk, IfSome, IfNone, OnErr};
-ghost use Rattle.dw_forms.specs.CodeBits.{same_bit};
 ghost use Rattle.dw_forms.specs.declared.chains.Link.{Link as LinkData};
 ghost use Rattle.dw_forms.specs.Chains.{codes_in, number_in, AreBranches, AreBelow, AreMore, AreFound, IsRun};
-ghost use Rattle.dw_forms.specs.Chains.{IsAddedChain};
+ghost use Rattle.dw_forms.specs.Chains.{IsAddedChain, same_bit};
 
 use std::alloc::{AllocError, Global};
 

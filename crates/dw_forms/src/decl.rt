@@ -253,7 +253,7 @@ impl<'a> DeclAt<'a> {
     }
 
     /// Whether a unit of this version may have all forms of the declaration.
-    #[tactic(auto, using(crate::proofs::AllowedForms::all_allowed))]
+    #[tactic(auto, using(crate::proofs::OwnBits::all_allowed))]
     pub fn allows(&self, version: u16) -> bool
         requires { (version ≡ 4) ⊎ (version ≡ 5) }
         ensures { result ≡ are_allowed version (decl_view self.now).attributes }

@@ -2,7 +2,7 @@
 
 ghost use Rattle.std.specs.Prelude.{◌≡◌};
 ghost use Rattle.dw_forms.specs.declared.fault.Stop.TheVariants.{Memory, Fault};
-ghost use Rattle.dw_forms.specs.AbbrevFaults.{decl_fault_of, error_at};
+ghost use Rattle.dw_forms.specs.Faults.{decl_fault_of, error_at};
 
 use crate::leb::NumberFault;
 use crate::rule::Rule;

@@ -2,7 +2,7 @@
 
 ghost use Rattle.std.specs.Prelude.{◌≤◌, OnOk};
 ghost use Rattle.std.specs.List.Sorted.{IsNonDecreasingBy};
-ghost use Rattle.dw_forms.specs.SharedEnds.{AreUpTo, IsEndAdded};
+ghost use Rattle.dw_forms.specs.ListOffsets.{AreUpTo, IsEndAdded};
 
 use std::alloc::AllocError;
 

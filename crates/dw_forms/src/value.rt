@@ -58,7 +58,7 @@ pub enum ValueFault {
 }
 
 impl From<NumberFault> for ValueFault {
-    ghost use Rattle.dw_forms.specs.ValueFaults.{value_fault_of};
+    ghost use Rattle.dw_forms.specs.Faults.{value_fault_of};
 
     ghost from_gives = { λ f e. e ≡ value_fault_of f };
 

@@ -1,43 +1,71 @@
 -- The groups of rules join: valid sections have no fault, and others have one; and the groups in their order, as they
 -- are asked.
-use Rattle.std.proofs.Common.{rules, ◌≡◌, ℕ, ◌<◌, ◌≤◌, List, drop, sym, ◌∙◌, subst, arith, inl, inr}
-use Rattle.dw_elf.specs.declared.sections.Sections.{Sections}
+use Rattle.std.proofs.Common.{rules, List, refl, ◌≡◌, ℕ, ◌<◌, ◌≤◌, drop, sym, ◌∙◌, arith, inl, inr, Some, slice_get}
+use Rattle.dw_forms.specs.declared.rule.Rule.TheVariants.{WrongClass}
+use Rattle.dw_entries.specs.declared.entries.Entries.{Entries}
 use Rattle.dw_entries.specs.declared.fault.Fault.{Fault}
-use Rattle.dw_entries.specs.Units.{DebugUnit}
-use Rattle.dw_entries.specs.Entries.{entries_of}
-use Rattle.dw_entries.specs.EntryRules.{EachEntry}
-use Rattle.dw_entries.specs.Failures.{Failure, HasNone, IsFirst, plain_fault_of, IsPlainFault}
+use Rattle.dw_entries.specs.Header.{version_of}
+use Rattle.dw_entries.specs.Places.{at_attribute}
+use Rattle.dw_entries.specs.Failures.{HasNone, Failure, IsFirst, Rule, plain_fault_of, IsPlainFault}
+use Rattle.dw_links.specs.Classes.{class_of, allows_in, ClassFails, ClassFailures}
+use Rattle.dw_links.specs.RulesOfAttributes.{Rules, AtHead, entry_head, Entry}
+use Rattle.dw_links.specs.References.{ReferenceFailures}
+use Rattle.dw_links.proofs.LinkedEntries.{have_targets, have_types, true_unless}
+use Rattle.dw_image.specs.Headline.{HasClasses, HasReferences, IsSpelled, IsSoundBy, IsImageOf, IsFaultOf}
+use Rattle.dw_image.specs.Valid.{SpellsInfo, HasSizes, IsValidBy, IsValid}
+use Rattle.dw_entries.specs.Grammar.{Datum}
+use Rattle.dw_entries.specs.EntryRules.{AtEntries, EachEntry, HasAttribute}
 use Rattle.dw_entries.specs.UnitLaws.{one_list}
 use Rattle.dw_entries.proofs.FaultLaws.{no_list, one_fault}
 use Rattle.dw_entries.proofs.HeadLaws.{head_stands}
 use Rattle.dw_entries.proofs.NumberOrder.{three_ways}
-use Rattle.dw_entries.specs.declared.entries.Entries.{Entries}
-use Rattle.dw_entries.specs.Views.{sections_of, units_of}
-use Rattle.dw_links.specs.Classes.{ClassFailures}
+use Rattle.dw_entries.specs.Views.{sections_of, units_of, entries_of, placed, DebugUnit}
 use Rattle.dw_links.specs.LinkFaults.{IsFirstOfLinks}
-use Rattle.dw_links.specs.Strings.{StringFailures}
+use Rattle.dw_links.specs.Strings.{StringFailures, Sections}
 use Rattle.dw_links.specs.declared.links.Links.{Links}
 use Rattle.dw_forms.specs.Rules.{group_of}
 use Rattle.dw_types.specs.Graphs.{HasNoCycle}
 use Rattle.dw_types.specs.Orders.{Ranking}
 use Rattle.dw_types.specs.Shapes.{ShapeFailures}
 use Rattle.dw_types.specs.SizeFaults.{IsFirstSizeFault}
-use Rattle.dw_types.specs.SizeTables.{Size, size_at}
+use Rattle.dw_types.specs.SizeTables.{Size}
 use Rattle.dw_types.specs.Sizes.{IsSizeTable}
 use Rattle.dw_types.specs.Steps.{by_value}
 use Rattle.dw_types.proofs.SizeFaultLemmas.{sizes_by_rank, is-size_table, exact-lines}
 use Rattle.dw_image.specs.declared.image.Image.{Image}
 use Rattle.dw_image.specs.Images.{sections_in, units_in, size_table_in}
-use Rattle.dw_image.specs.Valid.{SpellsInfo, HasSizes, IsValidBy, IsValid}
 use Rattle.dw_image.specs.FirstFault.{Group, classes, strings, references, shapes, cycles, sizes, turn_of, failures_of, FailsInTrees, NamesCycle, IsFirstIn, FailsInGroup, IsFirstFault, in_trees, in_group, IsOneFault}
-use Rattle.dw_image.specs.Headline.{IsSpelled, IsSoundBy, IsImageOf, IsFaultOf}
-use Rattle.dw_image.proofs.OneFirst.{one_first}
+use Rattle.dw_image.proofs.GroupLemmas.{one_first, one_group, one_at_place, rank_of}
 use Rattle.dw_image.specs.GroupsBefore.{HoldBefore, PassBefore}
 use Rattle.dw_image.specs.StepsAndSizes.{AreOrdered, AreMeasures}
-use Rattle.dw_image.proofs.GroupLemmas.{one_group, one_at_place, rank_of}
 use Rattle.dw_image.proofs.MeasureLemmas.{none_by_size, first_by_size, no_cycle_holds, cycle_failure, cycle_fails, contained_of}
 use Rattle.dw_links.proofs.HeldTexts.{texts_of}
-use Rattle.dw_image.proofs.HeadlineLemmas.{classes_of, references_of}
+
+-- ---- classes, and the targets of references
+
+-- where no rule fails at the attributes of entries, none fails at one of them
+pub none_at : (entries : List Entry) (Fails : Rules) → HasNone (AtEntries entries (AtHead Fails)) → (id : ℕ) (e : Entry)
+    → slice_get entries id ≡ Some e → (position attribute : ℕ) (v : Datum) → HasAttribute e position attribute v
+    → (rule : Rule) → Fails (entry_head e) attribute v rule → ⊥
+none_at entries Fails none id e is position attribute v has rule fails =
+    none (record { rule = rule; place = at_attribute e.at position; attribute = attribute }) (record {
+      number = id;
+      item = e;
+      is_item = is;
+      fails = record { position = position; value = v; has = has; place = refl; fails = fails };
+    })
+
+classes_of : (units : List DebugUnit) → HasNone (ClassFailures units) → HasClasses units
+classes_of units none id e is position attribute v has unit in_unit =
+    true_unless (allows_in (version_of unit.unit.header.kind) attribute (class_of v))
+    (λ wrong. none_at (entries_of units) (ClassFails (placed units)) none id e is position attribute v has WrongClass
+    (record { unit = unit; in_unit = in_unit; class = wrong; only = refl }))
+
+references_of : (s : Sections) (units : List DebugUnit) → SpellsInfo s units → HasNone (ReferenceFailures units)
+    → HasReferences units
+references_of s units spelled none = search (rules, have_targets, have_types)
+
+-- ---- valid sections, and first faults
 
 -- two lists of units that spell the sections are one
 pub one_list_of : (s : Sections) (units others : List DebugUnit) → SpellsInfo s units → SpellsInfo s others
@@ -96,7 +124,7 @@ one_in_groups s group later fault other p q =
     elim (three_ways (turn_of group) (turn_of later)) [
       | inl (inl less) ↦ absurd (no_earlier s group later fault other p q less)
       | inl (inr same) ↦ one_in_group s later fault other
-          (subst (λ g. FailsInGroup s g fault) (one_group group later same) p) q
+          (rw (one_group group later same) at p) q
       | inr more ↦ absurd (no_earlier s later group other fault q p more)
     ]
 
@@ -116,19 +144,15 @@ one_first_fault_of s fault other (in_trees p c) (in_trees q d) =
     })
 one_first_fault_of s fault other (in_trees p c) (in_group later q) = absurd (apart s later fault other p q)
 one_first_fault_of s fault other (in_group group p) (in_trees q d) = absurd (apart s group other fault q p)
-one_first_fault_of s fault other (in_group group p) (in_group later q) = one_in_groups s group later fault other p q
+one_first_fault_of s fault other (in_group group p) (in_group later q) = search (rules, one_in_groups)
 
 -- each entry is spelled
 spelled_of : (s : Sections) (units : List DebugUnit) → SpellsInfo s units
     → EachEntry (IsSpelled s units) (entries_of units)
-spelled_of s units spells = λ id e there.
+spelled_of s units spells =
+    λ id e there.
     let stands = head_stands s.base s.«abbrev».now s.info.now units id e spells.spells spells.are_from there in
-    record {
-      in_units = stands.within;
-      head = stands.is;
-      rest = stands.after;
-      stands = stands.parts;
-    }
+    search (rules, stands)
 
 -- the sections of an image are valid
 valid_by : (image : Image) → IsValidBy (sections_in image) (units_in image)
@@ -160,155 +184,135 @@ fault_of s fault first = search (rules, no_fault_of)
 
 -- ---- the groups in their order, as they are checked
 
--- the first failure of a group, over the entries that a scan found
-faulty : (entries : Entries) (group : Group) (fault : Fault)
-    → HoldBefore (sections_of entries) (units_of entries) (turn_of group)
-    → IsFirstIn (sections_of entries) (units_of entries) group fault → IsFaultOf (sections_of entries) fault
-faulty entries group fault before first =
-    fault_of (sections_of entries) fault (in_group group (record {
-      units = entries.scanned.0;
-      spelled = record { spells = entries.scanned.1.spells; are_from = entries.scanned.1.are_from };
-      before = before;
-      first = first;
-    }))
-
 -- no group is before the first
 none_before : (group : Group) → turn_of group < 2 → ⊥
-none_before classes less = omega (arith, less)
-none_before _ less = omega (arith, less)
-
-before_strings : (entries : Entries) → HasNone (ClassFailures (units_of entries))
-    → HoldBefore (sections_of entries) (units_of entries) 3
-before_strings entries none classes less = none
-before_strings entries none _ less = absurd (omega (arith, less))
-
-before_references : (entries : Entries) → HasNone (ClassFailures (units_of entries))
-    → HasNone (StringFailures (sections_of entries) (units_of entries))
-    → HoldBefore (sections_of entries) (units_of entries) 4
-before_references entries none nor classes less = none
-before_references entries none nor strings less = nor
-before_references entries none nor _ less = absurd (omega (arith, less))
-
--- the first value whose class is wrong
-pub wrong_class : (entries : Entries) (fault : Fault)
-    → IsPlainFault (IsFirst (ClassFailures (units_of entries))) fault → IsFaultOf (sections_of entries) fault
-wrong_class entries fault first =
-    faulty entries classes fault (λ earlier less. absurd (none_before earlier less)) first
-
--- of the groups on the values of attributes the first that fails
-pub wrong_link : (entries : Entries) (fault : Fault)
-    → IsPlainFault (IsFirstOfLinks (sections_of entries) (units_of entries)) fault
-    → IsFaultOf (sections_of entries) fault
-wrong_link entries fault first =
-    elim first.holds [
-      | inl class ↦ wrong_class entries fault (record { holds = class; cycle = first.cycle })
-      | inr targets ↦ elim targets.1 [
-        | inl string ↦ faulty entries strings fault (before_strings entries targets.0)
-            (record { holds = string; cycle = first.cycle })
-        | inr reference ↦ faulty entries references fault (before_references entries targets.0 reference.0)
-            (record { holds = reference.1; cycle = first.cycle })
-      ]
-    ]
+none_before group less = search rules
 
 -- no rule of the groups before a turn fails, where those of the groups before a later one do not
 pass_early : (s : Sections) (us : List DebugUnit) (turn bound : ℕ) → turn ≤ bound → bound ≤ 6 → HoldBefore s us bound
     → PassBefore s us turn
-pass_early s us turn bound le few hold = record {
-  hold = λ earlier less. hold earlier (omega (arith, less, le));
-  measured = λ late. absurd (omega (arith, late, le, few));
-}
-
-pub pass_classes : (entries : Entries) (turn : ℕ) → turn ≤ 3 → HasNone (ClassFailures (units_of entries))
-    → PassBefore (sections_of entries) (units_of entries) turn
-pass_classes entries turn le none =
-    pass_early (sections_of entries) (units_of entries) turn 3 le (omega arith) (before_strings entries none)
+pass_early s us turn bound le few hold = search (rules)
 
 -- the size table by which a rule of the last group fails
 table_of : (s : Sections) (us : List DebugUnit) (group : Group) (fault : Fault) → IsFirstIn s us group fault
     → 6 < turn_of group → (table : ℕ → Size) × IsSizeTable us table
-table_of s us sizes fault first late = (first.holds.fails.table, first.holds.fails.one)
+table_of s us sizes fault first late = search (rules)
 table_of s us group fault first late = absurd (omega (arith, late))
 
-pass_group : (entries : Entries) (fault : Fault) (turn : ℕ) (group : Group)
-    → FailsInGroup (sections_of entries) group fault → turn ≤ group_of fault.rule
-    → PassBefore (sections_of entries) (units_of entries) turn
-pass_group entries fault turn group fails late =
-    let s = sections_of entries in
-    let rank = rank_of s fails.units group fault fails.first in
-    let same = one_list_of s fails.units (units_of entries) fails.spelled
-    (record { spells = entries.scanned.1.spells; are_from = entries.scanned.1.are_from }) in
-    subst (λ us. PassBefore s us turn) same (record {
-      hold = λ earlier less. fails.before earlier (omega (arith, less, late, rank));
-      measured = λ more. table_of s fails.units group fault fails.first (omega (arith, more, late, rank));
-    })
+module _ (entries : Entries) where
+  abbrev s : Sections
+  s = sections_of entries
 
--- the first fault is of no group before a turn
-pub pass_fault : (entries : Entries) (fault : Fault) (turn : ℕ) → IsFirstFault (sections_of entries) fault
-    → turn ≤ group_of fault.rule → PassBefore (sections_of entries) (units_of entries) turn
-pass_fault entries fault turn (in_trees fails cycle) late =
-    let s = sections_of entries in
-    absurd (no_list s.«abbrev».now s.base (drop s.base s.info.now) (units_of entries) (plain_fault_of fault)
-    entries.scanned.1.spells fails)
-pass_fault entries fault turn (in_group group fails) late = pass_group entries fault turn group fails late
+  abbrev us : List DebugUnit
+  us = units_of entries
+
+  spells : SpellsInfo s us
+  spells = record { spells = entries.scanned.1.spells; are_from = entries.scanned.1.are_from }
+
+  -- the first failure of a group, over the entries that a scan found
+  faulty : (group : Group) (fault : Fault) → HoldBefore s us (turn_of group) → IsFirstIn s us group fault
+      → IsFaultOf s fault
+  faulty group fault before first =
+      fault_of s fault (in_group group (record { units = us; spelled = spells; before = before; first = first }))
+
+  before_strings : HasNone (ClassFailures us) → HoldBefore s us 3
+  before_strings none classes less = none
+  before_strings none _ less = absurd (omega (arith, less))
+
+  before_references : HasNone (ClassFailures us) → HasNone (StringFailures s us) → HoldBefore s us 4
+  before_references none nor classes less = none
+  before_references none nor strings less = nor
+  before_references none nor _ less = absurd (omega (arith, less))
+
+  -- the first value whose class is wrong
+  pub wrong_class : (fault : Fault) → IsPlainFault (IsFirst (ClassFailures us)) fault → IsFaultOf s fault
+  wrong_class fault first = faulty classes fault (λ earlier less. absurd (none_before earlier less)) first
+
+  -- of the groups on the values of attributes the first that fails
+  pub wrong_link : (fault : Fault) → IsPlainFault (IsFirstOfLinks s us) fault → IsFaultOf s fault
+  wrong_link fault first =
+      elim first.holds [
+        | inl class ↦ wrong_class fault (record { holds = class; cycle = first.cycle })
+        | inr targets ↦ elim targets.1 [
+          | inl string ↦
+              faulty strings fault (before_strings targets.0) (record { holds = string; cycle = first.cycle })
+          | inr reference ↦ faulty references fault (before_references targets.0 reference.0)
+              (record { holds = reference.1; cycle = first.cycle })
+        ]
+      ]
+
+  pub pass_classes : (turn : ℕ) → turn ≤ 3 → HasNone (ClassFailures us) → PassBefore s us turn
+  pass_classes turn le none = search (rules, pass_early, before_strings)
+
+  pass_group : (fault : Fault) (turn : ℕ) (group : Group) → FailsInGroup s group fault → turn ≤ group_of fault.rule
+      → PassBefore s us turn
+  pass_group fault turn group fails late = search (rules, rank_of, one_list_of, spells, table_of)
+
+  -- the first fault is of no group before a turn
+  pub pass_fault : (fault : Fault) (turn : ℕ) → IsFirstFault s fault → turn ≤ group_of fault.rule
+      → PassBefore s us turn
+  pass_fault fault turn (in_trees fails cycle) late = search (rules, no_list)
+  pass_fault fault turn (in_group group fails) late = search (rules, pass_group)
 
 -- and of those on types, where none on values fails
 module _ (links : Links) where
-  abbrev us : List DebugUnit
-  us = units_of links.entries.now
+  abbrev own : List DebugUnit
+  own = units_of links.entries.now
 
-  before_shapes : HoldBefore (sections_of links.entries.now) us 5
+  abbrev HoldTo : ℕ → Type 0
+  HoldTo = HoldBefore (sections_of links.entries.now) own
+
+  before_shapes : HoldTo 5
   before_shapes classes less = links.classes
   before_shapes strings less = links.strings
   before_shapes references less = links.references
   before_shapes _ less = absurd (omega (arith, less))
 
-  before_cycles : HasNone (ShapeFailures us) → HoldBefore (sections_of links.entries.now) us 6
+  before_cycles : HasNone (ShapeFailures own) → HoldTo 6
   before_cycles none shapes less = none
   before_cycles none cycles less = absurd (omega (arith, less))
   before_cycles none sizes less = absurd (omega (arith, less))
   before_cycles none earlier less = before_shapes earlier (omega arith)
 
-  before_sizes : HasNone (ShapeFailures us) → HasNoCycle (by_value us)
-      → HoldBefore (sections_of links.entries.now) us 7
-  before_sizes none nor cycles less = no_cycle_holds us nor
+  before_sizes : HasNone (ShapeFailures own) → HasNoCycle (by_value own) → HoldTo 7
+  before_sizes none nor cycles less = no_cycle_holds own nor
   before_sizes none nor sizes less = absurd (omega (arith, less))
   before_sizes none nor earlier less = before_cycles none earlier (omega arith)
 
-  pub wrong_shape : (fault : Fault) → IsPlainFault (IsFirst (ShapeFailures us)) fault
+  pub wrong_shape : (fault : Fault) → IsPlainFault (IsFirst (ShapeFailures own)) fault
       → IsFaultOf (sections_of links.entries.now) fault
   wrong_shape fault first = faulty links.entries.now shapes fault before_shapes first
 
-  pub contains_itself : (fault : Fault) → HasNone (ShapeFailures us) → NamesCycle us fault
+  pub contains_itself : (fault : Fault) → HasNone (ShapeFailures own) → NamesCycle own fault
       → IsFaultOf (sections_of links.entries.now) fault
   contains_itself fault none names = faulty links.entries.now cycles fault (before_cycles none) names
 
-  pub wrong_size : (fault : Fault) → HasNone (ShapeFailures us) → HasNoCycle (by_value us)
-      → IsPlainFault (IsFirstSizeFault us) fault → IsFaultOf (sections_of links.entries.now) fault
+  pub wrong_size : (fault : Fault) → HasNone (ShapeFailures own) → HasNoCycle (by_value own)
+      → IsPlainFault (IsFirstSizeFault own) fault → IsFaultOf (sections_of links.entries.now) fault
   wrong_size fault none nor first =
       faulty links.entries.now sizes fault (before_sizes none nor)
-      (record { holds = first_by_size us _ first.holds; cycle = first.cycle })
+      (record { holds = first_by_size own _ first.holds; cycle = first.cycle })
 
-  pub pass_links : (turn : ℕ) → turn ≤ 5 → PassBefore (sections_of links.entries.now) us turn
-  pass_links turn le = pass_early (sections_of links.entries.now) us turn 5 le (omega arith) before_shapes
+  pub pass_links : (turn : ℕ) → turn ≤ 5 → PassBefore (sections_of links.entries.now) own turn
+  pass_links turn le = search (rules, pass_early, before_shapes)
 
-  pub pass_ordered : (turn : ℕ) (order : Ranking) → turn ≤ 7 → AreOrdered us order
-      → PassBefore (sections_of links.entries.now) us turn
+  pub pass_ordered : (turn : ℕ) (order : Ranking) → turn ≤ 7 → AreOrdered own order
+      → PassBefore (sections_of links.entries.now) own turn
   pass_ordered turn order le are =
       let falls = are.ordered.falls in
       record {
         hold = λ earlier less. before_sizes are.shapes are.contained earlier (omega (arith, less, le));
         measured = λ late. (
-          sizes_by_rank us order.ranks falls,
-          is-size_table us order.ranks falls (sizes_by_rank us order.ranks falls) (exact-lines us order.ranks falls),
+          sizes_by_rank own order.ranks falls,
+          is-size_table own order.ranks falls (sizes_by_rank own order.ranks falls) (exact-lines own order.ranks falls),
         );
       }
 
-  holds_all : (table : List Size) → AreMeasures us table → (group : Group)
-      → HasNone (failures_of (sections_of links.entries.now) us group)
-  holds_all table are sizes = none_by_size us (size_at table) are.sizes.one are.sizes.none
-  holds_all table are group = before_sizes are.shapes are.contained group (omega arith)
+  holds_all : (table : List Size) → AreMeasures own table → (group : Group)
+      → HasNone (failures_of (sections_of links.entries.now) own group)
+  holds_all table are sizes = search (rules, none_by_size)
+  holds_all table are group = search (rules, before_sizes)
 
-  pub pass_all : (turn : ℕ) (table : List Size) → AreMeasures us table
-      → PassBefore (sections_of links.entries.now) us turn
-  pass_all turn table are =
-      record { hold = λ earlier less. holds_all table are earlier; measured = λ late. (size_at table, are.sizes.one) }
+  pub pass_all : (turn : ℕ) (table : List Size) → AreMeasures own table
+      → PassBefore (sections_of links.entries.now) own turn
+  pass_all turn table are = search (rules, holds_all)

@@ -1,13 +1,7 @@
 pub mod MeasureLemmas
-pub mod HeadlineLemmas
 pub mod RulesByNumber
-pub mod RuleLemmas
 pub mod GroupLemmas
-pub mod OneFirst
 pub mod JoinLemmas
 pub mod LookupLemmas
-pub mod LinkedLemmas
-pub mod FrontLemmas
 pub mod SpanLemmas
 pub mod UnitLemmas
-pub mod TargetLemmas

@@ -1,5 +1,5 @@
 -- A text is no longer than its section.
-use Rattle.std.proofs.Common.{rules, ℕ, List, arith, length, ◌≤◌, length-take, length-drop}
+use Rattle.std.proofs.Common.{rules, ℕ, List, length, ◌≤◌, length-take, length-drop}
 use Rattle.dw_elf.specs.declared.sections.Sections.{Sections}
 use Rattle.dw_elf.specs.Limits.{section_limit}
 use Rattle.dw_links.specs.declared.texts.TextPlace.{TextPlace}
@@ -11,6 +11,6 @@ string_short : (section : List ℕ) (offset : ℕ) → length (string_at section
 string_short section offset = search (rules, length-take, length-drop)
 
 pub text_short : (s : Sections) (place : TextPlace) → length (text_there s place) ≤ section_limit
-text_short s (Info offset) = omega (arith, string_short s.info.now offset, s.info_fits)
-text_short s (Str offset) = omega (arith, string_short s.str.now offset, s.str_fits)
-text_short s (LineStr offset) = omega (arith, string_short s.line_str.now offset, s.line_str_fits)
+text_short s (Info offset) = search (rules, string_short)
+text_short s (Str offset) = search (rules, string_short)
+text_short s (LineStr offset) = search (rules, string_short)

@@ -1,17 +1,14 @@
 -- Cycles of steps by value, and the rules on sizes by the one table: what is made of the types of entries, and how it
 -- fails.
-use Rattle.std.proofs.Common.{rules, ◌≡◌, ℕ, ◌+◌, ◌-◌, ◌<◌, ◌⊎◌, List, length, refl, sym, ap, ◌∙◌, subst, arith, inl, inr, Option, Some, None}
-use Rattle.std.specs.Prelude.{slice_index, Contains}
+use Rattle.std.proofs.Common.{rules, ◌≡◌, ℕ, ◌+◌, ◌-◌, ◌<◌, ◌⊎◌, List, length, refl, sym, ap, ◌∙◌, subst, arith, inl, inr, Option, Some, None, slice_index, Contains}
 use Rattle.std.proofs.lemmas.List.{get_or_past}
 use Rattle.std.proofs.lemmas.List.Elements.{Contains-get_or}
 use Rattle.std.proofs.lemmas.Option.{slice_get_within}
-use Rattle.dw_entries.specs.Entries.{entries_of}
-use Rattle.dw_forms.specs.declared.rule.Rule.TheVariants.{ContainsItself}
-use Rattle.dw_entries.specs.Failures.{Failure, HasNone, IsFirst}
-use Rattle.dw_entries.specs.Places.{at_entry}
-use Rattle.dw_entries.specs.Units.{DebugUnit}
-use Rattle.dw_forms.specs.declared.rule.Rule.{Rule}
 use Rattle.dw_entries.specs.declared.fault.PlainFault.{PlainFault}
+use Rattle.dw_entries.specs.Entries.{entries_of, DebugUnit}
+use Rattle.dw_forms.specs.declared.rule.Rule.TheVariants.{ContainsItself}
+use Rattle.dw_entries.specs.Failures.{Rule, Failure, HasNone, IsFirst}
+use Rattle.dw_entries.specs.Places.{at_entry}
 use Rattle.dw_links.proofs.TableLemmas.{target_within}
 use Rattle.dw_types.proofs.SiblingLemmas.{parent-first}
 use Rattle.dw_types.specs.Cycles.{AreClear}
@@ -88,7 +85,7 @@ module _ (us : List DebugUnit) where
       cc
 
   -- what fails by one fails by the other
-  pub same_failures : (table other : ℕ → Size) → IsSizeTable us table → IsSizeTable us other → (f : Failure)
+  same_failures : (table other : ℕ → Size) → IsSizeTable us table → IsSizeTable us other → (f : Failure)
       → SizeFailures us other f → SizeFailures us table f
   same_failures table other one two f fails =
       let below = slice_get_within (entries_of us) fails.number fails.item fails.is_item in

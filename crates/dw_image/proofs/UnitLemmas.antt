@@ -1,38 +1,93 @@
--- What the values of the unit at hand refer to.
-use Rattle.std.proofs.Common.{rules, ◌≡◌, ℕ, ◌+◌, ◌*◌, ◌<◌, ◌≤◌, Bool, true, false, length, Option, Some, None, IfNone, inl, inr, refl, sym, ap, subst, ◌∙◌}
-use Rattle.std.specs.Prelude.{slice_get}
-use Rattle.std.proofs.lemmas.Option.{slice_get-get_or}
-use Rattle.dw_forms.specs.Codes.{DW_AT_str_offsets_base, DW_AT_addr_base}
-use Rattle.dw_forms.specs.Value.{Datum, str, line_str, str_index, ref_info, ref_unit, ref_sig, addr_index}
-use Rattle.dw_forms.specs.declared.rule.Rule.{Rule}
-use Rattle.dw_forms.specs.declared.rule.Rule.TheVariants.{NoEntry, NoSignature}
-use Rattle.dw_entries.specs.declared.entries.Entries.{Entries}
-use Rattle.dw_entries.specs.declared.header.UnitHeader.{UnitHeader}
+-- What the entries of an image refer to: by the steps that it keeps, by DW_AT_type, and by the values of the unit at
+-- hand.
+use Rattle.std.proofs.Common.{rules, ◌≡◌, ℕ, ◌<◌, ◌≤◌, List, length, Some, None, slice_get, Option, refl, option_and_then, ◌+◌, ◌*◌, Bool, true, false, IfNone, inl, inr, sym, ap, ◌∙◌}
+use Rattle.std.proofs.lemmas.Option.{slice_get-get_or, slice_get_past}
+use Rattle.dw_links.specs.Targets.{target_of}
 use Rattle.dw_entries.specs.declared.units.UnitHead.{UnitHead}
-use Rattle.dw_entries.specs.EntryRules.{OffsetsRise}
-use Rattle.dw_entries.specs.Entries.{placed}
-use Rattle.dw_entries.specs.ByNumber.{no_entry, entry_of, placed_of}
-use Rattle.dw_entries.specs.Failures.{HasNone}
-use Rattle.dw_entries.specs.Header.{IsSize}
-use Rattle.dw_entries.specs.Lookups.{entry_head, unit_head}
-use Rattle.dw_entries.specs.Places.{at_attribute}
-use Rattle.dw_entries.specs.Views.{all_entries, all_units}
-use Rattle.dw_entries.proofs.EntryFacts.{entries_rise}
-use Rattle.dw_links.specs.Bases.{base_in}
-use Rattle.dw_links.specs.Contributions.{slot_at}
-use Rattle.dw_links.specs.LinkLaws.{HasAddressAt, HasStringAt, HasItsText}
-use Rattle.dw_links.specs.References.{ReferenceFails, ReferenceFailures, is_reference_value}
-use Rattle.dw_links.specs.Targets.{reach_of}
-use Rattle.dw_links.specs.declared.texts.TextPlace.TheVariants.{Str, LineStr}
-use Rattle.dw_links.proofs.ClassLemmas.{unit_there}
-use Rattle.dw_links.proofs.SlotLemmas.{slot_within}
-use Rattle.dw_links.proofs.TableLemmas.{sized}
-use Rattle.dw_links.proofs.TargetLemmas.{type_is}
+use Rattle.dw_entries.specs.Units.{DebugUnit}
+use Rattle.dw_types.specs.Graphs.{Graph, step_at, steps_of}
+use Rattle.dw_types.specs.Steps.{by_value}
+use Rattle.dw_types.proofs.StepLemmas.{by_value-leads, length-by_value}
+use Rattle.dw_forms.specs.Codes.{DW_AT_type, DW_AT_str_offsets_base, DW_AT_addr_base}
+use Rattle.dw_forms.specs.Value.{Datum, ref_info, ref_unit, ref_sig, str, line_str, str_index, addr_index}
+use Rattle.dw_forms.specs.declared.class.Class.TheVariants.{Reference}
+use Rattle.dw_forms.specs.Classes.{class_of}
+use Rattle.dw_entries.specs.Lookups.{value_at_entry, entry_head, unit_head}
+use Rattle.dw_entries.proofs.Firsts.{same_some, OffsetsRise, Rule, HasNone}
+use Rattle.dw_links.specs.LinkLaws.{HaveTargets, HasAddressAt, HasStringAt, HasItsText}
+use Rattle.dw_links.proofs.LinkedEntries.{have_targets, reach_of}
 use Rattle.dw_image.specs.declared.image.Image.{Image}
-use Rattle.dw_image.specs.Images.{entries_in, sections_in, unit_count, units_in}
-use Rattle.dw_image.proofs.JoinLemmas.{sound_image}
+use Rattle.dw_image.specs.Images.{entries_in, units_in, type_in, sections_in, unit_count}
+use Rattle.dw_image.specs.Lookups.{type_number}
+use Rattle.dw_forms.specs.declared.rule.Rule.TheVariants.{NoEntry, NoSignature}
+use Rattle.dw_entries.specs.Header.{IsSize}
+use Rattle.dw_entries.proofs.EntryFacts.{entries_rise, placed_of}
+use Rattle.dw_links.specs.Contributions.{slot_at}
+use Rattle.dw_links.specs.References.{ReferenceFails, ReferenceFailures, is_reference_value}
+use Rattle.dw_links.specs.declared.texts.TextPlace.TheVariants.{Str, LineStr}
+use Rattle.dw_links.proofs.SlotLemmas.{slot_within}
+use Rattle.dw_links.proofs.TableLemmas.{sized, entry_of, no_entry, units_of, all_entries, all_units, entries_of, placed, Entries, base_in, unit_there}
+use Rattle.dw_links.proofs.TargetLemmas.{type_is, Entry, PlacedUnit}
+use Rattle.dw_image.proofs.JoinLemmas.{none_at, sound_image}
 use Rattle.dw_image.specs.declared.unit_at_hand.UnitAtHand.{UnitAtHand}
 use Rattle.dw_image.specs.UnitsAtHand.{HasValue, IsAtHand, IsStringOf, place_at}
+
+-- ---- the steps by value that an image keeps
+
+module _ (us : List DebugUnit) (graph : Graph) (is : graph ≡ by_value us) where
+  -- each entry is a node
+  pub nodes-are : length graph ≡ length (entries_of us)
+  nodes-are = search (rules, length-by_value)
+
+  -- each step leads to an entry
+  pub step-below : (node k : ℕ) → k < length (steps_of graph node) → step_at graph node k < length (entries_of us)
+  step-below node k within = search (rules, length-by_value, by_value-leads)
+
+  -- the k-th step, or none past the last
+  pub step-there : (node k : ℕ) → k < length (steps_of graph node)
+      → Some (step_at graph node k) ≡ slice_get (steps_of (by_value us) node) k
+  step-there node k within = search (rules, slice_get-get_or)
+
+  pub step-past : (node k : ℕ) → length (steps_of graph node) ≤ k
+      → None ≡ slice_get (steps_of (by_value us) node) k
+  step-past node k past = search (rules, slice_get_past)
+
+-- ---- DW_AT_type: what it refers to is a type, since no rule on references fails
+
+-- a value by which an entry is reached is a reference
+is_reference : (entries : List Entry) (units : List PlacedUnit) (unit : ℕ) (v : Datum) (t : ℕ)
+    → reach_of entries units unit v ≡ Some t → class_of v ≡ Reference
+is_reference entries units unit (ref_info offset) t reaches = refl
+is_reference entries units unit (ref_unit offset) t reaches = refl
+is_reference entries units unit (ref_sig signature) t reaches = refl
+is_reference entries units unit _ t reaches = absurd cc
+
+-- the entry that this value of DW_AT_type leads to
+typed : (us : List DebugUnit) (id : ℕ) (e : Entry) (value : Option Datum) (target : Option ℕ) → HaveTargets us
+    → slice_get (entries_of us) id ≡ Some e → value_at_entry e DW_AT_type ≡ value
+    → option_and_then (reach_of (entries_of us) (placed us) e.unit) value ≡ target
+    → option_and_then (type_number (entries_of us)) target ≡ target
+typed us id e value None have is has reaches = refl
+typed us id e None (Some t) have is has reaches = absurd cc
+typed us id e (Some v) (Some t) have is has reaches =
+    let entries = entries_of us in
+    let it = have id e is DW_AT_type v has (is_reference entries (placed us) e.unit v t reaches) in
+    let same : it.id ≡ t = same_some _ it.id t it.reaches reaches in
+    let there : slice_get entries t
+    ≡ Some it.target = rw same at it.is_entry in
+    rw (there, it.kind) refl
+
+pub type_is_target : (i : Image) (id : ℕ) → id < length (entries_in i)
+    → type_in i (entry_of (entries_in i) id)
+    ≡ target_of (entries_in i) (placed (units_in i)) (entry_of (entries_in i) id) DW_AT_type
+unfolding type_in units_in target_of
+type_is_target i id below =
+    let us = units_of i.entries in
+    let e = entry_of (entries_of us) id in
+    typed us id e (value_at_entry e DW_AT_type) _ (have_targets _ _ us i.entries.scanned.1.spells i.references)
+    (slice_get-get_or (entries_of us) id no_entry below) refl refl
+
+-- ---- the unit at hand
 
 -- what is told of a unit is what is known of it at hand
 pub unit_told : (i : Image) (es : Entries) (number : ℕ) (head : UnitHead) (strings addresses : Option ℕ)
@@ -70,14 +125,11 @@ module _ (i : Image) (u : UnitAtHand) where
       rule
       → ⊥
   passes v x rule fails =
-      let e = entry_of (entries_in i) x.id in
-      none_fails i (record { rule = rule; place = at_attribute e.at x.position; attribute = x.attribute })
-      (inr (record {
-        number = x.id;
-        item = e;
-        is_item = slice_get-get_or (entries_in i) x.id no_entry x.within;
-        fails = record { position = x.position; value = v; has = x.has; place = refl; fails = fails };
-      }))
+      none_at (entries_in i) (ReferenceFails (entries_in i) (placed (units_in i)))
+      (λ f fails. none_fails i f (inr fails))
+      x.id (entry_of (entries_in i) x.id) (slice_get-get_or (entries_in i) x.id no_entry x.within) x.position
+      x.attribute v
+      x.has rule fails
 
   -- so each has a target
   no_target : (v : Datum) (x : HasValue i u v) → is_reference_value v ≡ true
@@ -125,42 +177,33 @@ module _ (i : Image) (u : UnitAtHand) (hand : IsAtHand i u) where
   line_str_is offset x = search (rules, its_text)
 
   string_here : (index : ℕ) → HasValue i u (str_index index) → HasStringAt (sections_in i) u.str_base index
-  string_here index x =
-      subst (λ (b : Option ℕ). HasStringAt (sections_in i) b index) (sym hand.str_base) (its_text (str_index index) x)
+  string_here index x = rw hand.str_base (its_text (str_index index) x)
 
   pub string_based : (index : ℕ) → HasValue i u (str_index index) → u.str_base ≡ None → ⊥
-  string_based index x none =
-      subst (λ (b : Option ℕ). HasStringAt (sections_in i) b index) none (string_here index x)
+  string_based index x none = rw none at (string_here index x)
 
   pub string_slot : (index b : ℕ) → HasValue i u (str_index index) → u.str_base ≡ Some b
       → b + 4 * index + 4 ≤ length (sections_in i).str_offsets.now
   string_slot index b x is =
-      let has = subst (λ (o : Option ℕ). HasStringAt (sections_in i) o index) is (string_here index x) in
+      let has = rw is at (string_here index x) in
       slot_within (sections_in i).str_offsets.now 4 0 b index (inl refl) has.0 has.1
 
   pub index_is : (index b n : ℕ) → HasValue i u (str_index index) → u.str_base ≡ Some b
       → n ≡ slot_at (sections_in i).str_offsets.now 4 b index
       → IsStringOf (sections_in i) u.str_base (str_index index) (Str n)
   index_is index b n x is told =
-      let has = subst (λ (o : Option ℕ). HasStringAt (sections_in i) o index) is (string_here index x) in
-      subst (λ (o : Option ℕ). IsStringOf (sections_in i) o (str_index index) (Str n)) (sym is)
-      (subst (λ (m : ℕ). IsStringOf (sections_in i) (Some b) (str_index index) (Str m)) (sym told)
-      (record { place = λ end. refl; text = refl; begins = has.2 }))
+      let has = rw is at (string_here index x) in
+      rw (is, told) (record { place = λ end. refl; text = refl; begins = has.2 })
 
   address_here : (index : ℕ) → HasValue i u (addr_index index)
       → HasAddressAt (sections_in i) u.header u.addr_base index
-  address_here index x =
-      subst (λ (b : Option ℕ). HasAddressAt (sections_in i) u.header b index) (sym hand.addr_base)
-      (subst (λ (h : UnitHeader). HasAddressAt (sections_in i) h (base_in (entries_in i) (place_at i u) DW_AT_addr_base)
-      index) (sym hand.header)
-      (its_text (addr_index index) x))
+  address_here index x = rw (hand.addr_base, hand.header) (its_text (addr_index index) x)
 
   -- the unit's addresses have 4 or 8 bytes
   unit_sized : IsSize u.header.address_size
   unit_sized =
-      subst (λ (h : UnitHeader). IsSize h.address_size) (sym hand.header)
-      (sized _ _ (units_in i) u.number (place_at i u) (sound_image i).sound.trees.spelled.spells hand.within
-      (unit_there (units_in i) u.number hand.within))
+      rw hand.header (sized _ _ (units_in i) u.number (place_at i u) (sound_image i).sound.trees.spelled.spells
+      hand.within (unit_there (units_in i) u.number hand.within))
 
   pub size_some : 1 ≤ u.header.address_size
   size_some = search (rules, unit_sized)
@@ -169,11 +212,10 @@ module _ (i : Image) (u : UnitAtHand) (hand : IsAtHand i u) where
   size_few = search (rules, unit_sized)
 
   pub address_based : (index : ℕ) → HasValue i u (addr_index index) → u.addr_base ≡ None → ⊥
-  address_based index x none =
-      subst (λ (b : Option ℕ). HasAddressAt (sections_in i) u.header b index) none (address_here index x)
+  address_based index x none = rw none at (address_here index x)
 
   pub address_slot : (index b : ℕ) → HasValue i u (addr_index index) → u.addr_base ≡ Some b
       → b + u.header.address_size * index + u.header.address_size ≤ length (sections_in i).addr.now
   address_slot index b x is =
-      let has = subst (λ (o : Option ℕ). HasAddressAt (sections_in i) u.header o index) is (address_here index x) in
+      let has = rw is at (address_here index x) in
       slot_within (sections_in i).addr.now u.header.address_size u.header.address_size b index unit_sized has.0 has.1

@@ -1,17 +1,16 @@
 -- Chapter: the first fault of sections. Rules come in groups: a group is checked only if no rule of an earlier group
 -- fails.
 use Rattle.std.specs.Prelude.{◌≡◌, ℕ, ◌<◌, ◌⊎◌, List, [], drop, map, slice_index}
-use Rattle.dw_elf.specs.declared.sections.Sections.{Sections}
-use Rattle.dw_entries.specs.declared.fault.Fault.{Fault}
-use Rattle.dw_entries.specs.declared.fault.PlainFault.{PlainFault}
 use Rattle.dw_forms.specs.declared.rule.Rule.TheVariants.{ContainsItself}
+use Rattle.dw_entries.specs.declared.fault.PlainFault.{PlainFault}
+use Rattle.dw_entries.specs.declared.fault.Fault.{Fault}
 use Rattle.dw_entries.specs.Failures.{Failure, HasNone, IsFirst, plain_fault_of, IsPlainFault}
 use Rattle.dw_entries.specs.Faults.{Fails}
 use Rattle.dw_entries.specs.declared.fault.Section.TheVariants.{Info}
 use Rattle.dw_entries.specs.Places.{at_entry}
 use Rattle.dw_entries.specs.Units.{DebugUnit}
 use Rattle.dw_links.specs.Classes.{ClassFailures}
-use Rattle.dw_links.specs.Strings.{StringFailures}
+use Rattle.dw_links.specs.Strings.{StringFailures, Sections}
 use Rattle.dw_links.specs.References.{ReferenceFailures}
 use Rattle.dw_types.specs.Entries.{entry_in}
 use Rattle.dw_types.specs.Graphs.{IsCycle}

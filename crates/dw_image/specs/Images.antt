@@ -2,10 +2,8 @@
 use Rattle.std.specs.Prelude.{ℕ, List, length, Option, option_and_then}
 use Rattle.std.specs.List.{count_by}
 use Rattle.dw_elf.specs.declared.sections.Sections.{Sections}
-use Rattle.dw_entries.specs.Units.{DebugUnit}
 use Rattle.dw_forms.specs.Codes.{DW_AT_name, DW_AT_type}
-use Rattle.dw_entries.specs.Entries.{Entry, entries_of, placed}
-use Rattle.dw_entries.specs.Views.{sections_of, units_of}
+use Rattle.dw_entries.specs.Views.{sections_of, units_of, Entry, entries_of, placed, DebugUnit}
 use Rattle.dw_links.specs.AttributeTexts.{text_at, text_place_at}
 use Rattle.dw_links.specs.declared.texts.TextPlace.{TextPlace}
 use Rattle.dw_links.specs.Targets.{target_of}

@@ -1,8 +1,7 @@
 -- State: the steps by value and the sizes, if no rule on types fails.
 use Rattle.std.specs.Prelude.{◌≡◌, List, length}
-use Rattle.dw_entries.specs.Entries.{entries_of}
+use Rattle.dw_entries.specs.Entries.{entries_of, DebugUnit}
 use Rattle.dw_entries.specs.Failures.{HasNone}
-use Rattle.dw_entries.specs.Units.{DebugUnit}
 use Rattle.dw_types.specs.declared.by_value.ByValue.{ByValue}
 use Rattle.dw_types.specs.Graphs.{HasNoCycle}
 use Rattle.dw_types.specs.Kinds.{count_of_types}

@@ -6,10 +6,10 @@ use Rattle.dw_forms.specs.Value.{Datum, address, str, line_str, str_index, addr_
 use Rattle.dw_entries.specs.EntryRules.{HasAttribute}
 use Rattle.dw_entries.specs.Entries.{PlacedUnit, placed}
 use Rattle.dw_entries.specs.ByNumber.{entry_of, placed_of}
+use Rattle.dw_links.specs.declared.texts.TextPlace.{TextPlace}
 use Rattle.dw_links.specs.Bases.{base_in}
 use Rattle.dw_links.specs.Slots.{BeginsString}
 use Rattle.dw_links.specs.ValueTexts.{text_of_value, text_place_of, text_there}
-use Rattle.dw_links.specs.declared.texts.TextPlace.{TextPlace}
 use Rattle.dw_image.specs.declared.image.Image.{Image}
 use Rattle.dw_image.specs.Images.{entries_in, unit_count, units_in}
 use Rattle.dw_image.specs.declared.unit_at_hand.UnitAtHand.{UnitAtHand}

@@ -1,10 +1,9 @@
 -- Chapter: when sections are valid: which rules hold, group by group.
 use Rattle.std.specs.Prelude.{ℕ, List}
-use Rattle.dw_elf.specs.declared.sections.Sections.{Sections}
 use Rattle.dw_entries.specs.Failures.{HasNone}
 use Rattle.dw_entries.specs.Units.{DebugUnit}
 use Rattle.dw_links.specs.Classes.{ClassFailures}
-use Rattle.dw_links.specs.Strings.{StringFailures}
+use Rattle.dw_links.specs.Strings.{StringFailures, Sections}
 use Rattle.dw_links.specs.References.{ReferenceFailures}
 use Rattle.dw_types.specs.Graphs.{HasNoCycle}
 use Rattle.dw_types.specs.Shapes.{ShapeFailures}

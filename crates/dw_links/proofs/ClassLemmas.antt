@@ -1,41 +1,33 @@
 -- The rule on classes, by declarations and by values, and what the form of a value says of it.
-use Rattle.std.proofs.Common.{rules, ◌≡◌, ℕ, ◌||◌, Bool, true, false, List, Option, Some, None, refl, ap, sym, ◌∙◌, ◌⊎◌, inl, inr, subst, ◌<◌, length, arith, if◌then◌else◌, nat_eq}
-use Rattle.std.specs.Prelude.{◌==◌, slice_get}
-use Rattle.std.proofs.lemmas.Bool.{eq-eqb, not-false}
+use Rattle.std.proofs.Common.{rules, ◌≡◌, ℕ, Bool, true, false, List, Option, Some, None, refl, ap, sym, ◌∙◌, ◌⊎◌, inl, inr, subst, ◌<◌, length, arith, if◌then◌else◌, nat_eq, ◌==◌, slice_get}
+use Rattle.std.proofs.lemmas.Bool.{eq-eqb, not-false, or_parts}
 use Rattle.std.proofs.lemmas.Option.{slice_get-get_or}
 use mathlib.Core.Logic.{∥∥₁_elim}
-use Rattle.dw_forms.specs.Codes.{DW_AT_type, DW_AT_str_offsets_base, DW_AT_addr_base}
-use Rattle.dw_forms.specs.declared.abbrev.AttributeSpec.{AttributeSpec}
+use Rattle.dw_forms.specs.declared.class.Class.{Class}
 use Rattle.dw_forms.specs.declared.form.Form.{Form}
+use Rattle.dw_forms.specs.Codes.{DW_AT_type, DW_AT_str_offsets_base, DW_AT_addr_base}
 use Rattle.dw_forms.specs.declared.form.Form.TheVariants as form
 use Rattle.dw_forms.specs.FormCodes.{may_lead_out, may_refer}
-use Rattle.dw_forms.specs.Value.{Datum}
 use Rattle.dw_forms.specs.ValueFormats.{Val, laid_out}
 use Rattle.dw_forms.specs.Classes.{class_of, allows, allows_in, is_open_in}
 use Rattle.dw_forms.specs.FormTable.{form_class}
-use Rattle.dw_forms.specs.declared.class.Class.{Class}
-use Rattle.dw_entries.specs.declared.entry.EntryHead.{EntryHead}
-use Rattle.dw_forms.specs.declared.rule.Rule.{Rule}
-use Rattle.dw_entries.specs.Entries.{Entry, PlacedUnit, entries_of, placed}
+use Rattle.dw_entries.specs.declared.entries.Entries.{Entries}
+use Rattle.dw_entries.specs.declared.header.UnitHeader.{UnitHeader}
 use Rattle.dw_entries.specs.ByNumber.{no_placed, placed_of}
-use Rattle.dw_entries.specs.Leading.{DoesNotLead}
+use Rattle.dw_entries.specs.Leading.{DoesNotLead, AttributeSpec}
 use Rattle.dw_forms.specs.declared.rule.Rule.TheVariants.{WrongClass}
 use Rattle.dw_entries.specs.Header.{version_of}
 use Rattle.dw_entries.specs.Units.{DebugUnit, Spells}
-use Rattle.dw_entries.specs.Failures.{IsLeast}
+use Rattle.dw_entries.specs.Failures.{IsLeast, Rule}
 use Rattle.dw_entries.specs.PassedAttributes.{IsNotOpen}
 use Rattle.dw_entries.proofs.HeadLaws.{head_fits}
 use Rattle.dw_entries.proofs.EntryFacts.{length-placed}
-use Rattle.dw_elf.specs.declared.sections.Sections.{Sections}
-use Rattle.dw_entries.specs.declared.entries.Entries.{Entries}
-use Rattle.dw_entries.specs.declared.header.UnitHeader.{UnitHeader}
-use Rattle.dw_entries.specs.Views.{sections_of, all_entries}
-use Rattle.dw_links.specs.Bases.{base_in}
+use Rattle.dw_entries.specs.Views.{sections_of, all_entries, Entry, PlacedUnit, entries_of, placed}
 use Rattle.dw_links.specs.UnitAtHand.{FailsByText, FailsByTarget}
-use Rattle.dw_links.specs.Strings.{StringFailsIn}
-use Rattle.dw_links.specs.Classes.{ClassFails}
-use Rattle.dw_links.specs.RulesOfAttributes.{NeverFailsAt}
-use Rattle.dw_links.specs.References.{is_reference_value}
+use Rattle.dw_links.specs.Strings.{StringFailsIn, Sections, base_in}
+pub use Rattle.dw_links.specs.Classes.{ClassFails}
+use Rattle.dw_links.specs.RulesOfAttributes.{NeverFailsAt, EntryHead}
+use Rattle.dw_links.specs.References.{is_reference_value, Datum}
 
 -- ---- its class
 
@@ -47,10 +39,6 @@ class_by_form version size _ bytes v c is p = search rules
 
 -- ---- that it does not lead elsewhere
 
-neither : (a b : Bool) → (a || b) ≡ false → (a ≡ false) × (b ≡ false)
-neither true b is = absurd cc
-neither false b is = (refl, is)
-
 -- what an attribute that does not lead elsewhere is not
 pub record Leads (spec : AttributeSpec) : Type 0 where
   pub no_way_out : may_lead_out spec.form ≡ false
@@ -60,7 +48,7 @@ pub record Leads (spec : AttributeSpec) : Type 0 where
   pub no_addr_base : (spec.attribute == DW_AT_addr_base) ≡ false
 
 pub leads : (spec : AttributeSpec) → DoesNotLead spec → Leads spec
-leads spec not = search (rules, neither)
+leads spec not = search (rules, or_parts)
 
 pub other_code : (a b : ℕ) → (a == b) ≡ false → a ≡ b → ⊥
 other_code a b not same =

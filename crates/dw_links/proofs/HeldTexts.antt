@@ -1,43 +1,32 @@
 -- Where a string begins, and where the text of an attribute is. Where no rule on strings and addresses fails, each string
 -- and each address is there.
-use Rattle.std.proofs.Common.{rules, ◌≡◌, ◌≢◌, ℕ, suc, ◌<◌, ◌==◌, Bool, true, false, List, [], ◌∷◌, Some, refl, sym, ap, ◌∙◌, Option, None, IfSome, arith, inl, inr, get_or, drop, ◌+◌, ◌-◌, ◌≤◌, length, length-append, length-drop, ◌⊎◌, eq-eqb, zero, ◌++◌, All, append_assoc, drop_at}
-use Rattle.std.specs.Prelude.{slice_get, slice_index, option_map}
+use Rattle.std.proofs.Common.{rules, ◌≡◌, ◌≢◌, ℕ, suc, ◌<◌, ◌==◌, Bool, true, false, List, [], ◌∷◌, Some, refl, sym, ap, ◌∙◌, Option, None, IfSome, arith, inl, inr, get_or, drop, ◌+◌, ◌-◌, ◌≤◌, length, length-append, length-drop, ◌⊎◌, eq-eqb, zero, ◌++◌, All, append_assoc, drop_at, slice_get, slice_index, option_map, get_or-drop, option_and_then}
 use Rattle.std.proofs.lemmas.Option.{option_and_then_some}
 use Rattle.std.proofs.lemmas.Bool.Decides.{nat_tests}
-use Rattle.dw_elf.specs.declared.sections.Sections.{Sections}
 use Rattle.dw_forms.specs.Codes.{DW_AT_str_offsets_base, DW_AT_addr_base}
 use Rattle.dw_forms.specs.Value.{Datum, sec_offset, str, line_str, str_index, addr_index, text}
-use Rattle.dw_forms.specs.declared.rule.Rule.{Rule}
+use Rattle.dw_entries.specs.declared.header.UnitHeader.{UnitHeader}
 use Rattle.dw_entries.specs.Header.{version_of}
-use Rattle.dw_entries.specs.Units.{DebugUnit}
-use Rattle.dw_entries.specs.Entries.{Entry, PlacedUnit, entries_of, placed}
-use Rattle.dw_entries.specs.Places.{at_attribute}
-use Rattle.dw_entries.specs.Failures.{HasNone}
-use Rattle.dw_entries.specs.EntryRules.{values_of, HasAttribute}
-use Rattle.dw_entries.specs.Lookups.{entry_head, value_in, value_at_entry}
+use Rattle.dw_entries.specs.Entries.{Entry, PlacedUnit, entries_of, placed, DebugUnit}
+pub use Rattle.dw_entries.specs.Lookups.{entry_head, value_in, value_at_entry}
 use Rattle.dw_entries.proofs.EntryFacts.{first_entry}
-use Rattle.dw_entries.proofs.Firsts.{same_some}
+use Rattle.dw_entries.proofs.Firsts.{same_some, HasNone, Rule, values_of, HasAttribute, at_attribute}
 use Rattle.dw_links.specs.Contributions.{IsContribution, slot_count, slot_at, HasZeroFrom, string_at}
 use Rattle.dw_links.specs.Bases.{section_offset_in, base_in}
-use Rattle.dw_links.specs.Strings.{BaseFails, StringFailsIn, StringFailures, IsStringContribution, IsAddressContribution, StringIndexFails, AddressIndexFails}
+use Rattle.dw_links.specs.Strings.{BaseFails, StringFailsIn, StringFailures, IsStringContribution, IsAddressContribution, StringIndexFails, AddressIndexFails, Sections}
 use Rattle.dw_forms.specs.declared.rule.Rule.TheVariants.{BadStrBase, StrIndex, StringEnd, BadAddrBase, AddrIndex}
-use Rattle.dw_entries.specs.declared.header.UnitHeader.{UnitHeader}
 use Rattle.dw_links.specs.Slots.{TextLies, AddressLies, IsTextPlace, BeginsString}
 use Rattle.dw_links.specs.LinkLaws.{HasStringAt, HasAddressAt, HasItsText, HasTexts}
 use Rattle.std.specs.List.{position_or_len, before_first}
 use Rattle.std.proofs.lemmas.Bool.{cases_lt, eqb-true, ne_eqb}
 use Rattle.std.proofs.lemmas.List.Sums.{passes_at_first, fails_before_first}
 use Rattle.std.proofs.Math.Seq.{get_or-append_seam}
-use Rattle.std.proofs.lemmas.List.{get_or-drop}
 use Rattle.dw_entries.specs.OwnBytes.{EndsAt}
-use Rattle.dw_links.specs.declared.texts.TextPlace.{TextPlace}
 use Rattle.dw_links.specs.declared.texts.TextPlace.TheVariants.{Info, Str, LineStr}
 use Rattle.std.proofs.lemmas.List.Elements.{All-head, All-tail}
-use Rattle.std.specs.Option.{option_and_then}
-use Rattle.dw_entries.specs.ValuePlaces.{PlacedValue, end_of, placed_value_at}
-use Rattle.dw_entries.proofs.ValuePlaceLaws.{value_placed}
+use Rattle.dw_entries.proofs.ValuePlaceLaws.{value_placed, PlacedValue, end_of, placed_value_at}
 use Rattle.dw_links.specs.AttributeTexts.{text_place_at}
-use Rattle.dw_links.specs.ValueTexts.{text_place_of}
+use Rattle.dw_links.specs.ValueTexts.{text_place_of, TextPlace}
 
 before_zero : (t rest : List ℕ) → All (λ byte. 0 < byte) t → before_first (λ byte. byte == 0) (t ++ 0 ∷ rest) ≡ t
 before_zero [] rest none = refl

@@ -1,50 +1,36 @@
 -- What is kept of an entry after a value: that no rule fails there, by what the value leads to. What is told of an entry
 -- by its number: of the unit at hand, by where it starts after the unit's header, and which entries are declarations.
-use Rattle.std.proofs.Common.{rules, ◌≡◌, ◌≢◌, ℕ, Bool, true, false, List, [], ◌∷◌, Option, Some, None, refl, sym, ap, ◌∙◌, map, arith, ◌==◌, ◌<◌, ◌≤◌, length, get_or, zero, suc, set, replicate, inl, inr, ◌⊎◌, ◌++◌, take, drop}
-use Rattle.std.specs.Prelude.{◌==◌, ◌&&◌, ◌<◌, length, not, is_some, slice_get}
-use Rattle.std.proofs.lemmas.Bool.{ne_eqb, eqb-true}
+use Rattle.std.proofs.Common.{rules, ◌≡◌, ◌≢◌, ℕ, Bool, true, false, List, [], ◌∷◌, Option, Some, None, refl, sym, ap, ◌∙◌, map, arith, ◌==◌, ◌<◌, ◌≤◌, length, get_or, zero, suc, set, replicate, inl, inr, ◌⊎◌, ◌++◌, take, drop, ◌&&◌, not, is_some, slice_get, ne_eqb, eqb-true, unwrap_or}
 use Rattle.std.proofs.lemmas.Option.{slice_get-get_or}
 use mathlib.Core.Logic.{∥∥₁_elim}
 use Rattle.dw_forms.specs.Codes.{DW_AT_type, DW_AT_sibling, DW_AT_specification, DW_AT_import, DW_AT_signature, DW_AT_declaration, is_type_tag}
-use Rattle.dw_forms.specs.declared.leading_steps.Lead.{Lead}
 use Rattle.dw_forms.specs.declared.leading_steps.Lead.TheVariants as lead
-use Rattle.dw_forms.specs.declared.abbrev.AttributeSpec.{AttributeSpec}
-use Rattle.dw_forms.specs.declared.form.Form.{Form}
 use Rattle.dw_forms.specs.declared.form.Form.TheVariants as form
 use Rattle.dw_forms.specs.KnownValues.{known_flag, flag_in}
 use Rattle.dw_forms.specs.Value.{Datum, ref_unit, str, str_index, addr_index}
 use Rattle.dw_forms.specs.ValueFormats.{Val, laid_out}
 use Rattle.dw_forms.specs.LeadingWalks.{lead_of}
 use Rattle.dw_forms.proofs.LeadLaws.{lead_says}
-use Rattle.dw_entries.specs.declared.entries.Entries.{Entries}
 use Rattle.dw_entries.specs.declared.entry.EntryHead.{EntryHead}
 use Rattle.dw_entries.specs.EntryRules.{value_of}
-use Rattle.dw_entries.specs.Entries.{Entry}
 use Rattle.dw_entries.specs.ByNumber.{no_entry, entry_of, unit_of}
 use Rattle.dw_entries.specs.Failures.{IsLeast}
-use Rattle.dw_entries.specs.Grammar.{Context, Attribute, AreAttributes}
-use Rattle.dw_entries.specs.Led.{IsLedBy, is_index_lead, item_of}
+use Rattle.dw_entries.specs.Grammar.{Context, Attribute, AreAttributes, AttributeSpec, Declaration}
+use Rattle.dw_entries.specs.Led.{IsLedBy, is_index_lead, item_of, Lead, Form}
 use Rattle.dw_entries.specs.declared.led.Led.{Led}
 use Rattle.dw_entries.specs.declared.led.Led.TheVariants as led
 use Rattle.dw_entries.specs.Lookups.{entry_head, value_in}
 use Rattle.dw_entries.specs.Units.{context_of}
-use Rattle.dw_entries.specs.Views.{all_entries, all_units, units_of}
-use Rattle.dw_entries.proofs.EntryFacts.{entries_rise}
 use Rattle.dw_entries.proofs.HeadLaws.{head_fits}
 use Rattle.dw_entries.proofs.RunLaws.{one_at}
-use Rattle.dw_links.specs.declared.references.UnitLinks.{UnitLinks}
-use Rattle.dw_links.specs.UnitAtHand.{target_by, entries_followed, entry_with, entry_after, MayLink, IsTypeAfter, IsSiblingAfter, IsDeclaredAfter, LeadsWell, IsLinkable, MayAsk}
+use Rattle.dw_links.specs.UnitAtHand.{target_by, entries_followed, entry_with, entry_after, MayLink, IsTypeAfter, IsSiblingAfter, IsDeclaredAfter, LeadsWell, IsLinkable, MayAsk, UnitLinks}
 use Rattle.dw_links.specs.EntryLinks.{kept_after, KeepsAt}
-use Rattle.dw_links.specs.UnitContributions.{FailsByTexts}
 use Rattle.dw_links.specs.References.{is_declared, is_true, is_reference_value, permits, permits_form}
-use Rattle.dw_links.specs.Targets.{reach_in_unit}
-use Rattle.dw_links.proofs.RuleGroups.{least_none, right_sibling}
-use Rattle.dw_links.proofs.LinkedEntries.{true_unless}
+use Rattle.dw_links.proofs.RuleGroups.{least_none, right_sibling, all_entries, all_units, units_of, Entries, Entry}
+use Rattle.dw_links.proofs.LinkedEntries.{true_unless, entries_rise, reach_in_unit}
 use Rattle.dw_links.proofs.TargetLemmas.{reached_within}
-use Rattle.dw_links.proofs.UnitToAll.{least_by_texts, ends_within}
+use Rattle.dw_links.proofs.UnitToAll.{least_by_texts, ends_within, FailsByTexts}
 use Rattle.std.specs.Bool.{OnTrue}
-use Rattle.std.specs.Option.{unwrap_or}
-use Rattle.dw_forms.specs.Abbrev.{Declaration}
 use Rattle.dw_entries.proofs.UnitRanges.{unit_in_range}
 use Rattle.dw_links.proofs.ClassLemmas.{unit_there}
 use Rattle.std.proofs.Math.Seq.{take-append_seam}

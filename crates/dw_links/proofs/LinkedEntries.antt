@@ -1,34 +1,25 @@
 -- The rules at the headers of type units, and the type of each signature. Where no rule on references fails, values lead
 -- to entries.
-use Rattle.std.proofs.Common.{rules, arith, ◌≡◌, ℕ, List, Option, Some, None, refl, sym, ◌+◌, Bool, true, false, ap, ◌∙◌, inl, inr, subst, cond, eq-or-lt_of_le, ◌⊎◌, ◌<◌}
-use Rattle.std.specs.Prelude.{slice_get, is_some}
+use Rattle.std.proofs.Common.{rules, arith, ◌≡◌, ℕ, List, Option, Some, None, refl, sym, ◌+◌, Bool, true, false, ap, ◌∙◌, inl, inr, subst, cond, eq-or-lt_of_le, ◌⊎◌, ◌<◌, slice_get, is_some, nat_cmp, is_eq}
+pub use Rattle.std.proofs.lemmas.Bool.{true_from_ne_false as true_unless}
 use Rattle.std.proofs.lemmas.Option.{none-some, slice_get_within, slice_get-get_or, get_or_from_slice_get}
 use Rattle.dw_forms.specs.Codes.{is_type_tag}
-use Rattle.dw_forms.specs.Value.{Datum, ref_info, ref_unit, ref_sig}
 use Rattle.dw_forms.specs.declared.rule.Rule.TheVariants.{NoEntry, WrongKind, NotNextSibling, NoSignature, BadTypeOffset, SignatureTwice}
+use Rattle.dw_entries.specs.declared.fault.PlainFault.{PlainFault}
 use Rattle.dw_entries.specs.Units.{DebugUnit, Spells}
-use Rattle.dw_entries.specs.Entries.{Entry, PlacedUnit, entries_of, placed}
-use Rattle.dw_entries.specs.ByNumber.{no_entry, no_placed, entry_of}
 use Rattle.dw_entries.specs.EntriesAt.{IsEntryIn}
-use Rattle.dw_entries.specs.Failures.{HasNone, Failure, Precedes, Names, IsFirst, IsLeast}
-use Rattle.dw_entries.specs.Lookups.{value_at_entry, entry_head}
-use Rattle.dw_forms.specs.declared.rule.Rule.{Rule}
-use Rattle.dw_entries.specs.Places.{at_header, at_attribute}
 use Rattle.dw_entries.specs.EntryRules.{OffsetsRise, values_of, AtPlace}
-use Rattle.dw_entries.proofs.EntryFacts.{entries_rise}
+pub use Rattle.dw_entries.proofs.EntryFacts.{entries_rise, Entry, PlacedUnit, entries_of, placed}
 use Rattle.dw_forms.specs.declared.class.Class.TheVariants.{Reference}
 use Rattle.dw_links.specs.Classes.{class_of}
 use Rattle.dw_links.specs.LinkLaws.{HaveTargets, HaveTypes}
-use Rattle.dw_links.proofs.HeldTexts.{found_value}
-use Rattle.dw_links.specs.References.{HeaderFailures, permits, permits_form, IsOtherThan, is_reference_value, ReferenceFailsBy, TypeUnitFails, ReferenceFailures, IsSignedBefore, HasType, HeaderFails, AttributeFailures}
-use Rattle.dw_links.specs.Signatures.{type_unit_of, HasSignature, first_signed, HaveDistinctSignatures}
-use Rattle.dw_links.specs.Targets.{entry_at, reach_in_unit, reach_of, target_of, type_of_unit}
-use Rattle.dw_links.proofs.TargetLemmas.{reach_in_unit_is, at_reach_in_unit, at_first_signed, none_signed, type_of_unit_is, reached_within, first_signed_is}
+use Rattle.dw_links.proofs.HeldTexts.{found_value, value_at_entry, entry_head}
+use Rattle.dw_links.specs.References.{HeaderFailures, permits, permits_form, IsOtherThan, is_reference_value, ReferenceFailsBy, TypeUnitFails, ReferenceFailures, IsSignedBefore, HasType, HeaderFails, AttributeFailures, Datum, ref_info, ref_unit, ref_sig}
+pub use Rattle.dw_links.specs.Targets.{entry_at, reach_in_unit, reach_of, target_of, type_of_unit}
+use Rattle.dw_links.proofs.TargetLemmas.{reach_in_unit_is, at_reach_in_unit, at_first_signed, none_signed, type_of_unit_is, reached_within, first_signed_is, no_entry, no_placed, entry_of, type_unit_of, HasSignature, first_signed, HaveDistinctSignatures}
 use Rattle.std.proofs.lemmas.Bool.Decides.{nat_tests}
-use Rattle.std.specs.Ordering.{nat_cmp, is_eq}
 use Rattle.std.specs.BTreeMap.{BTreeMap, get, is_at}
-use Rattle.dw_entries.proofs.Firsts.{same_some}
-use Rattle.dw_entries.specs.declared.fault.PlainFault.{PlainFault}
+use Rattle.dw_entries.proofs.Firsts.{same_some, HasNone, Failure, Precedes, Names, IsFirst, IsLeast, Rule, at_header, at_attribute}
 use Rattle.dw_entries.specs.declared.header.HeaderKind.{HeaderKind}
 use Rattle.dw_entries.specs.declared.header.HeaderKind.TheVariants.{TypeUnit}
 use Rattle.dw_entries.proofs.FirstPlaces.{first_at_place, none_at_place}
@@ -267,10 +258,6 @@ reached us id e attribute (ref_sig signature) rise none is value class =
     by_signature us e.unit signature (first_signed (placed us) signature) refl rise (λ f fails. none f (inl fails))
     (λ unsigned. passes_reference us id e attribute (ref_sig signature) none is value refl NoSignature unsigned)
 reached us id e attribute _ rise none is value class = absurd cc
-
-pub true_unless : (b : Bool) → (b ≡ false → ⊥) → b ≡ true
-true_unless true never = refl
-true_unless false never = absurd (never refl)
 
 -- a next sibling that is no other than the one that is reached
 the_next : (next reached : Option ℕ) (id : ℕ) → reached ≡ Some id → (IsOtherThan next reached → ⊥) → next ≡ Some id

@@ -1,20 +1,15 @@
 -- No rule fails at an entry whose declaration has nothing that the rules are asked of.
-use Rattle.std.proofs.Common.{rules, ◌≡◌, ℕ, zero, suc, ◌+◌, ◌<◌, List, [], ◌∷◌, length, Some, refl, sym, ap, ◌∙◌, arith, subst, map, eq-or-lt_of_le}
-use Rattle.std.specs.Prelude.{slice_get, All, Contains}
+use Rattle.std.proofs.Common.{rules, ◌≡◌, ℕ, zero, suc, ◌+◌, ◌<◌, List, [], ◌∷◌, length, Some, refl, sym, ap, ◌∙◌, arith, subst, map, eq-or-lt_of_le, slice_get, All, Contains}
 use Rattle.std.proofs.lemmas.List.Elements.{All-weaker}
 use Rattle.std.proofs.lemmas.Option.{slice_get_within, slice_get-get_or, get_or_from_slice_get}
-use Rattle.dw_forms.specs.Value.{Datum}
-use Rattle.dw_forms.specs.declared.abbrev.AttributeSpec.{AttributeSpec}
-use Rattle.dw_entries.specs.Grammar.{Context, Attribute, IsAttribute, AreAttributes}
+use Rattle.dw_entries.specs.Grammar.{Context, Attribute, IsAttribute, AreAttributes, Datum, AttributeSpec}
 use Rattle.dw_entries.specs.Units.{DebugUnit, context_of, Spells}
 use Rattle.dw_entries.specs.Entries.{Entry, entries_of}
 use Rattle.dw_entries.specs.ByNumber.{unit_of}
 use Rattle.dw_entries.specs.EntryRules.{value_of, AtEntries}
-use Rattle.dw_entries.specs.Lookups.{entry_head}
-use Rattle.dw_entries.specs.Failures.{HasNone}
-use Rattle.dw_entries.proofs.Firsts.{same_some, none_of_entries}
+use Rattle.dw_entries.proofs.Firsts.{same_some, none_of_entries, HasNone}
 use Rattle.dw_entries.proofs.HeadLaws.{head_fits}
-use Rattle.dw_links.specs.RulesOfAttributes.{Rules, AtHead, NeverFailsAt}
+use Rattle.dw_links.specs.RulesOfAttributes.{Rules, AtHead, NeverFailsAt, entry_head}
 
 -- what is at a place of a list
 pub there : {X : Type 0} (xs : List X) (k : ℕ) → k < length xs → (x : X) × (slice_get xs k ≡ Some x)

@@ -1,29 +1,20 @@
 -- The rules on strings, addresses and references: their groups, and which of those that fail has the least number.
-use Rattle.std.proofs.Common.{rules, ◌≡◌, ℕ, List, Option, ap, ◌∙◌, arith, inl, inr, false, Some, None, refl, ◌<◌, true, sym, subst}
-use Rattle.dw_elf.specs.declared.sections.Sections.{Sections}
+use Rattle.std.proofs.Common.{rules, ◌≡◌, ℕ, List, Option, ap, ◌∙◌, arith, inl, inr, false, Some, None, refl, ◌<◌, true, sym, subst, is_some}
 use Rattle.dw_forms.specs.Value.{Datum, str, ref_sig}
-use Rattle.dw_entries.specs.declared.header.UnitHeader.{UnitHeader}
 use Rattle.dw_entries.specs.declared.fault.PlainFault.{PlainFault}
-use Rattle.dw_forms.specs.declared.rule.Rule.{Rule}
+pub use Rattle.dw_entries.specs.declared.entries.Entries.{Entries}
+use Rattle.dw_entries.specs.declared.header.UnitHeader.{UnitHeader}
 use Rattle.dw_entries.specs.declared.entry.EntryHead.{EntryHead}
-use Rattle.dw_entries.specs.Units.{DebugUnit}
 use Rattle.dw_forms.specs.Rules.{group_of, number_of}
-use Rattle.dw_entries.specs.Failures.{Failure, IsFirst, HasNone, IsLeast}
 use Rattle.dw_links.specs.EntryLinks.{IsFirstOfGroup}
-use Rattle.dw_links.specs.Strings.{StringFailsIn, StringFailures}
+use Rattle.dw_links.specs.Strings.{StringFailsIn, StringFailures, Sections}
 use Rattle.dw_links.specs.References.{ReferenceFailures, HeaderFailures, permits, permits_form, is_signature, is_reference_value, NoEntryThere, IsWrongKind, IsOtherThan, NoSignatureThere, ReferenceFails}
-use Rattle.std.specs.Prelude.{is_some}
 use Rattle.std.proofs.lemmas.Option.{get_or_from_slice_get, none-some}
 use Rattle.dw_forms.specs.declared.rule.Rule.TheVariants as rule
-use Rattle.dw_entries.specs.Entries.{Entry, PlacedUnit}
-use Rattle.dw_entries.specs.declared.entries.Entries.{Entries}
-use Rattle.dw_entries.specs.Views.{all_entries, all_units, units_of}
-use Rattle.dw_entries.specs.ByNumber.{no_entry, entry_of}
-use Rattle.dw_entries.proofs.EntryFacts.{entries_rise}
-use Rattle.dw_entries.proofs.Firsts.{same_some}
-use Rattle.dw_links.specs.Targets.{reach_of}
-use Rattle.dw_links.proofs.LinkedEntries.{by_signature}
-use Rattle.dw_links.proofs.TargetLemmas.{at_type}
+pub use Rattle.dw_entries.specs.Views.{all_entries, all_units, units_of, Entry, PlacedUnit, DebugUnit}
+use Rattle.dw_entries.proofs.Firsts.{same_some, Failure, IsFirst, HasNone, IsLeast, Rule}
+use Rattle.dw_links.proofs.LinkedEntries.{by_signature, entries_rise, reach_of}
+use Rattle.dw_links.proofs.TargetLemmas.{at_type, no_entry, entry_of}
 
 string_group : (s : Sections) (h : UnitHeader) (b c : Option ℕ) (head : EntryHead) (a : ℕ) (v : Datum) (rule : Rule)
     → StringFailsIn s h b c head a v rule → group_of rule ≡ 3

@@ -1,27 +1,19 @@
 -- The attributes of an entry that rules are asked of, one after the other.
 -- And those at which no rule fails, with the entry that the entry's type reaches.
-use Rattle.std.proofs.Common.{get_or, ◌≡◌, ℕ, ◌<◌, List, [], ◌∷◌, ◌++◌, length, None, Some, refl, sym, ap, ◌∙◌, subst, arith, append_assoc, length-append, rules, suc, Bool, true, false, Option, append-nil, inl, inr}
-use Rattle.std.specs.Prelude.{All, slice_get, ◌==◌}
+use Rattle.std.proofs.Common.{get_or, ◌≡◌, ℕ, ◌<◌, List, [], ◌∷◌, ◌++◌, length, None, Some, refl, sym, ap, ◌∙◌, subst, arith, append_assoc, length-append, rules, suc, Bool, true, false, Option, append-nil, inl, inr, All, slice_get, ◌==◌, unwrap_or, option_and_then}
 use Rattle.std.proofs.lemmas.List.Elements.{All-append, All-nil, All-push}
 use Rattle.std.proofs.lemmas.Option.{get_or_from_slice_get, slice_get-get_or, slice_get_within}
-use Rattle.dw_forms.specs.declared.abbrev.AttributeSpec.{AttributeSpec}
 use Rattle.dw_forms.specs.Value.{Datum}
-use Rattle.dw_entries.specs.declared.entry.EntryHead.{EntryHead}
-use Rattle.dw_forms.specs.declared.rule.Rule.{Rule}
 use Rattle.dw_entries.specs.declared.fault.PlainFault.{PlainFault}
 use Rattle.dw_entries.specs.declared.fault.Section.TheVariants.{Info}
-use Rattle.dw_entries.specs.EntryRules.{values_of}
 use Rattle.dw_entries.specs.PassedAttributes.{ArePassed, IsNextOf}
-use Rattle.dw_entries.specs.Entries.{Entry}
-use Rattle.dw_entries.specs.Failures.{HasNone, IsFirst, IsLeast}
-use Rattle.dw_entries.specs.Lookups.{entry_head, value_in}
-use Rattle.dw_entries.proofs.Firsts.{first_of_attributes, none_of_attributes}
+pub use Rattle.dw_entries.specs.Lookups.{entry_head, value_in, Entry, values_of}
+use Rattle.dw_entries.proofs.Firsts.{first_of_attributes, none_of_attributes, HasNone, IsFirst, IsLeast, Rule}
 use Rattle.dw_entries.proofs.UnitRanges.{get_front}
-use Rattle.dw_links.specs.RulesOfAttributes.{Rules, AtHead, NeverFailsAt}
-use Rattle.std.specs.Option.{unwrap_or, option_and_then}
+use Rattle.dw_links.specs.RulesOfAttributes.{Rules, AtHead, NeverFailsAt, EntryHead}
 use Rattle.dw_forms.specs.Codes.{DW_AT_type}
 use Rattle.dw_entries.specs.declared.entries.Entries.{Entries}
-use Rattle.dw_entries.specs.Leading.{DoesNotLead}
+use Rattle.dw_entries.specs.Leading.{DoesNotLead, AttributeSpec}
 use Rattle.dw_links.specs.EntryLinks.{kept_after, Reaches, HasFailedAs, IsEntryLinked, IsFirstAtEntry}
 use Rattle.dw_links.specs.UnitAtHand.{FailsByText, FailsByTarget, target_by}
 use Rattle.dw_links.specs.Targets.{target_of}

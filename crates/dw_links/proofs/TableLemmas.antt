@@ -1,36 +1,28 @@
 -- What is read of units, one after the other, and the targets of types, which are kept of each entry.
-use Rattle.std.proofs.Common.{rules, ◌≡◌, ℕ, ◌<◌, List, length, map, get_or, Option, Some, option_map, ap, ◌∙◌, ◌+◌, ◌≤◌, [], ◌∷◌, ◌++◌, take, refl, arith, ◌==◌, false, sym, subst, inl, inr}
-use Rattle.std.specs.Prelude.{slice_get}
+use Rattle.std.proofs.Common.{rules, ◌≡◌, ℕ, ◌<◌, List, length, map, get_or, Option, Some, option_map, ap, ◌∙◌, ◌+◌, ◌≤◌, [], ◌∷◌, ◌++◌, take, refl, arith, ◌==◌, false, sym, subst, inl, inr, slice_get, option_and_then}
 use Rattle.std.proofs.lemmas.Option.{slice_get_within, slice_get-get_or, slice_get-map, get_or_from_slice_get, option_and_then_some}
 use Rattle.std.proofs.lemmas.List.{map_more, take_all}
-use Rattle.std.specs.Option.{option_and_then}
-use Rattle.std.proofs.lemmas.Bool.Decides.{nat_tests}
+use Rattle.std.proofs.lemmas.Bool.{ne_eqb}
 use Rattle.dw_forms.specs.declared.value.Value.{Value}
-use Rattle.dw_forms.specs.Value.{view}
-use Rattle.dw_entries.specs.declared.entries.Entries.{Entries}
-use Rattle.dw_entries.specs.Entries.{Entry, PlacedUnit, entries_of, placed}
-use Rattle.dw_entries.specs.ByNumber.{no_entry, entry_of, placed_of, unit_of}
-use Rattle.dw_entries.specs.Views.{all_entries, all_units, units_of}
-use Rattle.dw_entries.specs.Lookups.{value_at_entry, value_in, unit_head}
-use Rattle.dw_entries.specs.Units.{DebugUnit, Spells}
-use Rattle.dw_entries.specs.UnitLaws.{unit_sized}
-use Rattle.dw_entries.proofs.EntryFacts.{unit_placed, HasFirst, first_entry}
+pub use Rattle.dw_forms.specs.Value.{view}
 use Rattle.dw_entries.specs.declared.units.UnitHead.{UnitHead}
+pub use Rattle.dw_entries.specs.declared.entries.Entries.{Entries}
+pub use Rattle.dw_entries.specs.ByNumber.{no_entry, entry_of, placed_of, unit_of}
+pub use Rattle.dw_entries.specs.Views.{all_entries, all_units, units_of, Entry, PlacedUnit, entries_of, placed}
+use Rattle.dw_entries.specs.Lookups.{value_at_entry, value_in, unit_head, values_of}
+use Rattle.dw_entries.proofs.EntryFacts.{unit_placed, HasFirst, first_entry}
 use Rattle.dw_entries.specs.Header.{IsSize, version_of}
 use Rattle.dw_entries.proofs.Firsts.{same_some}
-use Rattle.dw_entries.proofs.HeadLaws.{all_get}
-use Rattle.dw_entries.specs.EntryRules.{values_of}
+use Rattle.dw_entries.proofs.HeadLaws.{all_get, unit_sized, DebugUnit, Spells}
 use Rattle.dw_entries.specs.Grammar.{Head}
 use Rattle.dw_forms.specs.Codes.{DW_AT_language}
-use Rattle.dw_links.specs.Bases.{kept_base, section_offset_in, base_in, bases_in}
-use Rattle.dw_links.specs.Constants.{constant_of, language_of}
-use Rattle.dw_links.specs.declared.constant.Constant.{Constant}
-use Rattle.dw_links.specs.Tables.{target_of_type, AreTables}
+pub use Rattle.dw_links.specs.Bases.{kept_base, section_offset_in, base_in, bases_in}
+pub use Rattle.dw_links.specs.Constants.{constant_of, language_of, Constant}
+pub use Rattle.dw_links.specs.Tables.{target_of_type, AreTables, LinkTables}
 use Rattle.dw_links.specs.Targets.{target_of}
 use Rattle.dw_links.proofs.TargetLemmas.{reached_within}
-use Rattle.dw_links.specs.declared.tables.LinkTables.{LinkTables}
 use Rattle.dw_links.proofs.ListLookups.{there}
-use Rattle.dw_links.proofs.ClassLemmas.{in_units, unit_there}
+pub use Rattle.dw_links.proofs.ClassLemmas.{in_units, unit_there}
 
 -- ---- what is kept of an entry
 
@@ -136,9 +128,6 @@ first_told us number told below tells =
           ∙ get_or_from_slice_get (entries_of us) p.first has.entry no_entry has.is_entry,
     )
 
-not_same : (n m : ℕ) → (n ≡ m → ⊥) → (n == m) ≡ false
-not_same n m other = grind (arith, nat_tests, other)
-
 -- the base that was read
 pub base_read : (us : List DebugUnit) (number attribute : ℕ) (told : UnitHead) (v : Option Value) → number < length us
     → told ≡ unit_head (placed_of (placed us) number) → (version_of told.header.kind ≡ 4 → ⊥)
@@ -153,7 +142,7 @@ base_read us number attribute told v below tells not_4 read =
     let version : version_of p.unit.header.kind ≡ 4
     → ⊥ = λ four. not_4 (ap (λ (x : UnitHead). version_of x.header.kind) tells ∙ four) in
     ap (option_and_then section_offset_in) value
-    ∙ (rw (not_same (version_of p.unit.header.kind) 4 version, has.is_entry) refl)
+    ∙ (rw (ne_eqb (version_of p.unit.header.kind) 4 version, has.is_entry) refl)
 
 -- the language that was read
 pub language_read : (us : List DebugUnit) (number : ℕ) (told : UnitHead) (v : Option Value) (language : Constant)

@@ -1,19 +1,17 @@
 -- The first item of a list that passes a test, and the entry that a value reaches.
-use Rattle.std.proofs.Common.{rules, ltb, get_or, ◌≤◌, ◌≡◌, ℕ, ◌+◌, ◌<◌, Bool, true, false, cond, List, Option, Some, None, IfSome, IfNone, refl, sym, ap, ◌∙◌, arith, ◌==◌, ◌&&◌, length, option_and_then, subst, eq-eqb}
-use Rattle.std.specs.Prelude.{slice_get, All, ◌≢◌}
+use Rattle.std.proofs.Common.{rules, ltb, get_or, ◌≤◌, ◌≡◌, ℕ, ◌+◌, ◌<◌, Bool, true, false, cond, List, Option, Some, None, IfSome, IfNone, refl, sym, ap, ◌∙◌, arith, ◌==◌, ◌&&◌, length, option_and_then, subst, eq-eqb, slice_get, All, ◌≢◌}
 use Rattle.std.specs.List.{position_from, position_or_len}
 use Rattle.std.proofs.lemmas.Option.{slice_get_within, slice_get-get_or, get_or_from_slice_get, option_and_then_some, cond_some}
-use Rattle.std.proofs.lemmas.Bool.{eqb-true, ltb-true, ltb-false, lt-ltb}
+use Rattle.std.proofs.lemmas.Bool.{and_parts, false_from_ne_true as false_unless, eqb-true, ltb-true, ltb-false, lt-ltb}
 use Rattle.std.proofs.lemmas.Iterator.Adapters.{position_from-zero}
 use Rattle.std.proofs.lemmas.List.Sums.{position_or_len_is, passes_at_first, fails_before_first}
 use Rattle.dw_forms.specs.Value.{Datum, ref_info, ref_unit, ref_sig}
 use Rattle.dw_entries.specs.EntryRules.{OffsetsRise}
-use Rattle.dw_entries.specs.Entries.{Entry, PlacedUnit}
-use Rattle.dw_entries.specs.ByNumber.{no_entry, no_placed, entry_of, placed_of}
+pub use Rattle.dw_entries.specs.ByNumber.{no_entry, no_placed, entry_of, placed_of, Entry, PlacedUnit}
 use Rattle.dw_entries.specs.EntriesAt.{IsEntryAt, IsEntryIn, ReachesInUnit}
 use Rattle.dw_links.proofs.ListLookups.{there}
 use Rattle.dw_links.specs.LinkLaws.{ReachesBySignature}
-use Rattle.dw_links.specs.Signatures.{type_unit_of, HasSignature, is_signature_of, first_signed, HaveDistinctSignatures}
+pub use Rattle.dw_links.specs.Signatures.{type_unit_of, HasSignature, is_signature_of, first_signed, HaveDistinctSignatures}
 use Rattle.dw_links.specs.SignedTypes.{IsSignedType}
 use Rattle.dw_links.specs.Targets.{entry_at, entry_number_at, reach_in_unit, type_of_unit, signed_type, reach_of}
 
@@ -64,10 +62,6 @@ answer_is Is (Some k) None back over some none = absurd (none k (back k refl))
 
 -- ---- entries by their offsets
 
-false_unless : (b : Bool) → (b ≡ true → ⊥) → b ≡ false
-false_unless true never = absurd (never refl)
-false_unless false never = refl
-
 -- an entry that passes a test on its offset is the first that does
 at_offset : (test : Entry → Bool) (entries : List Entry) (offset id : ℕ) → OffsetsRise entries
     → ((e : Entry) → test e ≡ true → e.at ≡ offset) → id < length entries → test (entry_of entries id) ≡ true
@@ -98,10 +92,6 @@ there_is entries offset id is =
     let found = found_entry (λ (e : Entry). e.at == offset) entries id is in
     record { within = found.0; begins = eqb-true (entry_of entries id).at offset found.1 }
 
-each_true : (a b : Bool) → (a && b) ≡ true → (a ≡ true) × (b ≡ true)
-each_true true b is = (refl, is)
-each_true false b is = absurd cc
-
 pub entry_number_is : (entries : List Entry) (unit offset id : ℕ) → OffsetsRise entries
     → IsEntryIn entries unit offset id
     → entry_number_at entries unit offset ≡ Some id
@@ -109,7 +99,7 @@ unfolding entry_number_at
 entry_number_is entries unit offset id rise found =
     let e = entry_of entries id in
     at_offset (λ (e : Entry). e.unit == unit && e.at == offset) entries offset id rise
-    (λ e is. eqb-true e.at offset (each_true (e.unit == unit) (e.at == offset) is).1) found.within
+    (λ e is. eqb-true e.at offset (and_parts (e.unit == unit) (e.at == offset) is).1) found.within
     (rw (eq-eqb e.unit unit found.in_unit, eq-eqb e.at offset found.begins) refl)
 
 pub at_entry_number : (entries : List Entry) (unit offset id : ℕ) → entry_number_at entries unit offset ≡ Some id
@@ -118,7 +108,7 @@ unfolding entry_number_at
 at_entry_number entries unit offset id is =
     let e = entry_of entries id in
     let found = found_entry (λ (e : Entry). e.unit == unit && e.at == offset) entries id is in
-    let both = each_true (e.unit == unit) (e.at == offset) found.1 in
+    let both = and_parts (e.unit == unit) (e.at == offset) found.1 in
     record {
       within = found.0;
       begins = eqb-true e.at offset both.1;

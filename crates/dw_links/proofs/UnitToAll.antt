@@ -1,42 +1,30 @@
 -- Rules by what was read of a unit are the rules among all entries; what holds of a fault, unless memory ran out; and
 -- one entry after the other, of one unit after another.
-use Rattle.std.proofs.Common.{rules, ◌≡◌, ℕ, ◌+◌, ◌<◌, ◌≤◌, length, Option, None, Some, ap, sym, ◌∙◌, arith, inl, inr, suc, List, [], ◌∷◌, map, take, set, refl, zero}
-use Rattle.std.specs.Prelude.{slice_get}
+use Rattle.std.proofs.Common.{rules, ◌≡◌, ℕ, ◌+◌, ◌<◌, ◌≤◌, length, Option, None, Some, ap, sym, ◌∙◌, arith, inl, inr, suc, List, [], ◌∷◌, map, take, set, refl, zero, slice_get}
 use Rattle.std.proofs.lemmas.Option.{slice_get-get_or, slice_get_cases, slice_get_within}
-use Rattle.dw_forms.specs.Value.{Datum}
+pub use Rattle.dw_entries.specs.declared.entries.Entries.{Entries}
 use Rattle.dw_entries.specs.declared.fault.PlainFault.{PlainFault}
 use Rattle.dw_entries.specs.declared.fault.Fault.{Fault as FaultOf}
-use Rattle.dw_forms.specs.declared.rule.Rule.{Rule}
-use Rattle.dw_entries.specs.declared.entries.Entries.{Entries}
-use Rattle.dw_entries.specs.declared.entry.EntryHead.{EntryHead}
 use Rattle.dw_forms.specs.declared.fault.Stop.{Stop}
 use Rattle.dw_forms.specs.declared.fault.Stop.TheVariants.{Memory, Fault}
-use Rattle.dw_entries.specs.EntryRules.{AtEntries}
-use Rattle.dw_entries.specs.Entries.{Entry, entries_of, node_count, PlacedUnit, placed, start_of, placed_from}
-use Rattle.dw_entries.specs.ByNumber.{no_entry, entry_of, end_in, placed_of}
-use Rattle.dw_entries.specs.Failures.{plain_fault_of, HasNone, IsFirst, IsLeast}
+pub use Rattle.dw_entries.specs.ByNumber.{no_entry, entry_of, end_in, placed_of}
+use Rattle.dw_entries.specs.Failures.{plain_fault_of, HasNone, IsFirst, IsLeast, Rule}
 use Rattle.dw_entries.specs.Stopped.{IfPlainFault}
-use Rattle.dw_entries.specs.Views.{sections_of, all_entries, all_units, units_of}
-use Rattle.dw_entries.proofs.EntryFacts.{entries_rise, first_entry, length-placed}
+pub use Rattle.dw_entries.specs.Views.{sections_of, all_entries, all_units, units_of}
+pub use Rattle.dw_entries.proofs.EntryFacts.{entries_rise, first_entry, length-placed, Entry, entries_of, node_count, PlacedUnit, placed, start_of, placed_from}
 use Rattle.dw_entries.proofs.FirstPlaces.{first_by_right, header_precedes_le}
-use Rattle.dw_entries.proofs.Firsts.{same_some, first_of_entries, more_of_list, none_of_entries, attributes_stand, first_of_list}
+use Rattle.dw_entries.proofs.Firsts.{same_some, first_of_entries, more_of_list, none_of_entries, attributes_stand, first_of_list, AtEntries}
 use Rattle.dw_links.specs.declared.strings.UnitContributions.{UnitContributions}
-use Rattle.dw_links.specs.RulesOfAttributes.{Rules, AtHead}
-use Rattle.dw_links.specs.UnitAtHand.{FailsByText, FailsByTarget}
+use Rattle.dw_links.specs.RulesOfAttributes.{Rules, AtHead, EntryHead}
+pub use Rattle.dw_links.specs.UnitAtHand.{FailsByText, FailsByTarget}
 use Rattle.dw_links.specs.EntryLinks.{IsFirstAtEntry, IsFirstOfGroup}
-use Rattle.dw_links.specs.References.{HeaderFailures, AttributeFailures, AtHeader}
-use Rattle.dw_links.specs.UnitContributions.{AreContributions, FailsByTexts}
-use Rattle.dw_links.proofs.ClassLemmas.{in_units, unit_there}
+pub use Rattle.dw_links.specs.References.{HeaderFailures, AttributeFailures, AtHeader, Datum}
+pub use Rattle.dw_links.specs.UnitContributions.{AreContributions, FailsByTexts}
 use Rattle.std.proofs.lemmas.List.{take_more_set}
-use Rattle.dw_entries.specs.Units.{DebugUnit, unit_bytes, AreUnits}
 use Rattle.dw_entries.proofs.UnitRanges.{next_first, last_ends}
 use Rattle.dw_forms.specs.Codes.{DW_AT_str_offsets_base, DW_AT_addr_base}
-use Rattle.dw_links.specs.Bases.{base_in}
-use Rattle.dw_links.specs.Constants.{language_of}
-use Rattle.dw_links.specs.declared.constant.Constant.{Constant}
-use Rattle.dw_links.specs.Tables.{target_of_type}
-use Rattle.dw_links.proofs.TableLemmas.{map_one_more}
-use Rattle.dw_entries.specs.UnitLaws.{unit_some}
+use Rattle.dw_links.proofs.TableLemmas.{map_one_more, in_units, unit_there, language_of, Constant, target_of_type, base_in}
+use Rattle.dw_entries.specs.UnitLaws.{unit_some, DebugUnit, unit_bytes, AreUnits}
 
 -- what follows from it holds too
 pub if_fault : {P Q : PlainFault → Type 0} → ((b : PlainFault) → P b → Q b) → (stop : Stop FaultOf)

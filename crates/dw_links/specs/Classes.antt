@@ -3,15 +3,11 @@
 use Rattle.std.specs.Prelude.{◌≡◌, ℕ, false, List, slice_get, Some}
 pub use Rattle.dw_forms.specs.Classes.{class_of, allows_in, is_one_of}
 use Rattle.dw_forms.specs.Value.{Datum}
-use Rattle.dw_forms.specs.declared.rule.Rule.{Rule}
 use Rattle.dw_forms.specs.declared.rule.Rule.TheVariants.{WrongClass}
 use Rattle.dw_entries.specs.Header.{version_of}
-use Rattle.dw_entries.specs.declared.entry.EntryHead.{EntryHead}
-use Rattle.dw_entries.specs.Units.{DebugUnit}
-use Rattle.dw_entries.specs.Entries.{entries_of, PlacedUnit, placed}
-use Rattle.dw_entries.specs.Failures.{Failure}
-use Rattle.dw_entries.specs.EntryRules.{AtEntries}
-use Rattle.dw_links.specs.RulesOfAttributes.{AtHead}
+use Rattle.dw_entries.specs.Entries.{entries_of, PlacedUnit, placed, DebugUnit}
+use Rattle.dw_entries.specs.EntryRules.{AtEntries, Failure, Rule}
+use Rattle.dw_links.specs.RulesOfAttributes.{AtHead, EntryHead}
 
 -- WrongClass: the value has none of the classes that the attribute may have
 pub record ClassFails (units : List PlacedUnit) (head : EntryHead) (attribute : ℕ) (v : Datum) (rule : Rule) :

@@ -3,11 +3,9 @@ use Rattle.std.specs.Prelude.{ℕ, ◌^◌, ◌-◌, ℤ, pos, negsuc, ◌≤ℤ
 use Rattle.std.specs.Option.{option_map_or}
 use Rattle.dw_forms.specs.Codes.{DW_AT_language}
 use Rattle.dw_forms.specs.Value.{Datum, unsigned, signed}
-use Rattle.dw_entries.specs.EntryRules.{values_of}
-use Rattle.dw_entries.specs.Entries.{Entry, PlacedUnit}
-use Rattle.dw_entries.specs.Lookups.{value_at_entry, value_in}
+use Rattle.dw_entries.specs.Lookups.{value_at_entry, value_in, Entry, PlacedUnit, values_of}
 use Rattle.dw_entries.specs.Units.{head_of}
-use Rattle.dw_links.specs.declared.constant.Constant.{Constant}
+pub use Rattle.dw_links.specs.declared.constant.Constant.{Constant}
 use Rattle.dw_links.specs.declared.constant.Constant.TheVariants.{Absent, NotNumber, Unsigned, Signed}
 
 -- a value as a number: data1 to data8 and udata have no sign, sdata and implicit_const have one (7.5.5)

@@ -1,25 +1,16 @@
 -- State: what is found at an entry and at its values, while the links of all entries are read.
 use Rattle.std.specs.Prelude.{ℕ, ◌==◌, if◌then◌else◌, Option, None, Some, ◌≡◌, ◌⊎◌, List}
-use Rattle.dw_elf.specs.declared.sections.Sections.{Sections}
 use Rattle.dw_forms.specs.Codes.{DW_AT_type}
-use Rattle.dw_forms.specs.Value.{Datum}
+use Rattle.dw_entries.specs.declared.entries.Entries.{Entries}
 use Rattle.dw_entries.specs.declared.fault.PlainFault.{PlainFault}
 use Rattle.dw_entries.specs.declared.fault.Section.TheVariants.{Info}
-use Rattle.dw_entries.specs.declared.entry.EntryHead.{EntryHead}
-use Rattle.dw_forms.specs.declared.rule.Rule.{Rule}
-use Rattle.dw_entries.specs.declared.entries.Entries.{Entries}
-use Rattle.dw_entries.specs.Entries.{Entry}
-use Rattle.dw_entries.specs.Failures.{HasNone, IsFirst, IsLeast}
-use Rattle.dw_entries.specs.Lookups.{entry_head}
-use Rattle.dw_entries.specs.Units.{DebugUnit}
-use Rattle.dw_entries.specs.Views.{sections_of, all_entries, all_units, units_of}
-use Rattle.dw_links.specs.RulesOfAttributes.{Rules, AtHead}
-use Rattle.dw_links.specs.declared.tables.LinkTables.{LinkTables}
-use Rattle.dw_links.specs.declared.references.UnitLinks.{UnitLinks}
-use Rattle.dw_links.specs.UnitAtHand.{FailsByText, FailsByTarget, target_by, entries_followed, entry_with}
-use Rattle.dw_links.specs.References.{ReferenceFailures}
-use Rattle.dw_links.specs.Strings.{StringFailures}
-use Rattle.dw_links.specs.Tables.{target_of_type, AreTables}
+use Rattle.dw_entries.specs.Failures.{HasNone, IsFirst, IsLeast, Rule}
+use Rattle.dw_entries.specs.Views.{sections_of, all_entries, all_units, units_of, Entry, DebugUnit}
+use Rattle.dw_links.specs.RulesOfAttributes.{Rules, AtHead, EntryHead, entry_head}
+use Rattle.dw_links.specs.UnitAtHand.{FailsByText, FailsByTarget, target_by, entries_followed, entry_with, UnitLinks}
+use Rattle.dw_links.specs.References.{ReferenceFailures, Datum}
+use Rattle.dw_links.specs.Strings.{StringFailures, Sections}
+use Rattle.dw_links.specs.Tables.{target_of_type, AreTables, LinkTables}
 
 -- the target of the first type, after one attribute more
 abbrev pub kept_after : Option (Option ℕ) → (attribute : ℕ) → (reached : Option ℕ) → Option (Option ℕ)

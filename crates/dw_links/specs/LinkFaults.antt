@@ -1,13 +1,12 @@
 -- Chapter: the first failure of the rules on the values of attributes. Those on classes come first, then those on
 -- strings and addresses, then those on references.
 use Rattle.std.specs.Prelude.{◌⊎◌, List}
-use Rattle.dw_elf.specs.declared.sections.Sections.{Sections}
 use Rattle.dw_entries.specs.declared.fault.PlainFault.{PlainFault}
 use Rattle.dw_entries.specs.Failures.{Failure, HasNone, IsFirst}
 use Rattle.dw_entries.specs.Units.{DebugUnit}
 use Rattle.dw_links.specs.Classes.{ClassFailures}
 use Rattle.dw_links.specs.References.{ReferenceFailures}
-use Rattle.dw_links.specs.Strings.{StringFailures}
+use Rattle.dw_links.specs.Strings.{StringFailures, Sections}
 
 -- the first failure of a group of rules, or where none of these fails, this
 abbrev pub IsFirstOr : (Failure → Type 0) → (PlainFault → Type 0) → PlainFault → Type 0

@@ -2,24 +2,19 @@
 -- The sentences that name a rule are made by docs/make-rules.py from docs/rules.tsv.
 use Rattle.std.specs.Prelude.{◌≡◌, ◌≢◌, ℕ, ◌+◌, ◌<◌, ◌⊎◌, Bool, true, false, not, ◌&&◌, ◌==◌, List, [], ◌∷◌, Option}
 use Rattle.std.specs.Prelude.{None, Some, slice_get, if◌then◌else◌}
-use Rattle.dw_forms.specs.Value.{Datum, flag, ref_info, ref_unit, ref_sig}
-use Rattle.dw_forms.specs.declared.rule.Rule.{Rule}
+pub use Rattle.dw_forms.specs.Value.{Datum, flag, ref_info, ref_unit, ref_sig}
 use Rattle.dw_forms.specs.declared.rule.Rule.TheVariants.{NoEntry, WrongKind, NotNextSibling, NoSignature}
 use Rattle.dw_forms.specs.declared.rule.Rule.TheVariants.{SignatureTwice, BadTypeOffset}
-use Rattle.dw_entries.specs.declared.entry.EntryHead.{EntryHead}
 use Rattle.dw_entries.specs.Lookups.{value_at_entry}
-use Rattle.dw_entries.specs.Units.{DebugUnit}
-use Rattle.dw_entries.specs.Entries.{Entry, PlacedUnit, entries_of, placed}
-use Rattle.dw_entries.specs.ByNumber.{entry_of}
-use Rattle.dw_entries.specs.EntriesAt.{IsEntryIn}
+use Rattle.dw_entries.specs.Entries.{Entry, PlacedUnit, entries_of, placed, DebugUnit}
+use Rattle.dw_entries.specs.EntriesAt.{IsEntryIn, entry_of}
 use Rattle.dw_entries.specs.Places.{at_header}
-use Rattle.dw_entries.specs.Failures.{Failure}
-use Rattle.dw_entries.specs.EntryRules.{AtPlace, AtEntries, InList}
+use Rattle.dw_entries.specs.EntryRules.{AtPlace, AtEntries, InList, Failure, Rule}
 use Rattle.dw_forms.specs.Codes.{DW_AT_sibling, DW_AT_import, DW_AT_specification, DW_AT_type, DW_AT_signature}
 use Rattle.dw_forms.specs.Codes.{DW_AT_declaration, DW_TAG_imported_unit, DW_TAG_structure_type, DW_TAG_union_type}
 use Rattle.dw_forms.specs.Codes.{DW_TAG_enumeration_type, DW_TAG_compile_unit, DW_TAG_partial_unit, is_type_tag}
 use Rattle.dw_links.specs.Classes.{is_one_of}
-use Rattle.dw_links.specs.RulesOfAttributes.{AtHead}
+use Rattle.dw_links.specs.RulesOfAttributes.{AtHead, EntryHead}
 use Rattle.dw_links.specs.Signatures.{type_unit_of, HasSignature}
 use Rattle.dw_links.specs.Targets.{reach_of}
 

@@ -1,14 +1,9 @@
 -- Chapter: rules on the attributes of entries, and the declarations at which none of them can fail.
 use Rattle.std.specs.Prelude.{ℕ}
-use Rattle.dw_forms.specs.Value.{Datum}
-use Rattle.dw_forms.specs.declared.abbrev.AttributeSpec.{AttributeSpec}
-use Rattle.dw_forms.specs.declared.rule.Rule.{Rule}
-use Rattle.dw_entries.specs.declared.entry.EntryHead.{EntryHead}
-use Rattle.dw_entries.specs.Grammar.{Context, Attribute, IsAttribute}
-use Rattle.dw_entries.specs.Entries.{Entry}
-use Rattle.dw_entries.specs.Failures.{Failure}
-use Rattle.dw_entries.specs.EntryRules.{AtAttributes}
-use Rattle.dw_entries.specs.Lookups.{entry_head}
+pub use Rattle.dw_entries.specs.declared.entry.EntryHead.{EntryHead}
+use Rattle.dw_entries.specs.Grammar.{Context, Attribute, IsAttribute, Datum, AttributeSpec}
+use Rattle.dw_entries.specs.EntryRules.{AtAttributes, Failure, Rule}
+pub use Rattle.dw_entries.specs.Lookups.{entry_head, Entry}
 
 -- which rules fail at an attribute with a value, by what is told of its entry
 abbrev pub Rules : Type 1

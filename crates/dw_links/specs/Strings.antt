@@ -1,20 +1,16 @@
 -- Chapter: the rules on strings and addresses (DWARF 5, 7.26 and 7.27).
 use Rattle.std.specs.Prelude.{◌≡◌, ◌≢◌, ℕ, ◌<◌, ◌≤◌, ◌⊎◌, List, Option, None, Some, slice_get}
-use Rattle.dw_elf.specs.declared.sections.Sections.{Sections}
+pub use Rattle.dw_elf.specs.declared.sections.Sections.{Sections}
 use Rattle.dw_forms.specs.Value.{Datum, str, line_str, str_index, addr_index, sec_offset}
-use Rattle.dw_entries.specs.declared.header.UnitHeader.{UnitHeader}
-use Rattle.dw_forms.specs.declared.rule.Rule.{Rule}
 use Rattle.dw_forms.specs.declared.rule.Rule.TheVariants.{BadStrBase, StrIndex, StringEnd, BadAddrBase, AddrIndex}
-use Rattle.dw_entries.specs.declared.entry.EntryHead.{EntryHead}
+use Rattle.dw_entries.specs.declared.header.UnitHeader.{UnitHeader}
 use Rattle.dw_entries.specs.Header.{version_of}
-use Rattle.dw_entries.specs.Units.{DebugUnit}
-use Rattle.dw_entries.specs.Entries.{Entry, PlacedUnit, entries_of, placed}
-use Rattle.dw_entries.specs.Failures.{Failure}
-use Rattle.dw_entries.specs.EntryRules.{AtEntries}
-use Rattle.dw_links.specs.RulesOfAttributes.{AtHead}
+use Rattle.dw_entries.specs.Entries.{Entry, PlacedUnit, entries_of, placed, DebugUnit}
+use Rattle.dw_entries.specs.EntryRules.{AtEntries, Failure, Rule}
+use Rattle.dw_links.specs.RulesOfAttributes.{AtHead, EntryHead}
 use Rattle.dw_forms.specs.Codes.{DW_AT_str_offsets_base, DW_AT_addr_base}
 use Rattle.dw_links.specs.Contributions.{IsContribution, slot_count, slot_at, HasZeroFrom}
-use Rattle.dw_links.specs.Bases.{base_in}
+pub use Rattle.dw_links.specs.Bases.{base_in}
 
 -- the header of a string contribution ends with two zero bytes, and a slot has 4 bytes
 abbrev pub IsStringContribution : Sections → ℕ → Type 0

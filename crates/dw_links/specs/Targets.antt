@@ -2,8 +2,7 @@
 use Rattle.std.specs.Prelude.{ℕ, ◌+◌, ◌&&◌, ◌==◌, List, Option, None, slice_get, option_and_then}
 use Rattle.std.specs.List.{position_from}
 use Rattle.dw_forms.specs.Value.{Datum, ref_info, ref_unit, ref_sig}
-use Rattle.dw_entries.specs.Lookups.{value_at_entry}
-use Rattle.dw_entries.specs.Entries.{Entry, PlacedUnit}
+use Rattle.dw_entries.specs.Lookups.{value_at_entry, Entry, PlacedUnit}
 use Rattle.dw_links.specs.Signatures.{type_unit_of, first_signed}
 
 -- the number of the entry that begins at an offset of .debug_info
@@ -39,5 +38,4 @@ reach_of entries units unit _ = None
 
 -- the number of the entry that an attribute of an entry refers to; None if the attribute is absent or no reference
 unfoldable pub target_of : List Entry → List PlacedUnit → Entry → (attribute : ℕ) → Option ℕ
-target_of entries units e attribute =
-    option_and_then (reach_of entries units e.unit) (value_at_entry e attribute)
+target_of entries units e attribute = option_and_then (reach_of entries units e.unit) (value_at_entry e attribute)

@@ -1,19 +1,16 @@
 -- State: the rules among all entries, and what must be known of the unit at hand while values are followed.
 use Rattle.std.specs.Prelude.{◌≡◌, ◌≢◌, ◌<◌, ◌+◌, ℕ, true, Option, None, Some, length}
 use Rattle.dw_forms.specs.Codes.{is_type_tag}
-use Rattle.dw_forms.specs.Value.{Datum}
 use Rattle.dw_entries.specs.declared.entries.Entries.{Entries}
-use Rattle.dw_entries.specs.declared.entry.EntryHead.{EntryHead}
 use Rattle.dw_entries.specs.declared.led.Led.{Led}
 use Rattle.dw_entries.specs.declared.led.Led.TheVariants as led
-use Rattle.dw_entries.specs.Entries.{Entry}
 use Rattle.dw_entries.specs.ByNumber.{end_in, entry_of, placed_of}
 use Rattle.dw_entries.specs.Failures.{HasNone, IsLeast}
-use Rattle.dw_entries.specs.Views.{sections_of, all_entries, all_units}
-use Rattle.dw_links.specs.declared.references.UnitLinks.{UnitLinks}
-use Rattle.dw_links.specs.RulesOfAttributes.{Rules}
+use Rattle.dw_entries.specs.Views.{sections_of, all_entries, all_units, Entry}
+pub use Rattle.dw_links.specs.declared.references.UnitLinks.{UnitLinks}
+use Rattle.dw_links.specs.RulesOfAttributes.{Rules, EntryHead}
 use Rattle.dw_links.specs.UnitContributions.{AreContributions}
-use Rattle.dw_links.specs.References.{HeaderFailures, ReferenceFails, is_declared}
+use Rattle.dw_links.specs.References.{HeaderFailures, ReferenceFails, is_declared, Datum}
 use Rattle.dw_links.specs.SignedTypes.{HasSignedTypes}
 use Rattle.dw_links.specs.Strings.{AddressIndexFails, OffsetFails, StringFails, StringIndexFails}
 use Rattle.dw_links.specs.Targets.{reach_in_unit, reach_of}

@@ -1,16 +1,15 @@
 -- State: what is read once of a unit to check the rules on its strings and addresses.
 use Rattle.std.specs.Prelude.{◌≡◌, ◌<◌, length, IfSome}
 use Rattle.dw_forms.specs.Codes.{DW_AT_str_offsets_base, DW_AT_addr_base}
+use Rattle.dw_entries.specs.declared.entries.Entries.{Entries}
 use Rattle.dw_entries.specs.Header.{IsSize}
 use Rattle.dw_entries.specs.ByNumber.{placed_of}
-use Rattle.dw_entries.specs.declared.entries.Entries.{Entries}
 use Rattle.dw_entries.specs.Lookups.{unit_head}
 use Rattle.dw_entries.specs.Views.{sections_of, all_entries, all_units, units_of}
 use Rattle.dw_links.specs.declared.strings.UnitContributions.{UnitContributions}
 use Rattle.dw_links.specs.RulesOfAttributes.{Rules}
 use Rattle.dw_links.specs.Contributions.{IsCount, IsEndOfStrings}
-use Rattle.dw_links.specs.Bases.{base_in}
-use Rattle.dw_links.specs.Strings.{StringFailsIn}
+use Rattle.dw_links.specs.Strings.{StringFailsIn, base_in}
 
 -- what was read of a unit is right: the size of its addresses, its contributions, and where strings end
 pub record IsReady (texts : UnitContributions) : Type 0 where

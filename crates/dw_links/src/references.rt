@@ -161,8 +161,8 @@ impl<'e, 'd, 't> UnitLinks<'e, 'd, 't> {
         ensures linkable { IsLinkable result }
         ensures entries { entries_followed result ≡ entries.now }
         ensures unit { result.texts.unit ≡ unit }
-        ensures first { result.range.0 ≡ (placed_of (all_units entries.now) unit).first }
-        ensures end { result.range.1 ≡ end_in (all_units entries.now) unit }
+        ensures range { (result.range.0 ≡ (placed_of (all_units entries.now) unit).first)
+            × (result.range.1 ≡ end_in (all_units entries.now) unit) }
         ensures within { result.range.1 ≤ length (all_entries entries.now) }
     {
         UnitLinks {

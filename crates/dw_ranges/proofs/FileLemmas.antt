@@ -6,8 +6,8 @@ use Rattle.std.proofs.lemmas.Bool.{cases_lt}
 use Rattle.std.proofs.lemmas.List.{drop_at, get_or_append_left, get_or_default, get_or_push, get_or-append_right}
 use Rattle.std.proofs.lemmas.List.{get_or-map, length_push, length-append, length-map, take-append-le, take_all}
 use Rattle.std.proofs.lemmas.Slice.{between_is}
-use Rattle.dw_entries.specs.Views.{units_of}
 use Rattle.dw_entries.specs.declared.entries.Entries.{Entries}
+use Rattle.dw_entries.specs.Views.{units_of}
 use Rattle.dw_ranges.specs.Areas.{Has, IsIn}
 use Rattle.dw_ranges.specs.Files.{AreParts, AreRead, FileViolates, HasAt, HasFile, IsPart, IsUnitAt, known_at, no_known}
 use Rattle.dw_ranges.specs.Files.{no_part, totals_before, unit_areas}

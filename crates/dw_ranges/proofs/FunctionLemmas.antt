@@ -5,8 +5,8 @@ use Rattle.std.specs.Prelude.{All, IfErr, IfSome, IsSome, slice_range}
 use Rattle.std.proofs.lemmas.List.{drop_at, drop_more, length-append, take-append-le, take_all}
 use Rattle.std.proofs.lemmas.List.Elements.{All-head, All-tail, All-push, All-weaker}
 use Rattle.std.proofs.lemmas.Slice.{between_is}
-use Rattle.dw_forms.specs.Stops.{IfFault}
 use Rattle.dw_forms.specs.declared.fault.Stop.{Stop}
+use Rattle.dw_forms.specs.Stops.{IfFault}
 use Rattle.dw_forms.specs.declared.fault.Stop.TheVariants.{Fault, Memory}
 use Rattle.dw_entries.specs.Entries.{Entry}
 use Rattle.dw_ranges.specs.Areas.{AreAreas}

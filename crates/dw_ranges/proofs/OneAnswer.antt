@@ -3,8 +3,7 @@ use Rattle.std.proofs.Common.{◌≡◌, ℕ, ◌+◌, List, [], ◌∷◌, leng
 use Rattle.std.proofs.Common.{sym, ap, ◌∙◌, subst, arith, inl, inr, Result, Ok, Err}
 use Rattle.std.specs.Prelude.{IfSome, IsSome, count_by}
 use Rattle.std.proofs.lemmas.Bool.{true≢false}
-use Rattle.dw_entries.specs.ByNumber.{entry_of}
-use Rattle.dw_entries.specs.Entries.{Entry}
+use Rattle.dw_entries.specs.ByNumber.{entry_of, Entry}
 use Rattle.dw_ranges.specs.Areas.{Has}
 use Rattle.dw_ranges.specs.EntryRanges.{entry_ranges}
 use Rattle.dw_ranges.specs.Functions.{AreFunctions, ArePart, IsBroken, Known, Reads, Refuses, Starts, Takes, group_at, home}

@@ -2,10 +2,9 @@
 use Rattle.std.proofs.Common.{◌≡◌, ℕ, zero, suc, ◌+◌, ◌-◌, List, [], ◌∷◌, length, drop, Option, None, Some, Ok, Err}
 use Rattle.std.proofs.Common.{refl, sym, ◌∙◌}
 use Rattle.std.specs.Prelude.{pos, negsuc, ◌==◌, if◌then◌else◌, nat_lt, option_and_then}
-use Rattle.dw_entries.specs.Entries.{Entry}
-use Rattle.dw_entries.specs.Lookups.{value_at_entry}
-use Rattle.dw_entries.specs.Views.{sections_of}
 use Rattle.dw_entries.specs.declared.entries.Entries.{Entries}
+use Rattle.dw_entries.specs.Lookups.{value_at_entry, Entry}
+use Rattle.dw_entries.specs.Views.{sections_of}
 use Rattle.dw_forms.specs.Codes.{DW_AT_addr_base}
 use Rattle.dw_forms.specs.Codes.{DW_AT_high_pc, DW_AT_low_pc, DW_AT_ranges}
 use Rattle.dw_forms.specs.Formats.{Format, and_then, as_other, choose, failing, renamed}

@@ -1,10 +1,9 @@
 -- A unit has one list of functions, or faults.
 use Rattle.std.proofs.Common.{◌≡◌, ℕ, List, get_or, ap, ◌∙◌, subst, inl, inr, sym}
 use Rattle.std.specs.Prelude.{AllPairs, IsPermutation}
-use Rattle.dw_entries.specs.ByNumber.{end_in, entry_of}
-use Rattle.dw_entries.specs.Entries.{Entry}
-use Rattle.dw_entries.specs.Views.{all_entries, all_units}
 use Rattle.dw_entries.specs.declared.entries.Entries.{Entries}
+use Rattle.dw_entries.specs.ByNumber.{end_in, entry_of, Entry}
+use Rattle.dw_entries.specs.Views.{all_entries, all_units}
 use Rattle.dw_ranges.specs.EntryRanges.{entry_ranges, head_in}
 use Rattle.dw_ranges.specs.Functions.{AreInOrder, HasFunctions, HasMeeting, IsViolated, Known, Violates, meeting}
 use Rattle.dw_ranges.specs.Spans.{Agree, IsFirstMeeting}

@@ -5,16 +5,14 @@ use Rattle.std.proofs.Common.{inl, inr}
 use Rattle.std.specs.Prelude.{slice_get}
 use Rattle.std.proofs.lemmas.Option.{slice_get_within, slice_get-get_or}
 use Rattle.dw_entries.specs.declared.entries.Entries.{Entries}
-use Rattle.dw_entries.specs.ByNumber.{end_in, no_placed, no_unit, placed_of, unit_of}
-use Rattle.dw_entries.specs.Entries.{Entry, PlacedUnit, entries_from, node_count, node_entries, placed, placed_from, start_of}
+use Rattle.dw_entries.specs.ByNumber.{end_in, no_placed, no_unit, placed_of, unit_of, Entry, PlacedUnit, node_count}
 use Rattle.dw_entries.specs.Header.{IsSize, unit_header_size}
 use Rattle.dw_entries.specs.Tree.{Node, leaf, parent}
-use Rattle.dw_entries.specs.UnitLaws.{unit_sized}
 use Rattle.dw_entries.specs.Units.{DebugUnit, unit_bytes}
-use Rattle.dw_entries.specs.Views.{all_entries, all_units, units_of}
-use Rattle.dw_entries.proofs.EntryFacts.{first_entry, length-node_entries, length-placed, unit_placed}
+use Rattle.dw_entries.specs.Views.{all_entries, all_units, units_of, placed}
+use Rattle.dw_entries.proofs.EntryFacts.{first_entry, length-node_entries, length-placed, unit_placed, entries_from, node_entries, placed_from, start_of}
 use Rattle.dw_entries.proofs.Firsts.{same_some}
-use Rattle.dw_entries.proofs.HeadLaws.{all_get}
+use Rattle.dw_entries.proofs.HeadLaws.{all_get, unit_sized}
 use Rattle.dw_ranges.specs.EntryRanges.{head_in}
 
 -- a unit has an entry

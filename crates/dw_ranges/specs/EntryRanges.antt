@@ -3,13 +3,12 @@ use Rattle.std.specs.Prelude.{◌≡◌, ℕ, List, [], Option, None, Some, Resu
 use Rattle.dw_forms.specs.Codes.{DW_AT_addr_base, DW_AT_high_pc, DW_AT_low_pc, DW_AT_ranges}
 use Rattle.dw_forms.specs.Formats.{as_other}
 use Rattle.dw_forms.specs.Value.{Datum, sec_offset}
-use Rattle.dw_entries.specs.ByNumber.{placed_of, entry_of}
-use Rattle.dw_entries.specs.Entries.{Entry}
+use Rattle.dw_entries.specs.declared.entries.Entries.{Entries}
+use Rattle.dw_entries.specs.declared.units.UnitHead.{UnitHead}
+use Rattle.dw_entries.specs.ByNumber.{placed_of, entry_of, Entry}
 use Rattle.dw_entries.specs.Header.{version_of}
 use Rattle.dw_entries.specs.Lookups.{value_at_entry, unit_head}
 use Rattle.dw_entries.specs.Views.{sections_of, all_entries, all_units}
-use Rattle.dw_entries.specs.declared.entries.Entries.{Entries}
-use Rattle.dw_entries.specs.declared.units.UnitHead.{UnitHead}
 use Rattle.dw_ranges.specs.Bounds.{address_of, ranges_of}
 use Rattle.dw_ranges.specs.Contributions.{contribution_at}
 use Rattle.dw_ranges.specs.declared.addresses.UnitAddresses.{UnitAddresses}

@@ -2,8 +2,8 @@
 use Rattle.std.specs.Prelude.{◌≡◌, ℕ, ◌-◌, ◌^◌, ◌<◌, ◌≤◌, ◌↔◌, zero, suc, List, [], length, Option, Some, None, All}
 use Rattle.std.specs.Prelude.{slice_index_or, slice_range}
 use Rattle.dw_ranges.specs.Areas.{Has}
-use Rattle.dw_entries.specs.Views.{units_of}
 use Rattle.dw_entries.specs.declared.entries.Entries.{Entries}
+use Rattle.dw_entries.specs.Views.{units_of}
 use Rattle.dw_ranges.specs.Functions.{HasFunctions, Known, Violates, scope_at}
 use Rattle.dw_ranges.specs.Spans.{AreOrdered, IsChain}
 use Rattle.dw_ranges.specs.Totals.{no_totals}

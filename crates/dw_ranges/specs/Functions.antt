@@ -2,10 +2,9 @@
 use Rattle.std.specs.Prelude.{◌≡◌, ℕ, ◌+◌, ◌-◌, ◌≤◌, ◌⊎◌, List, [], ◌∷◌, ◌++◌, length, map, slice_index_or, slice_range}
 use Rattle.std.specs.Prelude.{All, AllPairs, IsPermutation, Option, Some, None, IfSome, IsSome, Result, Ok, Err, ◌==◌}
 use Rattle.std.specs.Prelude.{◌&&◌, not, if◌then◌else◌}
-use Rattle.dw_entries.specs.ByNumber.{end_in, entry_of}
-use Rattle.dw_entries.specs.Entries.{Entry}
-use Rattle.dw_entries.specs.Views.{all_entries, all_units}
 use Rattle.dw_entries.specs.declared.entries.Entries.{Entries}
+use Rattle.dw_entries.specs.ByNumber.{end_in, entry_of, Entry}
+use Rattle.dw_entries.specs.Views.{all_entries, all_units}
 use Rattle.dw_ranges.specs.Areas.{AreAreas, Has}
 use Rattle.dw_ranges.specs.EntryRanges.{AreAddressesOf, head_in}
 use Rattle.dw_ranges.specs.Live.{AreCodeOf, CodeFails}

@@ -1,12 +1,9 @@
 -- An entry's children are the entry behind it, if that is a child, and the next siblings from there on.
 use Rattle.std.proofs.Common.{rules, ◌≡◌, ℕ, suc, ◌+◌, ◌<◌, ◌≤◌, ◌==◌, Bool, true, false, if◌then◌else◌, List, [], ◌∷◌, ◌++◌, length, drop, Option, Some, None, IfSome, refl, sym, ap, subst, arith, append_assoc, ne_eqb, eq-eqb}
 use Rattle.std.proofs.Math.Seq.{drop-append-add}
-use Rattle.dw_entries.specs.Grammar.{head_bytes}
-use Rattle.dw_entries.specs.Header.{unit_header_size}
-use Rattle.dw_entries.specs.Tree.{Node, Nodes, leaf, parent, none, ◌then◌, node_bytes}
-use Rattle.dw_entries.specs.Units.{DebugUnit, unit_bytes}
-use Rattle.dw_entries.specs.Entries.{Entry, node_count, nodes_count, first_id, node_entries, nodes_entries, entries_from}
-use Rattle.dw_entries.proofs.EntryFacts.{length-nodes_entries}
+use Rattle.dw_entries.specs.Tree.{Node, Nodes, leaf, parent, none, ◌then◌, node_bytes, head_bytes}
+use Rattle.dw_entries.specs.Entries.{Entry, node_count, nodes_count, first_id, node_entries, nodes_entries, entries_from, DebugUnit, unit_bytes}
+use Rattle.dw_entries.proofs.EntryFacts.{length-nodes_entries, unit_header_size}
 use Rattle.dw_types.specs.Children.{is_parent}
 
 -- ---- children among joined entries

@@ -4,17 +4,13 @@ use Rattle.std.proofs.lemmas.Bool.{cases_lt}
 use Rattle.std.proofs.lemmas.Option.{slice_get-get_or}
 use Rattle.dw_entries.specs.declared.fault.PlainFault.{PlainFault}
 use Rattle.dw_entries.specs.declared.fault.Fault.{Fault as FaultOf}
-use Rattle.dw_forms.specs.declared.rule.Rule.{Rule}
 use Rattle.dw_forms.specs.declared.fault.Stop.{Stop}
 use Rattle.dw_forms.specs.declared.fault.Stop.TheVariants.{Fault, Memory}
-use Rattle.dw_entries.specs.EntryRules.{AtPlace, OffsetsRise}
-use Rattle.dw_entries.specs.ByNumber.{entry_of, no_entry}
-use Rattle.dw_entries.specs.Entries.{Entry}
-use Rattle.dw_entries.specs.Failures.{Failure, HasNone, IsFirst, Precedes}
-use Rattle.dw_entries.specs.Places.{at_entry}
+use Rattle.dw_entries.specs.EntryRules.{AtPlace, OffsetsRise, Failure, Rule}
+use Rattle.dw_entries.specs.ByNumber.{entry_of, no_entry, Entry}
 use Rattle.dw_entries.specs.Stopped.{IfPlainFault}
 use Rattle.dw_entries.proofs.FirstPlaces.{first_at_place, none_at_place}
-use Rattle.dw_entries.proofs.Firsts.{first_of_list, none_of_list}
+use Rattle.dw_entries.proofs.Firsts.{first_of_list, none_of_list, HasNone, IsFirst, Precedes, at_entry}
 use Rattle.dw_types.specs.TypeFailures.{plain_fault_at, EntryFailures, IsFirstAt, IsLeastAt, NoneFailsBefore}
 
 -- the entries from one on up to another pass too

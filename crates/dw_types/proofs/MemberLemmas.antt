@@ -6,8 +6,7 @@ use Rattle.std.proofs.lemmas.List.{get_or_append_left}
 use Rattle.std.proofs.Math.Seq.{get_or-append_right}
 use Rattle.std.proofs.lemmas.List.Elements.{All-contains, Contains-get_or}
 use Rattle.dw_forms.specs.Codes.{is_type_tag}
-use Rattle.dw_entries.specs.Entries.{entries_of}
-use Rattle.dw_entries.specs.Units.{DebugUnit}
+use Rattle.dw_entries.specs.Entries.{entries_of, DebugUnit}
 use Rattle.dw_types.specs.Children.{children_of, IsChildOf}
 use Rattle.dw_types.specs.Entries.{entry_in, signature_target, type_target}
 use Rattle.dw_types.specs.Kinds.{has_members, is_declared_type, parent_is, passes_type_on}

@@ -10,8 +10,7 @@ use Rattle.std.proofs.lemmas.List.Elements.{All-cons, All-nil, Contains-append_r
 use Rattle.std.proofs.lemmas.Option.{get_or_from_slice_get, slice_get-get_or, slice_get_within}
 use Rattle.std.proofs.Math.ListN.{drop_of_length-le}
 use Rattle.dw_entries.specs.ByNumber.{no_entry}
-use Rattle.dw_entries.specs.Entries.{Entry, start_of, entries_of}
-use Rattle.dw_entries.specs.Units.{DebugUnit}
+use Rattle.dw_entries.specs.Entries.{Entry, start_of, entries_of, DebugUnit}
 use Rattle.dw_types.specs.Children.{children_of, is_child, is_parent, siblings_from, IsChildOf}
 use Rattle.dw_types.specs.Entries.{entry_in}
 use Rattle.dw_types.proofs.ChildLemmas.{children_from, equals, skip_one, take_one, below_get, units_chained, After, Chained, First, Link}

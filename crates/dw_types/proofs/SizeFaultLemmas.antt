@@ -7,10 +7,9 @@ use Rattle.dw_forms.specs.declared.rule.Rule.{Rule}
 use Rattle.dw_forms.specs.declared.rule.Rule.TheVariants.{NoSize, SizeTooGreat, MemberOutside, EnumSize}
 use Rattle.dw_forms.specs.Rules.{number_of}
 use Rattle.dw_entries.specs.EntryRules.{OffsetsRise}
-use Rattle.dw_entries.specs.Entries.{Entry, entries_of}
-use Rattle.dw_entries.specs.Units.{DebugUnit}
-use Rattle.dw_links.specs.Constants.{is_present, natural_of}
+use Rattle.dw_entries.specs.Entries.{Entry, entries_of, DebugUnit}
 use Rattle.dw_links.specs.declared.constant.Constant.{Constant}
+use Rattle.dw_links.specs.Constants.{is_present, natural_of}
 use Rattle.dw_links.specs.declared.constant.Constant.TheVariants.{Absent, NotNumber, Unsigned, Signed}
 use Rattle.dw_links.proofs.TableLemmas.{target_within}
 use Rattle.dw_types.specs.declared.kind.Kind.{Kind}

@@ -1,7 +1,6 @@
 -- The size lines read a table at steps by value alone, and may take capped sizes.
 use Rattle.std.proofs.Common.{rules, ◌≡◌, ℕ, ◌*◌, ◌^◌, min, Bool, true, false, if◌then◌else◌, ◌&&◌, List, Option, Some, None, arith, refl, sym, ap, ◌∙◌}
-use Rattle.dw_entries.specs.Entries.{Entry}
-use Rattle.dw_entries.specs.Units.{DebugUnit}
+use Rattle.dw_entries.specs.Entries.{Entry, DebugUnit}
 use Rattle.dw_links.specs.declared.constant.Constant.{Constant}
 use Rattle.dw_links.specs.declared.constant.Constant.TheVariants.{Absent, NotNumber, Unsigned, Signed}
 use Rattle.dw_types.specs.declared.kind.Kind.{Kind}

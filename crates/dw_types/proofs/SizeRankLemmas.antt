@@ -2,8 +2,7 @@
 use Rattle.std.proofs.Common.{rules, ◌≡◌, ℕ, ◌+◌, ◌<◌, ◌≤◌, Bool, ◌&&◌, ◌||◌, false, List, None, length, get_or, set, get_or-set_same, nat_eq, inl, inr, refl, sym, ◌∙◌, arith, ap}
 use Rattle.std.proofs.lemmas.Bool.{cases_lt, eq-eqb, false_from_ne_true, false≢true, or_parts}
 use Rattle.dw_forms.specs.Codes.{is_type_tag}
-use Rattle.dw_entries.specs.Entries.{entries_of}
-use Rattle.dw_entries.specs.Units.{DebugUnit}
+use Rattle.dw_entries.specs.Entries.{entries_of, DebugUnit}
 use Rattle.dw_types.specs.Entries.{entry_in}
 use Rattle.dw_types.specs.Orders.{Ranking, IsOrderOf}
 use Rattle.dw_types.specs.SizeTables.{Size, size_at, OnlyTypesAreSized}

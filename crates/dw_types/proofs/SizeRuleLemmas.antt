@@ -4,10 +4,9 @@ use Rattle.std.proofs.lemmas.Bool.{eqb-true, false_from_ne_true, false≢true, o
 use Rattle.dw_forms.specs.Codes.{DW_AT_byte_stride, DW_TAG_array_type, DW_TAG_base_type, DW_TAG_enumeration_type, DW_TAG_member, is_type_tag}
 use Rattle.dw_forms.specs.declared.rule.Rule.{Rule}
 use Rattle.dw_forms.specs.declared.rule.Rule.TheVariants.{NoSize, SizeTooGreat, MemberOutside, EnumSize}
-use Rattle.dw_entries.specs.Entries.{Entry, entries_of}
-use Rattle.dw_entries.specs.Units.{DebugUnit}
-use Rattle.dw_links.specs.Constants.{constant_at, is_negative, is_present, natural_of}
+use Rattle.dw_entries.specs.Entries.{Entry, entries_of, DebugUnit}
 use Rattle.dw_links.specs.declared.constant.Constant.{Constant}
+use Rattle.dw_links.specs.Constants.{constant_at, is_negative, is_present, natural_of}
 use Rattle.dw_links.specs.declared.constant.Constant.TheVariants.{Absent, NotNumber, Unsigned, Signed}
 use Rattle.dw_types.specs.declared.kind.Kind.{Kind}
 use Rattle.dw_types.specs.declared.kind.Kind.TheVariants.{Declared, OwnSized, Pointer, Alias, Enumeration, Array, Subroutine, NoType}

@@ -1,8 +1,7 @@
 -- Chapter: the children of an entry, and those from one child on (DWARF 5, 2.3).
 use Rattle.std.specs.Prelude.{◌≡◌, ℕ, ◌-◌, ◌<◌, Bool, false, List, [], Option, None, Some, filter, length, nat_eq}
 use Rattle.std.specs.List.{range_with_len}
-use Rattle.dw_entries.specs.ByNumber.{entry_of}
-use Rattle.dw_entries.specs.Entries.{Entry}
+use Rattle.dw_entries.specs.ByNumber.{entry_of, Entry}
 
 -- the parent, if there is one, is this entry
 abbrev pub is_parent : Option ℕ → ℕ → Bool

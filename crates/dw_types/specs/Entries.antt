@@ -3,11 +3,10 @@ use Rattle.std.specs.Prelude.{ℕ, List, Option, length}
 use Rattle.std.specs.List.{range_with_len}
 use Rattle.dw_forms.specs.Codes.{DW_AT_byte_size, DW_AT_signature, DW_AT_type}
 use Rattle.dw_entries.specs.ByNumber.{entry_of, placed_of}
-use Rattle.dw_entries.specs.Entries.{Entry, entries_of, placed}
-use Rattle.dw_entries.specs.Units.{DebugUnit}
+use Rattle.dw_entries.specs.Entries.{Entry, entries_of, placed, DebugUnit}
+use Rattle.dw_links.specs.declared.constant.Constant.{Constant}
 use Rattle.dw_links.specs.Constants.{constant_at, language_at}
 use Rattle.dw_links.specs.Targets.{target_of}
-use Rattle.dw_links.specs.declared.constant.Constant.{Constant}
 
 -- the entry of a number
 abbrev pub entry_in : List DebugUnit → ℕ → Entry

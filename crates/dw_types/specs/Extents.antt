@@ -2,10 +2,9 @@
 use Rattle.std.specs.Prelude.{ℕ, ◌+◌, ◌*◌, ℤ, pos, negsuc, ◌*ℤ◌, Bool, true, false, ◌&&◌, List, Option, None}
 use Rattle.std.specs.Prelude.{Some, is_some}
 use Rattle.std.specs.Prelude.{if◌then◌else◌, nat_lt}
-use Rattle.dw_entries.specs.Entries.{Entry}
-use Rattle.dw_entries.specs.Units.{DebugUnit}
-use Rattle.dw_links.specs.Constants.{constant_at, is_present, number_of_constant, natural_of}
+use Rattle.dw_entries.specs.Entries.{Entry, DebugUnit}
 use Rattle.dw_links.specs.declared.constant.Constant.{Constant}
+use Rattle.dw_links.specs.Constants.{constant_at, is_present, number_of_constant, natural_of}
 use Rattle.dw_types.specs.Shapes.{is_plain}
 use Rattle.dw_types.specs.SizeTables.{Size}
 use Rattle.dw_types.specs.Sizes.{size_to}

@@ -1,8 +1,7 @@
 -- State: the units and the entries that linked entries hold.
 use Rattle.std.specs.Prelude.{List}
-use Rattle.dw_entries.specs.Entries.{Entry}
 use Rattle.dw_entries.specs.Units.{DebugUnit}
-use Rattle.dw_entries.specs.Views.{all_entries, units_of}
+use Rattle.dw_entries.specs.Views.{all_entries, units_of, Entry}
 use Rattle.dw_types.specs.declared.linked.LinkedEntries.{LinkedEntries}
 
 -- the units

@@ -16,8 +16,7 @@ use Rattle.dw_forms.specs.Codes.{DW_TAG_dynamic_type, DW_TAG_atomic_type, DW_TAG
 use Rattle.dw_forms.specs.Codes.{is_type_tag}
 use Rattle.dw_links.specs.Classes.{is_one_of}
 use Rattle.dw_links.specs.References.{is_declared}
-use Rattle.dw_entries.specs.Entries.{Entry}
-use Rattle.dw_entries.specs.Units.{DebugUnit}
+use Rattle.dw_entries.specs.Entries.{Entry, DebugUnit}
 use Rattle.dw_types.specs.Entries.{entry_in}
 
 -- typedefs, const, volatile, restrict and atomic types: they have the size of their type

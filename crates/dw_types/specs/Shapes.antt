@@ -2,17 +2,15 @@
 -- 5.13).
 use Rattle.std.specs.Prelude.{ℕ, ℤ, Bool, true, false, ◌&&◌, ◌||◌, not, List, Option, None, Some, nat_eq}
 use Rattle.std.specs.Option.{option_map_or}
-use Rattle.dw_forms.specs.declared.rule.Rule.{Rule}
 use Rattle.dw_forms.specs.declared.rule.Rule.TheVariants.{MissingType, BadCount}
 use Rattle.dw_forms.specs.Codes.{DW_AT_abstract_origin, DW_AT_specification, DW_TAG_member}
-use Rattle.dw_entries.specs.Entries.{Entry, entries_of}
-use Rattle.dw_entries.specs.Units.{DebugUnit}
+use Rattle.dw_entries.specs.Entries.{Entry, entries_of, DebugUnit}
 use Rattle.dw_links.specs.declared.constant.Constant.{Constant}
 use Rattle.dw_links.specs.Constants.{constant_at, is_below_zero, is_present}
 use Rattle.dw_links.specs.References.{is_declared}
 use Rattle.dw_types.specs.Counts.{count_read}
 use Rattle.dw_types.specs.Entries.{entry_in, language, type_target}
-use Rattle.dw_entries.specs.Failures.{Failure}
+use Rattle.dw_entries.specs.Failures.{Failure, Rule}
 use Rattle.dw_types.specs.Kinds.{has_members, is_array, is_subrange, parent_is}
 use Rattle.dw_types.specs.TypeFailures.{EntryFailures}
 

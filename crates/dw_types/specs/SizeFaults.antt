@@ -1,20 +1,18 @@
 -- Chapter: the rules on sizes (DWARF 5, 5.1, 5.5, 5.7 and 5.8).
 use Rattle.std.specs.Prelude.{ℕ, ◌^◌, Bool, true, false, ◌&&◌, ◌||◌, not, List, None, Some, is_some, if◌then◌else◌}
 use Rattle.std.specs.Prelude.{nat_eq, nat_le}
-use Rattle.dw_entries.specs.declared.fault.PlainFault.{PlainFault}
 use Rattle.dw_types.specs.declared.kind.Kind.{Kind}
 use Rattle.dw_types.specs.declared.kind.Kind.TheVariants.{Declared, OwnSized, Pointer, Alias, Enumeration, Array}
 use Rattle.dw_types.specs.declared.kind.Kind.TheVariants.{Subroutine, NoType}
-use Rattle.dw_forms.specs.declared.rule.Rule.{Rule}
 use Rattle.dw_forms.specs.declared.rule.Rule.TheVariants.{NoSize, SizeTooGreat, MemberOutside, EnumSize}
 use Rattle.dw_forms.specs.Codes.{DW_TAG_base_type, DW_TAG_enumeration_type, DW_TAG_member, DW_AT_bit_size}
 use Rattle.dw_forms.specs.Codes.{DW_AT_byte_stride, is_type_tag}
-use Rattle.dw_entries.specs.Entries.{Entry, entries_of}
-use Rattle.dw_entries.specs.Units.{DebugUnit}
+use Rattle.dw_entries.specs.declared.fault.PlainFault.{PlainFault}
+use Rattle.dw_entries.specs.Entries.{Entry, entries_of, DebugUnit}
 use Rattle.dw_links.specs.Constants.{constant_at, is_present, is_negative, natural_of}
 use Rattle.dw_types.specs.Entries.{byte_size, entry_in, type_target}
 use Rattle.dw_types.specs.Extents.{is_outside}
-use Rattle.dw_entries.specs.Failures.{Failure, IsFirst}
+use Rattle.dw_entries.specs.Failures.{Failure, IsFirst, Rule}
 use Rattle.dw_types.specs.Kinds.{has_members, is_array, is_enumeration, kind_of}
 use Rattle.dw_types.specs.Shapes.{stands_alone}
 use Rattle.dw_types.specs.SizeTables.{Size}

@@ -1,8 +1,7 @@
 -- Chapter: tables with a size or none for each entry.
 use Rattle.std.specs.Prelude.{◌≡◌, ℕ, ◌<◌, false, List, length, Option, None, Some, min, slice_index_or}
 use Rattle.dw_forms.specs.Codes.{is_type_tag}
-use Rattle.dw_entries.specs.Entries.{entries_of}
-use Rattle.dw_entries.specs.Units.{DebugUnit}
+use Rattle.dw_entries.specs.Entries.{entries_of, DebugUnit}
 use Rattle.dw_types.specs.Entries.{entry_in}
 
 -- a size or none

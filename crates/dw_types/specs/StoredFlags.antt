@@ -1,8 +1,7 @@
 -- State: flags of entries, one bit each in words of 64.
 use Rattle.std.specs.Prelude.{◌≡◌, ℕ, ◌*◌, ◌/◌, ◌%◌, ◌<◌, Bool, ◌==◌, List, length, slice_index_or}
 use Rattle.std.specs.Int.{bit_at}
-use Rattle.dw_entries.specs.Entries.{entries_of}
-use Rattle.dw_entries.specs.Units.{DebugUnit}
+use Rattle.dw_entries.specs.Entries.{entries_of, DebugUnit}
 use Rattle.dw_types.specs.declared.flags.Flags.{Flags}
 use Rattle.dw_types.specs.Entries.{entry_in}
 use Rattle.dw_types.specs.Kinds.{has_members}

@@ -6,8 +6,7 @@ use Rattle.dw_types.specs.SizeTables.{Size, cap_size}
 use Rattle.dw_types.specs.Sizes.{size_line}
 use Rattle.dw_types.specs.StoredFlags.{flag_at, flag_count}
 use Rattle.dw_types.specs.declared.flags.Flags.{Flags}
-use Rattle.dw_entries.specs.Entries.{entries_of}
-use Rattle.dw_entries.specs.Units.{DebugUnit}
+use Rattle.dw_entries.specs.Entries.{entries_of, DebugUnit}
 
 -- the size that a number represents: none for 0, or the number before it
 abbrev pub size_in : ℕ → Size

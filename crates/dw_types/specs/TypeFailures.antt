@@ -1,10 +1,9 @@
 -- Chapter: failures of rules on entries, and the first entry that has one.
 use Rattle.std.specs.Prelude.{◌≡◌, ℕ, ◌<◌, Bool, true, List, Option, None, Some, length}
 use Rattle.dw_entries.specs.declared.fault.PlainFault.{PlainFault}
-use Rattle.dw_forms.specs.declared.rule.Rule.{Rule}
 use Rattle.dw_entries.specs.declared.fault.Section.TheVariants.{Info}
 use Rattle.dw_entries.specs.EntryRules.{AtPlace, InList}
-use Rattle.dw_entries.specs.Failures.{Failure, IsLeast}
+use Rattle.dw_entries.specs.Failures.{Failure, IsLeast, Rule}
 use Rattle.dw_entries.specs.Places.{at_entry}
 use Rattle.dw_entries.specs.Entries.{Entry}
 

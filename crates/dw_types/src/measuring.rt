@@ -95,8 +95,8 @@ fn capped_size(
     }
 }
 
-/// Writes the size of an entry if it is a type, by those of what it holds by value, and sets its flag if a rule on sizes
-/// may fail there.
+/// Writes the size of an entry if it is a type, by those of what it holds by value, and sets its flag if a rule on
+/// sizes may fail there.
 #[inline(always)]
 fn measure(
     alloc: Global,

@@ -1,38 +1,43 @@
--- One batch alone: its bytes as the whole .debug_info, beside the other sections.
-use Rattle.std.proofs.Common.{rules, ◌≡◌, ℕ, suc, ◌+◌, ◌<◌, List, [], ◌∷◌, length, take, drop, Option, None, Bor, refl, sym, ap, subst, ◌∙◌, arith}
-use Rattle.std.specs.Prelude.{slice_get, IfSome}
+-- One batch alone: its bytes as the whole .debug_info, beside the other sections; and what the forms of its
+-- declarations say of its values.
+use Rattle.std.proofs.Common.{rules, ◌≡◌, ℕ, ◌+◌, ◌<◌, List, length, take, drop, Option, None, subst, slice_get, IfSome, Bool, true, false, Some, sym, ◌∙◌, All, Contains}
 use Rattle.std.proofs.lemmas.List.{drop-take}
-use Rattle.dw_elf.specs.declared.sections.Sections.{Sections}
+use Rattle.std.proofs.lemmas.List.Elements.{recursion_from_All}
+use Rattle.std.proofs.lemmas.Option.{slice_get-get_or}
+use Rattle.std.proofs.lemmas.Bool.{false_from_ne_true}
+use Rattle.dw_entries.specs.declared.fault.Fault.{Fault}
+use Rattle.dw_entries.proofs.EntryFacts.{unit_placed, Entry, entries_of, placed}
+use Rattle.dw_image.proofs.JoinLemmas.{none_at}
 use Rattle.dw_elf.specs.Sections.{IsPart}
-use Rattle.dw_forms.specs.Value.{Datum}
-use Rattle.dw_forms.specs.Codes.{DW_AT_str_offsets_base, DW_AT_addr_base}
 use Rattle.dw_entries.specs.declared.header.UnitHeader.{UnitHeader}
-use Rattle.dw_forms.specs.declared.rule.Rule.{Rule}
-use Rattle.dw_entries.specs.declared.entry.EntryHead.{EntryHead}
-use Rattle.dw_entries.specs.Units.{DebugUnit, AreUnits, AreFrom, SpellsInfo, unit_bytes, units_bytes}
-use Rattle.dw_entries.specs.Entries.{Entry, entries_of, node_count, start_of, placed_from, placed}
-use Rattle.dw_entries.specs.Failures.{Failure, HasNone}
+use Rattle.dw_entries.specs.Units.{DebugUnit, AreFrom, SpellsInfo, units_bytes, Spells}
+use Rattle.dw_entries.specs.Failures.{Rule, Failure, HasNone}
 use Rattle.dw_entries.specs.Faults.{Fails}
-use Rattle.dw_links.specs.Bases.{base_in}
-use Rattle.dw_entries.specs.Lookups.{entry_head}
-use Rattle.dw_links.specs.Strings.{StringIndexFails, AddressIndexFails, BaseFails, StringFailsIn, StringFailures}
+use Rattle.dw_links.specs.Strings.{StringIndexFails, AddressIndexFails, BaseFails, StringFailsIn, StringFailures, Sections}
 use Rattle.dw_units.specs.declared.counts.Counts.{Counts}
-use Rattle.dw_entries.specs.EntryRules.{EachEntry}
+use Rattle.dw_entries.specs.EntryRules.{EachEntry, HasAttribute}
 use Rattle.dw_image.specs.Valid.{IsValidBy}
 use Rattle.dw_links.specs.Signatures.{type_unit_of}
-use Rattle.dw_entries.specs.declared.fault.Fault.{Fault}
 use Rattle.dw_entries.proofs.FaultLaws.{no_list}
-use Rattle.dw_image.specs.FirstFault.{Group, strings, sizes, turn_of, failures_of, IsFirstIn, IsFirstFault, in_trees, in_group}
+use Rattle.dw_image.specs.FirstFault.{Group, strings, sizes, failures_of, IsFirstIn, IsFirstFault, in_trees, in_group}
 use Rattle.dw_image.specs.Headline.{IsFaultOf}
 use Rattle.dw_image.specs.GroupsBefore.{PassBefore}
-use Rattle.dw_units.specs.ByUnit.{FailsAlone, IsMeasured, IsFirm, PassesBelow, StaysAlone}
+use Rattle.dw_units.specs.ByUnit.{FailsAlone, IsMeasured, IsFirm, PassesBelow, StaysAlone, is_offset}
 use Rattle.dw_units.specs.declared.batches.Elsewhere.{Elsewhere}
 use Rattle.dw_units.specs.declared.batches.Elsewhere.TheVariants.{Never, ByOffset, BySignature}
-use Rattle.dw_units.specs.BatchSections.{IsReady, Refer}
-use Rattle.dw_units.specs.IndependentBatches.{StaysInside, HaveNoTypeUnit, StandsAlone}
+use Rattle.dw_units.specs.BatchSections.{IsReady, Refer, IsAllowed}
+use Rattle.dw_units.specs.IndependentBatches.{StaysInside, HaveNoTypeUnit, StandsAlone, leaves_by}
 use Rattle.dw_units.specs.Counts.{AreCounts}
 use Rattle.dw_forms.specs.declared.fault.Stop.{Stop}
 use Rattle.dw_entries.specs.Stopped.{IfPlainFault}
+use mathlib.Core.Logic.{∥∥₁_elim}
+use Rattle.dw_forms.specs.declared.form.Form.{Form}
+use Rattle.dw_forms.specs.declared.abbrev.AttributeSpec.{AttributeSpec}
+use Rattle.dw_forms.specs.ValueFormats.{Val, laid_out}
+use Rattle.dw_forms.specs.declared.rule.Rule.TheVariants.{WrongClass}
+use Rattle.dw_links.specs.RulesOfAttributes.{NeverFailsAt, Rules, EntryHead}
+use Rattle.dw_links.proofs.ListLookups.{none_concerned}
+use Rattle.dw_links.specs.References.{is_signature, Datum}
 
 -- ---- the rules on strings of two sections that differ in .debug_info alone
 
@@ -122,7 +127,7 @@ pub record IsOfGroup (s : Sections) (units : List DebugUnit) (fault : Fault) : T
   pub ready : IsReady s group units
   pub fails : FailsAlone s units group fault
 
-module _ (s own : Sections) (at size : ℕ) (units : List DebugUnit) (batch : IsBatch s own at size units) where
+module _ {s own : Sections} {at size : ℕ} {units : List DebugUnit} (batch : IsBatch s own at size units) where
   shares : Shares s own
   shares = search (rules, shares_of)
 
@@ -130,11 +135,8 @@ module _ (s own : Sections) (at size : ℕ) (units : List DebugUnit) (batch : Is
   are_from = search (rules)
 
   pub stays : StaysAlone s units
-  stays = record {
-    are = subst (λ (a : List ℕ). AreUnits a units) shares.abbrev_same batch.spelled.spells.are;
-    no_type_unit = batch.no_type_unit;
-    stays = batch.stays_inside;
-  }
+  stays =
+      let are = rw shares.abbrev_same at batch.spelled.spells.are in search (rules, are)
 
   pub bytes : take size (drop at s.info.now) ≡ units_bytes units
   bytes = search (rules, bytes_of)
@@ -144,17 +146,7 @@ module _ (s own : Sections) (at size : ℕ) (units : List DebugUnit) (batch : Is
   stands c counts =
       let whole = counts.sound.valid in
       let valid = subst (IsValidBy own) (batch.only whole.0 whole.1.trees) whole.1 in
-      record {
-        are = stays.are;
-        classes = valid.classes;
-        strings = none_own s own shares units strings valid.strings;
-        references = valid.references;
-        shapes = valid.shapes;
-        contained = valid.contained;
-        sizes = valid.sizes;
-        no_type_unit = batch.no_type_unit;
-        stays = batch.stays_inside;
-      }
+      search (rules, valid, stays, (none_own s own shares units strings valid.strings))
 
   -- no rule of the groups before a turn fails
   pub passed : (turn : ℕ) → PassBefore own units turn → PassBefore s units turn
@@ -171,23 +163,15 @@ module _ (s own : Sections) (at size : ℕ) (units : List DebugUnit) (batch : Is
       go (in_trees fails cycle) = search (rules, no_list)
       go (in_group group fails) =
           let same : fails.units ≡ units = batch.only fails.units fails.spelled in
-          let before = subst (λ (us : List DebugUnit). (earlier : Group) → turn_of earlier < turn_of group
-          → HasNone (failures_of own us earlier)) same fails.before in
-          let first = first_own s own shares units group fault
-          (subst (λ (us : List DebugUnit). IsFirstIn own us group fault) same fails.first) in
-          let below : PassesBelow s group units = λ earlier less. none_own s own shares units earlier
-          (before earlier less) in
-          record {
-            group = group;
-            ready = record { stays = stays; measured = measured_by s group fault units first; below = below };
-            fails = record { below = below; first = first; firm = firm };
-          }
+          let before = rw same at fails.before in
+          let first = first_own s own shares units group fault (rw same at fails.first) in
+          let below : PassesBelow s group units =
+          λ earlier less. none_own s own shares units earlier (before earlier less) in
+          search (rules, stays, first, below, (measured_by s group fault units first))
 
 pub refer_inside : (entries : List Entry) (elsewhere : Elsewhere) → (elsewhere ≡ BySignature → ⊥)
     → Refer entries elsewhere → EachEntry StaysInside entries
-refer_inside entries Never other refer = refer.0
-refer_inside entries ByOffset other refer = refer
-refer_inside entries BySignature other refer = absurd (other refl)
+refer_inside entries elsewhere other refer = search rules
 
 -- ---- no type unit
 
@@ -195,16 +179,68 @@ refer_inside entries BySignature other refer = absurd (other refl)
 abbrev pub IsNoTypeUnit : List DebugUnit → ℕ → Type 0
 IsNoTypeUnit us k = IfSome (slice_get (placed us) k) (λ p. type_unit_of p.unit.header.kind ≡ None)
 
-none_from : (at first : ℕ) (us : List DebugUnit)
-    → ((k : ℕ) → k < length us
-    → IfSome (slice_get (placed_from at first us) k) (λ p. type_unit_of p.unit.header.kind ≡ None))
-    → HaveNoTypeUnit us
-none_from at first [] none = tt
-none_from at first (u ∷ us) none = (
-  none 0 (omega arith),
-  none_from (at + length (unit_bytes u)) (first + node_count u.root) us
-      (λ k below. none (suc k) (omega (arith, below))),
-)
-
 pub no_type_unit_of : (us : List DebugUnit) → ((k : ℕ) → k < length us → IsNoTypeUnit us k) → HaveNoTypeUnit us
-no_type_unit_of us none = none_from (start_of us) 0 us none
+no_type_unit_of us none =
+    search (rules, recursion_from_All, unit_placed, slice_get-get_or)
+
+-- ---- what the forms of declarations say of values
+
+stays_by_form : (version size : ℕ) (f : Form) (bytes : List ℕ) (v : Datum) → (leaves_by f ≡ BySignature → ⊥)
+    → Val version f size bytes v → is_signature v ≡ false
+unfolding laid_out
+stays_by_form version size f bytes v other p = search rules
+
+no_offset_by_form : (version size : ℕ) (f : Form) (bytes : List ℕ) (v : Datum) → leaves_by f ≡ Never
+    → Val version f size bytes v → is_offset v ≡ false
+unfolding laid_out
+no_offset_by_form version size f bytes v is p = search rules
+
+-- a fact of values, as a rule on attributes
+abbrev Where : (Datum → Bool) → Rules
+Where holds head attribute v rule = holds v ≡ true
+
+-- a fact that no value in a form has, no value under such a declaration has
+passes_where : (holds : Datum → Bool) (spec : AttributeSpec)
+    → ((version size : ℕ) (bytes : List ℕ) (v : Datum) → Val version spec.form size bytes v → holds v ≡ false)
+    → NeverFailsAt (Where holds) spec
+passes_where holds spec never x a is head rule so =
+    ∥∥₁_elim is.value (λ p q. absurd p)
+    (λ v. let no : true ≡ false = sym so ∙ never x.version x.address_size a.bytes a.value v in cc)
+
+-- no value under such a declaration leaves its unit by a signature
+form_passes : (spec : AttributeSpec) → (leaves_by spec.form ≡ BySignature → ⊥)
+    → NeverFailsAt (Where is_signature) spec
+form_passes spec other = search (rules, passes_where, stays_by_form)
+
+-- nor is one an offset of .debug_info
+offset_passes : (spec : AttributeSpec) → leaves_by spec.form ≡ Never → NeverFailsAt (Where is_offset) spec
+offset_passes spec never = search (rules, passes_where, no_offset_by_form)
+
+none_where : (holds : Datum → Bool) (a info : List ℕ) (us : List DebugUnit) (kept : List AttributeSpec)
+    → Spells a us info
+    → ((id : ℕ) (e : Entry) → slice_get (entries_of us) id ≡ Some e
+    → All (λ (spec : AttributeSpec). Contains kept spec) e.head.decl.attributes)
+    → ((k : ℕ) (spec : AttributeSpec) → slice_get kept k ≡ Some spec → NeverFailsAt (Where holds) spec)
+    → EachEntry (λ e. (position attribute : ℕ) (v : Datum) → HasAttribute e position attribute v → holds v ≡ false)
+    (entries_of us)
+none_where holds a info us kept spells declared pass id e is position attribute v has =
+    false_from_ne_true (holds v)
+    (none_at (entries_of us) (Where holds) (none_concerned a info us kept (Where holds) spells declared pass) id e is
+    position attribute v has WrongClass)
+
+-- the values of entries refer as the forms of their declarations allow
+pub refer_of : (a info : List ℕ) (us : List DebugUnit) (kept : List AttributeSpec) → Spells a us info
+    → ((id : ℕ) (e : Entry) → slice_get (entries_of us) id ≡ Some e
+    → All (λ (spec : AttributeSpec). Contains kept spec) e.head.decl.attributes)
+    → (most : Elsewhere)
+    → ((k : ℕ) (spec : AttributeSpec) → slice_get kept k ≡ Some spec → IsAllowed most (leaves_by spec.form))
+    → Refer (entries_of us) most
+refer_of a info us kept spells declared Never allowed = (
+  none_where is_signature a info us kept spells declared
+      (λ k spec is. form_passes spec
+      (λ other. let no : ◌≡◌ {A = Elsewhere} Never BySignature = sym (allowed k spec is) ∙ other in absurd cc)),
+  none_where is_offset a info us kept spells declared (λ k spec is. offset_passes spec (allowed k spec is)),
+)
+refer_of a info us kept spells declared ByOffset allowed =
+    none_where is_signature a info us kept spells declared (λ k spec is. form_passes spec (allowed k spec is))
+refer_of a info us kept spells declared BySignature allowed = tt

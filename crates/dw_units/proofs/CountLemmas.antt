@@ -1,24 +1,21 @@
 -- One more batch after those so far: what is found of them then, and after the last one.
-use Rattle.std.proofs.Common.{rules, ◌≡◌, ℕ, zero, suc, get_or, ◌+◌, ◌<◌, ◌≤◌, List, [], ◌∷◌, ◌++◌, length, map, take, drop, Option, Some, None, IfSome, refl, sym, ap, subst, ◌∙◌, arith, append_assoc, append-nil, drop-drop, length-append, take-append-drop}
-use Rattle.std.specs.Prelude.{cond}
-use Rattle.std.specs.List.{count_by}
+use Rattle.std.proofs.Common.{rules, ◌≡◌, ℕ, zero, suc, get_or, ◌+◌, ◌<◌, ◌≤◌, List, [], ◌∷◌, ◌++◌, length, map, take, drop, Option, Some, None, IfSome, refl, sym, ap, subst, ◌∙◌, arith, append_assoc, append-nil, drop-drop, length-append, take-append-drop, count_by, length-drop, length-take-le}
 use Rattle.std.proofs.lemmas.List.Sums.{sum_by-append, sum_by-cons}
 use Rattle.std.proofs.lemmas.Grind.{flat_map-append}
-use Rattle.std.proofs.lemmas.List.{drop_all, length-drop, length-map, length-take-le}
+use Rattle.std.proofs.lemmas.List.{drop_all, length-map}
 use Rattle.dw_elf.specs.declared.sections.Sections.{Sections}
 use Rattle.dw_elf.specs.Sections.{IsPart}
+use Rattle.dw_entries.specs.declared.fault.Fault.{Fault}
 use Rattle.dw_entries.specs.declared.entries.Entries.{Entries}
 use Rattle.dw_entries.specs.EntryRules.{EachEntry}
 use Rattle.dw_entries.specs.Units.{DebugUnit, AreFrom, SpellsInfo, unit_bytes, units_bytes}
-use Rattle.dw_entries.specs.Views.{sections_of, units_of}
-use Rattle.dw_entries.specs.Entries.{Entry, entries_of}
+use Rattle.dw_entries.specs.Views.{sections_of, units_of, Entry, entries_of}
 use Rattle.dw_entries.specs.Failures.{HasNone, plain_fault_of, IsPlainFault}
 use Rattle.dw_entries.specs.Faults.{Fails}
 use Rattle.dw_image.specs.Lookups.{is_type_entry}
 use Rattle.dw_image.proofs.JoinLemmas.{fault_of, sound_by}
 use Rattle.dw_forms.specs.Rules.{group_of}
 use Rattle.dw_forms.specs.declared.rule.Rule.TheVariants.{UnitCut}
-use Rattle.dw_entries.specs.declared.fault.Fault.{Fault}
 use Rattle.dw_image.specs.FirstFault.{Group, classes, failures_of, in_trees, sizes, turn_of}
 use Rattle.dw_image.proofs.GroupLemmas.{rank_of}
 use Rattle.dw_image.specs.GroupsBefore.{PassBefore}
@@ -33,8 +30,7 @@ use Rattle.dw_units.specs.ByUnit.{IsMeasured, StaysAlone}
 use Rattle.dw_units.specs.Counts.{IsFoundIn, sums}
 use Rattle.dw_units.specs.BatchSections.{AreCounted, AreSizes, HasLeast, IsFirmlyFound, IsReady, IsFoundAfter, IsFoundOf, IsFoundUpTo, IsLess, IsWhollyFound, Refer, fails, passes, sound}
 use Rattle.dw_units.proofs.AloneLemmas.{IsBatch, IsOfGroup, are_from, bytes, failed, passed, stands, stays}
-use Rattle.dw_units.proofs.BatchLemmas.{from_both, from_parts}
-use Rattle.dw_units.proofs.MovedEntries.{entries_both, moved}
+use Rattle.dw_units.proofs.MovedEntries.{from_both, from_parts, entries_both, moved}
 use Rattle.dw_units.proofs.TreeLemmas.{trees_first, fails_with_more}
 use Rattle.dw_units.proofs.GroupLemmas.{all_ready, first_by_parts, ready_before, passes_all, ready_all, ready_two, stand_none, stand_two, valid_of}
 
@@ -49,36 +45,13 @@ counted_more : (s : Sections) (us units : List DebugUnit) (a b : Counts) → Are
     → AreCounted s us a → StandsAlone s units → b.units ≡ length units → b.entries ≡ length (entries_of units)
     → b.types ≡ count_by is_type_entry (entries_of units) → AreCounted s (us ++ units) (sums a b)
 counted_more s us units a b from are alone its_units its_entries its_types =
-    let n : ℕ = length us in
-    let first : ℕ = length (entries_of us) in
-    let same = entries_both s.base us units from in
-    let unit_count = are.unit_count in
-    let entry_count = are.entry_count in
-    let type_count = are.type_count in
-    let types_in = ap (count_by is_type_entry) same
-    ∙ sum_by-append (λ (x : Entry). cond (is_type_entry x) 1 0) (entries_of us) (map (moved n first) (entries_of units))
-    in
-    record {
-      alone = stand_two s s.base us units from are.alone alone;
-      unit_count = omega (arith, unit_count, its_units, length-append us units);
-      entry_count =
-          omega (
-            arith,
-            entry_count,
-            its_entries,
-            ap length same,
-            length-append {A = Entry},
-            length-map (entries_of units) (moved n first),
-          );
-      type_count = omega (arith, type_count, its_types, types_in, types_moved n first (entries_of units));
-    }
+    search (rules, entries_both, sum_by-append, stand_two, length-append, length-map, types_moved)
 
 -- ---- one batch more
 
 measured_by : (s : Sections) (group : Group) (turn : ℕ) (units : List DebugUnit) → turn ≡ turn_of group
     → PassBefore s units turn → IsMeasured group units
-measured_by s sizes turn units is pass = pass.measured (omega (arith, is))
-measured_by s _ turn units is pass = tt
+measured_by s group turn units is pass = search rules
 
 -- units with a least fault are ready for its group
 least_ready : (s : Sections) (us : List DebugUnit) → AreFrom s.base us → (fault : Fault)
@@ -97,101 +70,81 @@ stays_found s us from (found.Fault fault) least = (least_ready s us from fault l
 passed_before : (s : Sections) (us : List DebugUnit) → AreFrom s.base us → (so_far : Found) (group : Group)
     (alone : Fault) → group_of alone.rule ≡ turn_of group → IsLess so_far alone.rule → IsFoundOf s us so_far
     → IsReady s group us × HasNone (failures_of s us group)
-passed_before s us from (found.Sound c) group alone rank less are =
-    (ready_all s group us are.alone, passes_all s group us are.alone)
+passed_before s us from (found.Sound c) group alone rank less are = search (rules, ready_all, passes_all)
 passed_before s us from (found.Fault old) group alone rank less least =
     let old_rank = rank_of s least.units least.group old least.fails.first in
     let turns : turn_of group < turn_of least.group = omega (arith, rank, old_rank, less) in
     let all = least_ready s us from old least in
     (ready_before s group least.group (omega (arith, turns)) us all, all.below group turns)
 
-module _ (s own : Sections) (at size : ℕ) (units : List DebugUnit) (batch : IsBatch s own at size units)
+module _ {s own : Sections} {at size : ℕ} {units : List DebugUnit} (batch : IsBatch s own at size units)
     (within : at + size ≤ length s.info.now) where
   -- the units begin where those before them end
   follow : (so_far : Found) (up : IsFoundUpTo s at so_far) → AreFrom s.base (up.units ++ units)
-  follow so_far up =
-      from_both s.base up.units units up.from
-      (subst (λ (n : ℕ). AreFrom n units) up.at_is (are_from s own at size units batch))
+  follow so_far up = search (rules, from_both, are_from)
 
   found_more : (so_far : Found) (up : IsFoundUpTo s at so_far) (more : Found)
       → IsFoundAfter own units so_far more → IsFoundOf s (up.units ++ units) more
   found_more so_far up _ (sound a b counts) =
       let only = batch.only counts.units counts.sound.trees.spelled in
       counted_more s up.units units a b (follow so_far up) up.of_units
-      (stands s own at size units batch b counts)
+      (stands batch b counts)
       (counts.unit_count ∙ ap length only)
       (counts.entry_count ∙ ap (λ (us : List DebugUnit). length (entries_of us)) only)
       (counts.type_count ∙ ap (λ (us : List DebugUnit). count_by is_type_entry (entries_of us)) only)
   found_more so_far up _ (passes fault pass) =
       let least : HasLeast s up.units fault = up.of_units in
       let rank = rank_of s least.units least.group fault least.fails.first in
-      let there = passed s own at size units batch (group_of fault.rule) pass in
+      let there = passed batch (group_of fault.rule) pass in
       let are = ap (λ (xs : List DebugUnit). xs ++ units) least.are
       ∙ append_assoc least.before (least.units ++ least.behind) units
       ∙ ap (λ (xs : List DebugUnit). least.before ++ xs) (append_assoc least.units least.behind units) in
       let behind_it = from_parts s.base least.before (least.units ++ (least.behind ++ units))
       (subst (AreFrom s.base) are (follow so_far up)) in
-      record {
-        before = least.before;
-        units = least.units;
-        behind = least.behind ++ units;
-        group = least.group;
-        are = are;
-        early = least.early;
-        passed = least.passed;
-        one = least.one;
-        fails = least.fails;
-        late = ready_two s _ least.behind units (from_parts _ least.units (least.behind ++ units) behind_it.1).1
-            least.group least.late (record {
-              stays = stays s own at size units batch;
-              measured = measured_by s least.group (group_of fault.rule) units rank there;
-              below = λ earlier less. there.hold earlier (omega (arith, less, rank));
-            });
-      }
+      let late = ready_two s _ least.behind units (from_parts _ least.units (least.behind ++ units) behind_it.1).1
+      least.group least.late (record {
+        stays = stays batch;
+        measured = measured_by s least.group (group_of fault.rule) units rank there;
+        below = λ earlier less. there.hold earlier (omega (arith, less, rank));
+      }) in
+      search (rules, least, are, late)
   found_more _ up _ (fails so_far fault less is_fault firm) =
-      let one : IsOfGroup s units fault = failed s own at size units batch fault firm is_fault in
+      let one : IsOfGroup s units fault = failed batch fault firm is_fault in
       let rank = rank_of s units one.group fault one.fails.first in
       let before = passed_before s up.units up.from so_far one.group fault rank less up.of_units in
-      record {
-        before = up.units;
-        units = units;
-        behind = [];
-        group = one.group;
-        are = ap (λ (xs : List DebugUnit). up.units ++ xs) (sym (append-nil units));
-        early = before.0;
-        passed = (before.0.below, before.1);
-        one = one.ready;
-        fails = one.fails;
-        late = ready_all s one.group [] (stand_none s);
-      }
+      let are = ap (λ (xs : List DebugUnit). up.units ++ xs) (sym (append-nil units)) in
+      let late = ready_all s one.group [] (stand_none s) in
+      search (rules, are, before, one, late)
 
   next : (so_far more : Found) → IsFoundAfter own units so_far more → IsFoundUpTo s at so_far
       → IsFoundUpTo s (at + size) more
   next so_far more after up =
       let us : List DebugUnit = up.units in
-      let its_bytes = bytes s own at size units batch in
+      let its_bytes = bytes batch in
       let both = flat_map-append unit_bytes us units in
       let at_is = up.at_is in
       let long = length-take-le size (drop at s.info.now) (omega (arith, within, length-drop at s.info.now)) in
-      record {
-        units = us ++ units;
-        from = follow so_far up;
-        at_is = omega (
-          arith,
-          at_is,
-          long,
-          ap length its_bytes,
-          ap length both,
-          length-append (units_bytes us) (units_bytes units),
-        );
-        bytes =
-            up.bytes
-            ∙ ap (λ (xs : List ℕ). units_bytes us ++ xs) (sym (take-append-drop size (drop at s.info.now)))
-            ∙ (λ i. units_bytes us ++ (its_bytes i ++ drop-drop size at s.info.now i))
-            ∙ sym (append_assoc (units_bytes us) (units_bytes units) (drop (at + size) s.info.now))
-            ∙ ap (λ (xs : List ℕ). xs ++ drop (at + size) s.info.now) (sym both);
-        of_units = found_more so_far up more after;
-      }
+      let end : at + size ≡ s.base + length (units_bytes (us ++ units)) =
+      omega (
+        arith,
+        at_is,
+        long,
+        ap length its_bytes,
+        ap length both,
+        length-append (units_bytes us)
+            (units_bytes units),
+      ) in
+      let all : drop s.base s.info.now ≡ units_bytes (us ++ units) ++ drop (at + size) s.info.now =
+      search (
+        rules,
+        up.bytes,
+        (take-append-drop size (drop at s.info.now)),
+        its_bytes,
+        (drop-drop size at s.info.now),
+        append_assoc,
+        both,
+      ) in
+      search (rules, (follow so_far up), end, all, (found_more so_far up more after))
 
 -- what is found up to the end of one batch more, which these entries are
 pub next_of : (s own : Sections) (at size : ℕ) (entries : Entries) → at + size ≤ length s.info.now
@@ -234,16 +187,12 @@ module _ (s : Sections) (at : ℕ) (so_far : Found) (up : IsFoundUpTo s at so_fa
       all = up.bytes ∙ ap (λ (xs : List ℕ). units_bytes up.units ++ xs) none ∙ append-nil (units_bytes up.units)
 
       go : (it : Found) → IsFoundOf s up.units it → IsFoundIn s it
-      go (found.Sound c) are = record {
-        units = up.units;
-        sound = sound_by s up.units (valid_of s up.units are.alone (record {
-          spells = record { are = are.alone.are; parts = all };
-          are_from = up.from;
-        }));
-        unit_count = are.unit_count;
-        entry_count = are.entry_count;
-        type_count = are.type_count;
-      }
+      go (found.Sound c) are =
+          let valid = valid_of s up.units are.alone (record {
+            spells = record { are = are.alone.are; parts = all };
+            are_from = up.from;
+          }) in
+          search (rules, (sound_by s up.units valid))
       go (found.Fault fault) least =
           fault_of s fault (first_by_parts s least.before least.units least.behind least.group fault
           (subst (AreFrom s.base) least.are up.from) least.early least.passed.1 least.one least.fails least.late
@@ -265,31 +214,27 @@ module _ (s : Sections) (at : ℕ) (so_far : Found) (up : IsFoundUpTo s at so_fa
 
     -- it is what is found
     pub found_by_trees : (r : Option Found) → IfSome r (IsWhollyFound fault) → IfSome r (IsFoundIn s)
-    found_by_trees (Some it) (same, uncut) = search (rules, found_in_trees)
-    found_by_trees None is = tt
+    found_by_trees r is = search (rules, found_in_trees)
 
 -- ---- the sizes of the batches
 
 -- one batch more
 pub size_more : (some all rest : List ℕ) (size : ℕ) → AreSizes some all rest → size ≤ length rest
     → AreSizes (some ++ size ∷ []) all (drop size rest)
-size_more [] all rest size is within =
-    subst (λ (xs : List ℕ). AreSizes (size ∷ []) xs (drop size rest)) (sym is) (within, refl)
+size_more [] all rest size is within = search (rules)
 size_more (one ∷ some) all rest size (fits, more) within =
     (fits, size_more some (drop one all) rest size more within)
 
 -- no batch is left
 pub none_left : (s : Sections) (at : ℕ) (some : List ℕ) (k : ℕ) → length some ≤ k
     → AreSizes (drop k some) (drop at s.info.now) [] → drop at s.info.now ≡ []
-none_left s at some k past are =
-    subst (λ (others : List ℕ). AreSizes others (drop at s.info.now) []) (drop_all k some past) are
+none_left s at some k past are = search (rules, drop_all)
 
 -- the unit after a batch is at the front of the bytes after it
 pub next_fits : (bytes : List ℕ) (size : ℕ) (next : Option FirstUnit)
     → IfSome next (λ unit. (0 < unit.size) × (size + unit.size ≤ length bytes))
     → IfSome next (λ unit. (0 < unit.size) × (unit.size ≤ length (drop size bytes)))
-next_fits bytes size None fits = tt
-next_fits bytes size (Some unit) (some, fits) = search (rules, length-drop)
+next_fits bytes size next fits = search (rules, length-drop)
 
 -- the next batch is in the bytes that are left
 first_fits : (some bytes : List ℕ) (k size : ℕ) → k < length some → size ≡ get_or some k size

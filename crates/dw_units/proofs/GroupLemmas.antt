@@ -1,5 +1,5 @@
 -- The groups of rules, and the first fault, of units that refer to nothing outside themselves, with more behind them.
-use Rattle.std.proofs.Common.{rules, ◌≡◌, ℕ, ◌+◌, ◌<◌, ◌≤◌, List, [], ◌∷◌, ◌++◌, length, None, drop, refl, ap, subst, ◌∙◌, arith}
+use Rattle.std.proofs.Common.{rules, ◌≡◌, ℕ, ◌+◌, ◌≤◌, List, [], ◌∷◌, ◌++◌, length, None, drop, refl, ap, subst, ◌∙◌, arith}
 use Rattle.std.specs.List.{AllByRecursion}
 use Rattle.std.proofs.lemmas.Grind.{flat_map-append}
 use Rattle.dw_elf.specs.declared.sections.Sections.{Sections}
@@ -7,19 +7,17 @@ use Rattle.dw_entries.specs.declared.fault.Fault.{Fault}
 use Rattle.dw_entries.specs.Units.{DebugUnit, AreFrom, SpellsInfo, units_bytes}
 use Rattle.dw_entries.specs.Failures.{HasNone, plain_fault_of}
 use Rattle.dw_image.specs.FirstFault.{Group, classes, strings, references, shapes, cycles, sizes, turn_of, failures_of, IsFirstIn, IsFirstFault, in_group}
-use Rattle.dw_image.specs.Valid.{IsValidBy}
+use Rattle.dw_image.specs.Valid.{HasSizes, IsValidBy}
+use Rattle.dw_types.specs.SizeTables.{Size}
 use Rattle.dw_image.proofs.MeasureLemmas.{no_cycle_holds, none_by_size}
 use Rattle.dw_units.specs.IndependentBatches.{joined, JoinsUnits, StandsAlone}
 use Rattle.dw_units.specs.ByUnit.{FailsAlone, IsFirm, PassesBelow, PassesThrough, IsMeasured, FirstOfUnits, StaysAlone}
 use Rattle.dw_units.specs.BatchSections.{IsReady}
-use Rattle.dw_units.proofs.BatchLemmas.{all_joined, from_parts}
-use Rattle.dw_units.proofs.MovedEntries.{AreTwo, part_of, stays_none}
-use Rattle.dw_units.proofs.FirstLemmas.{AreOfGroup, none_of_two, first_of_group}
-use Rattle.dw_units.proofs.TextLemmas.{classes_of_parts, strings_of_parts}
+use Rattle.dw_units.proofs.MovedEntries.{all_joined, from_parts, AreTwo, part_of, stays_none}
+use Rattle.dw_units.proofs.TextLemmas.{AreOfGroup, none_of_two, first_of_group, classes_of_parts, strings_of_parts}
 use Rattle.dw_units.proofs.ReferenceLemmas.{at_attributes, references_of_parts}
-use Rattle.dw_units.proofs.Windows.{whole, window}
-use Rattle.dw_units.proofs.TypeLemmas.{contained_two, cycle_of_part, no_cycle_two, shapes_of_parts}
-use Rattle.dw_units.proofs.JoinLemmas.{sizes_of_parts, table_two}
+use Rattle.dw_units.proofs.WindowLemmas.{whole, window}
+use Rattle.dw_units.proofs.TypeLemmas.{contained_two, cycle_of_part, no_cycle_two, shapes_of_parts, sizes_of_parts, table_two}
 
 -- no rule of a group fails at units alone
 abbrev Passes : Sections → Group → List DebugUnit → Type 0
@@ -35,37 +33,26 @@ passes_all s cycles units one = no_cycle_holds units one.contained
 passes_all s sizes units one = search (rules, none_by_size)
 
 measured_all : (s : Sections) (group : Group) (units : List DebugUnit) → StandsAlone s units → IsMeasured group units
-measured_all s sizes units one = search (rules)
-measured_all s _ units one = tt
+measured_all s group units one = search rules
 
 pub ready_all : (s : Sections) (group : Group) (units : List DebugUnit) → StandsAlone s units → IsReady s group units
-ready_all s group units one = record {
-  stays = record { are = one.are; no_type_unit = one.no_type_unit; stays = one.stays };
-  measured = measured_all s group units one;
-  below = λ earlier less. passes_all s earlier units one;
-}
+ready_all s group units one = search (rules, measured_all, passes_all)
 
 -- units that are ready for a group are ready for the groups before it
 measured_before : (group later : Group) → turn_of group ≤ turn_of later → (units : List DebugUnit)
     → IsMeasured later units → IsMeasured group units
-measured_before sizes sizes le units is = is
-measured_before sizes _ le units is = absurd (omega (arith, le))
-measured_before _ _ le units is = tt
+measured_before group later le units is = search rules
 
 pub ready_before : (s : Sections) (group later : Group) → turn_of group ≤ turn_of later → (units : List DebugUnit)
     → IsReady s later units → IsReady s group units
-ready_before s group later le units one = record {
-  stays = one.stays;
-  measured = measured_before group later le units one.measured;
-  below = λ earlier less. one.below earlier (omega (arith, less, le));
-}
+ready_before s group later le units one = search (rules, measured_before)
 
 -- the failures of a group, but for cycles, are those of the parts
 of_parts : (s : Sections) (group : Group) → (turn_of group ≡ 6 → ⊥) → (all : List DebugUnit) → StaysAlone s all
     → IsMeasured group all → AreOfGroup s group all
-of_parts s classes other all stays measured = classes_of_parts s (IsReady s classes) all
-of_parts s strings other all stays measured = strings_of_parts s (IsReady s strings) all
-of_parts s references other all stays measured = references_of_parts s (IsReady s references) all stays
+of_parts s classes other all stays measured = classes_of_parts s (IsReady s classes) all stays
+of_parts s strings other all stays measured = strings_of_parts s (IsReady s strings) all stays
+of_parts s references other all stays measured = search (rules, references_of_parts)
 of_parts s shapes other all stays measured =
     shapes_of_parts s (IsReady s shapes) all stays (λ units one. one.below references (omega arith))
 of_parts s cycles other all stays measured = absurd (other refl)
@@ -77,7 +64,7 @@ of_parts s sizes other all stays measured =
 
 module _ (s : Sections) (at : ℕ) (us more : List DebugUnit) (from : AreFrom at (us ++ more)) where
   two : (group : Group) → IsReady s group us → IsReady s group more → AreTwo s at us more
-  two group one other = record { from = from; one = one.stays; other = other.stays }
+  two group one other = search (rules)
 
   measured_two : (group : Group) → IsReady s group us → IsReady s group more → IsMeasured group (us ++ more)
   measured_two sizes one other =
@@ -85,7 +72,7 @@ module _ (s : Sections) (at : ℕ) (us more : List DebugUnit) (from : AreFrom at
       one.measured other.measured
   measured_two _ one other = tt
 
-  pub passes_two : (group : Group) → IsReady s group us → IsReady s group more → Passes s group us
+  passes_two : (group : Group) → IsReady s group us → IsReady s group more → Passes s group us
       → Passes s group more → Passes s group (us ++ more)
   passes_two cycles one other none none_behind =
       no_cycle_two (two cycles one other) (one.below references (omega arith)) (other.below references (omega arith))
@@ -96,14 +83,7 @@ module _ (s : Sections) (at : ℕ) (us more : List DebugUnit) (from : AreFrom at
       (measured_two group one other)) none none_behind
 
   pub ready_two : (group : Group) → IsReady s group us → IsReady s group more → IsReady s group (us ++ more)
-  ready_two group one other = record {
-    stays = whole (two group one other);
-    measured = measured_two group one other;
-    below = λ earlier less.
-        passes_two earlier (ready_before s earlier group (omega (arith, less)) us one)
-        (ready_before s earlier group (omega (arith, less)) more other) (one.below earlier less)
-        (other.below earlier less);
-  }
+  ready_two group one other = search (rules, whole, two, measured_two, passes_two, ready_before)
 
   pub stand_two : StandsAlone s us → StandsAlone s more → StandsAlone s (us ++ more)
   stand_two one other =
@@ -114,23 +94,13 @@ module _ (s : Sections) (at : ℕ) (us more : List DebugUnit) (from : AreFrom at
       (passes_all s group more other) in
       let both = two sizes (ready sizes) (its_ready sizes) in
       let (table, is_table) = measured_two sizes (ready sizes) (its_ready sizes) in
-      record {
-        are = (whole both).are;
-        classes = none classes;
-        strings = none strings;
-        references = none references;
-        shapes = none shapes;
-        contained = contained_two both one.references other.references one.contained other.contained;
-        sizes = (
-          table,
-          record {
-            one = is_table;
-            none = λ f fails. none sizes f (record { table = table; one = is_table; fails = fails });
-          },
-        );
-        no_type_unit = (whole both).no_type_unit;
-        stays = (whole both).stays;
-      }
+      let contained = contained_two both one.references other.references one.contained other.contained in
+      let sized : HasSizes (us ++ more) table = record {
+        one = is_table;
+        none = λ f fails. none sizes f (record { table = table; one = is_table; fails = fails });
+      } in
+      let all : (table : ℕ → Size) × HasSizes (us ++ more) table = (table, sized) in
+      search (rules, all, contained, (none classes), (none strings), (none references), (none shapes), (whole both))
 
 -- no unit
 pub stand_none : (s : Sections) → StandsAlone s []
@@ -158,15 +128,7 @@ stand_none s = record {
 -- ---- the laws
 
 pub valid_of : (s : Sections) (us : List DebugUnit) → StandsAlone s us → SpellsInfo s us → IsValidBy s us
-valid_of s us one spelled = record {
-  trees = spelled;
-  classes = one.classes;
-  strings = one.strings;
-  references = one.references;
-  shapes = one.shapes;
-  contained = one.contained;
-  sizes = one.sizes;
-}
+valid_of s us one spelled = search (rules)
 
 pub join : JoinsUnits
 join s bs all spelled =
@@ -182,8 +144,7 @@ module _ (s : Sections) (at : ℕ) (before units behind : List DebugUnit)
 
   pub all_ready : (group : Group) → IsReady s group before → IsReady s group units → IsReady s group behind
       → IsReady s group (before ++ (units ++ behind))
-  all_ready group early one late =
-      ready_two s at before (units ++ behind) from group early (rest_ready group one late)
+  all_ready group early one late = search (rules, ready_two, rest_ready)
 
   -- the first failure of the units is the first of all
   first_there : (group : Group) (fault : Fault) → IsReady s group before → IsReady s group units
@@ -219,7 +180,7 @@ first_by_parts s before units behind group fault from early none one fails late 
 split : (P : List DebugUnit → Type 0) (bs others : List (List DebugUnit)) → AllByRecursion P (bs ++ others)
     → AllByRecursion P bs × AllByRecursion P others
 split P [] others all = (tt, all)
-split P (units ∷ bs) others (one, all) = let (some, rest) = split P bs others all in ((one, some), rest)
+split P (units ∷ bs) others (one, all) = search (rules, (split P bs others all))
 
 ready_each : (s : Sections) (group : Group) (P Q : List DebugUnit → Type 0)
     → ((units : List DebugUnit) → StaysAlone s units → IsMeasured group units → P units → Q units)

@@ -1,16 +1,10 @@
 pub mod TreeLemmas
-pub mod BatchLemmas
-pub mod FirstLemmas
 pub mod MovedEntries
 pub mod TextLemmas
-pub mod ReachLemmas
 pub mod ReferenceLemmas
-pub mod Windows
 pub mod WindowLemmas
-pub mod TypeLemmas
 pub mod WindowSizes
-pub mod JoinLemmas
+pub mod TypeLemmas
 pub mod GroupLemmas
-pub mod FormLemmas
 pub mod AloneLemmas
 pub mod CountLemmas

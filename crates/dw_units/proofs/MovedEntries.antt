@@ -1,20 +1,64 @@
--- Units among others: their entries are those of the units alone, with the numbers that they have among all.
-use Rattle.std.proofs.Common.{rules, ◌≡◌, ℕ, suc, ◌+◌, ◌-◌, ◌<◌, ◌≤◌, ◌⊎◌, List, [], ◌∷◌, ◌++◌, length, map, Option, Some, None, refl, sym, ap, subst, ◌∙◌, inl, inr, arith, append_assoc, append-nil, length-append}
-use Rattle.std.specs.Prelude.{slice_get, option_map}
+-- Units one after another, and units among others: their entries are those of the units alone, with the numbers that
+-- they have among all; and what holds of batches joined.
+use Rattle.std.proofs.Common.{rules, ◌≡◌, ℕ, ◌+◌, List, [], ◌∷◌, ◌++◌, length, refl, arith, length-append, suc, ◌-◌, ◌<◌, ◌≤◌, ◌⊎◌, map, Option, Some, None, sym, ap, ◌∙◌, inl, inr, append-nil, slice_get, option_map, add-zero}
+use Rattle.std.specs.List.{AllByRecursion}
+use Rattle.dw_entries.specs.Units.{DebugUnit, AreFrom, unit_bytes, units_bytes, Head}
+use Rattle.dw_units.specs.IndependentBatches.{joined}
 use Rattle.std.proofs.lemmas.List.{map-append}
 use Rattle.std.proofs.lemmas.Option.{get_or_from_slice_get, slice_get-get_or, slice_get-map, slice_get_within}
 use Rattle.dw_elf.specs.declared.sections.Sections.{Sections}
-use Rattle.dw_entries.specs.ByNumber.{entry_of, no_entry, no_placed, placed_of}
-use Rattle.dw_entries.specs.Grammar.{Head, head_bytes}
-use Rattle.dw_entries.specs.Header.{unit_header_size}
-use Rattle.dw_entries.specs.Tree.{Node, Nodes, leaf, parent, none, ◌then◌, node_bytes}
-use Rattle.dw_entries.specs.Units.{DebugUnit, AreFrom, unit_bytes, units_bytes}
-use Rattle.dw_entries.specs.Entries.{Entry, node_count, first_id, node_entries, nodes_entries, entries_from, entries_of, PlacedUnit, placed_from, placed}
-use Rattle.dw_entries.proofs.EntryFacts.{length-node_entries, length-placed}
+use Rattle.dw_entries.specs.ByNumber.{entry_of, placed_of, Entry, node_count, PlacedUnit}
+use Rattle.dw_entries.specs.Tree.{Node, Nodes, leaf, parent, none, ◌then◌, node_bytes, head_bytes}
+use Rattle.dw_entries.proofs.EntryFacts.{entries_from-append, length-entries_from, length-placed, units_count, entries_from, entries_of, placed_from, placed, first_id, node_entries, nodes_entries}
+use Rattle.std.proofs.lemmas.Bool.{cases_lt}
 use Rattle.dw_entries.proofs.UnitRanges.{get_front, get_behind}
 use Rattle.dw_links.proofs.ClassLemmas.{in_units}
 use Rattle.dw_units.specs.ByUnit.{StaysAlone}
-use Rattle.dw_units.proofs.BatchLemmas.{entries_there, placed_there, from_parts}
+
+-- units that begin at an offset are placed from there on, and so are their entries
+placed_there : (at : ℕ) (us : List DebugUnit) → AreFrom at us → placed us ≡ placed_from at 0 us
+placed_there at [] from = refl
+placed_there at (u ∷ us) from = search (rules)
+
+placed_from-append : (at first : ℕ) (us vs : List DebugUnit) → placed_from at first (us ++ vs)
+    ≡ placed_from at first us ++ placed_from (at + length (units_bytes us)) (first + units_count us) vs
+placed_from-append at first [] vs = search (rules, add-zero)
+placed_from-append at first (u ∷ us) vs =
+    search (
+      rules,
+      length-append,
+      (placed_from-append (at + length (unit_bytes u)) (first + node_count u.root) us vs),
+    )
+
+entries_there : (at : ℕ) (us : List DebugUnit) → AreFrom at us → entries_of us ≡ entries_from 0 0 at us
+entries_there at [] from = refl
+entries_there at (u ∷ us) from = search (rules)
+
+-- some units, and those after them
+pub from_parts : (at : ℕ) (us more : List DebugUnit) → AreFrom at (us ++ more)
+    → AreFrom at us × AreFrom (at + length (units_bytes us)) more
+from_parts at [] more from = search (rules)
+from_parts at (u ∷ us) more (here, from) =
+    search (rules, (from_parts (at + length (unit_bytes u)) us more from), length-append)
+
+pub from_both : (at : ℕ) (us more : List DebugUnit) → AreFrom at us → AreFrom (at + length (units_bytes us)) more
+    → AreFrom at (us ++ more)
+from_both at [] more from rest = search (rules)
+from_both at (u ∷ us) more (here, from) rest =
+    let there : at + length (units_bytes (u ∷ us)) ≡ at + length (unit_bytes u) + length (units_bytes us) =
+    omega (arith, length-append (unit_bytes u) (units_bytes us)) in
+    (here, from_both (at + length (unit_bytes u)) us more from (rw there at rest))
+
+-- what holds of no unit, and of units with more behind them as it does of both, holds of batches joined
+pub all_joined : (P : List DebugUnit → Type 0) → P []
+    → ((at : ℕ) (us more : List DebugUnit) → AreFrom at (us ++ more) → P us → P more → P (us ++ more))
+    → (at : ℕ) (bs : List (List DebugUnit)) → AreFrom at (joined bs) → AllByRecursion P bs → P (joined bs)
+all_joined P empty both at [] from all = empty
+all_joined P empty both at (units ∷ bs) from (one, more) =
+    both at units (joined bs) from one
+    (all_joined P empty both (at + length (units_bytes units)) bs (from_parts at units (joined bs) from).1 more)
+
+-- ---- the entries of units, by the numbers that they have among others
 
 -- the number of an entry of the units, among all entries
 abbrev pub moved_number : ℕ → Option ℕ → Option ℕ
@@ -26,18 +70,15 @@ none_moved first o is = search rules
 
 -- an entry of the units alone, among all: the first of them has this number, as their first entry has that
 abbrev pub moved : (number first : ℕ) → Entry → Entry
-moved number first e = record {
-  at = e.at;
+moved number first e = record e {
   unit = number + e.unit;
   parent = moved_number first e.parent;
-  depth = e.depth;
   next = moved_number first e.next;
-  head = e.head;
 }
 
 -- a unit, likewise
 abbrev pub moved_unit : (first : ℕ) → PlacedUnit → PlacedUnit
-moved_unit first q = record { at = q.at; first = first + q.first; unit = q.unit }
+moved_unit first q = record q { first = first + q.first }
 
 first_moved : (ns : Nodes) (first id to : ℕ) → to ≡ first + id → first_id ns to ≡ moved_number first (first_id ns id)
 first_moved ns first id to is = search rules
@@ -80,17 +121,17 @@ module _ (number first : ℕ) where
         )
 
   -- the entries of units among all
-  pub units_moved : (unit id unit_to id_to at : ℕ) (us : List DebugUnit) → unit_to ≡ number + unit
+  units_moved : (unit id unit_to id_to at : ℕ) (us : List DebugUnit) → unit_to ≡ number + unit
       → id_to ≡ first + id
       → entries_from unit_to id_to at us ≡ map (moved number first) (entries_from unit id at us)
   units_moved unit id unit_to id_to at [] u i = refl
   units_moved unit id unit_to id_to at (v ∷ us) u i =
-      rw (
-        node_moved unit unit_to None None None None 0 id id_to (at + unit_header_size v.header.kind) v.root u i refl
-            refl,
-        units_moved (suc unit) (id + node_count v.root) (suc unit_to) (id_to + node_count v.root)
-            (at + length (unit_bytes v)) us (omega (arith, u)) (omega (arith, i)),
+      search (
+        rules,
+        node_moved,
         map-append,
+        (units_moved (suc unit) (id + node_count v.root) (suc unit_to) (id_to + node_count v.root)
+            (at + length (unit_bytes v)) us (omega (arith, u)) (omega (arith, i))),
       )
 
   -- and the units themselves
@@ -104,70 +145,22 @@ module _ (number first : ℕ) where
             (omega arith)),
       )
 
--- ---- the entries of units, and those after them
-
-entries_after : (unit id at unit_to id_to to : ℕ) (us more : List DebugUnit) → unit_to ≡ unit + length us
-    → id_to ≡ id + length (entries_from unit id at us) → to ≡ at + length (units_bytes us)
-    → entries_from unit id at (us ++ more) ≡ entries_from unit id at us ++ entries_from unit_to id_to to more
-entries_after unit id at unit_to id_to to [] more u i p = search (rules)
-entries_after unit id at unit_to id_to to (v ∷ us) more u i p =
-    let es : List Entry = node_entries unit None 0 None id (at + unit_header_size v.header.kind) v.root in
-    let fs : List Entry = entries_from (suc unit) (id + node_count v.root) (at + length (unit_bytes v)) us in
-    let count = length-node_entries unit None 0 None id (at + unit_header_size v.header.kind) v.root in
-    ap (λ (xs : List Entry). es ++ xs)
-    (entries_after (suc unit) (id + node_count v.root) (at + length (unit_bytes v)) unit_to id_to to us more
-    (omega (arith, u)) (omega (arith, i, count, length-append es fs))
-    (omega (arith, p, length-append (unit_bytes v) (units_bytes us))))
-    ∙ sym (append_assoc es fs (entries_from unit_to id_to to more))
-
-placed_after : (unit id at id_to to : ℕ) (us more : List DebugUnit)
-    → id_to ≡ id + length (entries_from unit id at us) → to ≡ at + length (units_bytes us)
-    → placed_from at id (us ++ more) ≡ placed_from at id us ++ placed_from to id_to more
-placed_after unit id at id_to to [] more i p = search (rules)
-placed_after unit id at id_to to (v ∷ us) more i p =
-    let es : List Entry = node_entries unit None 0 None id (at + unit_header_size v.header.kind) v.root in
-    let fs : List Entry = entries_from (suc unit) (id + node_count v.root) (at + length (unit_bytes v)) us in
-    let count = length-node_entries unit None 0 None id (at + unit_header_size v.header.kind) v.root in
-    ap (λ (xs : List PlacedUnit). record { at = at; first = id; unit = v } ∷ xs)
-    (placed_after (suc unit) (id + node_count v.root) (at + length (unit_bytes v)) id_to to us more
-    (omega (arith, i, count, length-append es fs))
-    (omega (arith, p, length-append (unit_bytes v) (units_bytes us))))
+-- ---- units with more behind them
 
 map_some : {X Y : Type 0} (f : X → Y) (o : Option X) (y : Y) → option_map f o ≡ Some y
     → (x : X) × (o ≡ Some x) × (f x ≡ y)
 map_some f o y is = search rules
 
-two_ways : (i n : ℕ) → (i < n) ⊎ (n ≤ i)
-two_ways i n = grind arith
-
 -- units with more behind them: all entries, and all units as they are placed
 pub entries_both : (at : ℕ) (us more : List DebugUnit) → AreFrom at (us ++ more)
     → entries_of (us ++ more) ≡ entries_of us ++ map (moved (length us) (length (entries_of us))) (entries_of more)
 entries_both at us more from =
-    let n : ℕ = length us in
-    let first : ℕ = length (entries_of us) in
-    let place : ℕ = at + length (units_bytes us) in
-    let (here, there) = from_parts at us more from in
-    entries_there at (us ++ more) from
-    ∙ entries_after 0 0 at n first place us more (omega arith) (omega (arith, ap length (entries_there at us here)))
-    refl
-    ∙ ap (λ (xs : List Entry). xs ++ entries_from n first place more) (sym (entries_there at us here))
-    ∙ ap (λ (xs : List Entry). entries_of us ++ xs)
-    (units_moved n first 0 0 n first place more (omega arith) (omega arith)
-    ∙ ap (map (moved n first)) (sym (entries_there place more there)))
+    search (rules, from_parts, entries_there, length-entries_from, units_moved, entries_from-append)
 
 placed_both : (at : ℕ) (us more : List DebugUnit) → AreFrom at (us ++ more)
     → placed (us ++ more) ≡ placed us ++ map (moved_unit (length (entries_of us))) (placed more)
 placed_both at us more from =
-    let first : ℕ = length (entries_of us) in
-    let place : ℕ = at + length (units_bytes us) in
-    let (here, there) = from_parts at us more from in
-    placed_there at (us ++ more) from
-    ∙ placed_after 0 0 at first place us more (omega (arith, ap length (entries_there at us here))) refl
-    ∙ ap (λ (xs : List PlacedUnit). xs ++ placed_from place first more) (sym (placed_there at us here))
-    ∙ ap (λ (xs : List PlacedUnit). placed us ++ xs)
-    (placed_moved 0 first 0 first place more (omega arith)
-    ∙ ap (map (moved_unit first)) (sym (placed_there place more there)))
+    search (rules, from_parts, entries_there, length-entries_from, placed_moved, placed_there, placed_from-append)
 
 -- the elements of a list with a moved one behind it
 module _ {X : Type 0} (f : X → X) (xs ys zs : List X) (is : zs ≡ xs ++ map f ys) where
@@ -184,7 +177,7 @@ module _ {X : Type 0} (f : X → X) (xs ys zs : List X) (is : zs ≡ xs ++ map f
   get_either : (i : ℕ) (x : X) → slice_get zs i ≡ Some x
       → (slice_get xs i ≡ Some x)
       ⊎ ((j : ℕ) × (y : X) × (slice_get ys j ≡ Some y) × (i ≡ length xs + j) × (f y ≡ x))
-  get_either i x is_x = go (two_ways i (length xs))
+  get_either i x is_x = go (cases_lt i (length xs))
     where
       here : slice_get (xs ++ map f ys) i ≡ Some x
       here = ap (λ (l : List X). slice_get l i) (sym is) ∙ is_x
@@ -235,20 +228,10 @@ pub some_moved : (first : ℕ) (o : Option ℕ) (id : ℕ) → moved_number firs
 some_moved first o id is = search rules
 
 unmoved_number : (o : Option ℕ) → moved_number 0 o ≡ o
-unmoved_number None = refl
-unmoved_number (Some k) = let same : 0 + k ≡ k = omega arith in ap Some same
+unmoved_number o = search rules
 
 unmoved : (e : Entry) → moved 0 0 e ≡ e
-unmoved e =
-    let unit : 0 + e.unit ≡ e.unit = omega arith in
-    λ i. record {
-      at = e.at;
-      unit = unit i;
-      parent = unmoved_number e.parent i;
-      depth = e.depth;
-      next = unmoved_number e.next i;
-      head = e.head;
-    }
+unmoved e = search (rules, unmoved_number)
 
 -- units after some and before others are among all
 pub part_of : (s : Sections) (at : ℕ) (before units behind : List DebugUnit)
@@ -309,7 +292,7 @@ part_of s at before units behind from first stays = record {
         omega (arith, one, two)))
 
 pub stays_none : (s : Sections) → StaysAlone s []
-stays_none s = record { are = tt; no_type_unit = tt; stays = λ id e is. absurd cc }
+stays_none s = search (rules)
 
 -- of two lists of units, the first and the second; and each entry is of one of them
 module _ (s : Sections) (at : ℕ) (us more : List DebugUnit) (from : AreFrom at (us ++ more)) where
@@ -319,9 +302,7 @@ module _ (s : Sections) (at : ℕ) (us more : List DebugUnit) (from : AreFrom at
   pub behind : StaysAlone s us → StaysAlone s more
       → IsPart s (us ++ more) (length us) (length (entries_of us)) more
   behind first stays =
-      subst (λ (xs : List DebugUnit). IsPart s (us ++ xs) (length us) (length (entries_of us)) more) (append-nil more)
-      (part_of s at us more [] (subst (λ (xs : List DebugUnit). AreFrom at (us ++ xs)) (sym (append-nil more)) from)
-      first stays)
+      rw (append-nil more) at (part_of s at us more [] (rw (sym (append-nil more)) at from) first stays)
 
   pub halves : (i : ℕ) (e : Entry) → slice_get (entries_of (us ++ more)) i ≡ Some e
       → IsIn 0 0 us i e ⊎ IsIn (length us) (length (entries_of us)) more i e
@@ -345,8 +326,7 @@ module _ {s : Sections} {all : List DebugUnit} {number first : ℕ} {units : Lis
     (p : IsPart s all number first units) (inner : ℕ) where
   got : inner < length (entries_of units) → slice_get (entries_of all) (first + inner)
       ≡ Some (moved number first (entry_of (entries_of units) inner))
-  got inside =
-      p.get inner (entry_of (entries_of units) inner) (slice_get-get_or (entries_of units) inner no_entry inside)
+  got inside = search (rules, slice_get-get_or, inside)
 
   pub entry_within : inner < length (entries_of units) → first + inner < length (entries_of all)
   entry_within inside = search (rules, slice_get_within, got)
@@ -357,9 +337,7 @@ module _ {s : Sections} {all : List DebugUnit} {number first : ℕ} {units : Lis
 
   got_unit : inner < length units → slice_get (placed all) (number + inner)
       ≡ Some (moved_unit first (placed_of (placed units) inner))
-  got_unit inside =
-      p.unit_get inner (placed_of (placed units) inner)
-      (slice_get-get_or (placed units) inner no_placed (omega (arith, inside, length-placed units)))
+  got_unit inside = search (rules, slice_get-get_or, inside, length-placed)
 
   pub unit_within : inner < length units → number + inner < length (placed all)
   unit_within inside = search (rules, slice_get_within, got_unit)

@@ -1,31 +1,104 @@
--- The rules on references: the failures among all are those of each part alone.
-use Rattle.std.proofs.Common.{rules, ◌≡◌, ℕ, zero, suc, ◌+◌, ◌<◌, ◌≤◌, ◌==◌, true, false, List, [], ◌∷◌, length, Option, Some, None, refl, sym, ap, subst, ◌∙◌, inl, inr, eq-eqb, arith}
-use Rattle.std.proofs.lemmas.Grind.{common_steps}
-use Rattle.std.proofs.lemmas.Bool.{eqb-true}
-use Rattle.std.specs.Prelude.{slice_get}
+-- References inside units: what is reached in their place; and the failures among all are those of each part alone.
+use Rattle.std.proofs.Common.{rules, ◌≡◌, ℕ, ◌+◌, ◌<◌, ◌≤◌, ◌⊎◌, true, false, List, length, Option, Some, None, sym, ap, ◌∙◌, inl, inr, arith, ◌==◌, subst, eq-eqb, slice_get, eqb-true}
+use Rattle.std.proofs.lemmas.Option.{get_or_from_slice_get, slice_get-get_or, slice_get_within}
 use Rattle.dw_elf.specs.declared.sections.Sections.{Sections}
-use Rattle.dw_forms.specs.Value.{Datum}
-use Rattle.dw_forms.specs.declared.rule.Rule.{Rule}
-use Rattle.dw_entries.specs.Units.{DebugUnit, unit_bytes}
+use Rattle.dw_entries.specs.Entries.{Entry, entries_of, PlacedUnit, placed, DebugUnit}
+use Rattle.dw_entries.proofs.EntryFacts.{entries_rise, length-placed, place_of, placed_of}
+use Rattle.std.proofs.lemmas.List.Elements.{All-from_recursion}
+use Rattle.dw_image.proofs.JoinLemmas.{none_at}
+use Rattle.dw_links.specs.Targets.{reach_in_unit, reach_of, entry_at as offset_is}
+use Rattle.dw_links.proofs.TargetLemmas.{reach_in_unit_is, at_reach_in_unit, entry_at_is, there_is, reach_within, entry_of, no_entry, type_unit_of}
+use Rattle.dw_links.specs.References.{is_signature, permits, is_reference_value, NoSignatureThere, IsOtherThan, ReachesWrong, ReferenceFailsBy, ReferenceFails, HeaderFailures, AttributeFailures, ReferenceFailures, Datum}
+use Rattle.dw_units.specs.ByUnit.{StaysAlone, is_offset, IsFirm}
+use Rattle.dw_units.proofs.MovedEntries.{IsIn, IsPart, moved_number, entry_at, entry_within, unit_at, unit_within, moved, none_moved, some_moved, unit_below}
+use Rattle.std.proofs.lemmas.Grind.{common_steps}
 use Rattle.dw_entries.specs.Lookups.{entry_head}
-use Rattle.dw_entries.specs.Entries.{Entry, entries_of, node_count, PlacedUnit, placed_from, placed}
 use Rattle.dw_forms.specs.declared.rule.Rule.TheVariants.{NoEntry, WrongKind, NotNextSibling, NoSignature}
-use Rattle.dw_entries.specs.Places.{at_attribute}
 use Rattle.dw_forms.specs.Rules.{number_of}
-use Rattle.dw_entries.specs.EntryRules.{HasAttribute}
-use Rattle.dw_entries.specs.Failures.{Failure, HasNone}
-use Rattle.dw_entries.proofs.Firsts.{same_some}
-use Rattle.dw_links.specs.Signatures.{type_unit_of}
-use Rattle.dw_links.specs.Targets.{reach_of}
-use Rattle.dw_links.specs.References.{permits, is_reference_value, is_signature, NoSignatureThere, IsOtherThan, ReachesWrong, ReferenceFailsBy, ReferenceFails, HeaderFailures, AttributeFailures, ReferenceFailures}
+use Rattle.dw_entries.proofs.Firsts.{same_some, OffsetsRise, HasAttribute, Rule, Failure, HasNone}
 use Rattle.dw_links.proofs.ListLookups.{there}
-use Rattle.dw_links.proofs.TargetLemmas.{reach_within}
 use Rattle.dw_units.specs.IndependentBatches.{HaveNoTypeUnit}
-use Rattle.dw_units.specs.ByUnit.{StaysAlone, IsFirm, is_offset}
-use Rattle.dw_units.proofs.FirstLemmas.{AreOfParts}
-use Rattle.dw_units.proofs.MovedEntries.{IsPart, moved, moved_number, none_moved, some_moved, unit_below}
-use Rattle.dw_units.proofs.TextLemmas.{FailsBy, heads_of_parts}
-use Rattle.dw_units.proofs.ReachLemmas.{reach_either}
+use Rattle.dw_units.proofs.TextLemmas.{AreOfParts, FailsBy, heads_of_parts}
+
+module _ {s : Sections} {all : List DebugUnit} {number first : ℕ} {units : List DebugUnit} (whole : StaysAlone s all)
+    (p : IsPart s all number first units) where
+  -- an entry of one of the units
+  own_entry : (i : ℕ) → i < length (entries_of all) → number ≤ (entry_of (entries_of all) i).unit
+      → (entry_of (entries_of all) i).unit < number + length units
+      → IsIn number first units i (entry_of (entries_of all) i)
+  own_entry i within low high = search (rules, slice_get-get_or)
+
+  rise : OffsetsRise (entries_of all)
+  rise = entries_rise s.«abbrev».now all whole.are
+
+  alone_rise : OffsetsRise (entries_of units)
+  alone_rise = search (rules, entries_rise)
+
+  module _ (j : ℕ) (below : j < length units) where
+    at_same : (placed_of (placed all) (number + j)).at ≡ (placed_of (placed units) j).at
+    at_same = ap (λ (u : PlacedUnit). u.at) (unit_at p j below)
+
+    reached_in_place : (offset id : ℕ)
+        → reach_in_unit (entries_of units) (placed units) j offset ≡ Some id
+        → reach_in_unit (entries_of all) (placed all) (number + j) offset ≡ Some (first + id)
+    reached_in_place offset id reached =
+        let t = (at_reach_in_unit (entries_of units) (placed units) j offset id reached).target in
+        let e_is = entry_at p id t.within in
+        let begins : (entry_of (entries_of all) (first + id)).at ≡ (placed_of (placed all) (number + j)).at + offset =
+        omega (arith, t.begins, (ap (λ (e : Entry). e.at) e_is), at_same) in
+        let in_unit = ap (λ (e : Entry). e.unit) e_is ∙ ap (λ (n : ℕ). number + n) t.in_unit in
+        let within = entry_within p id t.within in
+        let unit = unit_within p j below in
+        search (rules, rise, within, begins, in_unit, unit, reach_in_unit_is)
+
+    none_in_place : (offset id : ℕ) → reach_in_unit (entries_of units) (placed units) j offset ≡ None
+        → reach_in_unit (entries_of all) (placed all) (number + j) offset ≡ Some id → ⊥
+    none_in_place offset id none reached =
+        let t =
+        (at_reach_in_unit (entries_of all) (placed all) (number + j) offset id reached).target in
+        let of = t.in_unit in
+        let i = own_entry id t.within (omega (arith, of)) (omega (arith, of, below)) in
+        let e_is = get_or_from_slice_get (entries_of units) i.inner i.entry no_entry i.is_entry in
+        let at = ap (λ (e : Entry). e.at) i.same in
+        let unit = ap (λ (e : Entry). e.unit) i.same in
+        let its_at = ap (λ (e : Entry). e.at) e_is in
+        let its_unit = ap (λ (e : Entry). e.unit) e_is in
+        let begins = t.begins in
+        let there = reach_in_unit_is (entries_of units) (placed units) j offset i.inner alone_rise
+        (record {
+          unit_within = omega (arith, below, length-placed units);
+          target = record {
+            within = slice_get_within (entries_of units) i.inner i.entry i.is_entry;
+            begins = omega (arith, begins, at, its_at, at_same);
+            in_unit = omega (arith, unit, its_unit, of);
+          };
+        }) in
+        let both : ◌≡◌ {A = Option ℕ} (Some i.inner) None = sym there ∙ none in
+        cc
+
+    info_in_place : (offset id : ℕ) → offset_is (entries_of units) offset ≡ Some id
+        → offset_is (entries_of all) offset ≡ Some (first + id)
+    info_in_place offset id reached =
+        let t = there_is (entries_of units) offset id reached in
+        let at = ap (λ (e : Entry). e.at) (entry_at p id t.within) ∙ t.begins in
+        search (rules, rise, at, (entry_within p id t.within), entry_at_is)
+
+    in_unit_moved : (offset : ℕ) → reach_in_unit (entries_of all) (placed all) (number + j) offset
+        ≡ moved_number first (reach_in_unit (entries_of units) (placed units) j offset)
+    in_unit_moved offset = search (rules, moved_number, reached_in_place, none_in_place)
+
+    info_either : (offset : ℕ) (o : Option ℕ) → offset_is (entries_of units) offset ≡ o
+        → (offset_is (entries_of all) offset ≡ moved_number first o) ⊎ (o ≡ None)
+    info_either offset o reached = search (rules, info_in_place)
+
+    -- what a value reaches is the same in the place of the units, or no entry of theirs starts at the offset
+    reach_either : (v : Datum) → is_signature v ≡ false
+        → (reach_of (entries_of all) (placed all) (number + j) v
+        ≡ moved_number first (reach_of (entries_of units) (placed units) j v))
+        ⊎ ((is_offset v ≡ true) × (reach_of (entries_of units) (placed units) j v ≡ None))
+    reach_either v stays = search (rules, info_either, in_unit_moved)
+
+-- ---- the rules
 
 pub eqb_moved : (at a b : ℕ) → (at + a == at + b) ≡ (a == b)
 eqb_moved at a b = search (rules, eqb-true, eq-eqb)
@@ -49,14 +122,11 @@ other_alone first next alone other = search (rules, some_moved)
 
 other_in_place : (first : ℕ) (next alone : Option ℕ) → IsOtherThan next alone
     → IsOtherThan (moved_number first next) (moved_number first alone)
-other_in_place first None alone other = tt
-other_in_place first (Some next) alone (id, reached, apart) =
-    (first + id, ap (moved_number first) reached, λ same. apart (omega (arith, same)))
+other_in_place first next alone other = search rules
 
 next_none : (first : ℕ) (next reached : Option ℕ) → reached ≡ None → IsOtherThan next reached
     → (there : Option ℕ) → IsOtherThan (moved_number first next) there
-next_none first None reached none apart there = tt
-next_none first (Some next) reached none (id, reaches, other) there = search (rules)
+next_none first next reached none apart there = search rules
 
 one_least : (rule : Rule) → 1 ≤ number_of rule
 one_least rule = search (rules)
@@ -71,18 +141,11 @@ module _ {s : Sections} {all : List DebugUnit} {number first : ℕ} {units : Lis
   wrong_alone e attribute alone below wrong =
       let (id, is_id, same) = some_moved first alone wrong.id wrong.reaches in
       let (t, is_t) = there (entries_of units) id (below id is_id) in
-      let target : wrong.target ≡ moved number first t =
-      same_some (slice_get (entries_of all) wrong.id) wrong.target (moved number first t)
-      wrong.is_target
+      let target = same_some (slice_get (entries_of all) wrong.id) wrong.target (moved number first t) wrong.is_target
       (ap (slice_get (entries_of all)) (sym same) ∙ p.get id t is_t) in
-      record {
-        id = id;
-        reaches = is_id;
-        target = t;
-        is_target = is_t;
-        wrong = sym (permits_moved number first e t attribute)
-            ∙ ap (permits (entry_head (moved number first e)) attribute) (sym target) ∙ wrong.wrong;
-      }
+      let refused = sym (permits_moved number first e t attribute)
+      ∙ ap (permits (entry_head (moved number first e)) attribute) (sym target) ∙ wrong.wrong in
+      search (rules, is_id, is_t, refused)
 
   by_alone : (e : Entry) → (attribute : ℕ) (v : Datum) (rule : Rule) → is_signature v ≡ false
       → reach_of (entries_of all) (placed all) (number + e.unit) v
@@ -105,13 +168,11 @@ module _ {s : Sections} {all : List DebugUnit} {number first : ℕ} {units : Lis
       → ReachesWrong (entries_of units) (entry_head e) attribute alone
       → ReachesWrong (entries_of all) (entry_head (moved number first e)) attribute
       (moved_number first alone)
-  wrong_in_place e attribute alone wrong = record {
-    id = first + wrong.id;
-    reaches = ap (moved_number first) wrong.reaches;
-    target = moved number first wrong.target;
-    is_target = p.get wrong.id wrong.target wrong.is_target;
-    wrong = permits_moved number first e wrong.target attribute ∙ wrong.wrong;
-  }
+  wrong_in_place e attribute alone wrong =
+      let there = p.get wrong.id wrong.target wrong.is_target in
+      let reaches = ap (moved_number first) wrong.reaches in
+      let refused = permits_moved number first e wrong.target attribute ∙ wrong.wrong in
+      search (rules, there, reaches, refused)
 
   by_in_place : (e : Entry) → (attribute : ℕ) (v : Datum) (rule : Rule) → is_signature v ≡ false
       → reach_of (entries_of all) (placed all) (number + e.unit) v
@@ -120,7 +181,7 @@ module _ {s : Sections} {all : List DebugUnit} {number first : ℕ} {units : Lis
       → ReferenceFailsBy (entries_of all) (placed all) (entry_head (moved number first e))
       attribute v rule
   by_in_place e attribute v rule stays reached fails =
-      grind (arith, common_steps, moved, moved_number, no_signature, other_in_place, wrong_in_place)
+      search (rules, common_steps, no_signature, other_in_place, wrong_in_place)
 
   -- another rule than NoEntry fails at a reference that reaches nothing, whatever it reaches in its place
   by_none : (e : Entry) → (attribute : ℕ) (v : Datum) (rule : Rule) → is_signature v ≡ false
@@ -128,15 +189,10 @@ module _ {s : Sections} {all : List DebugUnit} {number first : ℕ} {units : Lis
       → ReferenceFailsBy (entries_of units) (placed units) (entry_head e) attribute v rule
       → ReferenceFailsBy (entries_of all) (placed all) (entry_head (moved number first e))
       attribute v rule
-  by_none e attribute v NoEntry stays none other fails = absurd (other refl)
-  by_none e attribute v WrongKind stays none other (inl form) = inl form
-  by_none e attribute v WrongKind stays none other (inr wrong) = search (rules)
-  by_none e attribute v NotNextSibling stays none other (sibling, apart) = search (rules, next_none)
-  by_none e attribute v NoSignature stays none other fails = absurd (no_signature (placed units) v stays fails)
-  by_none e attribute v rule stays none other fails = absurd fails
+  by_none e attribute v rule stays none other fails = search (rules, next_none, no_signature)
 
   -- what fails in the place of the batch
-  pub reference_down : (inner : ℕ) (e : Entry) → slice_get (entries_of units) inner ≡ Some e
+  reference_down : (inner : ℕ) (e : Entry) → slice_get (entries_of units) inner ≡ Some e
       → (attribute : ℕ) (v : Datum) (rule : Rule) → is_signature v ≡ false
       → ReferenceFails (entries_of all) (placed all) (entry_head (moved number first e))
       attribute v rule
@@ -149,7 +205,7 @@ module _ {s : Sections} {all : List DebugUnit} {number first : ℕ} {units : Lis
       ]
 
   -- what fails at the batch alone
-  pub reference_up : (inner : ℕ) (e : Entry) → slice_get (entries_of units) inner ≡ Some e
+  reference_up : (inner : ℕ) (e : Entry) → slice_get (entries_of units) inner ≡ Some e
       → (position attribute : ℕ) (v : Datum) (rule : Rule) → HasAttribute e position attribute v
       → is_signature v ≡ false
       → ReferenceFails (entries_of units) (placed units) (entry_head e) attribute v rule → IsFirm units rule
@@ -167,27 +223,18 @@ module _ {s : Sections} {all : List DebugUnit} {number first : ℕ} {units : Lis
         )
       ]
 
-no_header_in : (at first : ℕ) (us : List DebugUnit) → HaveNoTypeUnit us → (number : ℕ)
-    (q : PlacedUnit) → slice_get (placed_from at first us) number ≡ Some q → type_unit_of q.unit.header.kind ≡ None
-no_header_in at first [] none number q is = absurd cc
-no_header_in at first (u ∷ us) (one, more) zero q is = search (rules)
-no_header_in at first (u ∷ us) (one, more) (suc number) q is =
-    no_header_in (at + length (unit_bytes u)) (first + node_count u.root) us more number q is
+no_header_in : (us : List DebugUnit) → HaveNoTypeUnit us → (number : ℕ) (q : PlacedUnit)
+    → slice_get (placed us) number ≡ Some q → type_unit_of q.unit.header.kind ≡ None
+no_header_in us none number q is =
+    let here = (place_of us number q is).is_unit in
+    rw (get_or_from_slice_get us number q.unit q.unit here) at
+    (All-from_recursion (λ (u : DebugUnit). type_unit_of u.header.kind ≡ None) us none number q.unit
+    (slice_get_within us number q.unit here))
 
 -- no unit is a type unit, so no rule fails at a header
 no_header_fails : (entries : List Entry) (us : List DebugUnit) → HaveNoTypeUnit us
     → HasNone (HeaderFailures entries (placed us))
 no_header_fails entries us none f fails = search (rules, no_header_in)
-
-attributes_of_parts : (s : Sections) (May : List DebugUnit → Type 0) (all : List DebugUnit) → StaysAlone s all
-    → AreOfParts s May (λ units. AttributeFailures (entries_of units) (placed units)) all
-attributes_of_parts s May all whole =
-    heads_of_parts s May (λ units. ReferenceFails (entries_of units) (placed units)) all
-    (λ number first units p inner e is_e position attribute v rule has.
-    let stays = p.stays.stays inner e is_e position attribute v has in (
-      reference_down whole p inner e is_e attribute v rule stays,
-      reference_up whole p inner e is_e position attribute v rule has stays,
-    ))
 
 -- the failures at headers are none, so those at attributes are all
 pub at_attributes : (s : Sections) (us : List DebugUnit) → StaysAlone s us → (f : Failure) → ReferenceFailures us f
@@ -198,22 +245,13 @@ at_attributes s us stays f (inr attribute) = attribute
 pub references_of_parts : (s : Sections) (May : List DebugUnit → Type 0) (all : List DebugUnit) → StaysAlone s all
     → AreOfParts s May ReferenceFailures all
 references_of_parts s May all whole =
-    let are = attributes_of_parts s May all whole in
-    record {
-      at = λ f fails.
-          let i = are.at f (at_attributes s all whole f fails) in
-          record {
-            which = i.which;
-            entry = i.entry;
-            is_entry = i.is_entry;
-            inside = i.inside;
-            down = λ number first units p may here.
-                let d = i.down number first units p may here in
-                record { failure = d.failure; fails = inr d.fails; early = d.early };
-          };
-      up = λ number first units p may g fails firm.
-          inr (are.up number first units p may g (at_attributes s units p.stays g fails) firm);
-    }
+    heads_of_parts s May ReferenceFailures (λ units. ReferenceFails (entries_of units) (placed units)) all whole
+    (λ us stays f. (at_attributes s us stays f, inr))
+    (λ number first units p inner e is_e position attribute v rule has.
+    let stays = p.stays.stays inner e is_e position attribute v has in (
+      reference_down whole p inner e is_e attribute v rule stays,
+      reference_up whole p inner e is_e position attribute v rule has stays,
+    ))
 
 -- ---- where the rules on references hold of the units
 
@@ -232,17 +270,7 @@ value_moved {s = s} {units = units} whole p none inner e is_e position attribute
     elim (reach_either whole p e.unit (unit_below s units p.stays inner e is_e) v inside) [
       | inl same ↦ same
       | inr (offset, nothing) ↦
-          absurd (none (record { rule = NoEntry; place = at_attribute e.at position; attribute = attribute })
-          (inr (record {
-            number = inner;
-            item = e;
-            is_item = is_e;
-            fails = record {
-              position = position;
-              value = v;
-              has = has;
-              place = refl;
-              fails = (offset_refers v offset, (inside, nothing));
-            };
-          })))
+          absurd (none_at (entries_of units) (ReferenceFails (entries_of units) (placed units))
+          (λ f fails. none f (inr fails))
+          inner e is_e position attribute v has NoEntry (offset_refers v offset, (inside, nothing)))
     ]

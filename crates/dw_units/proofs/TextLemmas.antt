@@ -1,30 +1,173 @@
--- Classes, strings and addresses: the failures among all are those of each part alone.
-use Rattle.std.proofs.Common.{rules, ◌≡◌, ℕ, ◌+◌, false, List, [], length, Option, Some, None, refl, sym, ap, subst, ◌∙◌, inl, inr, arith, ◌<◌, ◌≤◌}
-use Rattle.std.specs.Prelude.{slice_get, if◌then◌else◌, ◌==◌, option_and_then}
-use Rattle.dw_elf.specs.declared.sections.Sections.{Sections}
-use Rattle.dw_forms.specs.Value.{Datum}
-use Rattle.dw_forms.specs.Codes.{DW_AT_str_offsets_base, DW_AT_addr_base}
-use Rattle.dw_forms.specs.declared.rule.Rule.{Rule}
-use Rattle.dw_entries.specs.Header.{version_of}
-use Rattle.dw_entries.specs.Units.{DebugUnit}
-use Rattle.dw_entries.specs.Entries.{Entry, entries_of, PlacedUnit, placed}
-use Rattle.dw_entries.specs.Places.{at_attribute}
-use Rattle.dw_entries.specs.Failures.{Failure, Precedes}
-use Rattle.dw_forms.specs.Rules.{number_of}
-use Rattle.dw_entries.specs.EntryRules.{HasAttribute, AtEntries, values_of}
-use Rattle.dw_entries.specs.Lookups.{entry_head, value_in}
-use Rattle.dw_entries.proofs.Firsts.{same_some}
-use Rattle.dw_entries.proofs.EntryFacts.{first_entry, length-placed}
-use Rattle.dw_entries.specs.Grammar.{Head}
+-- The first failure of a group of rules, where the failures among all units are those of each part alone: it is the
+-- first of the first part that has one. So are those of classes, strings and addresses.
+use Rattle.std.proofs.Common.{rules, ◌≡◌, ℕ, zero, suc, ◌+◌, ◌<◌, ◌≤◌, ◌⊎◌, List, [], ◌∷◌, ◌++◌, length, Some, sym, subst, inl, inr, arith, slice_get, Option, None, refl, ap, ◌∙◌, if◌then◌else◌, ◌==◌, option_and_then}
 use Rattle.dw_entries.specs.declared.header.UnitHeader.{UnitHeader}
+use Rattle.dw_entries.specs.declared.records.Record.{Record}
+use Rattle.dw_entries.specs.Units.{DebugUnit, AreFrom, AreUnits, units_bytes}
+use Rattle.dw_entries.specs.declared.fault.PlainFault.{PlainFault}
+use Rattle.dw_entries.specs.Records.{records_kept}
+use Rattle.dw_entries.specs.Scanned.{record_of, records_of}
+use Rattle.dw_entries.proofs.OrderLaws.{Rises, units_rise}
+use Rattle.dw_entries.proofs.EntryFacts.{kept_get, first_entry, length-placed, Entry, entries_of, PlacedUnit, placed}
+use Rattle.dw_image.specs.FirstFault.{Group, failures_of}
+use Rattle.dw_units.specs.ByUnit.{IsFirm, StaysAlone}
+use Rattle.dw_units.specs.BatchSections.{IsReady}
+use Rattle.dw_units.proofs.MovedEntries.{from_parts, IsIn, IsPart, behind, front, halves, part_of, moved_number, none_moved, moved, moved_unit, unit_below}
+use Rattle.dw_entries.specs.Header.{version_of}
+use Rattle.dw_forms.specs.Rules.{number_of}
+use Rattle.dw_entries.specs.EntryRules.{HasAttribute, InList, values_of, Rule, Failure}
+use Rattle.dw_entries.specs.Lookups.{entry_head, value_in}
+use Rattle.dw_entries.proofs.Firsts.{same_some, Place, at_header, at_entry, at_attribute, IsBefore, Precedes, HasNone, IsFirst}
+use Rattle.dw_entries.specs.Grammar.{Datum, Head}
 use Rattle.dw_links.specs.RulesOfAttributes.{Rules, AtHead}
-use Rattle.dw_links.specs.Classes.{class_of, allows_in, ClassFails, ClassFailures}
-use Rattle.dw_links.specs.Strings.{StringFailsIn, StringFails, StringFailures}
+use Rattle.dw_links.specs.Classes.{ClassFails, ClassFailures}
+use Rattle.dw_links.specs.Strings.{StringFailsIn, StringFails, StringFailures, Sections}
 use Rattle.dw_links.proofs.ListLookups.{there}
 use Rattle.dw_links.specs.Bases.{base_in, section_offset_in, section_offset_of}
-use Rattle.dw_units.specs.ByUnit.{IsFirm}
-use Rattle.dw_units.proofs.FirstLemmas.{AreOfParts, IsInside}
-use Rattle.dw_units.proofs.MovedEntries.{IsPart, moved_number, none_moved, moved, moved_unit, unit_below}
+
+-- ---- places
+
+-- the place is the entry at this offset, or an attribute of it
+abbrev pub IsOfEntry : ℕ → Place → Type 0
+IsOfEntry at (at_header offset) = ⊥
+IsOfEntry at (at_entry offset) = offset ≡ at
+IsOfEntry at (at_attribute offset position) = offset ≡ at
+
+one_entry : (a b : ℕ) (p : Place) → IsOfEntry a p → IsOfEntry b p → a ≡ b
+one_entry a b p at_p at_q = search (rules)
+
+before_entry : (a b : ℕ) (p q : Place) → IsOfEntry a p → IsOfEntry b q → IsBefore p q → a ≤ b
+before_entry a b p q at_p at_q is = search (rules)
+
+-- nothing at an entry precedes what is at an earlier one
+later_entry : (a b : ℕ) (f g : Failure) → a < b → IsOfEntry a f.place → IsOfEntry b g.place → Precedes g f → ⊥
+later_entry a b f g less at_f at_g precedes = search (rules, before_entry, one_entry)
+
+-- ---- the entries of units are in their bytes
+
+rises_between : (low high : ℕ) (rs : List Record) → Rises low high rs → low ≤ high
+rises_between low high [] p = p
+rises_between low high (q ∷ rs) p = search (rules, (rises_between (suc q.at) high rs p.1))
+
+rises_inside : (low high : ℕ) (rs : List Record) (k : ℕ) (r : Record) → Rises low high rs → slice_get rs k ≡ Some r
+    → (low ≤ r.at) × (r.at < high)
+rises_inside low high [] k r p is = absurd cc
+rises_inside low high (q ∷ rs) zero r p is = search (rules, rises_between)
+rises_inside low high (q ∷ rs) (suc k) r p is = search (rules, (rises_inside (suc q.at) high rs k r p.1 is))
+
+entry_inside : (a : List ℕ) (at : ℕ) (units : List DebugUnit) (k : ℕ) (e : Entry) → AreUnits a units
+    → AreFrom at units → slice_get (entries_of units) k ≡ Some e
+    → (at ≤ e.at) × (e.at < at + length (units_bytes units))
+entry_inside a at [] k e are from is = absurd cc
+entry_inside a at (u ∷ us) k e are from is =
+    let any : ℕ → ℕ → ℕ = λ number code. 0 in
+    let all : List DebugUnit = u ∷ us in
+    subst (λ (n : ℕ). (n ≤ e.at) × (e.at < n + length (units_bytes all))) from.0
+    (rises_inside u.at (u.at + length (units_bytes all)) (records_of any all) k (record_of any e)
+    (subst (Rises u.at (u.at + length (units_bytes all))) (sym (records_kept any all))
+    (units_rise a any 0 0 u.at all are))
+    (kept_get any all k e is))
+
+-- ---- failures of a group
+
+-- a failure among all is one of some units alone, or one of these alone is at its place and is named no later
+pub record IsOfPart (Alone : Failure → Type 0) (f : Failure) : Type 0 where
+  pub failure : Failure
+  pub fails : Alone failure
+  pub early : (h : Failure) → Precedes f h → Precedes failure h
+
+-- it fails at an entry, so it is one of the units that have the entry
+pub record IsAtEntry (s : Sections) (all : List DebugUnit) (May : List DebugUnit → Type 0)
+    (Fails : List DebugUnit → Failure → Type 0) (f : Failure) : Type 0 where
+  pub which : ℕ
+  pub entry : Entry
+  pub is_entry : slice_get (entries_of all) which ≡ Some entry
+  pub stands : IsOfEntry entry.at f.place
+  pub down : (number first : ℕ) (units : List DebugUnit) → IsPart s all number first units → May units
+      → IsIn number first units which entry → IsOfPart (Fails units) f
+
+-- the failures among all are those of each part alone; one that depends on the other units apart
+pub record AreOfParts (s : Sections) (May : List DebugUnit → Type 0) (Fails : List DebugUnit → Failure → Type 0)
+    (all : List DebugUnit) : Type 0 where
+  pub at : (f : Failure) → Fails all f → IsAtEntry s all May Fails f
+  pub up : (number first : ℕ) (units : List DebugUnit) → IsPart s all number first units → May units
+      → (g : Failure) → Fails units g → IsFirm units g.rule → Fails all g
+
+abbrev pub AreOfGroup : Sections → Group → List DebugUnit → Type 0
+AreOfGroup s group = AreOfParts s (IsReady s group) (λ units. failures_of s units group)
+
+module _ (s : Sections) (group : Group) where
+  -- of two lists of units, a failure is one of the first or of the second
+  of_two : (at : ℕ) (us more : List DebugUnit) → AreFrom at (us ++ more) → IsReady s group us → IsReady s group more
+      → AreOfGroup s group (us ++ more) → (f : Failure) → failures_of s (us ++ more) group f
+      → IsOfPart (failures_of s us group) f ⊎ IsOfPart (failures_of s more group) f
+  of_two at us more from one other are f fails =
+      let i = are.at f fails in
+      elim (halves s at us more from i.which i.entry i.is_entry) [
+        | inl here ↦ inl (i.down 0 0 us (front s at us more from one.stays) one here)
+        | inr here ↦
+            inr (i.down (length us) (length (entries_of us)) more (behind s at us more from one.stays other.stays)
+            other here)
+      ]
+
+  pub none_of_two : (at : ℕ) (us more : List DebugUnit) → AreFrom at (us ++ more) → IsReady s group us
+      → IsReady s group more → AreOfGroup s group (us ++ more) → HasNone (failures_of s us group)
+      → HasNone (failures_of s more group) → HasNone (failures_of s (us ++ more) group)
+  none_of_two at us more from one other are none none_behind f fails = search (rules, of_two)
+
+module _ (s : Sections) (group : Group)
+    (of : (us : List DebugUnit) → IsReady s group us → AreOfGroup s group us) where
+  -- a failure of units is at one of their entries
+  at_one : (place : ℕ) (us : List DebugUnit) → IsReady s group us → AreFrom place us → (f : Failure)
+      → failures_of s us group f
+      → (x : ℕ) × (place ≤ x) × (x < place + length (units_bytes us)) × IsOfEntry x f.place
+  at_one place us ready from f fails =
+      let i = (of us ready).at f fails in
+      let (low, high) = entry_inside s.«abbrev».now place us i.which i.entry ready.stays.are from i.is_entry in
+      (i.entry.at, low, high, i.stands)
+
+  -- units have the first failure, if none fails before them
+  pub first_of_group : (at : ℕ) (before units more : List DebugUnit) (broken : PlainFault)
+      → AreFrom at (before ++ (units ++ more)) → IsReady s group before → IsReady s group units
+      → IsReady s group more → IsReady s group (units ++ more) → IsReady s group (before ++ (units ++ more))
+      → HasNone (failures_of s before group) → IsFirm units broken.rule → IsFirst (failures_of s units group) broken
+      → IsFirst (failures_of s (before ++ (units ++ more)) group) broken
+  first_of_group at before units more broken from early one late rest all none firm first = record {
+    failure = first.failure;
+    fails =
+        (of (before ++ (units ++ more)) all).up (length before) (length (entries_of before)) units
+        (part_of s at before units more from early.stays one.stays) one first.failure first.fails
+        (subst (IsFirm units) first.named.rule firm);
+    named = first.named;
+    first = λ g fails precedes.
+        elim (of_two s group at before (units ++ more) from early rest (of (before ++ (units ++ more)) all) g fails) [
+          | inl here ↦ none here.failure here.fails
+          | inr here ↦ not_before here.failure here.fails (here.early first.failure precedes)
+        ];
+  }
+    where
+      place : ℕ
+      place = at + length (units_bytes before)
+
+      there : AreFrom place (units ++ more)
+      there = (from_parts at before (units ++ more) from).1
+
+      end : ℕ
+      end = place + length (units_bytes units)
+
+      parts : AreFrom place units × AreFrom end more
+      parts = from_parts place units more there
+
+      not_before : (g : Failure) → failures_of s (units ++ more) group g → Precedes g first.failure → ⊥
+      not_before g fails precedes =
+          elim (of_two s group place units more there one late (of (units ++ more) rest) g fails) [
+            | inl here ↦ first.first here.failure here.fails (here.early first.failure precedes)
+            | inr here ↦
+                let (x, low, high, at_x) = at_one place units one parts.0 first.failure first.fails in
+                let (y, past, top, at_y) = at_one end more late parts.1 here.failure here.fails in
+                later_entry x y first.failure here.failure (omega (arith, high, past)) at_x at_y
+                (here.early first.failure precedes)
+          ]
 
 -- ---- failures at attributes
 
@@ -45,61 +188,56 @@ FailAlike s Fails all =
 
 no_later : (f g : Failure) → f.place ≡ g.place → number_of g.rule ≤ number_of f.rule → (h : Failure) → Precedes f h
     → Precedes g h
-no_later f g place early h (inl before) = search (rules)
-no_later f g place early h (inr (here, less)) = search (rules)
+no_later f g place early h precedes = search (rules)
 
--- where the same rules fail in the place as alone
-same_rules : (P Q : Rule → Type 0) (units : List DebugUnit) (rule : Rule) → (P rule → Q rule) → (Q rule → P rule)
-    → (P rule → FailsBy Q rule) × (Q rule → IsFirm units rule → P rule)
-same_rules P Q units rule down up = search (rules)
+-- a group's failures are each at an entry, by its number
+abbrev pub AreAt : Sections → (Fails : List DebugUnit → Failure → Type 0)
+    → (List DebugUnit → ℕ → Entry → Failure → Type 0) → Type 0
+AreAt s Fails At = (us : List DebugUnit) → StaysAlone s us → (f : Failure)
+    → (Fails us f → InList (entries_of us) (At us) f) × (InList (entries_of us) (At us) f → Fails us f)
 
-pub heads_of_parts : (s : Sections) (May : List DebugUnit → Type 0) (Fails : List DebugUnit → Rules)
-    (all : List DebugUnit) → FailAlike s Fails all
-    → AreOfParts s May (λ units. AtEntries (entries_of units) (AtHead (Fails units))) all
-heads_of_parts s May Fails all alike = record {
-  at = λ f fails. record {
-    which = fails.number;
-    entry = fails.item;
-    is_entry = fails.is_item;
-    inside = λ low high within. subst (IsInside low high) (sym fails.fails.place) within;
-    down = λ number first units p may i.
-        let here = subst (λ (e : Entry). AtHead (Fails all) e f) (sym i.same) fails.fails in
-        let (least, alone, early) = (alike number first units p i.inner i.entry i.is_entry here.position f.attribute
-        here.value f.rule here.has).0 here.fails in
-        record {
-          failure = record { rule = least; place = at_attribute i.entry.at here.position; attribute = f.attribute };
-          fails = record {
-            number = i.inner;
-            item = i.entry;
-            is_item = i.is_entry;
-            fails = record {
-              position = here.position;
-              value = here.value;
-              has = here.has;
-              place = refl;
-              fails = alone;
-            };
-          };
-          early = no_later f
-              (record { rule = least; place = at_attribute i.entry.at here.position; attribute = f.attribute })
-              here.place early;
-        };
-  };
-  up = λ number first units p may g fails firm. record {
-    number = first + fails.number;
-    item = moved number first fails.item;
-    is_item = p.get fails.number fails.item fails.is_item;
-    fails = record {
-      position = fails.fails.position;
-      value = fails.fails.value;
-      has = fails.fails.has;
-      place = fails.fails.place;
-      fails =
-          (alike number first units p fails.number fails.item fails.is_item fails.fails.position g.attribute
-          fails.fails.value g.rule fails.fails.has).1 fails.fails.fails firm;
-    };
-  };
+-- those among all are those of each part alone, if those at an entry in its place are those at the entry alone
+pub items_of_parts : (s : Sections) (May : List DebugUnit → Type 0) (Fails : List DebugUnit → Failure → Type 0)
+    (At : List DebugUnit → ℕ → Entry → Failure → Type 0) (all : List DebugUnit) → StaysAlone s all → AreAt s Fails At
+    → ((node : ℕ) (e : Entry) (f : Failure) → At all node e f → IsOfEntry e.at f.place)
+    → ((number first : ℕ) (units : List DebugUnit) → IsPart s all number first units → May units
+    → (inner : ℕ) (e : Entry) → slice_get (entries_of units) inner ≡ Some e → (f : Failure)
+    → (At all (first + inner) (moved number first e) f → IsOfPart (At units inner e) f)
+    × (At units inner e f → IsFirm units f.rule → At all (first + inner) (moved number first e) f))
+    → AreOfParts s May Fails all
+items_of_parts s May Fails At all whole are stands alike = record {
+  at = λ f fails.
+      let here = (are all whole f).0 fails in
+      record {
+        which = here.number;
+        entry = here.item;
+        is_entry = here.is_item;
+        stands = stands here.number here.item f here.fails;
+        down = λ number first units p may i.
+            let d = (alike number first units p may i.inner i.entry i.is_entry f).0
+            (rw (sym i.begins, i.same) here.fails) in
+            search (rules, d, (are units p.stays d.failure));
+      };
+  up = λ number first units p may g fails firm.
+      let here = (are units p.stays g).0 fails in
+      let same = (alike number first units p may here.number here.item here.is_item g).1 here.fails firm in
+      let there = p.get here.number here.item here.is_item in search (rules, same, there, (are all whole g));
 }
+
+pub heads_of_parts : (s : Sections) (May : List DebugUnit → Type 0) (Named : List DebugUnit → Failure → Type 0)
+    (Fails : List DebugUnit → Rules) (all : List DebugUnit) → StaysAlone s all
+    → AreAt s Named (λ us node. AtHead (Fails us)) → FailAlike s Fails all → AreOfParts s May Named all
+heads_of_parts s May Named Fails all whole are alike =
+    items_of_parts s May Named (λ us node. AtHead (Fails us)) all whole are (λ node e f fails. rw fails.place refl)
+    (λ number first units p may inner e is f. (
+      λ fails.
+          let (least, alone, early) = (alike number first units p inner e is fails.position f.attribute fails.value
+          f.rule
+          fails.has).0 fails.fails in
+          let failure : Failure = record f { rule = least } in
+          record { failure = failure; fails = search (rules, alone); early = no_later f failure refl early },
+      λ fails firm. search (rules, alike),
+    ))
 
 -- of the head only its parent is asked
 strings_in : (s : Sections) (header : UnitHeader) (strings addresses : Option ℕ) (number first : ℕ) (e : Entry)
@@ -133,24 +271,13 @@ module _ {s : Sections} {all : List DebugUnit} {number first : ℕ} {units : Lis
       → (attribute : ℕ) (v : Datum) (rule : Rule)
       → ClassFails (placed all) (entry_head (moved number first e)) attribute v rule
       → ClassFails (placed units) (entry_head e) attribute v rule
-  class_alone e q is_q attribute v rule fails = record {
-    unit = q;
-    in_unit = is_q;
-    class =
-        subst (λ (r : PlacedUnit). allows_in (version_of r.unit.header.kind) attribute (class_of v) ≡ false)
-        (placed_at e q fails.unit is_q fails.in_unit) fails.class;
-    only = fails.only;
-  }
+  class_alone e q is_q attribute v rule fails =
+      let same = placed_at e q fails.unit is_q fails.in_unit in search (rules, same)
 
   class_in_place : (e : Entry) (attribute : ℕ) (v : Datum) (rule : Rule)
       → ClassFails (placed units) (entry_head e) attribute v rule
       → ClassFails (placed all) (entry_head (moved number first e)) attribute v rule
-  class_in_place e attribute v rule fails = record {
-    unit = moved_unit first fails.unit;
-    in_unit = p.unit_get e.unit fails.unit fails.in_unit;
-    class = fails.class;
-    only = fails.only;
-  }
+  class_in_place e attribute v rule fails = search (rules)
 
   -- ---- strings and addresses
 
@@ -174,50 +301,25 @@ module _ {s : Sections} {all : List DebugUnit} {number first : ℕ} {units : Lis
       → StringFails s (entries_of units) (placed units) (entry_head e) attribute v rule
   string_alone e q is_q attribute v rule fails =
       let same = placed_at e q fails.unit is_q fails.in_unit in
-      let head = entry_head (moved number first e) in
-      let here = subst (λ (r : PlacedUnit). StringFailsIn s r.unit.header
-      (base_in (entries_of all) r DW_AT_str_offsets_base)
-      (base_in (entries_of all) r DW_AT_addr_base) head attribute v rule) same fails.fails in
-      record {
-        unit = q;
-        in_unit = is_q;
-        fails = strings_in s q.unit.header (base_in (entries_of units) q DW_AT_str_offsets_base)
-            (base_in (entries_of units) q DW_AT_addr_base) number first e attribute v rule
-            (rw (base_same e.unit q is_q DW_AT_addr_base) at
-            (rw (base_same e.unit q is_q DW_AT_str_offsets_base) at here));
-      }
+      search (rules, same, strings_in, (base_same e.unit q is_q))
 
-  string_in_place : (e : Entry) (attribute : ℕ) (v : Datum) (rule : Rule)
-      → StringFails s (entries_of units) (placed units) (entry_head e) attribute v rule
-      → StringFails s (entries_of all) (placed all) (entry_head (moved number first e)) attribute v
-      rule
-  string_in_place e attribute v rule fails =
-      let q = fails.unit in
-      record {
-        unit = moved_unit first q;
-        in_unit = p.unit_get e.unit q fails.in_unit;
-        fails = rw (
-          base_same e.unit q fails.in_unit DW_AT_str_offsets_base,
-          base_same e.unit q fails.in_unit DW_AT_addr_base,
-        ) (strings_in_place s q.unit.header (base_in (entries_of units) q DW_AT_str_offsets_base)
-            (base_in (entries_of units) q DW_AT_addr_base) number first e attribute v rule fails.fails);
-      }
-
-module _ (s : Sections) (May : List DebugUnit → Type 0) (all : List DebugUnit) where
+module _ (s : Sections) (May : List DebugUnit → Type 0) (all : List DebugUnit) (whole : StaysAlone s all) where
   pub classes_of_parts : AreOfParts s May ClassFailures all
   classes_of_parts =
-      heads_of_parts s May (λ units. ClassFails (placed units)) all
+      heads_of_parts s May ClassFailures (λ units. ClassFails (placed units)) all whole
+      (λ us stays f. (λ fails. fails, λ fails. fails))
       (λ number first units p inner e is_e position attribute v rule has.
-      let (q, is_q) = unit_at_hand p inner e is_e in
-      same_rules (ClassFails (placed all) (entry_head (moved number first e)) attribute v)
-      (ClassFails (placed units) (entry_head e) attribute v) units rule (class_alone p e q is_q attribute v rule)
-      (class_in_place p e attribute v rule))
+      let (q, is_q) = unit_at_hand p inner e is_e in (
+        λ fails. (rule, class_alone p e q is_q attribute v rule fails, omega arith),
+        λ fails firm. class_in_place p e attribute v rule fails,
+      ))
 
   pub strings_of_parts : AreOfParts s May (StringFailures s) all
   strings_of_parts =
-      heads_of_parts s May (λ units. StringFails s (entries_of units) (placed units)) all
+      heads_of_parts s May (StringFailures s) (λ units. StringFails s (entries_of units) (placed units)) all whole
+      (λ us stays f. (λ fails. fails, λ fails. fails))
       (λ number first units p inner e is_e position attribute v rule has.
-      let (q, is_q) = unit_at_hand p inner e is_e in
-      same_rules (StringFails s (entries_of all) (placed all) (entry_head (moved number first e)) attribute v)
-      (StringFails s (entries_of units) (placed units) (entry_head e) attribute v) units rule
-      (string_alone p e q is_q attribute v rule) (string_in_place p e attribute v rule))
+      let (q, is_q) = unit_at_hand p inner e is_e in (
+        λ fails. (rule, string_alone p e q is_q attribute v rule fails, omega arith),
+        λ fails firm. search (rules, (base_same p), strings_in_place),
+      ))

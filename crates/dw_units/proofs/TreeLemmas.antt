@@ -1,40 +1,27 @@
 -- Whole units, and then bytes at which a rule of trees fails: it fails there in the sections.
-use Rattle.std.proofs.Common.{rules, ◌≡◌, ℕ, ◌+◌, ◌≤◌, List, [], ◌∷◌, ◌++◌, length, take, drop, Result, Ok, Err, refl, sym, ap, subst, ◌∙◌, arith, append_assoc, append-nil, Bool, true, false, length-append, ltb}
+use Rattle.std.proofs.Common.{rules, ◌≡◌, ℕ, ◌+◌, ◌≤◌, List, [], ◌++◌, length, take, drop, Result, Ok, Err, refl, sym, ap, subst, ◌∙◌, arith, append_assoc, append-nil, Bool, true, false, length-append, ltb, nat_lt, le-ltb, ltb-false}
 use Rattle.std.proofs.lemmas.Grind.{flat_map-append}
-use Rattle.dw_forms.specs.declared.rule.Rule.{Rule}
 use Rattle.dw_entries.specs.declared.fault.PlainFault.{PlainFault}
 use Rattle.dw_entries.specs.declared.header.UnitHeader.{UnitHeader}
-use Rattle.dw_entries.specs.Header.{header_fields, header_at, unit_at}
+use Rattle.dw_entries.specs.Header.{header_at, unit_at, Rule}
 use Rattle.dw_forms.specs.BaseFormats.{so_many, taken_at}
 use Rattle.dw_forms.specs.Formats.{choose, failing, mapped, nothing}
 use Rattle.dw_forms.specs.Steps.{◌>>=◌}
 use Rattle.dw_forms.specs.declared.rule.Rule.TheVariants.{UnitCut, Not32Bit}
-use Rattle.std.specs.Prelude.{nat_lt}
 use Rattle.byteorder.specs.Endian.{little_number}
-use Rattle.std.proofs.lemmas.List.{take-append-le, drop-append-le}
-use Rattle.std.proofs.lemmas.Bool.{le-ltb, ltb-false}
-use Rattle.dw_entries.specs.Units.{IsUnit, unit_bytes, units_bytes}
-use Rattle.dw_entries.specs.Faults.{FailsAs, FailsHere, Fails}
+use Rattle.std.proofs.lemmas.List.{take-append-le, drop-append-le, nil_from_length}
+use Rattle.dw_entries.specs.Units.{unit_bytes, units_bytes}
+use Rattle.dw_entries.specs.Faults.{FailsAs, Fails}
 use Rattle.dw_entries.proofs.HeadLaws.{all-append}
 use Rattle.dw_units.specs.ByUnit.{TreesOfUnits}
 
 pub trees_first : TreesOfUnits
 trees_first s before rest broken are parts fails =
-    let joined : units_bytes (before ++ fails.units)
-    ≡ units_bytes before ++ units_bytes fails.units = flat_map-append unit_bytes before fails.units in
+    let joined = flat_map-append unit_bytes before fails.units in
     let long : s.base + length (units_bytes before) + length (units_bytes fails.units)
     ≡ s.base + length (units_bytes (before ++ fails.units)) =
     omega (arith, ap length joined, length-append (units_bytes before) (units_bytes fails.units)) in
-    record {
-      units = before ++ fails.units;
-      rest = fails.rest;
-      are = all-append (IsUnit s.«abbrev».now) before fails.units are fails.are;
-      parts = parts ∙ ap (λ (xs : List ℕ). units_bytes before ++ xs) fails.parts
-          ∙ sym (append_assoc (units_bytes before) (units_bytes fails.units) fails.rest)
-          ∙ ap (λ (xs : List ℕ). xs ++ fails.rest) (sym joined);
-      more = fails.more;
-      fails = subst (λ (n : ℕ). FailsHere s.«abbrev».now n fails.rest broken) long fails.fails;
-    }
+    search (rules, joined, long, all-append, append_assoc)
 
 -- ---- what fails in some bytes, with more behind them
 
@@ -98,10 +85,6 @@ header_more : (size : ℕ) (bytes more : List ℕ) → (header_at size bytes ≡
 unfolding header_at
 header_more size bytes more whole = search (rules, unit_more)
 
-no_elements : (xs : List ℕ) → length xs ≡ 0 → xs ≡ []
-no_elements [] is = refl
-no_elements (x ∷ xs) is = absurd (omega (arith, is))
-
 -- a rule of trees that fails in some bytes fails with more behind them, unless the bytes end inside a unit
 pub fails_with_more : («abbrev» : List ℕ) (at : ℕ) (bytes more : List ℕ) (broken : PlainFault)
     → (broken.rule ≡ UnitCut → ⊥) → Fails «abbrev» at bytes broken → Fails «abbrev» at (bytes ++ more) broken
@@ -110,7 +93,7 @@ fails_with_more «abbrev» at bytes more broken whole fails = record {
   rest = fails.rest ++ more;
   are = fails.are;
   parts = ap (λ (xs : List ℕ). xs ++ more) fails.parts ∙ append_assoc (units_bytes fails.units) fails.rest more;
-  more = λ none. fails.more (no_elements fails.rest
+  more = λ none. fails.more (nil_from_length fails.rest
       (let e = ap length none in omega (arith, e, length-append fails.rest more)));
   fails = subst (λ (r : Result (UnitHeader × List ℕ) Rule). FailsAs «abbrev» header r broken)
       (sym (header_more (length «abbrev») fails.rest more (λ cut. whole

@@ -1,57 +1,63 @@
 -- Children and sizes in a window are those of the batch alone.
-use Rattle.std.proofs.Common.{rules, ◌≡◌, ℕ, ◌+◌, ◌-◌, zero, suc, ◌<◌, ◌≤◌, Bool, false, List, [], ◌∷◌, ◌++◌, length, map, filter, Option, Some, None, refl, ap, ◌∙◌, arith, append-nil}
-use Rattle.std.specs.Prelude.{if◌then◌else◌, ◌||◌, All}
+use Rattle.std.proofs.Common.{rules, ◌≡◌, ℕ, ◌+◌, ◌-◌, zero, suc, ◌<◌, ◌≤◌, Bool, false, List, [], ◌∷◌, ◌++◌, length, map, flat_map, filter, Option, Some, None, refl, ap, ◌∙◌, arith, if◌then◌else◌, ◌||◌, All}
 use Rattle.std.specs.List.{list_any, range_with_len}
 use Rattle.std.proofs.lemmas.Bool.{false_from_ne_true}
-use Rattle.std.proofs.lemmas.List.Elements.{filter-append}
 use Rattle.dw_forms.specs.declared.rule.Rule.{Rule}
-use Rattle.dw_forms.specs.declared.rule.Rule.TheVariants.{NoSize, SizeTooGreat, MemberOutside, EnumSize}
-use Rattle.dw_entries.specs.Entries.{Entry, entries_of}
-use Rattle.dw_entries.specs.Units.{DebugUnit}
+use Rattle.dw_entries.specs.Entries.{Entry, entries_of, DebugUnit}
 use Rattle.dw_types.specs.declared.kind.Kind.{Kind}
-use Rattle.dw_types.specs.declared.kind.Kind.TheVariants.{Declared, OwnSized, Pointer, Alias, Enumeration, Array, Subroutine, NoType}
 use Rattle.dw_types.specs.Children.{children_of, is_child, is_parent, IsChildOf}
 use Rattle.dw_types.specs.Entries.{entry_in, signature_target, type_target}
 use Rattle.dw_types.specs.Extents.{ends_past_container}
 use Rattle.dw_types.specs.Kinds.{is_subrange}
+use Rattle.dw_types.specs.Steps.{by_value, member_step, steps_by_value, targets_if}
+use Rattle.dw_types.proofs.StepLemmas.{by_value-at, by_value-leads, length-by_value}
+use Rattle.dw_forms.specs.Codes.{DW_AT_signature, DW_AT_type}
+use Rattle.std.proofs.lemmas.List.{map-append}
 use Rattle.dw_types.specs.SizeTables.{Size}
 use Rattle.dw_types.specs.Sizes.{array_size, element_count, elements_by, factor_of, product_of, size_line, size_of_kind, size_to}
-use Rattle.dw_types.specs.SizeFaults.{fails_size, has_no_size}
+use Rattle.dw_types.specs.SizeFaults.{fails_size}
 use Rattle.dw_links.proofs.TableLemmas.{target_within}
 use Rattle.dw_types.proofs.SiblingLemmas.{children-all, parent_is, parent-first}
 use Rattle.dw_units.proofs.MovedEntries.{moved_number, moved}
 use Rattle.dw_units.proofs.ReferenceLemmas.{eqb_moved}
-use Rattle.dw_units.proofs.Windows.{IsWindow}
-use Rattle.dw_units.proofs.WindowLemmas.{plain_same, count_same, has_target_same}
+use Rattle.dw_units.proofs.WindowLemmas.{IsAmong, IsWindow, plain_same, count_same, has_target_same}
 
 -- ---- lists of numbers
 
-range_split : (n m a k : ℕ) → k ≡ n + m → range_with_len a k ≡ range_with_len a n ++ range_with_len (a + n) m
-range_split zero m a k is = search (rules)
-range_split (suc n) m a k is =
+-- the first of which fail a test
+filter_none : (P : ℕ → Bool) (n m a k : ℕ) → k ≡ n + m → ((j : ℕ) → a ≤ j → j < a + n → P j ≡ false)
+    → filter P (range_with_len a k) ≡ filter P (range_with_len (a + n) m)
+filter_none P zero m a k is none = search (rules)
+filter_none P (suc n) m a k is none =
     let all : k ≡ suc (n + m) = omega (arith, is) in
-    let next : a + 1 + n ≡ a + suc n = omega arith in
-    ap (range_with_len a) all
-    ∙ ap (λ (xs : List ℕ). a ∷ xs)
-    (range_split n m (a + 1) (n + m) refl ∙ ap (λ (b : ℕ). range_with_len (a + 1) n ++ range_with_len b m) next)
-
-filter_none : (P : ℕ → Bool) (n a : ℕ) → ((k : ℕ) → a ≤ k → k < a + n → P k ≡ false)
-    → filter P (range_with_len a n) ≡ []
-filter_none P zero a none = refl
-filter_none P (suc n) a none =
     let here = none a (omega arith) (omega arith) in
-    let rest = filter_none P n (a + 1) (λ k low high. none k (omega (arith, low)) (omega (arith, high))) in
-    rw here rest
+    let next : a + 1 + n ≡ a + suc n = omega arith in
+    rw (all, here) (rw next at (filter_none P n m (a + 1) (n + m) refl
+    (λ j low high. none j (omega (arith, low)) (omega (arith, high)))))
 
-filter_moved : (first : ℕ) (P Q : ℕ → Bool) (n a b : ℕ) → b ≡ first + a
-    → ((k : ℕ) → a ≤ k → k < a + n → P (first + k) ≡ Q k)
-    → filter P (range_with_len b n) ≡ map (λ (k : ℕ). first + k) (filter Q (range_with_len a n))
-filter_moved first P Q zero a b is same = refl
-filter_moved first P Q (suc n) a b is same =
+-- the first of which pass it as others do, and the last of which fail it
+filter_moved : (first : ℕ) (P Q : ℕ → Bool) (n m a b k : ℕ) → b ≡ first + a → k ≡ n + m
+    → ((j : ℕ) → a ≤ j → j < a + n → P (first + j) ≡ Q j) → ((j : ℕ) → b + n ≤ j → j < b + k → P j ≡ false)
+    → filter P (range_with_len b k) ≡ map (λ (j : ℕ). first + j) (filter Q (range_with_len a n))
+filter_moved first P Q zero m a b k is long same past =
+    filter_none P m 0 b k (omega (arith, long)) (λ j low high. past j (omega (arith, low)) (omega (arith, high, long)))
+filter_moved first P Q (suc n) m a b k is long same past =
+    let all : k ≡ suc (n + m) = omega (arith, long) in
     let here = same a (omega arith) (omega arith) in
-    let rest = filter_moved first P Q n (a + 1) (b + 1) (omega (arith, is))
-    (λ k low high. same k (omega (arith, low)) (omega (arith, high))) in
-    search (rules, is, here, rest)
+    let rest = filter_moved first P Q n m (a + 1) (b + 1) (n + m) (omega (arith, is)) refl
+    (λ j low high. same j (omega (arith, low)) (omega (arith, high)))
+    (λ j low high. past j (omega (arith, low)) (omega (arith, high, long))) in
+    rw all (search (rules, is, here, rest))
+
+targets_moved : (first : ℕ) (test : Bool) (o : Option ℕ)
+    → targets_if test (moved_number first o) ≡ map (λ (j : ℕ). first + j) (targets_if test o)
+targets_moved first test o = search rules
+
+row_parts : (first : ℕ) (own last : Bool) (type signature : Option ℕ) (xs ys : List ℕ)
+    → xs ≡ map (λ (j : ℕ). first + j) ys
+    → targets_if own (moved_number first type) ++ xs ++ targets_if last (moved_number first signature)
+    ≡ map (λ (j : ℕ). first + j) (targets_if own type ++ ys ++ targets_if last signature)
+row_parts first own last type signature xs ys is = search (rules, targets_moved, map-append, is)
 
 parent_of_moved : (first : ℕ) (o : Option ℕ) (node : ℕ)
     → is_parent (moved_number first o) (first + node) ≡ is_parent o node
@@ -60,8 +66,7 @@ parent_of_moved first o node = search (rules, eqb_moved)
 -- whether a member ends past its container does not depend on its place
 past_moved : (number first : ℕ) (container : Size) (e : Entry) (size : Size)
     → ends_past_container container (moved number first e) size ≡ ends_past_container container e size
-past_moved number first None e size = refl
-past_moved number first (Some n) e size = refl
+past_moved number first container e size = search rules
 
 module _ {all : List DebugUnit} {number first : ℕ} {units : List DebugUnit}
     (w : IsWindow all number first units) where
@@ -89,27 +94,46 @@ module _ {all : List DebugUnit} {number first : ℕ} {units : List DebugUnit}
       let rest : ℕ = length (entries_of all) - (first + n) in
       let within = w.within (n - 1) (omega (arith, inside)) in
       let P : ℕ → Bool = is_child (entries_of all) (first + inner) in
-      let before : filter P (range_with_len 0 first) ≡ [] =
-      filter_none P first 0 (λ k low high. no_child inner k inside (omega (arith, high, within))
-      (λ j j_in is. omega (arith, is, high))) in
-      let behind : filter P (range_with_len (0 + first + n) rest) ≡ [] =
-      filter_none P rest (0 + first + n)
+      filter_none P first (n + rest) 0 (length (entries_of all)) (omega (arith, within, inside))
+      (λ k low high. no_child inner k inside (omega (arith, high, within)) (λ j j_in is. omega (arith, is, high)))
+      ∙ filter_moved first P (is_child (entries_of units) inner) n rest 0 (0 + first) (n + rest) (omega arith) refl
+      (λ k low high. child_moved inner k (omega (arith, high)))
       (λ k low high. no_child inner k inside (omega (arith, high, within))
-      (λ j j_in is. omega (arith, is, low, j_in))) in
-      let middle : filter P (range_with_len (0 + first) n)
-      ≡ map (λ (k : ℕ). first + k) (children_of (entries_of units) inner) =
-      filter_moved first P (is_child (entries_of units) inner) n 0 (0 + first) (omega arith)
-      (λ k low high. child_moved inner k (omega (arith, high))) in
-      rw (
-        range_split first (n + rest) 0 (length (entries_of all)) (omega (arith, within, inside)),
-        range_split n rest (0 + first) (n + rest) refl,
+      (λ j j_in is. omega (arith, is, low, j_in)))
+
+  -- ---- steps by value
+
+  members_moved : (inner : ℕ) (ks : List ℕ) → All (IsChildOf (entries_of units) inner) ks
+      → flat_map (member_step all) (map (λ (k : ℕ). first + k) ks)
+      ≡ map (λ (k : ℕ). first + k) (flat_map (member_step units) ks)
+  members_moved inner [] are = refl
+  members_moved inner (k ∷ ks) are =
+      let within = (are 0 k (omega arith)).0 in
+      let more = members_moved inner ks (λ j d below. are (suc j) d (omega (arith, below))) in
+      search (rules, (plain_same w k within), (w.targets k DW_AT_type within), targets_moved, map-append, more)
+
+  row_moved : (k : ℕ) → k < length (entries_of units)
+      → steps_by_value all (first + k) ≡ map (λ (j : ℕ). first + j) (steps_by_value units k)
+  row_moved k within =
+      let are = children-all (entries_of units) k in
+      let members = members_moved k (children_of (entries_of units) k) are in
+      search (
+        rules,
+        (w.entries k within),
+        (w.targets k DW_AT_type within),
+        (w.targets k DW_AT_signature within),
+        (children_moved k within),
+        members,
+        row_parts,
       )
-      (simp (filter-append, before, behind, middle, append-nil))
+
+  pub graph_of : IsAmong (by_value all) (by_value units) first (length (entries_of units))
+  graph_of = search (rules, length-by_value, by_value-at, (w.within), row_moved, by_value-leads)
 
   -- ---- the number of elements of an array
 
   factor_same : (k : ℕ) → k < length (entries_of units) → factor_of all (first + k) ≡ factor_of units k
-  factor_same k within = rw (count_same w k within, w.entries k within) refl
+  factor_same k within = search (rules, count_same)
 
   module _ (inner : ℕ) where
     subranges_same : (ks : List ℕ) → All (IsChildOf (entries_of units) inner) ks
@@ -143,44 +167,27 @@ module _ {all : List DebugUnit} {number first : ℕ} {units : List DebugUnit}
       (agree : (k : ℕ) → k < length (entries_of units) → table (first + k) ≡ lone k) where
     to_moved : (o : Option ℕ) → ((k : ℕ) → o ≡ Some k → k < length (entries_of units))
         → size_to table (moved_number first o) ≡ size_to lone o
-    to_moved None below = refl
-    to_moved (Some k) below = agree k (below k refl)
+    to_moved o below = search rules
 
-    type_moved : (inner : ℕ) → inner < length (entries_of units)
-        → size_to table (type_target all (first + inner)) ≡ size_to lone (type_target units inner)
-    type_moved inner inside = search (rules, to_moved, target_within)
+    module _ (inner : ℕ) (inside : inner < length (entries_of units)) where
+      type_moved : size_to table (type_target all (first + inner)) ≡ size_to lone (type_target units inner)
+      type_moved = search (rules, to_moved, target_within)
 
-    signature_moved : (inner : ℕ) → inner < length (entries_of units)
-        → size_to table (signature_target all (first + inner)) ≡ size_to lone (signature_target units inner)
-    signature_moved inner inside = search (rules, to_moved, target_within)
+      signature_moved : size_to table (signature_target all (first + inner))
+          ≡ size_to lone (signature_target units inner)
+      signature_moved = search (rules, to_moved, target_within)
 
-    parent_moved : (inner : ℕ) → inner < length (entries_of units)
-        → size_to table (entry_in all (first + inner)).parent ≡ size_to lone (entry_in units inner).parent
-    parent_moved inner inside = search (rules, to_moved, parent-first)
+      parent_moved : size_to table (entry_in all (first + inner)).parent ≡ size_to lone (entry_in units inner).parent
+      parent_moved = search (rules, to_moved, parent-first)
 
-    array_moved : (inner : ℕ) → inner < length (entries_of units)
-        → array_size all table (first + inner) ≡ array_size units lone inner
-    array_moved inner inside = search (rules, elements_same, type_moved)
+      array_moved : array_size all table (first + inner) ≡ array_size units lone inner
+      array_moved = search (rules, elements_same, type_moved)
 
-    kind_moved : (kind : Kind) (inner : ℕ) → inner < length (entries_of units)
-        → size_of_kind kind all table (first + inner) ≡ size_of_kind kind units lone inner
-    kind_moved Declared inner inside = signature_moved inner inside
-    kind_moved OwnSized inner inside = search (rules)
-    kind_moved Pointer inner inside = search (rules)
-    kind_moved Alias inner inside = type_moved inner inside
-    kind_moved Enumeration inner inside = search (rules, type_moved)
-    kind_moved Array inner inside = search (rules, array_moved)
-    kind_moved Subroutine inner inside = refl
-    kind_moved NoType inner inside = refl
+      kind_moved : (kind : Kind) → size_of_kind kind all table (first + inner) ≡ size_of_kind kind units lone inner
+      kind_moved kind = search (rules, signature_moved, type_moved, array_moved)
 
-    pub line_moved : (inner : ℕ) → inner < length (entries_of units)
-        → size_line all table (first + inner) ≡ size_line units lone inner
-    line_moved inner inside = search (rules, kind_moved)
+      pub line_moved : size_line all table (first + inner) ≡ size_line units lone inner
+      line_moved = search (rules, kind_moved)
 
-    pub fails_moved : (inner : ℕ) → inner < length (entries_of units) → (rule : Rule)
-        → fails_size all table (first + inner) rule ≡ fails_size units lone inner rule
-    fails_moved inner inside NoSize = search (rules)
-    fails_moved inner inside SizeTooGreat = rw (agree inner inside) refl
-    fails_moved inner inside MemberOutside = search (rules, plain_same, parent_moved, type_moved, past_moved)
-    fails_moved inner inside EnumSize = search (rules, has_target_same, type_moved)
-    fails_moved inner inside rule = refl
+      pub fails_moved : (rule : Rule) → fails_size all table (first + inner) rule ≡ fails_size units lone inner rule
+      fails_moved rule = search (rules, plain_same, parent_moved, type_moved, past_moved, has_target_same)

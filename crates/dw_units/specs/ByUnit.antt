@@ -3,15 +3,14 @@
 use Rattle.std.specs.Prelude.{◌≡◌, ℕ, Bool, true, false, ◌+◌, ◌<◌, List, ◌∷◌, ◌++◌, length, drop}
 use Rattle.std.specs.List.{AllByRecursion}
 use Rattle.dw_elf.specs.declared.sections.Sections.{Sections}
-use Rattle.dw_entries.specs.declared.fault.PlainFault.{PlainFault}
-use Rattle.dw_entries.specs.declared.fault.Fault.{Fault}
-use Rattle.dw_forms.specs.declared.rule.Rule.{Rule}
 use Rattle.dw_forms.specs.declared.rule.Rule.TheVariants.{NoEntry}
+use Rattle.dw_entries.specs.declared.fault.Fault.{Fault}
+use Rattle.dw_entries.specs.declared.fault.PlainFault.{PlainFault}
 use Rattle.dw_entries.specs.Units.{DebugUnit, AreUnits, AreFrom, units_bytes}
 use Rattle.dw_forms.specs.Value.{Datum, ref_info}
 use Rattle.dw_entries.specs.Entries.{Entry, entries_of}
 use Rattle.dw_entries.specs.EntryRules.{EachEntry, HasAttribute}
-use Rattle.dw_entries.specs.Failures.{HasNone}
+use Rattle.dw_entries.specs.Failures.{HasNone, Rule}
 use Rattle.dw_entries.specs.Faults.{Fails}
 use Rattle.dw_types.specs.SizeTables.{Size}
 use Rattle.dw_types.specs.Sizes.{IsSizeTable}

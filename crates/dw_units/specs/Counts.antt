@@ -2,8 +2,7 @@
 use Rattle.std.specs.Prelude.{◌≡◌, ◌+◌, List, length}
 use Rattle.std.specs.List.{count_by}
 use Rattle.dw_elf.specs.declared.sections.Sections.{Sections}
-use Rattle.dw_entries.specs.Units.{DebugUnit}
-use Rattle.dw_entries.specs.Entries.{entries_of}
+use Rattle.dw_entries.specs.Entries.{entries_of, DebugUnit}
 use Rattle.dw_image.specs.declared.image.Image.{Image}
 use Rattle.dw_image.specs.Headline.{IsSoundBy, IsFaultOf}
 use Rattle.dw_image.specs.Images.{unit_count, entry_count, type_count}

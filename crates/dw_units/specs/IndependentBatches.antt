@@ -2,20 +2,18 @@
 -- those that share an abbreviation table. If each batch is valid by itself, all are valid together.
 use Rattle.std.specs.Prelude.{◌≡◌, ℕ, false, List, None}
 use Rattle.std.specs.List.{AllByRecursion, flat_map}
-use Rattle.dw_elf.specs.declared.sections.Sections.{Sections}
 use Rattle.dw_forms.specs.declared.form.Form.{Form}
 use Rattle.dw_forms.specs.declared.form.Form.TheVariants.{RefAddr, RefSig8, Indirect}
 use Rattle.dw_units.specs.declared.batches.Elsewhere.{Elsewhere}
 use Rattle.dw_units.specs.declared.batches.Elsewhere.TheVariants.{Never, ByOffset, BySignature}
-use Rattle.dw_forms.specs.Value.{Datum}
 use Rattle.dw_entries.specs.Units.{DebugUnit, AreUnits, SpellsInfo}
 use Rattle.dw_entries.specs.Entries.{Entry, entries_of}
 use Rattle.dw_entries.specs.EntryRules.{EachEntry, HasAttribute}
 use Rattle.dw_entries.specs.Failures.{HasNone}
 use Rattle.dw_links.specs.Classes.{ClassFailures}
 use Rattle.dw_links.specs.Signatures.{type_unit_of}
-use Rattle.dw_links.specs.Strings.{StringFailures}
-use Rattle.dw_links.specs.References.{is_signature, ReferenceFailures}
+use Rattle.dw_links.specs.Strings.{StringFailures, Sections}
+use Rattle.dw_links.specs.References.{is_signature, ReferenceFailures, Datum}
 use Rattle.dw_types.specs.Graphs.{HasNoCycle}
 use Rattle.dw_types.specs.Shapes.{ShapeFailures}
 use Rattle.dw_types.specs.Steps.{by_value}

@@ -1,15 +1,12 @@
 //! The counts of sound sections or their first fault, batch after batch of units if they refer to nothing outside their
 //! batch.
 
-ghost use Rattle.std.specs.Prelude.{◌+◌, ◌≤◌, List, length, take, drop, IfErr, IfOk, IfSome};
-ghost use Rattle.std.specs.Bool.{OnTrue};
-ghost use Rattle.dw_entries.specs.Entries.{entries_of};
+ghost use Rattle.std.specs.Prelude.{◌+◌, ◌≤◌, length, take, drop, IfErr, IfOk, IfSome};
 ghost use Rattle.dw_entries.specs.Faults.{Fails};
 ghost use Rattle.dw_entries.specs.Stopped.{IfPlainFault};
-ghost use Rattle.dw_entries.specs.Units.{DebugUnit};
 ghost use Rattle.dw_entries.specs.Views.{all_entries, sections_of, units_of};
 ghost use Rattle.dw_units.specs.IndependentBatches.{JoinsUnits};
-ghost use Rattle.dw_units.specs.ByUnit.{FirstOfUnits, TreesOfUnits, IsFirm};
+ghost use Rattle.dw_units.specs.ByUnit.{FirstOfUnits, TreesOfUnits};
 ghost use Rattle.dw_units.specs.Counts.{IsFoundIn};
 ghost use Rattle.dw_units.specs.BatchSections.{IsFirmlyFound, IsFoundAfter, IsFoundUpTo};
 ghost use Rattle.dw_units.specs.BatchSections.{IsWhollyFound, Refer};
@@ -51,22 +48,12 @@ fn wholly_found(fault: Fault) -> Option<Found>
     }
 }
 
-/// Whether the fault of a batch does not depend on the other units: where no entry of the batch is at an offset
-/// of .debug_info, one of another batch may be.
-fn is_firm(rule: Rule, elsewhere: Elsewhere) -> bool
-    ensures { OnTrue result ((units : List DebugUnit) → Refer (entries_of units) elsewhere → IsFirm units rule) }
-{
-    match elsewhere {
-        Elsewhere::Never => true,
-        _ => !matches!(rule, Rule::NoEntry),
-    }
-}
-
-/// The fault of a batch is what is found. None if it depends on the other units.
+/// The fault of a batch is what is found. None if it depends on the other units: where no entry of the batch is at an
+/// offset of .debug_info, one of another batch may be.
 fn firmly_found(fault: Fault, elsewhere: Elsewhere) -> Option<Found>
     ensures { IfSome result (IsFirmlyFound elsewhere fault) }
 {
-    if !is_firm(fault.rule, elsewhere) {
+    if let (Elsewhere::ByOffset | Elsewhere::BySignature, Rule::NoEntry) = (elsewhere, fault.rule) {
         return None;
     }
     Some(Found::Fault(fault))

@@ -1,8 +1,7 @@
 use Rattle.std.proofs.Common.{rules, ◌+◌, Some, sym, ap, ◌∙◌, arith}
 use Rattle.std.proofs.lemmas.Option.{slice_get-get_or}
 use Rattle.dw_entries.specs.declared.records.UnitRecord.{UnitRecord}
-use Rattle.dw_entries.proofs.KeptLaws.{units_counted}
-use Rattle.dw_entries.proofs.UnitRanges.{few_records, ends_with_next, ends_with_all}
+use Rattle.dw_entries.proofs.UnitRanges.{few_records, ends_with_next, ends_with_all, units_counted}
 use Rattle.dw_entries.proofs.units.end_of.Goals as goal
 
 pub overflow_add-next : goal.overflow_add-next

@@ -1,6 +1,5 @@
 use Rattle.std.proofs.Common.{arith}
-use Rattle.dw_entries.proofs.KeptLaws.{units_counted}
-use Rattle.dw_entries.proofs.UnitRanges.{units_rise, some_before, point_within, unit_found}
+use Rattle.dw_entries.proofs.UnitRanges.{units_rise, some_before, point_within, unit_found, units_counted}
 use Rattle.dw_entries.proofs.units.unit_number.Goals as goal
 
 pub units_up_to-requires : goal.units_up_to-requires

@@ -1,5 +1,5 @@
 use Rattle.std.proofs.Common.{◌≤◌, length}
-use Rattle.dw_forms.specs.AttributesSoFar.{AreSeen}
+use Rattle.dw_forms.specs.AttributeBits.{AreSeen}
 use Rattle.dw_forms.specs.declared.rule.Rule.TheVariants.{AbbrevCut}
 use Rattle.dw_forms.specs.Abbrev.{broken}
 use Rattle.dw_forms.specs.AbbrevReading.{pair_at, attributes_of}

@@ -1,7 +1,6 @@
-use Rattle.std.proofs.Common.{arith, [], ◌∷◌, refl}
-use Rattle.std.proofs.lemmas.List.{length-append}
+use Rattle.std.proofs.Common.{[], ◌∷◌, arith, refl, length-append}
 use Rattle.dw_forms.specs.Abbrev.{table_view}
-use Rattle.dw_forms.proofs.AbbrevSteps.{then_fails}
+use Rattle.dw_forms.proofs.DeclLaws.{then_fails}
 use Rattle.dw_forms.proofs.SpelledLists.{goes_to_end, goes_further, goes_wrong}
 use Rattle.dw_forms.proofs.abbrev_reader.table.Goals as goal
 

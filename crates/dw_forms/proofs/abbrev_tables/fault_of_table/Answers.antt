@@ -1,4 +1,4 @@
-use Rattle.dw_forms.proofs.TailLaws.{broken_by}
+use Rattle.dw_forms.proofs.StartLaws.{broken_by}
 use Rattle.dw_forms.proofs.abbrev_tables.fault_of_table.Goals as goal
 
 pub returns-clause-broken : goal.returns-clause-broken

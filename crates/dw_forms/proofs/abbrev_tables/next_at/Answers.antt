@@ -3,8 +3,7 @@ use Rattle.std.proofs.lemmas.Result.{err_from_is_err_and}
 use Rattle.dw_forms.specs.AbbrevReading.{unsigned_at}
 use Rattle.dw_forms.specs.AttributeBits.{AreBitsOf}
 use Rattle.dw_forms.specs.AttributeLists.{list_in}
-use Rattle.dw_forms.proofs.FrontLaws.{code_breaks, next_none, tag_breaks, next_some, list_breaks}
-use Rattle.dw_forms.proofs.ListLaws.{bytes_from}
+use Rattle.dw_forms.proofs.ListStarts.{code_breaks, next_none, tag_breaks, next_some, list_breaks, bytes_from}
 use Rattle.dw_forms.proofs.abbrev_tables.next_at.Goals as goal
 
 pub returns-in_err-code-clause-fault : goal.returns-in_err-code-clause-fault

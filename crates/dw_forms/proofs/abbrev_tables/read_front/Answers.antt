@@ -1,7 +1,7 @@
 use Rattle.std.proofs.Common.{rules, arith}
 use Rattle.dw_forms.specs.TableStarts.{IsDeclAt}
 use Rattle.dw_forms.proofs.OffsetLaws.{along_push, new_push, stay_same, stay_on}
-use Rattle.dw_forms.proofs.TailLaws.{table_end, decls_stay, front_fails}
+use Rattle.dw_forms.proofs.StartLaws.{table_end, decls_stay, front_fails}
 use Rattle.dw_forms.proofs.abbrev_tables.read_front.Goals as goal
 
 pub loop-decls-init : goal.loop-decls-init

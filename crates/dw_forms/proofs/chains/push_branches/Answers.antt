@@ -1,11 +1,9 @@
 use Rattle.std.proofs.Common.{rules, arith}
-use Rattle.dw_forms.proofs.BranchLaws.{appended_none, appended, appended_ends, appended_new, appended_same, appended_twice}
+use Rattle.dw_forms.proofs.CodeLaws.{appended_none, appended, appended_ends, appended_new, appended_same, appended_twice}
 use Rattle.dw_forms.proofs.chains.push_branches.Goals as goal
 
 pub loop-place-init : goal.loop-place-init
-loop-place-init g c =
-    appended_none c.args.branches.now.items (g.L.Links.links c.args.links.now) c.args.rest c.args.code c.requires.found
-    c.requires.rest
+loop-place-init g c = appended_none _ (g.L.Links.links c.args.links.now) c.args.rest _ c.requires.found c.requires.rest
 
 pub returns-then-number-eq0-clause-branches : goal.returns-then-number-eq0-clause-branches
 returns-then-number-eq0-clause-branches g c = search (rules, appended_ends)
@@ -17,13 +15,12 @@ pub loop-place-preserved : goal.loop-place-preserved
 loop-place-preserved g c =
     let some = c.if-number-eq0.false in
     let links = g.L.Links.links c.args.links.now in
-    let n = c.loop-place.number in
     rw c.in_ok-push.ensures.items
-    (appended c.args.branches.now.items c.loop-place.branches.items links c.args.rest c.args.code c.loop-place.place n
-    c.link-first.result c.loop-place.invariant (omega arith) c.link-first.ensures c.branch_at-other.result
+    (appended _ _ links c.args.rest _ _ _
+    _ c.loop-place.invariant (omega arith) c.link-first.ensures _
     c.branch_at-other.ensures.near (rw c.deref.ensures.value at c.branch_at-other.ensures.kept)
     c.branch_at-other.ensures.none c.loop-place-test.true
-    c.same_bit-same.result c.number_or.result c.number_or-number.result c.same_bit-same.ensures c.number_or.ensures
+    _ _ _ c.same_bit-same.ensures c.number_or.ensures
     c.number_or-number.ensures)
 
 pub returns-then-number-eq0-2-clause-new : goal.returns-then-number-eq0-2-clause-new

@@ -1,4 +1,4 @@
-use Rattle.dw_forms.proofs.BranchLaws.{AreAppended}
+use Rattle.dw_forms.proofs.CodeLaws.{AreAppended}
 use Rattle.dw_forms.proofs.chains.push_branches.Given as goal
 
 abbrev pub invariant-loop-place : goal.invariant-loop-place

@@ -1,6 +1,6 @@
 use Rattle.dw_forms.specs.Abbrev.{table}
 use Rattle.dw_forms.specs.Formats.{apart}
-use Rattle.dw_forms.proofs.TableFaults.{table_one_fault}
+use Rattle.dw_forms.proofs.TableLaws.{table_one_fault}
 use Rattle.dw_forms.proofs.laws.tables_are_apart.Goals as goal
 
 pub returns-clause-apart : goal.returns-clause-apart

@@ -1,5 +1,4 @@
-use Rattle.std.proofs.Common.{arith}
-use Rattle.std.proofs.lemmas.Bool.{le-ltb}
+use Rattle.std.proofs.Common.{arith, le-ltb}
 use Rattle.dw_forms.proofs.SpellingSteps.{taken_off}
 use Rattle.dw_forms.proofs.leb.signed.Goals as goal
 

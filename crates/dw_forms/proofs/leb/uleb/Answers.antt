@@ -1,5 +1,5 @@
 use Rattle.std.proofs.Common.{rules}
-use Rattle.dw_forms.proofs.FewBytes.{uleb_one, uleb_two}
+use Rattle.dw_forms.proofs.SpellingSteps.{uleb_one, uleb_two}
 use Rattle.dw_forms.proofs.leb.uleb.Goals as goal
 
 pub returns-in-len1-up : goal.returns-in-len1-up

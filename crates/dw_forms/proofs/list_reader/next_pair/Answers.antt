@@ -2,9 +2,8 @@ use Rattle.std.proofs.Common.{rules, arith, List, ℕ, drop, None, Ok, sym, ap, 
 use Rattle.std.proofs.lemmas.Grind.{common_steps}
 use Rattle.std.proofs.lemmas.Result.{err_from_is_err_and}
 use Rattle.dw_forms.specs.AbbrevReading.{begun_at}
-use Rattle.dw_forms.proofs.AbbrevSteps.{pair_none, pair_some, pair_fails, form_fails}
-use Rattle.dw_forms.proofs.ListLaws.{bytes_from}
-use Rattle.dw_forms.proofs.ListStarts.{pair_rest}
+use Rattle.dw_forms.proofs.DeclLaws.{pair_none, pair_some, pair_fails, form_fails}
+use Rattle.dw_forms.proofs.ListStarts.{bytes_from, pair_rest}
 use Rattle.dw_forms.proofs.list_reader.next_pair.Goals as goal
 
 pub returns-in_err-pair-clause-exact : goal.returns-in_err-pair-clause-exact

@@ -1,6 +1,6 @@
 use Rattle.dw_forms.specs.Value.{view}
 use Rattle.dw_forms.specs.ValueFormats.{attribute_value}
-use Rattle.dw_forms.proofs.ReadAnswers.{found_by, none_by, fails_by}
+use Rattle.dw_forms.proofs.SpellingSteps.{found_by, none_by, fails_by}
 use Rattle.dw_forms.proofs.value_reader.read_value.Goals as goal
 
 pub returns-clause-found : goal.returns-clause-found

@@ -1,5 +1,4 @@
-use Rattle.std.proofs.Common.{rules, ◌≡◌, Bool, get_or, ap, sym, ◌∙◌}
-use Rattle.std.specs.Prelude.{◌&&◌}
+use Rattle.std.proofs.Common.{rules, ◌≡◌, Bool, get_or, ap, sym, ◌∙◌, ◌&&◌}
 use Rattle.std.specs.Char.{is_ascii_alphanumeric}
 use Rattle.std.proofs.lemmas.List.Folds.{list_all_more}
 use Rattle.dw_image.specs.StringSpans.{is_word_byte}

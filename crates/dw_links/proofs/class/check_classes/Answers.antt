@@ -1,7 +1,6 @@
 use Rattle.std.proofs.Common.{arith}
-use Rattle.dw_entries.specs.Views.{all_units}
 use Rattle.dw_links.specs.Classes.{ClassFails}
-use Rattle.dw_links.proofs.UnitToAll.{more_below, first_here, none_fails}
+use Rattle.dw_links.proofs.UnitToAll.{more_below, first_here, none_fails, all_units}
 use Rattle.dw_links.proofs.class.check_classes.Goals as goal
 
 pub returns-in-Err-clause-fault : goal.returns-in-Err-clause-fault

@@ -1,6 +1,5 @@
-use Rattle.dw_entries.specs.Views.{all_units}
 use Rattle.dw_links.specs.Classes.{ClassFails}
-use Rattle.dw_links.proofs.UnitToAll.{NoneBelow}
+use Rattle.dw_links.proofs.UnitToAll.{NoneBelow, all_units}
 use Rattle.dw_links.proofs.class.check_classes.Given as goal
 
 abbrev pub invariant-loop-number : goal.invariant-loop-number

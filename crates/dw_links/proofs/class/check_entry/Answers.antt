@@ -1,13 +1,9 @@
 use Rattle.std.proofs.Common.{rules, ap, ◌∙◌}
-use Rattle.dw_entries.specs.ByNumber.{entry_of}
 use Rattle.dw_entries.specs.PassedAttributes.{IsNotOpen}
-use Rattle.dw_entries.specs.Lookups.{entry_head}
-use Rattle.dw_entries.specs.Views.{all_entries, all_units}
 use Rattle.dw_entries.specs.ValuesLeft.{values_left}
-use Rattle.dw_links.specs.Classes.{ClassFails}
-use Rattle.dw_links.proofs.ClassLemmas.{others_pass}
-use Rattle.dw_links.proofs.RuleSteps.{none_checked, checked_fails, checked_more, checked_all, fewer}
-use Rattle.dw_links.proofs.UnitToAll.{unit_below}
+use Rattle.dw_links.proofs.ClassLemmas.{others_pass, ClassFails}
+use Rattle.dw_links.proofs.RuleSteps.{none_checked, checked_fails, checked_more, checked_all, fewer, entry_head}
+use Rattle.dw_links.proofs.UnitToAll.{unit_below, all_entries, all_units, entry_of}
 use Rattle.dw_entries.specs.declared.entry.EntryHead.{EntryHead}
 use Rattle.dw_links.proofs.class.check_entry.Goals as goal
 

@@ -1,11 +1,9 @@
 use Rattle.std.proofs.Common.{length}
-use Rattle.dw_entries.specs.EntryRules.{values_of}
 use Rattle.dw_entries.specs.ByNumber.{entry_of}
-use Rattle.dw_entries.specs.Lookups.{entry_head}
 use Rattle.dw_entries.specs.Views.{all_entries, all_units}
 use Rattle.dw_entries.specs.ValuesLeft.{values_left}
 use Rattle.dw_links.specs.Classes.{ClassFails}
-use Rattle.dw_links.proofs.RuleSteps.{Checked}
+use Rattle.dw_links.proofs.RuleSteps.{Checked, entry_head, values_of}
 use Rattle.dw_links.proofs.class.check_entry.Given as goal
 
 abbrev pub invariant-loop-item : goal.invariant-loop-item

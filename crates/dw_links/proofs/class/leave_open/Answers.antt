@@ -3,11 +3,9 @@ use Rattle.std.proofs.lemmas.List.{length-map}
 use Rattle.std.proofs.lemmas.Option.{slice_get_within}
 use Rattle.dw_forms.specs.declared.abbrev.AttributeSpec.{AttributeSpec}
 use Rattle.dw_forms.specs.AttributeLists.{spec_of}
-use Rattle.dw_entries.specs.Entries.{PlacedUnit, placed}
-use Rattle.dw_entries.specs.Views.{units_of}
-use Rattle.dw_links.specs.Classes.{ClassFails}
+use Rattle.dw_entries.specs.Views.{units_of, PlacedUnit, placed}
 use Rattle.dw_links.specs.RulesOfAttributes.{NeverFailsAt}
-use Rattle.dw_links.proofs.ClassLemmas.{others_pass}
+use Rattle.dw_links.proofs.ClassLemmas.{others_pass, ClassFails}
 use Rattle.dw_links.proofs.ListLookups.{none_concerned, one_more}
 use Rattle.dw_links.proofs.class.leave_open.Goals as goal
 

@@ -1,6 +1,5 @@
-use Rattle.dw_entries.proofs.EntryFacts.{entries_rise}
+use Rattle.dw_entries.proofs.EntryFacts.{entries_rise, entries_of, placed}
 use Rattle.dw_links.proofs.TargetLemmas.{there_is, entry_at_is, at_reach_in_unit, reach_in_unit_is, at_type, type_is}
-use Rattle.dw_entries.specs.Entries.{entries_of, placed}
 use Rattle.dw_links.proofs.laws.one_entry_is_reached.Goals as goal
 
 pub returns-clause-info : goal.returns-clause-info

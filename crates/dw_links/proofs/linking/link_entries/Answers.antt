@@ -1,24 +1,11 @@
-use Rattle.std.proofs.Common.{rules, ◌≡◌, ◌<◌, ◌≤◌, ◌∙◌, ℕ, Some, length, take, arith, sym, subst}
-use Rattle.std.specs.Prelude.{slice_get}
-use Rattle.std.proofs.lemmas.List.{length-set, take_all}
+use Rattle.std.proofs.Common.{rules, ◌≡◌, ◌<◌, ◌≤◌, ◌∙◌, ℕ, Some, length, take, arith, sym, subst, slice_get, length-set, take_all}
 use Rattle.std.proofs.lemmas.Option.{slice_get-get_or}
-use Rattle.dw_entries.specs.declared.entries.Entries.{Entries}
-use Rattle.dw_entries.specs.Entries.{placed}
-use Rattle.dw_entries.specs.ByNumber.{no_entry, entry_of, placed_of}
-use Rattle.dw_entries.specs.Views.{all_entries, all_units, units_of}
 use Rattle.dw_entries.proofs.FirstPlaces.{none_by_both}
-use Rattle.dw_entries.proofs.EntryFacts.{length-placed}
 use Rattle.dw_forms.specs.Codes.{DW_AT_str_offsets_base, DW_AT_addr_base}
-use Rattle.dw_links.specs.Bases.{base_in}
-use Rattle.dw_links.specs.Constants.{language_of}
-use Rattle.dw_links.specs.UnitAtHand.{FailsByText, FailsByTarget}
 use Rattle.dw_links.specs.EntryLinks.{IsEntryLinked, IsFirstAtEntry}
-use Rattle.dw_links.specs.References.{HeaderFailures, AttributeFailures}
-use Rattle.dw_links.specs.Tables.{target_of_type}
 use Rattle.dw_links.proofs.LeadSteps.{may_link, keeps_none, keeps_whole, only_none}
-use Rattle.dw_links.proofs.ClassLemmas.{unit_there}
-use Rattle.dw_links.proofs.TableLemmas.{map_one_more, map_all}
-use Rattle.dw_links.proofs.UnitToAll.{more_below, none_fails, failed_first, LinkedBelow, starts_first, starts_next, none_below, types_more}
+use Rattle.dw_links.proofs.TableLemmas.{map_one_more, map_all, no_entry, entry_of, placed_of, all_entries, all_units, units_of, Entries, placed, unit_there, language_of, target_of_type, base_in}
+use Rattle.dw_links.proofs.UnitToAll.{more_below, none_fails, failed_first, LinkedBelow, starts_first, starts_next, none_below, types_more, FailsByText, FailsByTarget, HeaderFailures, AttributeFailures, length-placed}
 use Rattle.dw_links.proofs.linking.link_entries.Goals as goal
 
 pub loop-unit-init : goal.loop-unit-init
@@ -41,7 +28,7 @@ loop-number-init c =
     record {
       kept = c.loop-unit.invariant.kept;
       linked = subst (LinkedBelow entries c.loop-unit.types.items)
-          (starts.begins (placed_of (placed us) c.loop-unit.unit) is ∙ sym c.of_unit-references.ensures.first) linked;
+          (starts.begins (placed_of (placed us) c.loop-unit.unit) is ∙ sym c.of_unit-references.ensures.range.0) linked;
     }
 
 pub id-id-requires : goal.id-id-requires
@@ -103,8 +90,8 @@ loop-unit-preserved c =
     let us = units_of entries in
     let p = placed_of (placed us) c.loop-unit.unit in
     let is = unit_there us c.loop-unit.unit (omega arith) in
-    let first = c.of_unit-references.ensures.first in
-    let end = c.of_unit-references.ensures.end in
+    let first = c.of_unit-references.ensures.range.0 in
+    let end = c.of_unit-references.ensures.range.1 in
     let read = c.loop-unit.invariant.read in
     let texts = c.of_unit-references.ensures.linkable.texts in
     record {

@@ -1,7 +1,6 @@
 use Rattle.std.proofs.Common.{ℕ}
-use Rattle.dw_entries.specs.Views.{units_of}
 use Rattle.dw_links.specs.DeclaredEntries.{KeepsDeclared}
-use Rattle.dw_links.proofs.UnitToAll.{StartsAt, LinkedBelow, ReadBelow}
+use Rattle.dw_links.proofs.UnitToAll.{StartsAt, LinkedBelow, ReadBelow, units_of}
 use Rattle.dw_links.proofs.linking.link_entries.Given as goal
 
 abbrev pub invariant-loop-unit : goal.invariant-loop-unit

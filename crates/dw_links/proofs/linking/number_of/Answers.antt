@@ -1,8 +1,7 @@
 use Rattle.std.proofs.Common.{arith, ℕ, ◌≡◌, ◌<◌, length}
 use Rattle.dw_entries.specs.declared.entries.Entries.{Entries}
 use Rattle.dw_entries.specs.Views.{all_entries}
-use Rattle.dw_entries.proofs.FindLaws.{entries_counted}
-use Rattle.dw_entries.proofs.OrderLaws.{scanned_few}
+use Rattle.dw_entries.proofs.FindLaws.{entries_counted, scanned_few}
 use Rattle.dw_links.proofs.linking.number_of.Goals as goal
 
 few : (entries : Entries) (id number : ℕ) → number ≡ id → id < length (all_entries entries) → number < 0xffffffff

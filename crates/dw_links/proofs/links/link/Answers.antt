@@ -1,13 +1,11 @@
 use Rattle.std.proofs.Common.{rules, subst, inr}
 use Rattle.std.proofs.lemmas.Result.{err_from_is_err_and}
-use Rattle.dw_entries.specs.Entries.{entries_of, placed}
 use Rattle.dw_entries.specs.declared.fault.PlainFault.{PlainFault}
 use Rattle.dw_entries.specs.Failures.{plain_fault_of, IsFirst, IsPlainFault}
 use Rattle.dw_entries.specs.Stopped.{IfPlainFault}
-use Rattle.dw_entries.specs.Views.{units_of}
-use Rattle.dw_links.specs.References.{HeaderFailures}
+use Rattle.dw_entries.specs.Views.{units_of, entries_of, placed}
 use Rattle.dw_links.proofs.LinkedEntries.{first_by_header}
-use Rattle.dw_links.proofs.UnitToAll.{if_fault}
+use Rattle.dw_links.proofs.UnitToAll.{if_fault, HeaderFailures}
 use Rattle.dw_links.proofs.links.link.Goals as goal
 
 pub returns-in_err-check_classes-clause-fault : goal.returns-in_err-check_classes-clause-fault

@@ -1,16 +1,12 @@
 use Rattle.std.proofs.Common.{inl, refl, sym, ap, ◌∙◌, subst}
 use Rattle.dw_forms.specs.declared.rule.Rule.TheVariants.{SignatureTwice}
 use Rattle.dw_entries.specs.declared.units.UnitHead.{UnitHead}
-use Rattle.dw_entries.specs.Entries.{entries_of, placed}
-use Rattle.dw_entries.specs.ByNumber.{placed_of}
 use Rattle.dw_entries.specs.Failures.{IsFirst}
-use Rattle.dw_entries.specs.Views.{units_of}
-use Rattle.dw_entries.proofs.EntryFacts.{entries_rise}
+use Rattle.dw_entries.specs.Views.{units_of, entries_of, placed}
 use Rattle.dw_links.specs.References.{AtHeader}
-use Rattle.dw_links.specs.Signatures.{type_unit_of}
 use Rattle.dw_links.proofs.ClassLemmas.{unit_there}
-use Rattle.dw_links.proofs.LinkedEntries.{no_type, header_fails, header_passes, other_unit, new_signature}
-use Rattle.dw_links.proofs.TargetLemmas.{type_of_unit_is, reach_in_unit_is}
+use Rattle.dw_links.proofs.LinkedEntries.{no_type, header_fails, header_passes, other_unit, new_signature, entries_rise}
+use Rattle.dw_links.proofs.TargetLemmas.{type_of_unit_is, reach_in_unit_is, placed_of, type_unit_of}
 use Rattle.dw_links.proofs.references.add_type.Goals as goal
 
 pub returns-in_default-clause-added : goal.returns-in_default-clause-added

@@ -1,9 +1,7 @@
 use Rattle.std.proofs.Common.{rules, ◌+◌, ◌∙◌, ap, sym}
-use Rattle.dw_entries.proofs.EntryFacts.{entries_rise, length-placed}
+use Rattle.dw_entries.proofs.EntryFacts.{entries_rise, length-placed, placed_of}
 use Rattle.dw_links.proofs.LinkedEntries.{not_typed}
-use Rattle.dw_entries.specs.Entries.{entries_of}
-use Rattle.dw_entries.specs.Views.{all_units, units_of}
-use Rattle.dw_entries.specs.ByNumber.{placed_of}
+use Rattle.dw_entries.specs.Views.{all_units, units_of, entries_of}
 use Rattle.dw_forms.specs.Codes.{is_type_tag}
 use Rattle.dw_links.proofs.references.find_type.Goals as goal
 

@@ -1,15 +1,11 @@
 use Rattle.std.proofs.Common.{rules, ℕ, arith, ◌≡◌, length, subst}
 use Rattle.std.proofs.lemmas.Result.{err_from_is_err_and}
-use Rattle.dw_entries.specs.Entries.{entries_of, placed}
-use Rattle.dw_entries.specs.ByNumber.{placed_of}
-use Rattle.dw_entries.specs.Views.{units_of}
+use Rattle.dw_entries.specs.Views.{units_of, entries_of, placed}
 use Rattle.dw_entries.proofs.Firsts.{more_of_list, none_of_list}
-use Rattle.dw_entries.proofs.EntryFacts.{length-placed}
 use Rattle.dw_links.specs.SignedTypes.{AreSignedBelow}
 use Rattle.dw_links.proofs.ClassLemmas.{unit_there}
-use Rattle.dw_links.proofs.UnitToAll.{if_fault, first_header, placed_rise}
-use Rattle.dw_links.proofs.TargetLemmas.{signed_type_is}
-use Rattle.dw_links.specs.References.{AtHeader}
+use Rattle.dw_links.proofs.UnitToAll.{if_fault, first_header, placed_rise, AtHeader, length-placed}
+use Rattle.dw_links.proofs.TargetLemmas.{signed_type_is, placed_of}
 use Rattle.dw_links.proofs.references.read_signatures.Goals as goal
 
 pub returns-clause-ok : goal.returns-clause-ok

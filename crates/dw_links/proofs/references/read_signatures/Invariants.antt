@@ -1,7 +1,5 @@
-use Rattle.std.proofs.Common.{ℕ, ◌≡◌, ◌<◌, Some}
-use Rattle.std.specs.Prelude.{slice_get}
-use Rattle.dw_entries.specs.Entries.{PlacedUnit, entries_of, placed}
-use Rattle.dw_entries.specs.Views.{units_of}
+use Rattle.std.proofs.Common.{ℕ, ◌≡◌, ◌<◌, Some, slice_get}
+use Rattle.dw_entries.specs.Views.{units_of, PlacedUnit, entries_of, placed}
 use Rattle.dw_entries.specs.Failures.{HasNone}
 use Rattle.dw_links.specs.References.{AtHeader}
 use Rattle.dw_links.specs.SignedTypes.{AreSignedBelow}

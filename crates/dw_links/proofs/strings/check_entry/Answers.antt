@@ -1,13 +1,9 @@
 use Rattle.std.proofs.Common.{rules, None, Some, ap, sym, ◌∙◌}
 use Rattle.dw_forms.specs.Value.{view}
-use Rattle.dw_entries.specs.ByNumber.{entry_of}
 use Rattle.dw_entries.specs.Leading.{DoesNotLead, leading_left}
-use Rattle.dw_entries.specs.Lookups.{entry_head}
-use Rattle.dw_entries.specs.Views.{all_entries}
-use Rattle.dw_links.specs.UnitAtHand.{FailsByText}
 use Rattle.dw_links.proofs.ClassLemmas.{passes_texts}
-use Rattle.dw_links.proofs.RuleSteps.{none_checked, checked_fails, checked_more, checked_all, fewer}
-use Rattle.dw_links.proofs.UnitToAll.{least_by_texts}
+use Rattle.dw_links.proofs.RuleSteps.{none_checked, checked_fails, checked_more, checked_all, fewer, entry_head}
+use Rattle.dw_links.proofs.UnitToAll.{least_by_texts, all_entries, FailsByText, entry_of}
 use Rattle.dw_links.proofs.strings.check_entry.Goals as goal
 
 pub loop-led-init : goal.loop-led-init

@@ -1,6 +1,5 @@
 use Rattle.std.proofs.Common.{rules, arith}
-use Rattle.dw_links.specs.UnitAtHand.{FailsByText}
-use Rattle.dw_links.proofs.UnitToAll.{more_below, first_here, none_fails, unit_below}
+use Rattle.dw_links.proofs.UnitToAll.{more_below, first_here, none_fails, unit_below, FailsByText}
 use Rattle.dw_links.proofs.strings.check_strings.Goals as goal
 
 pub keep_texts-requires-clause-next : goal.keep_texts-requires-clause-next

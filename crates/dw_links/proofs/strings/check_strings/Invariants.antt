@@ -1,6 +1,4 @@
-use Rattle.dw_links.specs.UnitAtHand.{FailsByText}
-use Rattle.dw_links.specs.UnitContributions.{AreContributions}
-use Rattle.dw_links.proofs.UnitToAll.{NoneBelow}
+use Rattle.dw_links.proofs.UnitToAll.{NoneBelow, FailsByText, AreContributions}
 use Rattle.dw_links.proofs.strings.check_strings.Given as goal
 
 abbrev pub invariant-loop-number : goal.invariant-loop-number

@@ -1,11 +1,7 @@
 use Rattle.std.proofs.Common.{ap, sym, subst, arith}
 use Rattle.dw_entries.specs.declared.units.UnitHead.{UnitHead}
 use Rattle.dw_entries.specs.Header.{IsSize}
-use Rattle.dw_entries.specs.Entries.{placed}
-use Rattle.dw_entries.specs.ByNumber.{placed_of}
-use Rattle.dw_entries.specs.Views.{units_of}
-use Rattle.dw_links.proofs.ClassLemmas.{unit_there}
-use Rattle.dw_links.proofs.TableLemmas.{sized, size_above}
+use Rattle.dw_links.proofs.TableLemmas.{sized, size_above, placed_of, units_of, placed, unit_there}
 use Rattle.dw_links.proofs.strings.read_texts.Goals as goal
 
 pub count_named-requires-2 : goal.count_named-requires-2

@@ -1,5 +1,4 @@
-use Rattle.dw_entries.specs.Entries.{entries_of, placed}
-use Rattle.dw_entries.specs.Views.{units_of}
+use Rattle.dw_entries.specs.Views.{units_of, entries_of, placed}
 use Rattle.dw_entries.proofs.EntryFacts.{entries_rise}
 use Rattle.dw_links.proofs.TargetLemmas.{entry_found, reach_in_unit_answer}
 use Rattle.dw_links.proofs.targets.reach.Goals as goal

@@ -7,7 +7,7 @@ use Rattle.dw_entries.specs.Views.{units_of}
 use Rattle.dw_links.proofs.ListLookups.{one_more}
 use Rattle.dw_units.specs.BatchSections.{IsAllowed}
 use Rattle.dw_units.specs.IndependentBatches.{leaves_by}
-use Rattle.dw_units.proofs.FormLemmas.{refer_of}
+use Rattle.dw_units.proofs.AloneLemmas.{refer_of}
 use Rattle.dw_units.proofs.batches.refer_at_most.Goals as goal
 
 pub loop-number-preserved : goal.loop-number-preserved

@@ -1,5 +1,4 @@
-use Rattle.std.proofs.Common.{length, drop, ◌<◌, ◌≤◌}
-use Rattle.std.specs.Prelude.{IfSome}
+use Rattle.std.proofs.Common.{length, drop, ◌<◌, ◌≤◌, IfSome}
 use Rattle.dw_units.specs.BatchSections.{AreSizes}
 use Rattle.dw_units.proofs.batches.separate_batches.Given as goal
 

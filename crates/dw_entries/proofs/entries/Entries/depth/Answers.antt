@@ -1,6 +1,5 @@
 use Rattle.std.proofs.Common.{arith, rules}
-use Rattle.dw_entries.proofs.FindLaws.{entries_counted}
-use Rattle.dw_entries.proofs.OrderLaws.{scanned_few}
+use Rattle.dw_entries.proofs.FindLaws.{entries_counted, scanned_few}
 use Rattle.dw_entries.proofs.DepthLaws.{starts, above_within, depth_less, climbs, lower, is_deep}
 use Rattle.dw_entries.proofs.entries.Entries.depth.Goals as goal
 

@@ -1,5 +1,4 @@
-use Rattle.dw_entries.specs.Entries.{entries_of}
-use Rattle.dw_entries.specs.Views.{units_of}
+use Rattle.dw_entries.specs.Views.{units_of, entries_of}
 use Rattle.dw_entries.proofs.DepthLaws.{Climbs, height}
 use Rattle.dw_entries.proofs.entries.Entries.depth.Given as goal
 

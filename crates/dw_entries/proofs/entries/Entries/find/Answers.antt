@@ -1,8 +1,6 @@
 use Rattle.std.proofs.Common.{rules, ℕ, ◌≡◌, ◌≢◌, List, Option, Some, None, All, ◌∙◌, arith, IfNone, IfSome}
 use Rattle.std.proofs.lemmas.List.{get_or_default}
-use Rattle.dw_entries.specs.Entries.{Entry}
-use Rattle.dw_entries.specs.ByNumber.{entry_of}
-use Rattle.dw_entries.specs.EntriesAt.{IsEntryAt}
+use Rattle.dw_entries.specs.EntriesAt.{IsEntryAt, entry_of, Entry}
 use Rattle.dw_entries.proofs.FindLaws.{past_base}
 use Rattle.dw_entries.proofs.entries.Entries.find.Goals as goal
 

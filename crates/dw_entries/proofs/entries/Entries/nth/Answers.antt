@@ -1,6 +1,5 @@
 use Rattle.std.proofs.Common.{arith}
-use Rattle.dw_entries.proofs.OrderLaws.{scanned_few}
-use Rattle.dw_entries.proofs.FindLaws.{entries_counted}
+use Rattle.dw_entries.proofs.FindLaws.{entries_counted, scanned_few}
 use Rattle.dw_entries.proofs.entries.Entries.nth.Goals as goal
 
 pub overflow_cast-k : goal.overflow_cast-k

@@ -1,7 +1,6 @@
 use Rattle.std.proofs.Common.{length}
 use Rattle.dw_forms.specs.Classes.{is_open}
-use Rattle.dw_forms.proofs.SuffixLaws.{follow}
-use Rattle.dw_entries.proofs.ChosenSteps.{before_passed, next_found, none_found, stop_taken}
+use Rattle.dw_entries.proofs.ChosenSteps.{before_passed, next_found, none_found, stop_taken, follow}
 use Rattle.dw_entries.proofs.values.Values.next_open.Goals as goal
 
 pub pass-requires : goal.pass-requires

@@ -2,11 +2,9 @@ use Rattle.std.proofs.Common.{rules, ◌≡◌, ℕ, List, ◌-◌, drop, length
 use Rattle.std.proofs.lemmas.List.{length-map}
 use Rattle.dw_forms.specs.Chains.{items_of}
 use Rattle.dw_forms.proofs.SuffixLaws.{follow, specs_ends}
-use Rattle.dw_entries.specs.Grammar.{AttributeSpec, AreAttributes}
-use Rattle.dw_entries.specs.ValuePlaces.{PlacedValue, placed_value_in}
-use Rattle.dw_entries.specs.Values.{value_context}
+use Rattle.dw_entries.specs.Values.{value_context, AttributeSpec, AreAttributes}
 use Rattle.dw_entries.specs.ValuesLeft.{placed_left}
-use Rattle.dw_entries.proofs.ValuePlaceLaws.{placed_behind}
+use Rattle.dw_entries.proofs.ValuePlaceLaws.{placed_behind, PlacedValue, placed_value_in}
 use Rattle.dw_entries.proofs.values.Values.pass_to.Goals as goal
 
 pub pass-requires : goal.pass-requires

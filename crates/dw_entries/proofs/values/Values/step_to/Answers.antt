@@ -1,6 +1,5 @@
 use Rattle.std.proofs.Common.{rules, Some}
-use Rattle.dw_entries.specs.ValuesLeft.{specs_left}
-use Rattle.dw_entries.proofs.OverLaws.{on_some, form_fits, some_first, next_over, steps_over}
+use Rattle.dw_entries.proofs.OverLaws.{on_some, form_fits, some_first, next_over, steps_over, specs_left}
 use Rattle.dw_entries.proofs.values.Values.step_to.Goals as goal
 
 pub go-requires-clause-some : goal.go-requires-clause-some

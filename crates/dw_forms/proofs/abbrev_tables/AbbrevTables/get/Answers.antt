@@ -1,7 +1,6 @@
 use Rattle.std.proofs.Common.{rules, Some, ◌∙◌, sym, ap, arith}
-use Rattle.dw_forms.specs.declared.decl.KeptDecl.{KeptDecl}
 use Rattle.dw_forms.specs.declared.attribute_lists.AttributeLists.{AttributeLists}
-use Rattle.dw_forms.specs.KeptDecls.{kept_view, decl_of}
+use Rattle.dw_forms.specs.KeptDecls.{kept_view, decl_of, KeptDecl}
 use Rattle.dw_forms.proofs.KeptLaws.{code_is, links_long, found_by, found_within, decl_read, tables_long}
 use Rattle.dw_forms.proofs.abbrev_tables.AbbrevTables.get.Goals as goal
 

@@ -1,16 +1,11 @@
 use Rattle.std.proofs.Common.{rules, refl, arith}
-use Rattle.dw_forms.specs.AttributeLists.{specs_of}
 use Rattle.dw_forms.proofs.ChainLaws.{chain_none}
-use Rattle.dw_forms.proofs.NodeLaws.{attribute_in, links_long}
-use Rattle.dw_forms.proofs.NodeSteps.{node_read}
+use Rattle.dw_forms.proofs.NodeLaws.{attribute_in, links_long, node_read}
 use Rattle.dw_forms.proofs.ShortLists.{none_left, rest_read, in_chain, in_short, rest_few}
 use Rattle.dw_forms.proofs.attribute_lists.AttributeLists.find.Goals as goal
 
 pub returns-then-list-eq0 : goal.returns-then-list-eq0
-returns-then-list-eq0 c =
-    let a = c.args.self.now in
-    none_left a.nodes.items c.args.list c.args.attribute
-    (rw (c.if-list-eq0.true, chain_none (specs_of a.nodes.items)) refl)
+returns-then-list-eq0 c = none_left _ _ _ (rw (c.if-list-eq0.true, chain_none _) refl)
 
 pub find_short-requires-clause-short : goal.find_short-requires-clause-short
 find_short-requires-clause-short c = search (rules, node_read)

@@ -10,4 +10,4 @@ pub returns-then-bit_of-lt-OWN_BITS : goal.returns-then-bit_of-lt-OWN_BITS
 returns-then-bit_of-lt-OWN_BITS c = search (rules, own_bit_set)
 
 pub returns : goal.returns
-returns c = has_is c.args.self.now.nodes.items c.args.list c.args.attribute c.find.result c.find.ensures
+returns c = has_is _ _ _ _ c.find.ensures

@@ -1,13 +1,12 @@
 use Rattle.std.proofs.Common.{rules, arith}
-use Rattle.dw_forms.specs.AttributeLists.{specs_of, numbered_in}
+use Rattle.dw_forms.specs.AttributeLists.{numbered_in}
 use Rattle.dw_forms.proofs.ChainLaws.{chain_none}
-use Rattle.dw_forms.proofs.NodeSteps.{known_small, node_read}
+use Rattle.dw_forms.proofs.NodeLaws.{known_small, node_read}
 use Rattle.dw_forms.proofs.ShortLists.{rest_read}
 use Rattle.dw_forms.proofs.attribute_lists.AttributeLists.node.Goals as goal
 
 pub returns-then-number-eq0-clause-knows : goal.returns-then-number-eq0-clause-knows
-returns-then-number-eq0-clause-knows c =
-    rw (c.if-number-eq0.true, chain_none (specs_of c.args.self.now.nodes.items)) c.no_node.ensures
+returns-then-number-eq0-clause-knows c = rw (c.if-number-eq0.true, chain_none _) c.no_node.ensures
 
 pub returns-then-number-eq0-clause-short : goal.returns-then-number-eq0-clause-short
 returns-then-number-eq0-clause-short c long = let none = c.no_node.ensures.count in absurd (omega arith)

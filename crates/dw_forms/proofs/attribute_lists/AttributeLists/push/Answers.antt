@@ -1,7 +1,6 @@
 use Rattle.std.proofs.Common.{rules, ◌≡◌, suc, ◌+◌, ◌++◌, ◌∷◌, [], List, length, ap, sym, ◌∙◌, arith}
-use Rattle.dw_forms.specs.declared.attribute_lists.Node.{Node}
 use Rattle.dw_forms.specs.Abbrev.{attribute_of}
-use Rattle.dw_forms.specs.AttributeLists.{numbered_in}
+use Rattle.dw_forms.specs.AttributeLists.{numbered_in, Node}
 use Rattle.dw_forms.proofs.NodeLaws.{few_more, known_push}
 use Rattle.dw_forms.proofs.attribute_lists.AttributeLists.push.Goals as goal
 

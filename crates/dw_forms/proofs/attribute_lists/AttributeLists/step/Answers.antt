@@ -1,14 +1,13 @@
 use Rattle.std.proofs.Common.{rules, arith}
-use Rattle.dw_forms.specs.AttributeLists.{specs_of, numbered_in}
+use Rattle.dw_forms.specs.AttributeLists.{numbered_in}
 use Rattle.dw_forms.proofs.ChainLaws.{chain_none}
-use Rattle.dw_forms.proofs.NodeSteps.{few_in, known_small, node_read}
-use Rattle.dw_forms.proofs.NodeLaws.{attributes_in}
+use Rattle.dw_forms.proofs.NodeLaws.{few_in, known_small, node_read, attributes_in}
 use Rattle.dw_forms.proofs.ShortLists.{one_less}
 use Rattle.dw_forms.proofs.attribute_lists.AttributeLists.step.Goals as goal
 
 pub returns-then-number-eq0 : goal.returns-then-number-eq0
 returns-then-number-eq0 c =
-    record { step = rw (c.if-number-eq0.true, chain_none (specs_of c.args.self.now.nodes.items)) c.no_step.ensures }
+    record { step = rw (c.if-number-eq0.true, chain_none _) c.no_step.ensures }
 
 pub step_before-requires-clause-few : goal.step_before-requires-clause-few
 step_before-requires-clause-few c = search (rules, node_read, few_in, one_less)

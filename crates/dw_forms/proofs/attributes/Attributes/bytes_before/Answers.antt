@@ -1,12 +1,10 @@
 use Rattle.std.proofs.Common.{rules, arith}
-use Rattle.dw_forms.specs.Suffixes.{numbered}
-use Rattle.dw_forms.proofs.NodeSteps.{addresses_less}
-use Rattle.dw_forms.proofs.KnownPlaceLaws.{sum_here, are_together}
+use Rattle.dw_forms.proofs.NodeLaws.{addresses_less}
+use Rattle.dw_forms.proofs.PlaceTurns.{sum_here, are_together}
 use Rattle.dw_forms.proofs.attributes.Attributes.bytes_before.Goals as goal
 
 pub known-requires-clause-within : goal.known-requires-clause-within
-known-requires-clause-within c =
-    addresses_less (numbered c.args.self.now) c.in_ok-here.here.now c.in_ok-here.ensures.known.knows
+known-requires-clause-within c = addresses_less _ _ c.in_ok-here.ensures.known.knows
 
 pub overflow_sub-known : goal.overflow_sub-known
 overflow_sub-known c =
@@ -14,7 +12,7 @@ overflow_sub-known c =
       arith,
       c.known.ensures,
       c.known-2.ensures,
-      sum_here c.args.self.now c.args.attribute c.args.found c.requires c.in_ok-here.here.now
+      sum_here _ _ _ c.requires _
           c.in_ok-here.ensures.known,
     )
 

@@ -13,4 +13,4 @@ returns-in-Some c =
     record { nodes = c.new.ensures.lists; first = c.new.ensures.first ∙ c.in-Some.ensures.known.knows.next_open }
 
 pub returns-in-None : goal.returns-in-None
-returns-in-None c = none_from is_open c.args.self.now c.in-None.ensures.first c.in-None.ensures.none
+returns-in-None c = none_from is_open _ c.in-None.ensures.first c.in-None.ensures.none

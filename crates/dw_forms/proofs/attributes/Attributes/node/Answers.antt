@@ -1,5 +1,5 @@
 use Rattle.std.proofs.Common.{rules}
-use Rattle.dw_forms.proofs.NodeSteps.{node_read}
+use Rattle.dw_forms.proofs.NodeLaws.{node_read}
 use Rattle.dw_forms.proofs.SuffixLaws.{none_there}
 use Rattle.dw_forms.proofs.attributes.Attributes.node.Goals as goal
 

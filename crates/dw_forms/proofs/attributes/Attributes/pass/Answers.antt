@@ -1,6 +1,6 @@
 use Rattle.std.proofs.Common.{arith}
 use Rattle.std.proofs.lemmas.Result.{err_from_is_err_and}
-use Rattle.dw_forms.proofs.PassTurns.{passes_first, passes_last, some_left, here_addresses, last_less, last_cut, next_number, next_turn, cut_fails, value_fails, value_passes}
+use Rattle.dw_forms.proofs.PassSteps.{passes_first, passes_last, some_left, here_addresses, last_less, last_cut, next_number, next_turn, cut_fails, value_fails, value_passes}
 use Rattle.dw_forms.proofs.attributes.Attributes.pass.Goals as goal
 
 pub loop-at-init : goal.loop-at-init
@@ -20,7 +20,7 @@ known-requires-clause-within c = here_addresses c.loop-at.invariant c.loop-at-te
 pub overflow_sub-known : goal.overflow_sub-known
 overflow_sub-known c =
     let less = last_less c.loop-at.invariant c.loop-at-test.true c.index-here.ensures c.known-then-here-to.ensures in
-    omega (arith, c.known.ensures)
+    omega arith
 
 -- the values up to the end are cut off together
 pub returns-then-here-to : goal.returns-then-here-to
@@ -31,7 +31,7 @@ returns-then-here-to c before ends =
 pub index-varying-requires : goal.index-varying-requires
 index-varying-requires c =
     let within = next_number c.loop-at.invariant c.loop-at-test.true c.index-here.ensures in
-    omega (arith, c.if-here-to.false)
+    omega arith
 
 pub known-requires-in-loop-at-clause-within : goal.known-requires-in-loop-at-clause-within
 known-requires-in-loop-at-clause-within c = here_addresses c.loop-at.invariant c.loop-at-test.true c.index-here.ensures
@@ -46,7 +46,7 @@ pub overflow_sub-known-in-loop-at : goal.overflow_sub-known-in-loop-at
 overflow_sub-known-in-loop-at c =
     let t = next_turn c.loop-at.invariant c.loop-at-test.true c.index-here.ensures c.if-here-to.false
     c.index-varying.ensures in
-    omega (arith, c.known-in-loop-at.ensures, c.known-in-loop-at-2.ensures)
+    omega arith
 
 pub returns-in_err-rest : goal.returns-in_err-rest
 returns-in_err-rest c before ends =

@@ -1,4 +1,4 @@
-use Rattle.dw_forms.proofs.PassTurns.{Passes}
+use Rattle.dw_forms.proofs.PassSteps.{Passes}
 use Rattle.dw_forms.proofs.attributes.Attributes.pass.Given as goal
 
 abbrev pub invariant-loop-at : goal.invariant-loop-at

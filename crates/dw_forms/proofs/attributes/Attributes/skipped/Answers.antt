@@ -1,5 +1,5 @@
 use Rattle.std.proofs.Common.{rules}
-use Rattle.dw_forms.proofs.StepLaws.{sum_with_8, sum_with_4, skip_is}
+use Rattle.dw_forms.proofs.NodeLaws.{sum_with_8, sum_with_4, skip_is}
 use Rattle.dw_forms.proofs.attributes.Attributes.skipped.Goals as goal
 
 pub returns-then-address_size-eq8 : goal.returns-then-address_size-eq8

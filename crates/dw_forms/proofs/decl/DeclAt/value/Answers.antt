@@ -13,9 +13,7 @@ returns-then-self-mask_of-eq0 c =
     lacks.0 refl
 
 pub place-place-requires-clause-some : goal.place-place-requires-clause-some
-place-place-requires-clause-some c =
-    set_bit c.args.self.now.kept.now.bits c.mask_of.result c.args.attribute c.mask_of.ensures
-    c.if-self-mask_of-eq0.false
+place-place-requires-clause-some c = set_bit _ _ _ c.mask_of.ensures c.if-self-mask_of-eq0.false
 
 pub new-found-requires : goal.new-found-requires
 new-found-requires c = search (rules, number_is_within)

@@ -4,6 +4,4 @@ use Rattle.dw_forms.proofs.SpecLaws.{spec_read}
 use Rattle.dw_forms.proofs.decl.Decls.spec.Goals as goal
 
 pub returns : goal.returns
-returns c =
-    spec_read c.args.self.now.lists.nodes.items c.args.number c.index.result.now c.requires c.index.ensures
-    ∙ ap (λ (spec : AttributeSpec). Some spec) (sym c.spec.ensures)
+returns c = spec_read _ _ _ c.requires c.index.ensures ∙ ap (λ (spec : AttributeSpec). Some spec) (sym c.spec.ensures)

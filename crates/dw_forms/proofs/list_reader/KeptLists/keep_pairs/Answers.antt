@@ -13,8 +13,7 @@ pub push-requires-clause-few : goal.push-requires-clause-few
 push-requires-clause-few c = search (rules, apart_few)
 
 pub push-requires-clause-code : goal.push-requires-clause-code
-push-requires-clause-code c =
-    code_before c.pop.new.self.items c.in-Some.field-0 c.in-Some.ensures.items c.loop-at.invariant.leads
+push-requires-clause-code c = code_before _ _ c.in-Some.ensures.items c.loop-at.invariant.leads
 
 pub returns-in_default-2-clause-fault : goal.returns-in_default-2-clause-fault
 returns-in_default-2-clause-fault c =
@@ -23,21 +22,18 @@ returns-in_default-2-clause-fault c =
 
 pub loop-at-preserved : goal.loop-at-preserved
 loop-at-preserved c =
-    let left = c.pop.new.self.items in
-    let p = c.in-Some.field-0 in
     let parts = c.in-Some.ensures.items in
     let i = c.loop-at.invariant in
-    let new = c.push.new.self.nodes.items in
     let added = rw c.in-Some-2.is at c.in_ok-longer.ensures.added in
     record {
-      leads = rw c.in_ok-push.ensures (next_leads left p parts i.leads new c.in-Some-2.longer added);
+      leads = rw c.in_ok-push.ensures (next_leads _ _ parts i.leads _ _ added);
       placed =
-          rw c.in_ok-push.ensures (next_placed left p parts i.leads new c.in-Some-2.longer added
+          rw c.in_ok-push.ensures (next_placed _ _ parts i.leads _ _ added
           c.loop-at.self.ends.items c.push_end.new.ends.items i.placed c.in_ok-push_end.ensures);
-      stay = stay_on _ _ _ i.stay (next_stay left p parts i.leads new c.in-Some-2.longer added);
+      stay = stay_on _ _ _ i.stay (next_stay _ _ parts i.leads _ _ added);
     }
 
 pub overflow_cast-at : goal.overflow_cast-at
 overflow_cast-at c =
-    let less = pair_less c.pop.new.self.items c.in-Some.field-0 c.in-Some.ensures.items c.loop-at.invariant.leads in
+    let less = pair_less _ _ c.in-Some.ensures.items c.loop-at.invariant.leads in
     omega (arith, c.requires.fits)

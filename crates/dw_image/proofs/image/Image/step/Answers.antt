@@ -1,6 +1,6 @@
 use Rattle.std.proofs.Common.{rules}
 use Rattle.dw_image.specs.Images.{steps_in, units_in}
-use Rattle.dw_image.proofs.LinkedLemmas.{nodes-are, step-below, step-past, step-there}
+use Rattle.dw_image.proofs.UnitLemmas.{nodes-are, step-below, step-past, step-there}
 use Rattle.dw_image.proofs.image.Image.step.Goals as goal
 
 pub steps-requires : goal.steps-requires

@@ -1,11 +1,9 @@
 use Rattle.std.proofs.Common.{rules, refl, sym, inr}
 use Rattle.std.proofs.lemmas.Option.{slice_get-get_or}
 use Rattle.dw_forms.specs.Value.{view}
-use Rattle.dw_entries.specs.ByNumber.{no_entry, entry_of}
-use Rattle.dw_entries.specs.Views.{all_entries, all_units}
 use Rattle.dw_links.specs.UnitAtHand.{entries_followed}
-use Rattle.dw_links.proofs.RuleGroups.{least_none, least_other, wrong_first, right_sibling, other_sibling}
-use Rattle.dw_links.proofs.TargetLemmas.{reached_within}
+use Rattle.dw_links.proofs.RuleGroups.{least_none, least_other, wrong_first, right_sibling, other_sibling, all_entries, all_units}
+use Rattle.dw_links.proofs.TargetLemmas.{reached_within, no_entry, entry_of}
 use Rattle.dw_links.proofs.references.UnitLinks.ask_reached.Goals as goal
 
 pub returns-then-not-is_permitted_form-clause-rule : goal.returns-then-not-is_permitted_form-clause-rule

@@ -1,7 +1,5 @@
 use Rattle.std.proofs.Common.{sym, ℕ, ap, ◌∙◌}
-use Rattle.dw_links.proofs.TableLemmas.{unit_header}
-use Rattle.dw_entries.specs.ByNumber.{unit_of}
-use Rattle.dw_entries.specs.Views.{units_of}
+use Rattle.dw_links.proofs.TableLemmas.{unit_header, unit_of, units_of}
 use Rattle.dw_entries.specs.declared.units.UnitHead.{UnitHead}
 use Rattle.dw_links.specs.UnitAtHand.{entries_followed}
 use Rattle.dw_links.proofs.references.UnitLinks.entry.Goals as goal

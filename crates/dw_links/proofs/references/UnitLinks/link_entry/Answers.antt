@@ -1,4 +1,4 @@
-use Rattle.std.proofs.Common.{rules, ap, ◌∙◌}
+use Rattle.std.proofs.Common.{rules, ap, ◌∙◌, unwrap_or}
 use Rattle.std.proofs.lemmas.Result.{err_from_is_err_and}
 use Rattle.dw_entries.specs.Led.{item_of}
 use Rattle.dw_entries.specs.Leading.{leading_left}
@@ -6,7 +6,6 @@ use Rattle.dw_links.specs.UnitAtHand.{entries_followed, entry_with}
 use Rattle.dw_links.proofs.RuleSteps.{fewer, none_so_far, more_so_far, fails_so_far, linked_at_end}
 use Rattle.dw_entries.specs.EntryRules.{values_of}
 use Rattle.dw_entries.specs.Entries.{Entry}
-use Rattle.std.specs.Option.{unwrap_or}
 use Rattle.dw_links.proofs.references.UnitLinks.link_entry.Goals as goal
 
 pub loop-led-init : goal.loop-led-init

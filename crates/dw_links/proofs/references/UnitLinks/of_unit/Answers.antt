@@ -1,7 +1,5 @@
 use Rattle.std.proofs.Common.{ℕ, sym, ap, ◌∙◌}
-use Rattle.dw_entries.specs.Views.{units_of, all_units}
-use Rattle.dw_links.proofs.UnitToAll.{ends_within}
-use Rattle.dw_entries.specs.ByNumber.{end_in, placed_of}
+use Rattle.dw_links.proofs.UnitToAll.{ends_within, units_of, all_units, end_in, placed_of}
 use Rattle.dw_links.proofs.references.UnitLinks.of_unit.Goals as goal
 
 pub returns-clause-linkable : goal.returns-clause-linkable

@@ -1,5 +1,4 @@
-use Rattle.std.proofs.Common.{◌≡◌, ◌∙◌, None}
-use Rattle.std.specs.Prelude.{◌≢◌}
+use Rattle.std.proofs.Common.{◌≡◌, ◌∙◌, None, ◌≢◌}
 use Rattle.dw_entries.specs.Header.{version_of}
 use Rattle.dw_links.specs.Strings.{BaseFails}
 use Rattle.dw_links.proofs.RuleGroups.{least_under, none_of}

@@ -1,13 +1,10 @@
 use Rattle.std.proofs.Common.{rules, ◌≡◌, ◌∙◌, Some, refl, ap, sym}
 use Rattle.std.proofs.lemmas.Option.{slice_get-get_or}
 use Rattle.dw_forms.specs.Codes.{DW_AT_addr_base}
-use Rattle.dw_forms.specs.Value.{view}
-use Rattle.dw_entries.specs.ByNumber.{no_entry, entry_of, placed_of}
-use Rattle.dw_entries.specs.Views.{sections_of, all_entries, all_units, units_of}
 use Rattle.dw_entries.specs.Lookups.{unit_head, value_at_entry}
 use Rattle.dw_links.specs.AttributeTexts.{address_at}
-use Rattle.dw_links.proofs.TableLemmas.{sized, entry_unit, kept_at}
-use Rattle.dw_links.proofs.UnitToAll.{unit_below}
+use Rattle.dw_links.proofs.TableLemmas.{sized, entry_unit, kept_at, no_entry, entry_of, placed_of, view}
+use Rattle.dw_links.proofs.UnitToAll.{unit_below, sections_of, all_entries, all_units, units_of}
 use Rattle.dw_links.proofs.HeldTexts.{address_lies}
 use Rattle.dw_links.proofs.tables.LinkTables.address.Goals as goal
 

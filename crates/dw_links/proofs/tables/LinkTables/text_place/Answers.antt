@@ -1,13 +1,10 @@
 use Rattle.std.proofs.Common.{rules, ◌≡◌, ◌∙◌, Some, sym}
 use Rattle.std.proofs.lemmas.Option.{slice_get-get_or}
 use Rattle.dw_forms.specs.Codes.{DW_AT_str_offsets_base}
-use Rattle.dw_forms.specs.Value.{view}
-use Rattle.dw_entries.specs.ByNumber.{no_entry, entry_of}
 use Rattle.dw_entries.specs.Views.{sections_of, all_entries, units_of, all_units}
-use Rattle.dw_entries.specs.Lookups.{value_at_entry}
 use Rattle.dw_links.specs.AttributeTexts.{text_at}
-use Rattle.dw_links.proofs.TableLemmas.{entry_unit, kept_at}
-use Rattle.dw_links.proofs.HeldTexts.{place_none, place_told, begins_within, text_lies}
+use Rattle.dw_links.proofs.TableLemmas.{entry_unit, kept_at, no_entry, entry_of, view}
+use Rattle.dw_links.proofs.HeldTexts.{place_none, place_told, begins_within, text_lies, value_at_entry}
 use Rattle.dw_links.proofs.tables.LinkTables.text_place.Goals as goal
 
 pub place_of_value-requires-clause-lies : goal.place_of_value-requires-clause-lies

@@ -1,8 +1,6 @@
 use Rattle.std.proofs.Common.{rules, sym, ◌∙◌, ℕ, Some, ap}
-use Rattle.dw_links.proofs.TableLemmas.{target_within, kept_target}
+use Rattle.dw_links.proofs.TableLemmas.{target_within, kept_target, entry_of, all_entries, all_units}
 use Rattle.dw_forms.specs.Codes.{DW_AT_type}
-use Rattle.dw_entries.specs.ByNumber.{entry_of}
-use Rattle.dw_entries.specs.Views.{all_entries, all_units}
 use Rattle.dw_links.proofs.tables.LinkTables.type_of.Goals as goal
 
 pub id-requires : goal.id-requires

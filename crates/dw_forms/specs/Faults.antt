@@ -1,17 +1,24 @@
--- Chapter: the faults of an abbreviation table.
+-- Chapter: the faults of a value whose number can't be read, and of an abbreviation table.
 use Rattle.std.specs.Prelude.{ℕ}
 use Rattle.dw_forms.specs.declared.leb.NumberFault.{NumberFault}
-use Rattle.dw_forms.specs.declared.leb.NumberFault.TheVariants.{Cut, BadNumber}
+use Rattle.dw_forms.specs.declared.leb.NumberFault.TheVariants as number
+pub use Rattle.dw_forms.specs.declared.value.ValueFault.{ValueFault}
+use Rattle.dw_forms.specs.declared.value.ValueFault.TheVariants.{Cut, BadNumber}
 use Rattle.dw_forms.specs.declared.rule.Rule.TheVariants.{AbbrevCut, AbbrevNumber}
-use Rattle.dw_forms.specs.declared.fault.DeclFault.{DeclFault}
-use Rattle.dw_forms.specs.declared.fault.AbbrevFault.{AbbrevFault}
+pub use Rattle.dw_forms.specs.declared.fault.DeclFault.{DeclFault}
+pub use Rattle.dw_forms.specs.declared.fault.AbbrevFault.{AbbrevFault}
 use Rattle.dw_forms.specs.declared.fault.Stop.{Stop}
 use Rattle.dw_forms.specs.declared.fault.Stop.TheVariants as stops
 
+-- a cut number is a cut value, a bad one a bad number
+abbrev pub value_fault_of : NumberFault → ValueFault
+value_fault_of number.Cut = Cut
+value_fault_of number.BadNumber = BadNumber
+
 -- the rule that a number's fault breaks
 abbrev pub decl_fault_of : NumberFault → DeclFault
-decl_fault_of Cut = record { rule = AbbrevCut; attribute = 0 }
-decl_fault_of BadNumber = record { rule = AbbrevNumber; attribute = 0 }
+decl_fault_of number.Cut = record { rule = AbbrevCut; attribute = 0 }
+decl_fault_of number.BadNumber = record { rule = AbbrevNumber; attribute = 0 }
 
 -- the fault of a declaration whose first byte is at this place
 abbrev pub fault_at : ℕ → DeclFault → AbbrevFault
