@@ -36,7 +36,7 @@ sys.path[:0] = [str(TOP / folder) for folder in ("contrib", "bench")]
 
 # What the tests need besides make, python3 and the toolchain: .ci/run installs it. If CI is set, as CI services do, a
 # test fails that lacks one of these. Otherwise it is skipped, as are tests that lack any other tool.
-NEEDED = "ar bash clang g++ gcc git ld nm objcopy pkg-config readelf".split()
+NEEDED = "ar bash clang g++ gcc git ld nm objcopy pkg-config readelf valgrind".split()
 IS_CI = bool(os.environ.get("CI"))
 
 # What readelf prints before a value: its form, and where a text is that is not in the entry itself.

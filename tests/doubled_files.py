@@ -1,4 +1,4 @@
-"""Files of which each is made at two sizes, so that what one costs is seen to grow no faster than the file.
+"""Files of which each is made at several sizes, so that what one costs is seen to grow no faster than the file.
 
 Each file of `files` has a name, the command that is run on it, what makes it of a count, and that count. What makes it
 returns the sections by their names, and the beginning of what the command must print.
@@ -9,9 +9,9 @@ import struct
 
 from common import uleb, unit
 
-# A file at two sizes: `make` of the count, and of a quarter of it.
+# A file at several sizes: `make` of the count, and of parts of it.
 Doubled = collections.namedtuple("Doubled", "name command make count")
-# Seconds, bytes of memory for each byte of the file, and how the time may grow where the size doubles.
+# Seconds, bytes of memory for each byte of the file, and how the instructions may grow where the size doubles.
 Limits = collections.namedtuple("Limits", "seconds memory growth")
 
 # Where the first item behind a compile unit's entry of one byte stands.

@@ -8,13 +8,15 @@ For each the program must print the stated line, or `types` its whole text, with
 may crash. The lines of `show` of a deep tree are far more bytes than the memory that it may have: it must say so, and
 write nothing. The script prints one line a run with the seconds it took, and ends with 'N passed, N failed, N skipped'.
 With --list it runs nothing, and prints each file with its limits, and what must not be slow, or large, in it. With
---only it runs those with such a name. The files of doubled_files.py are run beside those of a quarter of the size.
+--only it runs those with such a name. For files of doubled_files.py the instructions are counted by valgrind, so that
+it is seen how they grow.
 """
 import argparse
 import os
 import random
 import re
 import resource
+import shutil
 import struct
 import subprocess
 import sys
@@ -25,8 +27,10 @@ import common
 import doubled_files
 from common import DWV, linked, section, uleb, unit
 
-# Seconds that a run may take at most, far above what it takes, since other work may run beside it.
+# Seconds that a run may take at most, far above what it takes, since other work may run beside it; and such of a run
+# whose instructions are counted.
 LIMIT = 20
+LIMIT_COUNTED = 300
 MANY = 100_000
 # Structures inside one another whose lines are compared.
 NESTED = 1_000
@@ -105,20 +109,13 @@ REFERRING_TIME = 1.5
 REFERRING_MEMORY = 60
 
 
-# Seconds of processor time that one of doubled_files may take, twice those of a quiet machine, and bytes of memory for
-# each byte of the file, besides those of the program. How the time may grow where the size doubles (that of a square
-# grows four times), the least time that is compared, and how often one is measured. Two doublings are seen together,
-# because the one at which a file outgrows a cache costs more than the other.
-DOUBLED = doubled_files.Limits(seconds=3, memory=60, growth=2.7)
-LEAST_TIME, TRIES = 0.05, 5
-# Those that may take more: the loads of each type, or some of each code, miss the caches.
-OF_CODES = DOUBLED._replace(growth=3)
-DOUBLED_MORE = {
-    "a random chain of typedefs": DOUBLED._replace(seconds=8, growth=3),
-    "a table with codes of ten bytes, and the first again": OF_CODES,
-    "entries with codes of ten bytes, found last": OF_CODES,
-    "entries with codes of ten bytes, in another order than before": OF_CODES,
-}
+# Seconds of processor time that one of doubled_files may take, twice those of a quiet machine, and how often that is
+# measured; bytes of memory for each byte of the file, besides those of the program; and how the instructions may grow
+# from an eighth of the file to a quarter. Instructions are counted, because no other work changes them: a time grows
+# more at the size at which a file outgrows a cache.
+DOUBLED = doubled_files.Limits(seconds=3, memory=60, growth=2.2)
+TRIES = 5
+DOUBLED_MORE = {"a random chain of typedefs": DOUBLED._replace(seconds=8)}
 
 
 def elf(sections):
@@ -1047,43 +1044,61 @@ def taken(command, path):
     return text, used.ru_utime + used.ru_stime, used.ru_maxrss << 10
 
 
-def doubling(command, want, quarter, want_of_quarter, limits):
-    """What returns AS_WANTED, or what a command says of a file or of one of a quarter of the size that is not wanted,
-    or what is wrong with what it takes: its seconds, its memory, or how its time grows from the quarter's."""
+def counted(command, path):
+    """What a command says of a file, and how many instructions it takes for that."""
+    log = path.with_name("counted")
+    ran = subprocess.run(["valgrind", "--tool=cachegrind", "--cache-sim=no", "--cachegrind-out-file=/dev/null",
+                          f"--log-file={log}", *command, path], stdout=subprocess.PIPE, timeout=LIMIT_COUNTED,
+                         env={**os.environ, "PYTHONHASHSEED": "0"})
+    text, told = ran.stdout.decode(errors="replace"), re.search(r"I\s+refs: +(\S+)", log.read_text())
+    return text, int(told[1].replace(",", ""))
+
+
+def doubling(command, want, parts, limits):
+    """What returns AS_WANTED, or what a command says of a file that is not wanted, or what is wrong with what it takes:
+    its seconds, its memory, or how its instructions grow. They are counted for files of no sections, of an eighth of
+    the size and of a quarter, each with what the command must say of it."""
     def ask(path):
-        beside = path.with_name("quarter")
-        beside.write_bytes(quarter)
-        least = {path: LIMIT + 1, beside: LIMIT + 1}
+        least = LIMIT
         for _ in range(TRIES):
-            for it in (beside, path):
-                text, took, had = taken(command, it)
-                least[it] = min(least[it], took)
-                if not text.startswith(want if it is path else want_of_quarter):
-                    return f"{text[:200]!r} of {'a quarter of ' if it is beside else ''}the size"
-                memory = had if it is path else 0
-            growth = (least[path] / max(least[beside], LEAST_TIME / 4)) ** 0.5
+            text, took, memory = taken(command, path)
+            least = min(least, took)
             # No other work makes a time several times as long.
-            if least[path] <= limits.seconds and growth <= limits.growth or least[path] > 3 * limits.seconds:
+            if not text.startswith(want) or least <= limits.seconds or least > 3 * limits.seconds:
                 break
+        if not text.startswith(want):
+            return text[:200]
         most = path.stat().st_size * limits.memory + PROGRAM_MEMORY
         if memory > max(most, resource.getrusage(resource.RUSAGE_SELF).ru_maxrss << 10):
             return f"{memory} bytes of memory\n"
-        if least[path] > limits.seconds:
-            return f"{least[path]:.1f} seconds, x{growth:.1f}\n"
-        return AS_WANTED if growth <= limits.growth else f"x{growth:.2f}, {least[path]:.2f} seconds\n"
+        if least > limits.seconds:
+            return f"{least:.1f} seconds\n"
+        if not shutil.which("valgrind"):
+            return AS_WANTED
+        counts, beside = [], path.with_name("part")
+        for part, want_of_part in parts:
+            beside.write_bytes(part)
+            text, count = counted(command, beside)
+            if not text.startswith(want_of_part):
+                return f"{text[:200]!r} of a part of {len(part):,} bytes"
+            counts.append(count)
+        none, eighth, quarter = counts
+        growth = (quarter - none) / (eighth - none)
+        return AS_WANTED if growth <= limits.growth else f"x{growth:.2f}, {quarter:,} instructions of a quarter\n"
 
     ask.limits = (f"{limits_of(limits.seconds)}, {limits.memory} bytes of memory a byte, "
-                  f"x{limits.growth} for the double size")
+                  f"x{limits.growth} of the instructions for the double size")
     return ask
 
 
 def doubled():
-    """Each file of doubled_files, beside the one of a quarter of its size."""
+    """Each file of doubled_files, with those whose instructions are counted."""
     for it in doubled_files.files():
-        (whole, want), (quarter, want_of_quarter) = it.make(it.count), it.make(it.count // 4)
         command = COUNT_ALONE if it.command == "table" else (DWV, it.command)
-        ask = doubling(command, want, elf(quarter), want_of_quarter, DOUBLED_MORE.get(it.name, DOUBLED))
-        yield f"{it.command} of {it.name}", elf(whole), ask, AS_WANTED
+        made = [([], ""), *(it.make(it.count // part) for part in (8, 4, 1))]
+        *parts, (whole, want) = [(elf(sections), want) for sections, want in made]
+        ask = doubling(command, want, parts, DOUBLED_MORE.get(it.name, DOUBLED))
+        yield f"{it.command} of {it.name}", whole, ask, AS_WANTED
 
 
 def ends():
@@ -1263,6 +1278,7 @@ def main():
         common.build_library()
     has_library = common.LIBRARY.exists() or "DWV_LIBRARY" in os.environ
     tally = common.Tally(1 if given.only else 140 if has_library else 137)
+    tally.has("valgrind")
     with common.empty_folder() as folder:
         path, unsaid = folder / "file", []
         for name, file, ask, want in runs():
@@ -1276,8 +1292,8 @@ def main():
             before = time.monotonic()
             try:
                 text = ask(path)
-            except subprocess.TimeoutExpired:
-                text = f"no answer within {LIMIT} seconds"
+            except subprocess.TimeoutExpired as late:
+                text = f"no answer within {late.timeout} seconds"
             seconds = f"{time.monotonic() - before:.3f} s"
             tally.add(name, None if text.startswith(want) else f"{text[:200]!r}, {seconds}", seconds)
     tally.same("files of which the list says nothing", unsaid, [])
