@@ -45,8 +45,7 @@ fn close(
 ) -> Result<(), AllocFailed<UnitRange>>
     requires heap { IsHeap order_of (heap_items begun.old) }
     requires rise { from ≤ limit }
-    requires ranges { AreUnitRanges ranges.old.items }
-    requires before { All (λ r. r.high ≤ from) ranges.old.items }
+    requires ranges { AreUnitRanges ranges.old.items × All (λ r. r.high ≤ from) ranges.old.items }
     ensures heap { OnOk result (IsHeap order_of (heap_items begun.new)) }
     ensures ranges { OnOk result (AreUnitRanges ranges.new.items) }
     ensures before { OnOk result (All (λ r. r.high ≤ limit) ranges.new.items) }
