@@ -1,6 +1,6 @@
 //! One request over a source and a sink: read, make the whole text, write, and how that ends.
 
-ghost use Rattle.std.specs.Prelude.{◌≡◌, ◌<◌, ◌↔◌, false, Err, [], length, take, IfOk, IfSome, OnOk, IsErrOf};
+ghost use Rattle.std.specs.Prelude.{◌≡◌, ◌<◌, ◌⊎◌, ◌↔◌, false, Err, [], length, take, IfOk, IfSome, OnOk, IsErrOf};
 ghost use Rattle.std.specs.Io.KnownBytes.{Appends};
 ghost use Rattle.dw_io.specs.Devices.{HasGiven, TakesInput};
 ghost use Rattle.dw_report.specs.Reports.{Report, file_limit};
@@ -60,8 +60,7 @@ pub fn run_with<R: Source, W: Sink>(
     writer: &mut W,
     kept: &mut Transcript,
 ) -> Result<Status, RunFault>
-    requires reads { R.failures reader.old < u64.MAX }
-    requires writes { W.failures writer.old < u64.MAX }
+    requires { (R.failures reader.old < u64.MAX) × (W.failures writer.old < u64.MAX) }
 
     // What the writer took is the report of what the reader gave, to its end or one byte past the limit.
     ensures given { OnOk result (HasGiven file_limit (R.remaining reader.old) kept.new.ended kept.new.given.items) }
@@ -72,8 +71,7 @@ pub fn run_with<R: Source, W: Sink>(
     ensures taken { OnOk result (TakesInput file_limit (R.remaining reader.old) (R.remaining reader.new)) }
 
     // After a fault nothing is written, or a prefix of the report.
-    ensures read_failed { IsErrOf result RunFault.ReadFailed → writer.new ≡ writer.old }
-    ensures memory { IsErrOf result RunFault.Memory → writer.new ≡ writer.old }
+    ensures unwritten { IsErrOf result RunFault.ReadFailed ⊎ IsErrOf result RunFault.Memory → writer.new ≡ writer.old }
     ensures write_failed { IsErrOf result RunFault.WriteFailed
         → HasGiven file_limit (R.remaining reader.old) kept.new.ended kept.new.given.items
         × ((status : StatusData) × Report file_limit request kept.new.given.items status kept.new.text.items)
@@ -110,8 +108,7 @@ pub fn run<R: Source, W: Sink>(
     ensures taken { OnOk result (TakesInput file_limit (R.remaining reader.old) (R.remaining reader.new)) }
 
     // After a fault nothing is written, or a prefix of the report.
-    ensures read_failed { IsErrOf result RunFault.ReadFailed → writer.new ≡ writer.old }
-    ensures memory { IsErrOf result RunFault.Memory → writer.new ≡ writer.old }
+    ensures unwritten { IsErrOf result RunFault.ReadFailed ⊎ IsErrOf result RunFault.Memory → writer.new ≡ writer.old }
     ensures write_failed { IsErrOf result RunFault.WriteFailed → IfSome (R.remaining reader.old) (λ input.
         WritesPrefix file_limit request input (W.contents writer.old) (W.contents writer.new)) }
 

@@ -99,9 +99,8 @@ pub fn run<R: Source, I: Source, W: Sink>(
     input: &mut I,
     writer: &mut W,
 ) -> Result<Status, RunFault>
-    requires reads { R.failures reader.old < u64.MAX }
-    requires inputs { I.failures input.old < u64.MAX }
-    requires writes { W.failures writer.old < u64.MAX }
+    requires { (R.failures reader.old < u64.MAX) × (I.failures input.old < u64.MAX)
+        × (W.failures writer.old < u64.MAX) }
 
     // What is written is the report of what the reader returns, to its end or one byte past the limit, for the
     // addresses.
