@@ -1,6 +1,6 @@
 -- There is one first failure at most; which rules a group of failures has, told by their numbers; and one of them is
 -- named at a place.
-use Rattle.std.proofs.Common.{rules, ◌≡◌, ℕ, ◌⊎◌, List, Some, slice_get, ◌==◌, refl, if◌then◌else◌, ap, ◌∙◌}
+use Rattle.std.proofs.Common.{rules, ◌≡◌, ℕ, ◌⊎◌, List, Some, slice_get, ◌==◌, if◌then◌else◌, ap, ◌∙◌}
 use Rattle.dw_forms.specs.Value.{Datum}
 use Rattle.dw_entries.specs.declared.fault.Section.{Section}
 use Rattle.dw_forms.specs.Rules.{number_of, group_of}
@@ -68,8 +68,7 @@ rule_at group number =
     (if group == 5 then type_rule number else (if group == 6 then ContainsItself else size_rule number))))
 
 told : (rule : Rule) → (group_of rule ≡ 1 → ⊥) → rule_at (group_of rule) (number_of rule) ≡ rule
-told WrongClass behind = refl
-told _ behind = search rules
+told rule behind = search rules
 
 -- two rules of one group with one number are one
 one_rule : (rule other : Rule) → (group_of rule ≡ 1 → ⊥) → group_of rule ≡ group_of other

@@ -49,10 +49,9 @@ from_below graph from to step = search (rules, get_or_past)
 pub node_below : (graph : Graph) (nodes : List ℕ) → IsCycle graph nodes → (k : ℕ) → k < length nodes
     → slice_index nodes k < length graph
 node_below graph nodes cycle k within =
-    let two = cycle.closed.two in
     let two_ways : (k + 1 < length nodes) ⊎ (k ≡ length nodes - 1) = grind (arith, within) in
-    let first = from_below graph (slice_index nodes 0) (slice_index nodes 1) (cycle.closed.steps 0 (omega (arith, two)))
-    in
+    let first = from_below graph (slice_index nodes 0) (slice_index nodes 1) (cycle.closed.steps 0
+    (omega (arith, cycle.closed.two))) in
     elim two_ways [
       | inl more ↦ from_below graph (slice_index nodes k) (slice_index nodes (k + 1)) (cycle.closed.steps k more)
       | inr last ↦ subst (λ n. n < length graph) (cycle.closed.closed ∙ ap (slice_index nodes) (sym last)) first
@@ -89,16 +88,7 @@ module _ (us : List DebugUnit) where
       → SizeFailures us other f → SizeFailures us table f
   same_failures table other one two f fails =
       let below = slice_get_within (entries_of us) fails.number fails.item fails.is_item in
-      record {
-        number = fails.number;
-        item = fails.item;
-        is_item = fails.is_item;
-        fails = record {
-          stands = fails.fails.stands;
-          attribute = fails.fails.attribute;
-          fails = sym (same_fails table other one two fails.number below f.rule) ∙ fails.fails.fails;
-        };
-      }
+      let same = same_fails table other one two fails.number below f.rule in search (rules, same)
 
   pub none_by_size : (table : ℕ → Size) → IsSizeTable us table → HasNone (SizeFailures us table)
       → HasNone (FailsBySize us)

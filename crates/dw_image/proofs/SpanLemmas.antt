@@ -1,5 +1,5 @@
 -- The strings of a section, by what is known of them at each 64th offset.
-use Rattle.std.proofs.Common.{rules, zero, suc, ◌≡◌, ◌<◌, ◌≤◌, Bool, true, false, List, [], ◌∷◌, ◌++◌, length, refl, arith, ℕ, ◌+◌, ◌-◌, ◌*◌, ◌/◌, ◌%◌, take, drop, get_or, Some, sym, ap, ◌∙◌, append-nil, ◌==◌, ◌&&◌, slice_get, length-append, take-append-drop, length-take-le, length-drop, drop-drop}
+use Rattle.std.proofs.Common.{rules, ◌≡◌, ◌<◌, ◌≤◌, Bool, true, false, List, [], ◌∷◌, ◌++◌, length, refl, arith, ℕ, ◌+◌, ◌-◌, ◌*◌, ◌/◌, ◌%◌, take, drop, get_or, Some, sym, ap, ◌∙◌, append-nil, ◌==◌, ◌&&◌, slice_get, length-append, take-append-drop, length-take-le, length-drop, drop-drop}
 use Rattle.std.specs.List.{before_first}
 use Rattle.std.proofs.lemmas.Bool.{cases_lt}
 use Rattle.std.proofs.lemmas.List.{length_push}
@@ -85,8 +85,7 @@ span-before section bytes k spans last known below is =
 
 -- the element of a list of one
 the_one : (one found : StringSpan) (n : ℕ) → slice_get (one ∷ []) n ≡ Some found → (n ≡ 0) × (one ≡ found)
-the_one one found zero is = (refl, cc)
-the_one one found (suc n) is = absurd cc
+the_one one found n is = search (rules)
 
 -- one block more
 pub spans-more : (section bytes : List ℕ) (k : ℕ) (spans more : List StringSpan) (last span : StringSpan)

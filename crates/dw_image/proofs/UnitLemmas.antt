@@ -1,6 +1,7 @@
 -- What the entries of an image refer to: by the steps that it keeps, by DW_AT_type, and by the values of the unit at
 -- hand.
-use Rattle.std.proofs.Common.{rules, ◌≡◌, ℕ, ◌<◌, ◌≤◌, List, length, Some, None, slice_get, Option, refl, option_and_then, ◌+◌, ◌*◌, Bool, true, false, IfNone, inl, inr, sym, ap, ◌∙◌}
+use Rattle.std.proofs.Common.{rules, ◌≡◌, ℕ, ◌<◌, ◌≤◌, List, length, Some, None, slice_get, Option, refl, option_and_then, ◌+◌, ◌*◌, true, false, IfNone, inl, inr, ap, ◌∙◌}
+use Rattle.std.proofs.lemmas.Bool.{false_from_ne_true}
 use Rattle.std.proofs.lemmas.Option.{slice_get-get_or, slice_get_past}
 use Rattle.dw_links.specs.Targets.{target_of}
 use Rattle.dw_entries.specs.declared.units.UnitHead.{UnitHead}
@@ -57,10 +58,7 @@ module _ (us : List DebugUnit) (graph : Graph) (is : graph ≡ by_value us) wher
 -- a value by which an entry is reached is a reference
 is_reference : (entries : List Entry) (units : List PlacedUnit) (unit : ℕ) (v : Datum) (t : ℕ)
     → reach_of entries units unit v ≡ Some t → class_of v ≡ Reference
-is_reference entries units unit (ref_info offset) t reaches = refl
-is_reference entries units unit (ref_unit offset) t reaches = refl
-is_reference entries units unit (ref_sig signature) t reaches = refl
-is_reference entries units unit _ t reaches = absurd cc
+is_reference entries units unit v t reaches = search (rules)
 
 -- the entry that this value of DW_AT_type leads to
 typed : (us : List DebugUnit) (id : ℕ) (e : Entry) (value : Option Datum) (target : Option ℕ) → HaveTargets us
@@ -70,12 +68,8 @@ typed : (us : List DebugUnit) (id : ℕ) (e : Entry) (value : Option Datum) (tar
 typed us id e value None have is has reaches = refl
 typed us id e None (Some t) have is has reaches = absurd cc
 typed us id e (Some v) (Some t) have is has reaches =
-    let entries = entries_of us in
-    let it = have id e is DW_AT_type v has (is_reference entries (placed us) e.unit v t reaches) in
-    let same : it.id ≡ t = same_some _ it.id t it.reaches reaches in
-    let there : slice_get entries t
-    ≡ Some it.target = rw same at it.is_entry in
-    rw (there, it.kind) refl
+    let it = have id e is DW_AT_type v has (is_reference (entries_of us) (placed us) e.unit v t reaches) in
+    let same = same_some _ it.id t it.reaches reaches in rw (rw same at it.is_entry, it.kind) refl
 
 pub type_is_target : (i : Image) (id : ℕ) → id < length (entries_in i)
     → type_in i (entry_of (entries_in i) id)
@@ -106,9 +100,6 @@ unfolding units_in
 unit_told i es number head strings addresses same below told of_strings of_addresses = search (rules)
 
 -- ---- targets
-
-none_is_no_some : {X : Type 0} {x : X} → ◌≡◌ {A = Option X} None (Some x) → ⊥
-none_is_no_some e = cc
 
 image_rise : (i : Image) → OffsetsRise (entries_in i)
 unfolding units_in
@@ -144,8 +135,7 @@ module _ (i : Image) (u : UnitAtHand) where
             let typed = types.types number signature has.type_offset has.unit has.is_unit has.signed in
             let reached = type_is (entries_in i) (placed (units_in i)) signature typed.id (image_rise i)
             types.distinct
-            (record { number = number; has = has; target = typed.is_type }) in
-            none_is_no_some (sym none ∙ reached),
+            (record { number = number; has = has; target = typed.is_type }) in search (rules, reached, none),
       )
   no_target _ x is none = absurd cc
 
@@ -153,11 +143,8 @@ module _ (i : Image) (u : UnitAtHand) where
   pub no_reference : (v : Datum) → HasValue i u v → (found : Option ℕ)
       → found ≡ reach_of (entries_in i) (placed (units_in i)) u.number v → IfNone found (is_reference_value v ≡ false)
   no_reference v x (Some id) is = tt
-  no_reference v x None is = by_test (is_reference_value v) refl
-    where
-      by_test : (b : Bool) → is_reference_value v ≡ b → is_reference_value v ≡ false
-      by_test false is_not = is_not
-      by_test true is_one = search (rules, no_target)
+  no_reference v x None is =
+      false_from_ne_true (is_reference_value v) (λ yes. no_target v x yes (search (rules, x.in_unit)))
 
 module _ (i : Image) (u : UnitAtHand) (hand : IsAtHand i u) where
   -- ---- strings and addresses

@@ -1,4 +1,5 @@
 //! What holds of all sections.
+#![tactic(auto, using(crate::proofs::JoinLemmas::one_list_of, crate::proofs::JoinLemmas::sound_image))]
 
 ghost use Rattle.std.specs.Prelude.{◌≡◌, List};
 ghost use Rattle.dw_elf.specs.declared.sections.Sections.{Sections};

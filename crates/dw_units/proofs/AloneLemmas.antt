@@ -13,7 +13,7 @@ use Rattle.dw_entries.specs.declared.header.UnitHeader.{UnitHeader}
 use Rattle.dw_entries.specs.Units.{DebugUnit, AreFrom, SpellsInfo, units_bytes, Spells}
 use Rattle.dw_entries.specs.Failures.{Rule, Failure, HasNone}
 use Rattle.dw_entries.specs.Faults.{Fails}
-use Rattle.dw_links.specs.Strings.{StringIndexFails, AddressIndexFails, BaseFails, StringFailsIn, StringFailures, Sections}
+use Rattle.dw_links.specs.Strings.{StringFailsIn, StringFailures, Sections}
 use Rattle.dw_units.specs.declared.counts.Counts.{Counts}
 use Rattle.dw_entries.specs.EntryRules.{EachEntry, HasAttribute}
 use Rattle.dw_image.specs.Valid.{IsValidBy}
@@ -49,24 +49,11 @@ pub record Shares (s own : Sections) : Type 0 where
   pub addr_same : own.addr.now ≡ s.addr.now
 
 module _ (s own : Sections) (shares : Shares s own) where
-  string_index_in : (base : Option ℕ) (index : ℕ) (rule : Rule) → StringIndexFails s base index rule
-      → StringIndexFails own base index rule
-  string_index_in base index rule fails = search rules
-
-  address_index_in : (header : UnitHeader) (base : Option ℕ) (index : ℕ) (rule : Rule)
-      → AddressIndexFails s header base index rule → AddressIndexFails own header base index rule
-  address_index_in header base index rule fails = search rules
-
-  base_in_own : (header : UnitHeader) (attribute base : ℕ) (rule : Rule) → BaseFails s header attribute base rule
-      → BaseFails own header attribute base rule
-  base_in_own header attribute base rule is = search rules
-
   string_in_own : (header : UnitHeader) (texts addresses : Option ℕ) (head : EntryHead) (attribute : ℕ) (v : Datum)
       (rule : Rule)
       → StringFailsIn s header texts addresses head attribute v rule
       → StringFailsIn own header texts addresses head attribute v rule
-  string_in_own header texts addresses head attribute v rule fails =
-      search (rules, string_index_in, address_index_in, base_in_own)
+  string_in_own header texts addresses head attribute v rule fails = search rules
 
   strings_own : (us : List DebugUnit) (f : Failure) → StringFailures s us f → StringFailures own us f
   strings_own us f fails = search (rules, string_in_own)
@@ -180,8 +167,7 @@ abbrev pub IsNoTypeUnit : List DebugUnit → ℕ → Type 0
 IsNoTypeUnit us k = IfSome (slice_get (placed us) k) (λ p. type_unit_of p.unit.header.kind ≡ None)
 
 pub no_type_unit_of : (us : List DebugUnit) → ((k : ℕ) → k < length us → IsNoTypeUnit us k) → HaveNoTypeUnit us
-no_type_unit_of us none =
-    search (rules, recursion_from_All, unit_placed, slice_get-get_or)
+no_type_unit_of us none = search (rules, recursion_from_All, unit_placed, slice_get-get_or)
 
 -- ---- what the forms of declarations say of values
 
@@ -237,8 +223,7 @@ pub refer_of : (a info : List ℕ) (us : List DebugUnit) (kept : List AttributeS
     → Refer (entries_of us) most
 refer_of a info us kept spells declared Never allowed = (
   none_where is_signature a info us kept spells declared
-      (λ k spec is. form_passes spec
-      (λ other. let no : ◌≡◌ {A = Elsewhere} Never BySignature = sym (allowed k spec is) ∙ other in absurd cc)),
+      (λ k spec is. form_passes spec (λ other. let no = sym (allowed k spec is) ∙ other in absurd cc)),
   none_where is_offset a info us kept spells declared (λ k spec is. offset_passes spec (allowed k spec is)),
 )
 refer_of a info us kept spells declared ByOffset allowed =

@@ -72,8 +72,8 @@ passed_before : (s : Sections) (us : List DebugUnit) → AreFrom s.base us → (
     → IsReady s group us × HasNone (failures_of s us group)
 passed_before s us from (found.Sound c) group alone rank less are = search (rules, ready_all, passes_all)
 passed_before s us from (found.Fault old) group alone rank less least =
-    let old_rank = rank_of s least.units least.group old least.fails.first in
-    let turns : turn_of group < turn_of least.group = omega (arith, rank, old_rank, less) in
+    let turns : turn_of group < turn_of least.group =
+    omega (arith, rank, rank_of s least.units least.group old least.fails.first, less) in
     let all = least_ready s us from old least in
     (ready_before s group least.group (omega (arith, turns)) us all, all.below group turns)
 
@@ -119,15 +119,14 @@ module _ {s own : Sections} {at size : ℕ} {units : List DebugUnit} (batch : Is
   next : (so_far more : Found) → IsFoundAfter own units so_far more → IsFoundUpTo s at so_far
       → IsFoundUpTo s (at + size) more
   next so_far more after up =
-      let us : List DebugUnit = up.units in
+      let us = up.units in
       let its_bytes = bytes batch in
       let both = flat_map-append unit_bytes us units in
-      let at_is = up.at_is in
       let long = length-take-le size (drop at s.info.now) (omega (arith, within, length-drop at s.info.now)) in
       let end : at + size ≡ s.base + length (units_bytes (us ++ units)) =
       omega (
         arith,
-        at_is,
+        up.at_is,
         long,
         ap length its_bytes,
         ap length both,
@@ -154,8 +153,7 @@ pub next_of : (s own : Sections) (at size : ℕ) (entries : Entries) → at + si
     → (so_far : Found) (r : Option Found)
     → IfSome r (IsFoundAfter (sections_of entries) (units_of entries) so_far)
     → IfSome r (λ more. IsFoundUpTo s at so_far → IsFoundUpTo s (at + size) more)
-next_of s own at size entries within part same only no_type_unit stays_inside so_far None after = tt
-next_of s own at size entries within part same only no_type_unit stays_inside so_far (Some more) after =
+next_of s own at size entries within part same only no_type_unit stays_inside so_far r after =
     search (rules, next, are_from)
 
 -- a fault of the entries of one batch more, which is less than those before it
@@ -203,9 +201,9 @@ module _ (s : Sections) (at : ℕ) (so_far : Found) (up : IsFoundUpTo s at so_fa
       (plain : IsPlainFault (Fails s.«abbrev».now at (take size (drop at s.info.now))) fault) where
     found_in_trees : (fault.rule ≡ UnitCut → ⊥) → IsFaultOf s fault
     found_in_trees uncut =
-        let after : List ℕ = drop at s.info.now in
-        let here : Fails s.«abbrev».now at after (plain_fault_of fault) =
-        subst (λ (xs : List ℕ). Fails s.«abbrev».now at xs (plain_fault_of fault)) (take-append-drop size after)
+        let after = drop at s.info.now in
+        let here = subst (λ (xs : List ℕ). Fails s.«abbrev».now at xs (plain_fault_of fault))
+        (take-append-drop size after)
         (fails_with_more s.«abbrev».now at (take size after) (drop size after) (plain_fault_of fault) uncut
         plain.holds) in
         fault_of s fault (in_trees (trees_first s up.units after (plain_fault_of fault)
@@ -248,13 +246,11 @@ pub fits_in : (s : Sections) (at : ℕ) (so_far : Found) → IsFoundUpTo s at so
     → at + size ≤ length s.info.now
 fits_in s at so_far up some k size below is are =
     let fits = first_fits some (drop at s.info.now) k size below is are in
-    let at_is = up.at_is in
-    let base = s.base_within in
     omega (
       arith,
       fits,
-      at_is,
-      base,
+      up.at_is,
+      s.base_within,
       ap length up.bytes,
       length-append (units_bytes up.units) (drop at s.info.now),
       length-drop s.base s.info.now,

@@ -89,8 +89,7 @@ module _ (s : Sections) (at : ℕ) (us more : List DebugUnit) (from : AreFrom at
   stand_two one other =
       let ready = λ (group : Group). ready_all s group us one in
       let its_ready = λ (group : Group). ready_all s group more other in
-      let none : (group : Group) → Passes s group (us ++ more) =
-      λ group. passes_two group (ready group) (its_ready group) (passes_all s group us one)
+      let none = λ (group : Group). passes_two group (ready group) (its_ready group) (passes_all s group us one)
       (passes_all s group more other) in
       let both = two sizes (ready sizes) (its_ready sizes) in
       let (table, is_table) = measured_two sizes (ready sizes) (its_ready sizes) in
@@ -106,19 +105,19 @@ module _ (s : Sections) (at : ℕ) (us more : List DebugUnit) (from : AreFrom at
 pub stand_none : (s : Sections) → StandsAlone s []
 stand_none s = record {
   are = tt;
-  classes = λ f fails. let is = fails.is_item in absurd cc;
-  strings = λ f fails. let is = fails.is_item in absurd cc;
+  classes = λ f fails. search rules;
+  strings = λ f fails. search rules;
   references = λ f fails. let is = (at_attributes s [] (stays_none s) f fails).is_item in absurd cc;
-  shapes = λ f fails. let is = fails.is_item in absurd cc;
+  shapes = λ f fails. search rules;
   contained = search (rules);
   sizes = (
     λ n. None,
     record {
       one = record {
-        obeys = λ node below. absurd (omega (arith, below));
-        only = λ other right node below. absurd (omega (arith, below));
+        obeys = λ node below. search rules;
+        only = λ other right node below. search rules;
       };
-      none = λ f fails. let is = fails.is_item in absurd cc;
+      none = λ f fails. search rules;
     },
   );
   no_type_unit = tt;
@@ -193,10 +192,9 @@ ready_each s group P Q into (units ∷ bs) (stays, stay) (one, measured) (holds,
 -- THE law
 pub first_by_unit : FirstOfUnits
 first_by_unit s before units behind group fault all measured passed fails below parts =
-    let same : joined (before ++ units ∷ behind) ≡ joined before ++ (units ++ joined behind) =
-    flat_map-append (λ (batch : List DebugUnit). batch) before (units ∷ behind) in
-    let from : AreFrom s.base (joined before ++ (units ++ joined behind)) = subst (AreFrom s.base) same all.follow in
-    let place : ℕ = s.base + length (units_bytes (joined before)) in
+    let same = flat_map-append (λ (batch : List DebugUnit). batch) before (units ∷ behind) in
+    let from = subst (AreFrom s.base) same all.follow in
+    let place = s.base + length (units_bytes (joined before)) in
     let (front, there) = from_parts s.base (joined before) (units ++ joined behind) from in
     let (back, end) = from_parts place units (joined behind) there in
     let (stay, (one_stays, stay_behind)) = split (StaysAlone s) before (units ∷ behind) all.stay in

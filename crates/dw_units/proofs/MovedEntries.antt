@@ -88,7 +88,7 @@ module _ (number first : ℕ) where
       → unit_to ≡ number + unit → above_to ≡ moved_number first above → next_to ≡ moved_number first next
       → ◌≡◌ {A = Entry} (record { at = at; unit = unit_to; parent = above_to; depth = depth; next = next_to; head = h })
       (moved number first (record { at = at; unit = unit; parent = above; depth = depth; next = next; head = h }))
-  head_moved unit unit_to above next above_to next_to depth at h u q r = rw u (rw q (rw r refl))
+  head_moved unit unit_to above next above_to next_to depth at h u q r = rw (u, q, r) refl
 
   mutual
     node_moved : (unit unit_to : ℕ) (above next above_to next_to : Option ℕ) (depth id id_to at : ℕ) (n : Node)
@@ -177,19 +177,15 @@ module _ {X : Type 0} (f : X → X) (xs ys zs : List X) (is : zs ≡ xs ++ map f
   get_either : (i : ℕ) (x : X) → slice_get zs i ≡ Some x
       → (slice_get xs i ≡ Some x)
       ⊎ ((j : ℕ) × (y : X) × (slice_get ys j ≡ Some y) × (i ≡ length xs + j) × (f y ≡ x))
-  get_either i x is_x = go (cases_lt i (length xs))
-    where
-      here : slice_get (xs ++ map f ys) i ≡ Some x
-      here = ap (λ (l : List X). slice_get l i) (sym is) ∙ is_x
-
-      go : (i < length xs) ⊎ (length xs ≤ i)
-          → (slice_get xs i ≡ Some x)
-          ⊎ ((j : ℕ) × (y : X) × (slice_get ys j ≡ Some y) × (i ≡ length xs + j) × (f y ≡ x))
-      go (inl below) = inl (sym (get_front xs (map f ys) i below) ∙ here)
-      go (inr past) =
-          let (y, is_y, same) = map_some f (slice_get ys (i - length xs)) x
-          (sym (slice_get-map f ys (i - length xs)) ∙ sym (get_behind xs (map f ys) i past) ∙ here) in
-          inr (i - length xs, y, is_y, omega (arith, past), same)
+  get_either i x is_x =
+      let here = ap (λ (l : List X). slice_get l i) (sym is) ∙ is_x in
+      elim (cases_lt i (length xs)) [
+        | inl below ↦ inl (sym (get_front xs (map f ys) i below) ∙ here)
+        | inr past ↦
+            let (y, is_y, same) = map_some f (slice_get ys (i - length xs)) x
+            (sym (slice_get-map f ys (i - length xs)) ∙ sym (get_behind xs (map f ys) i past) ∙ here) in
+            inr (i - length xs, y, is_y, omega (arith, past), same)
+      ]
 
 -- ---- some units among all
 
@@ -251,7 +247,17 @@ part_of s at before units behind from first stays = record {
         | inl here ↦
             inr (early (unit_below s before first i e here) (slice_get_within (entries_of before) i e here))
         | inr (j, d, is_d, begins, same) ↦
-            later i e j d begins same (get_either _ (entries_of units) (entries_of behind) _ inside j d is_d)
+            elim (get_either _ (entries_of units) (entries_of behind) _ inside j d is_d) [
+              | inl here ↦ inl (record { inner = j; entry = d; is_entry = here; begins = begins; same = same })
+              | inr (k, c, is_c, past, also) ↦
+                  inr (late
+                  (omega (arith, ap (λ (x : Entry). x.unit) same, ap (λ (x : Entry). x.unit) also)) (λ m is.
+                  let (a, is_a, one) = some_moved (length (entries_of before)) d.parent m
+                  (ap (λ (x : Entry). x.parent) same ∙ is) in
+                  let (b, is_b, two) = some_moved (length (entries_of units)) c.parent a
+                  (ap (λ (x : Entry). x.parent) also ∙ is_a) in
+                  omega (arith, one, two)))
+            ]
       ];
 }
   where
@@ -272,25 +278,6 @@ part_of s at before units behind from first stays = record {
         ≡ entries_of units ++ map (moved (length units) (length (entries_of units))) (entries_of behind)
     inside = entries_both place units behind there
 
-    later : (i : ℕ) (e : Entry) (j : ℕ) (d : Entry) → i ≡ length (entries_of before) + j
-        → moved (length before) (length (entries_of before)) d ≡ e
-        → (slice_get (entries_of units) j ≡ Some d)
-        ⊎ ((k : ℕ) × (c : Entry) × (slice_get (entries_of behind) k ≡ Some c)
-        × (j ≡ length (entries_of units) + k) × (moved (length units) (length (entries_of units)) c ≡ d))
-        → IsIn (length before) (length (entries_of before)) units i e
-        ⊎ IsOut (length before) (length (entries_of before)) units i e
-    later i e j d begins same (inl here) =
-        inl (record { inner = j; entry = d; is_entry = here; begins = begins; same = same })
-    later i e j d begins same (inr (k, c, is_c, past, also)) =
-        let unit = ap (λ (x : Entry). x.unit) same in
-        let its_unit = ap (λ (x : Entry). x.unit) also in
-        inr (late (omega (arith, unit, its_unit)) (λ m is.
-        let (a, is_a, one) = some_moved (length (entries_of before)) d.parent m
-        (ap (λ (x : Entry). x.parent) same ∙ is) in
-        let (b, is_b, two) = some_moved (length (entries_of units)) c.parent a
-        (ap (λ (x : Entry). x.parent) also ∙ is_a) in
-        omega (arith, one, two)))
-
 pub stays_none : (s : Sections) → StaysAlone s []
 stays_none s = search (rules)
 
@@ -309,8 +296,7 @@ module _ (s : Sections) (at : ℕ) (us more : List DebugUnit) (from : AreFrom at
   halves i e is =
       elim (get_either _ (entries_of us) (entries_of more) _ (entries_both at us more from) i e is) [
         | inl here ↦
-            let begins : i ≡ 0 + i = omega arith in
-            inl (record { inner = i; entry = e; is_entry = here; begins = begins; same = unmoved e })
+            inl (record { inner = i; entry = e; is_entry = here; begins = omega arith; same = unmoved e })
         | inr (j, d, is_d, begins, same) ↦
             inr (record { inner = j; entry = d; is_entry = is_d; begins = begins; same = same })
       ]

@@ -59,22 +59,16 @@ module _ {s : Sections} {all : List DebugUnit} {number first : ℕ} {units : Lis
         let of = t.in_unit in
         let i = own_entry id t.within (omega (arith, of)) (omega (arith, of, below)) in
         let e_is = get_or_from_slice_get (entries_of units) i.inner i.entry no_entry i.is_entry in
-        let at = ap (λ (e : Entry). e.at) i.same in
-        let unit = ap (λ (e : Entry). e.unit) i.same in
-        let its_at = ap (λ (e : Entry). e.at) e_is in
-        let its_unit = ap (λ (e : Entry). e.unit) e_is in
-        let begins = t.begins in
         let there = reach_in_unit_is (entries_of units) (placed units) j offset i.inner alone_rise
         (record {
           unit_within = omega (arith, below, length-placed units);
           target = record {
             within = slice_get_within (entries_of units) i.inner i.entry i.is_entry;
-            begins = omega (arith, begins, at, its_at, at_same);
-            in_unit = omega (arith, unit, its_unit, of);
+            begins = omega (arith, t.begins, ap (λ (e : Entry). e.at) i.same, ap (λ (e : Entry). e.at) e_is, at_same);
+            in_unit = omega (arith, ap (λ (e : Entry). e.unit) i.same, ap (λ (e : Entry). e.unit) e_is, of);
           };
         }) in
-        let both : ◌≡◌ {A = Option ℕ} (Some i.inner) None = sym there ∙ none in
-        cc
+        let both = sym there ∙ none in cc
 
     info_in_place : (offset id : ℕ) → offset_is (entries_of units) offset ≡ Some id
         → offset_is (entries_of all) offset ≡ Some (first + id)
@@ -147,23 +141,6 @@ module _ {s : Sections} {all : List DebugUnit} {number first : ℕ} {units : Lis
       ∙ ap (permits (entry_head (moved number first e)) attribute) (sym target) ∙ wrong.wrong in
       search (rules, is_id, is_t, refused)
 
-  by_alone : (e : Entry) → (attribute : ℕ) (v : Datum) (rule : Rule) → is_signature v ≡ false
-      → reach_of (entries_of all) (placed all) (number + e.unit) v
-      ≡ moved_number first (reach_of (entries_of units) (placed units) e.unit v)
-      → ReferenceFailsBy (entries_of all) (placed all) (entry_head (moved number first e))
-      attribute v rule
-      → ReferenceFailsBy (entries_of units) (placed units) (entry_head e) attribute v rule
-  by_alone e attribute v NoEntry stays reached (other, none) = search (rules, none_moved)
-  by_alone e attribute v WrongKind stays reached (inl form) = inl form
-  by_alone e attribute v WrongKind stays reached (inr wrong) =
-      inr (wrong_alone e attribute (reach_of (entries_of units) (placed units) e.unit v)
-      (reached_below (entries_of units) (placed units) e.unit v)
-      (subst (ReachesWrong (entries_of all) (entry_head (moved number first e)) attribute) reached wrong))
-  by_alone e attribute v NotNextSibling stays reached (sibling, other) = search (rules, other_alone, moved_number)
-  by_alone e attribute v NoSignature stays reached fails =
-      absurd (no_signature (placed all) v stays fails)
-  by_alone e attribute v rule stays reached fails = absurd fails
-
   wrong_in_place : (e : Entry) (attribute : ℕ) (alone : Option ℕ)
       → ReachesWrong (entries_of units) (entry_head e) attribute alone
       → ReachesWrong (entries_of all) (entry_head (moved number first e)) attribute
@@ -174,22 +151,36 @@ module _ {s : Sections} {all : List DebugUnit} {number first : ℕ} {units : Lis
       let refused = permits_moved number first e wrong.target attribute ∙ wrong.wrong in
       search (rules, there, reaches, refused)
 
-  by_in_place : (e : Entry) → (attribute : ℕ) (v : Datum) (rule : Rule) → is_signature v ≡ false
-      → reach_of (entries_of all) (placed all) (number + e.unit) v
-      ≡ moved_number first (reach_of (entries_of units) (placed units) e.unit v)
-      → ReferenceFailsBy (entries_of units) (placed units) (entry_head e) attribute v rule
-      → ReferenceFailsBy (entries_of all) (placed all) (entry_head (moved number first e))
-      attribute v rule
-  by_in_place e attribute v rule stays reached fails =
-      search (rules, common_steps, no_signature, other_in_place, wrong_in_place)
+  -- the rules at a value of an entry alone, and there in its place
+  module _ (e : Entry) (attribute : ℕ) (v : Datum) (stays : is_signature v ≡ false) where
+    abbrev alone : Option ℕ
+    alone = reach_of (entries_of units) (placed units) e.unit v
 
-  -- another rule than NoEntry fails at a reference that reaches nothing, whatever it reaches in its place
-  by_none : (e : Entry) → (attribute : ℕ) (v : Datum) (rule : Rule) → is_signature v ≡ false
-      → reach_of (entries_of units) (placed units) e.unit v ≡ None → (rule ≡ NoEntry → ⊥)
-      → ReferenceFailsBy (entries_of units) (placed units) (entry_head e) attribute v rule
-      → ReferenceFailsBy (entries_of all) (placed all) (entry_head (moved number first e))
-      attribute v rule
-  by_none e attribute v rule stays none other fails = search (rules, next_none, no_signature)
+    abbrev Alone : Rule → Type 0
+    Alone = ReferenceFailsBy (entries_of units) (placed units) (entry_head e) attribute v
+
+    abbrev There : Rule → Type 0
+    There = ReferenceFailsBy (entries_of all) (placed all) (entry_head (moved number first e)) attribute v
+
+    abbrev IsReached : Type 0
+    IsReached = reach_of (entries_of all) (placed all) (number + e.unit) v ≡ moved_number first alone
+
+    by_alone : (rule : Rule) → IsReached → There rule → Alone rule
+    by_alone NoEntry reached (other, none) = search (rules, none_moved)
+    by_alone WrongKind reached (inl form) = inl form
+    by_alone WrongKind reached (inr wrong) =
+        inr (wrong_alone e attribute alone (reached_below (entries_of units) (placed units) e.unit v)
+        (subst (ReachesWrong (entries_of all) (entry_head (moved number first e)) attribute) reached wrong))
+    by_alone NotNextSibling reached (sibling, other) = search (rules, other_alone, moved_number)
+    by_alone NoSignature reached fails = absurd (no_signature (placed all) v stays fails)
+    by_alone rule reached fails = absurd fails
+
+    by_in_place : (rule : Rule) → IsReached → Alone rule → There rule
+    by_in_place rule reached fails = search (rules, common_steps, no_signature, other_in_place, wrong_in_place)
+
+    -- another rule than NoEntry fails at a reference that reaches nothing, whatever it reaches in its place
+    by_none : (rule : Rule) → alone ≡ None → (rule ≡ NoEntry → ⊥) → Alone rule → There rule
+    by_none rule none other fails = search (rules, next_none, no_signature)
 
   -- what fails in the place of the batch
   reference_down : (inner : ℕ) (e : Entry) → slice_get (entries_of units) inner ≡ Some e
@@ -200,7 +191,7 @@ module _ {s : Sections} {all : List DebugUnit} {number first : ℕ} {units : Lis
   reference_down inner e is_e attribute v rule stays (reference, fails) =
       let below = unit_below s units p.stays inner e is_e in
       elim (reach_either whole p e.unit below v stays) [
-        | inl reached ↦ (rule, (reference, by_alone e attribute v rule stays reached fails), omega arith)
+        | inl reached ↦ (rule, (reference, by_alone e attribute v stays rule reached fails), omega arith)
         | inr (offset, none) ↦ (NoEntry, (reference, (stays, none)), one_least rule)
       ]
 
@@ -214,10 +205,10 @@ module _ {s : Sections} {all : List DebugUnit} {number first : ℕ} {units : Lis
   reference_up inner e is_e position attribute v rule has stays (reference, fails) firm =
       let below = unit_below s units p.stays inner e is_e in
       elim (reach_either whole p e.unit below v stays) [
-        | inl reached ↦ (reference, by_in_place e attribute v rule stays reached fails)
+        | inl reached ↦ (reference, by_in_place e attribute v stays rule reached fails)
         | inr (offset, none) ↦ (
           reference,
-          by_none e attribute v rule stays none
+          by_none e attribute v stays rule none
               (λ is_none. let no : true ≡ false = sym offset ∙ firm is_none inner e is_e position attribute v has in cc)
               fails,
         )

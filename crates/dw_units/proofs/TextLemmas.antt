@@ -17,7 +17,7 @@ use Rattle.dw_entries.specs.Header.{version_of}
 use Rattle.dw_forms.specs.Rules.{number_of}
 use Rattle.dw_entries.specs.EntryRules.{HasAttribute, InList, values_of, Rule, Failure}
 use Rattle.dw_entries.specs.Lookups.{entry_head, value_in}
-use Rattle.dw_entries.proofs.Firsts.{same_some, Place, at_header, at_entry, at_attribute, IsBefore, Precedes, HasNone, IsFirst}
+use Rattle.dw_entries.proofs.Firsts.{same_some, Place, at_header, at_entry, at_attribute, Precedes, HasNone, IsFirst}
 use Rattle.dw_entries.specs.Grammar.{Datum, Head}
 use Rattle.dw_links.specs.RulesOfAttributes.{Rules, AtHead}
 use Rattle.dw_links.specs.Classes.{ClassFails, ClassFailures}
@@ -33,15 +33,9 @@ IsOfEntry at (at_header offset) = ⊥
 IsOfEntry at (at_entry offset) = offset ≡ at
 IsOfEntry at (at_attribute offset position) = offset ≡ at
 
-one_entry : (a b : ℕ) (p : Place) → IsOfEntry a p → IsOfEntry b p → a ≡ b
-one_entry a b p at_p at_q = search (rules)
-
-before_entry : (a b : ℕ) (p q : Place) → IsOfEntry a p → IsOfEntry b q → IsBefore p q → a ≤ b
-before_entry a b p q at_p at_q is = search (rules)
-
 -- nothing at an entry precedes what is at an earlier one
 later_entry : (a b : ℕ) (f g : Failure) → a < b → IsOfEntry a f.place → IsOfEntry b g.place → Precedes g f → ⊥
-later_entry a b f g less at_f at_g precedes = search (rules, before_entry, one_entry)
+later_entry a b f g less at_f at_g precedes = search (rules)
 
 -- ---- the entries of units are in their bytes
 
@@ -240,17 +234,15 @@ heads_of_parts s May Named Fails all whole are alike =
     ))
 
 -- of the head only its parent is asked
-strings_in : (s : Sections) (header : UnitHeader) (strings addresses : Option ℕ) (number first : ℕ) (e : Entry)
-    (attribute : ℕ) (v : Datum)
-    (rule : Rule) → StringFailsIn s header strings addresses (entry_head (moved number first e)) attribute v rule
-    → StringFailsIn s header strings addresses (entry_head e) attribute v rule
-strings_in s header strings addresses number first e attribute v rule is = search (rules, none_moved)
+module _ (s : Sections) (header : UnitHeader) (strings addresses : Option ℕ) (number first : ℕ) (e : Entry)
+    (attribute : ℕ) (v : Datum) (rule : Rule) where
+  strings_in : StringFailsIn s header strings addresses (entry_head (moved number first e)) attribute v rule
+      → StringFailsIn s header strings addresses (entry_head e) attribute v rule
+  strings_in is = search (rules, none_moved)
 
-strings_in_place : (s : Sections) (header : UnitHeader) (strings addresses : Option ℕ) (number first : ℕ) (e : Entry)
-    (attribute : ℕ) (v : Datum)
-    (rule : Rule) → StringFailsIn s header strings addresses (entry_head e) attribute v rule
-    → StringFailsIn s header strings addresses (entry_head (moved number first e)) attribute v rule
-strings_in_place s header strings addresses number first e attribute v rule is = search (rules, moved_number)
+  strings_in_place : StringFailsIn s header strings addresses (entry_head e) attribute v rule
+      → StringFailsIn s header strings addresses (entry_head (moved number first e)) attribute v rule
+  strings_in_place is = search (rules, moved_number)
 
 module _ {s : Sections} {all : List DebugUnit} {number first : ℕ} {units : List DebugUnit}
     (p : IsPart s all number first units) where
@@ -266,13 +258,6 @@ module _ {s : Sections} {all : List DebugUnit} {number first : ℕ} {units : Lis
       there (placed units) e.unit (omega (arith, unit_below s units p.stays inner e is, length-placed units))
 
   -- ---- classes
-
-  class_alone : (e : Entry) (q : PlacedUnit) → slice_get (placed units) e.unit ≡ Some q
-      → (attribute : ℕ) (v : Datum) (rule : Rule)
-      → ClassFails (placed all) (entry_head (moved number first e)) attribute v rule
-      → ClassFails (placed units) (entry_head e) attribute v rule
-  class_alone e q is_q attribute v rule fails =
-      let same = placed_at e q fails.unit is_q fails.in_unit in search (rules, same)
 
   class_in_place : (e : Entry) (attribute : ℕ) (v : Datum) (rule : Rule)
       → ClassFails (placed units) (entry_head e) attribute v rule
@@ -294,15 +279,6 @@ module _ {s : Sections} {all : List DebugUnit} {number first : ℕ} {units : Lis
       else option_and_then section_offset_in (value_in (values_of h) attribute) in
       ap F among.is_entry ∙ ap G heads ∙ sym (ap F alone.is_entry)
 
-  string_alone : (e : Entry) (q : PlacedUnit) → slice_get (placed units) e.unit ≡ Some q
-      → (attribute : ℕ) (v : Datum) (rule : Rule)
-      → StringFails s (entries_of all) (placed all) (entry_head (moved number first e)) attribute v
-      rule
-      → StringFails s (entries_of units) (placed units) (entry_head e) attribute v rule
-  string_alone e q is_q attribute v rule fails =
-      let same = placed_at e q fails.unit is_q fails.in_unit in
-      search (rules, same, strings_in, (base_same e.unit q is_q))
-
 module _ (s : Sections) (May : List DebugUnit → Type 0) (all : List DebugUnit) (whole : StaysAlone s all) where
   pub classes_of_parts : AreOfParts s May ClassFailures all
   classes_of_parts =
@@ -310,7 +286,7 @@ module _ (s : Sections) (May : List DebugUnit → Type 0) (all : List DebugUnit)
       (λ us stays f. (λ fails. fails, λ fails. fails))
       (λ number first units p inner e is_e position attribute v rule has.
       let (q, is_q) = unit_at_hand p inner e is_e in (
-        λ fails. (rule, class_alone p e q is_q attribute v rule fails, omega arith),
+        λ fails. let same = placed_at p e q fails.unit is_q fails.in_unit in (rule, search (rules, same), omega arith),
         λ fails firm. class_in_place p e attribute v rule fails,
       ))
 
@@ -320,6 +296,8 @@ module _ (s : Sections) (May : List DebugUnit → Type 0) (all : List DebugUnit)
       (λ us stays f. (λ fails. fails, λ fails. fails))
       (λ number first units p inner e is_e position attribute v rule has.
       let (q, is_q) = unit_at_hand p inner e is_e in (
-        λ fails. (rule, string_alone p e q is_q attribute v rule fails, omega arith),
+        λ fails.
+            let same = placed_at p e q fails.unit is_q fails.in_unit in
+            (rule, search (rules, same, strings_in, (base_same p e.unit q is_q)), omega arith),
         λ fails firm. search (rules, (base_same p), strings_in_place),
       ))

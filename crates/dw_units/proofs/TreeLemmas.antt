@@ -74,7 +74,7 @@ unit_more bytes more whole = go (ltb (length bytes) 4) refl
         let four = ltb-false (length bytes) 4 fits in
         let alone : unit_at bytes ≡ after_length n (nat_lt n 0xfffffff0) (drop 4 bytes ++ []) =
         ap unit_at (sym (append-nil bytes)) ∙ unit_front bytes [] four in
-        let content : drop 4 bytes ++ [] ≡ drop 4 bytes = append-nil (drop 4 bytes) in
+        let content = append-nil (drop 4 bytes) in
         unit_front bytes more four
         ∙ after_more n (nat_lt n 0xfffffff0) (drop 4 bytes) more (λ cut.
         whole (alone ∙ ap (after_length n (nat_lt n 0xfffffff0)) content ∙ cut))
@@ -94,7 +94,7 @@ fails_with_more «abbrev» at bytes more broken whole fails = record {
   are = fails.are;
   parts = ap (λ (xs : List ℕ). xs ++ more) fails.parts ∙ append_assoc (units_bytes fails.units) fails.rest more;
   more = λ none. fails.more (nil_from_length fails.rest
-      (let e = ap length none in omega (arith, e, length-append fails.rest more)));
+      (omega (arith, ap length none, length-append fails.rest more)));
   fails = subst (λ (r : Result (UnitHeader × List ℕ) Rule). FailsAs «abbrev» header r broken)
       (sym (header_more (length «abbrev») fails.rest more (λ cut. whole
       (ap (λ (b : PlainFault). b.rule)

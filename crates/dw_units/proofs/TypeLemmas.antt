@@ -52,9 +52,8 @@ module _ {s : Sections} {at : ℕ} {us more : List DebugUnit} (two : AreTwo s at
   begins_in : (nodes : List ℕ) → IsClosed (by_value (us ++ more)) nodes
       → IsAt 0 us (slice_index nodes 0) ⊎ IsAt (length (entries_of us)) more (slice_index nodes 0)
   begins_in nodes closed =
-      let long = closed.two in
       let below = from_below (by_value (us ++ more)) (slice_index nodes 0) (slice_index nodes 1)
-      (closed.steps 0 (omega (arith, long))) in
+      (closed.steps 0 (omega (arith, closed.two))) in
       where_is two (slice_index nodes 0) (rw (length-by_value (us ++ more)) at below)
 
   pub contained_two : HasNoCycle (by_value us) → HasNoCycle (by_value more) → HasNoCycle (by_value (us ++ more))
@@ -86,8 +85,7 @@ cycle_of_part {all = all} {first = first} {units = units} w fault names =
     let two = names.is_cycle.closed.two in
     let inside = entry_below units names.nodes names.is_cycle in
     let begins = raised first names.nodes 0 (omega (arith, two)) in
-    let offset : (entry_in units (slice_index names.nodes 0)).at
-    ≡ (entry_in all (slice_index (map (λ (n : ℕ). first + n) names.nodes) 0)).at =
+    let offset =
     sym (ap (λ (e : Entry). e.at) (w.entries (slice_index names.nodes 0) (inside 0 (omega (arith, two)))))
     ∙ ap (λ (n : ℕ). (entry_in all n).at) (sym begins) in
     record {

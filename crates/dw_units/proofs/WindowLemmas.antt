@@ -83,10 +83,8 @@ module _ {s : Sections} {all : List DebugUnit} {number first : ℕ} {units : Lis
       elim (p.covers i (entry_in all i) (slice_get-get_or (entries_of all) i no_entry below)) [
         | inl here ↦
             (here.inner, slice_get_within (entries_of units) here.inner here.entry here.is_entry, here.begins)
-        | inr (early unit before) ↦
-            let above = parent-first all i (first + inner) parent in absurd (omega (arith, above, before))
-        | inr (late unit parents) ↦
-            let past = parents (first + inner) parent in absurd (omega (arith, past, inside))
+        | inr (early unit before) ↦ absurd (omega (arith, parent-first all i (first + inner) parent, before))
+        | inr (late unit parents) ↦ absurd (omega (arith, parents (first + inner) parent, inside))
       ]
 
   pub window : IsWindow all number first units

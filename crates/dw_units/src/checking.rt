@@ -160,11 +160,13 @@ pub fn check(alloc: Global, sections: Sections<'_>) -> Result<Found, NoMemory>
 
 /// Batches that are each valid alone, at its place, and have no type unit and no value that refers to a unit by its
 /// signature, are valid together.
+#[tactic(auto, using(crate::proofs::GroupLemmas::join))]
 pub fn units_join()
     ensures { JoinsUnits }
 {}
 
 /// Whole units, and then bytes at which a rule of trees fails: it fails there in the sections.
+#[tactic(auto, using(crate::proofs::TreeLemmas::trees_first))]
 pub fn trees_of_units()
     ensures { TreesOfUnits }
 {}
