@@ -83,8 +83,7 @@ HasGroup n Fails = (f : Failure) → Fails f → group_of f.rule ≡ n
 
 has_group : (s : Sections) (us : List DebugUnit) (group : Group) → HasGroup (turn_of group) (failures_of s us group)
 has_group s us strings f fails = string_failures s us f fails
-has_group s us references f fails = reference_failures us f fails
-has_group s us _ f fails = search rules
+has_group s us _ f fails = search (rules, reference_failures)
 
 -- a fault that is the first of a group has the group's rank
 pub rank_of : (s : Sections) (us : List DebugUnit) (group : Group) (fault : Fault) → IsFirstIn s us group fault

@@ -76,8 +76,7 @@ one_list_of s units others p q = search (rules, one_list)
 holds_of : (s : Sections) (units : List DebugUnit) → IsValidBy s units → (group : Group)
     → HasNone (failures_of s units group)
 holds_of s units valid cycles = no_cycle_holds units valid.contained
-holds_of s units valid sizes = search (rules, none_by_size)
-holds_of s units valid _ = search rules
+holds_of s units valid _ = search (rules, none_by_size)
 
 -- a group where no rule fails has no first failure
 none_first : (Fails : Failure → Type 0) (fault : Fault) → HasNone Fails → IsPlainFault (IsFirst Fails) fault → ⊥
@@ -217,12 +216,11 @@ module _ (entries : Entries) where
 
   before_strings : HasNone (ClassFailures us) → HoldBefore s us 3
   before_strings none classes less = none
-  before_strings none _ less = absurd (omega (arith, less))
+  before_strings none _ less = search (rules)
 
   before_references : HasNone (ClassFailures us) → HasNone (StringFailures s us) → HoldBefore s us 4
   before_references none nor classes less = none
-  before_references none nor strings less = nor
-  before_references none nor _ less = absurd (omega (arith, less))
+  before_references none nor _ less = search (rules)
 
   -- the first value whose class is wrong
   pub wrong_class : (fault : Fault) → IsPlainFault (IsFirst (ClassFailures us)) fault → IsFaultOf s fault
@@ -264,19 +262,14 @@ module _ (links : Links) where
 
   before_shapes : HoldTo 5
   before_shapes classes less = links.classes
-  before_shapes strings less = links.strings
-  before_shapes references less = links.references
-  before_shapes _ less = absurd (omega (arith, less))
+  before_shapes _ less = search (rules)
 
   before_cycles : HasNone (ShapeFailures own) → HoldTo 6
   before_cycles none shapes less = none
-  before_cycles none cycles less = absurd (omega (arith, less))
-  before_cycles none sizes less = absurd (omega (arith, less))
   before_cycles none earlier less = before_shapes earlier (omega arith)
 
   before_sizes : HasNone (ShapeFailures own) → HasNoCycle (by_value own) → HoldTo 7
   before_sizes none nor cycles less = no_cycle_holds own nor
-  before_sizes none nor sizes less = absurd (omega (arith, less))
   before_sizes none nor earlier less = before_cycles none earlier (omega arith)
 
   pub wrong_shape : (fault : Fault) → IsPlainFault (IsFirst (ShapeFailures own)) fault

@@ -117,18 +117,16 @@ module _ (i : Image) (u : UnitAtHand) where
       → ⊥
   passes v x rule fails =
       none_at (entries_in i) (ReferenceFails (entries_in i) (placed (units_in i)))
-      (λ f fails. none_fails i f (inr fails))
-      x.id (entry_of (entries_in i) x.id) (slice_get-get_or (entries_in i) x.id no_entry x.within) x.position
-      x.attribute v
-      x.has rule fails
+      (λ f fails. none_fails i f (inr fails)) x.id _ (slice_get-get_or (entries_in i) x.id no_entry x.within) x.position
+      x.attribute v x.has rule fails
 
   -- so each has a target
   no_target : (v : Datum) (x : HasValue i u v) → is_reference_value v ≡ true
       → reach_of (entries_in i) (placed (units_in i)) (entry_of (entries_in i) x.id).unit v ≡ None → ⊥
-  no_target (ref_info offset) x is none = passes (ref_info offset) x NoEntry (refl, (refl, none))
-  no_target (ref_unit offset) x is none = passes (ref_unit offset) x NoEntry (refl, (refl, none))
+  no_target (ref_info offset) x is none = passes _ x NoEntry (refl, (refl, none))
+  no_target (ref_unit offset) x is none = passes _ x NoEntry (refl, (refl, none))
   no_target (ref_sig signature) x is none =
-      passes (ref_sig signature) x NoSignature (
+      passes _ x NoSignature (
         refl,
         λ number has.
             let types = (sound_image i).sound.references.types in

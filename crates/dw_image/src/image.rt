@@ -44,11 +44,14 @@ pub struct Image<'a> {
     ghost measured: { AreMeasures (units_of entries) sizes },
 }
 
+#[tactic(auto, unfolding(crate::specs::Images::units_in, crate::specs::Images::sections_in, crate::specs::Images::type_count, crate::specs::Images::name_in, crate::specs::Images::name_place_in))]
 impl<'a> Image<'a> {
-    ghost use Rattle.dw_image.specs.Images.{sections_in, unit_count, entry_count, type_count};
+    ghost use Rattle.dw_image.specs.Images.{sections_in, units_in, unit_count, entries_in, entry_count, type_count};
+    ghost use Rattle.dw_image.specs.Images.{name_in, name_place_in};
+    ghost use Rattle.dw_image.specs.Lookups.{entry_at};
+    ghost use Rattle.dw_types.specs.ChildrenLeft.{children_left};
 
     /// The sections that were verified.
-    #[tactic(auto, unfolding(crate::specs::Images::sections_in))]
     pub fn sections(&self) -> &Sections<'a>
         ensures { result.now ≡ sections_in self.now }
     {
@@ -56,7 +59,6 @@ impl<'a> Image<'a> {
     }
 
     /// How many units there are.
-    #[tactic(auto, unfolding(crate::specs::Images::units_in))]
     pub fn units(&self) -> usize
         ensures { result ≡ unit_count self.now }
     {
@@ -64,7 +66,6 @@ impl<'a> Image<'a> {
     }
 
     /// How many entries there are.
-    #[tactic(auto, unfolding(crate::specs::Images::units_in))]
     pub fn entries(&self) -> usize
         ensures { result ≡ entry_count self.now }
     {
@@ -72,17 +73,11 @@ impl<'a> Image<'a> {
     }
 
     /// How many entries are types, by their tags.
-    #[tactic(auto, unfolding(crate::specs::Images::type_count, crate::specs::Images::units_in))]
     pub fn types(&self) -> usize
         ensures { result ≡ type_count self.now }
     {
         self.steps.types()
     }
-}
-
-impl<'a> Image<'a> {
-    ghost use Rattle.dw_image.specs.Images.{units_in, entries_in, name_in, name_place_in, sections_in, unit_count};
-    ghost use Rattle.dw_image.specs.Lookups.{entry_at};
 
     /// The entries of the image, as they were scanned.
     pub fn scanned(&self) -> &Entries<'a>
@@ -99,7 +94,6 @@ impl<'a> Image<'a> {
     }
 
     /// The entry that starts at this offset of .debug_info.
-    #[tactic(auto, unfolding(crate::specs::Images::units_in))]
     pub fn entry(&self, offset: u32) -> Option<EntryId>
         ensures exact { result ≡ entry_at (entries_in self.now) offset }
         ensures within { IfSome result (λ id. id < length (entries_in self.now)) }
@@ -108,7 +102,6 @@ impl<'a> Image<'a> {
     }
 
     /// The entry with this number. Entries are numbered from 0 in rising offset.
-    #[tactic(auto, unfolding(crate::specs::Images::units_in))]
     pub fn nth(&self, k: usize) -> Option<EntryId>
         ensures exact { result ≡ nth_of (entries_in self.now) k }
         ensures within { IfSome result (λ id. id < length (entries_in self.now)) }
@@ -117,7 +110,6 @@ impl<'a> Image<'a> {
     }
 
     /// What is known of an entry besides its attributes. Its depth is counted: each entry above it is looked at.
-    #[tactic(auto, unfolding(crate::specs::Images::units_in))]
     pub fn head(&self, id: EntryId) -> Head
         requires { id < length (entries_in self.now) }
         ensures { result ≡ full_head (entry_of (entries_in self.now) id) }
@@ -126,7 +118,6 @@ impl<'a> Image<'a> {
     }
 
     /// The offset of an entry in .debug_info, in bytes.
-    #[tactic(auto, unfolding(crate::specs::Images::units_in))]
     pub fn offset(&self, id: EntryId) -> u32
         requires { id < length (entries_in self.now) }
         ensures { result ≡ (entry_of (entries_in self.now) id).at }
@@ -135,7 +126,6 @@ impl<'a> Image<'a> {
     }
 
     /// The tag of an entry.
-    #[tactic(auto, unfolding(crate::specs::Images::units_in))]
     pub fn tag(&self, id: EntryId) -> Tag
         requires { id < length (entries_in self.now) }
         ensures { result ≡ (entry_of (entries_in self.now) id).head.decl.tag }
@@ -144,7 +134,6 @@ impl<'a> Image<'a> {
     }
 
     /// How many entries are above an entry. Each of them is looked at.
-    #[tactic(auto, unfolding(crate::specs::Images::units_in))]
     pub fn depth(&self, id: EntryId) -> usize
         requires { id < length (entries_in self.now) }
         ensures { result ≡ (entry_of (entries_in self.now) id).depth }
@@ -153,7 +142,6 @@ impl<'a> Image<'a> {
     }
 
     /// The parent of an entry. None at the first entry of a unit.
-    #[tactic(auto, unfolding(crate::specs::Images::units_in))]
     pub fn parent(&self, id: EntryId) -> Option<EntryId>
         requires { id < length (entries_in self.now) }
         ensures { result ≡ (entry_of (entries_in self.now) id).parent }
@@ -162,7 +150,6 @@ impl<'a> Image<'a> {
     }
 
     /// The value of an entry's attribute, if it has that attribute.
-    #[tactic(auto, unfolding(crate::specs::Images::units_in))]
     #[inline(always)]
     pub fn value(&self, id: EntryId, attribute: Attribute) -> Option<Value<'a>>
         requires { id < length (entries_in self.now) }
@@ -172,7 +159,6 @@ impl<'a> Image<'a> {
     }
 
     /// The entry that an entry's attribute refers to. None if the attribute is absent or not a reference.
-    #[tactic(auto, unfolding(crate::specs::Images::units_in))]
     pub fn target(&self, id: EntryId, attribute: Attribute) -> Option<EntryId>
         requires { id < length (entries_in self.now) }
         ensures exact { result ≡ target_of (entries_in self.now) (placed (units_in self.now))
@@ -183,7 +169,6 @@ impl<'a> Image<'a> {
     }
 
     /// Where the text of an entry's DW_AT_name is. None if the entry has no name.
-    #[tactic(auto, unfolding(crate::specs::Images::units_in))]
     #[inline(always)]
     pub fn name_place(&self, id: EntryId) -> Option<TextPlace>
         requires { id < length (entries_in self.now) }
@@ -197,7 +182,6 @@ impl<'a> Image<'a> {
     }
 
     /// The text of an entry's DW_AT_name, without its closing zero byte. None if the entry has no name.
-    #[tactic(auto, unfolding(crate::specs::Images::units_in))]
     pub fn name_of(&self, id: EntryId) -> Option<&'a [u8]>
         requires { id < length (entries_in self.now) }
         ensures { option_copied result ≡ name_in self.now (entry_of (entries_in self.now) id) }
@@ -206,21 +190,14 @@ impl<'a> Image<'a> {
     }
 
     /// The entry that a value in a unit refers to. None if the value is no reference. An attribute's own is `target`.
-    #[tactic(auto, unfolding(crate::specs::Images::units_in))]
     pub fn reach(&self, unit: usize, value: &Value<'_>) -> Option<EntryId>
         requires { unit < unit_count self.now }
         ensures { result ≡ reach_of (entries_in self.now) (placed (units_in self.now)) unit (view value.now) }
     {
         self.tables.reach(&self.entries, unit, value)
     }
-}
-
-impl<'a> Image<'a> {
-    ghost use Rattle.dw_image.specs.Images.{entries_in};
-    ghost use Rattle.dw_types.specs.ChildrenLeft.{children_left};
 
     /// The children of an entry, in rising offset.
-    #[tactic(auto, unfolding(crate::specs::Images::units_in))]
     pub fn children(&self, id: EntryId) -> Children<'_, 'a>
         requires { id < length (entries_in self.now) }
         ensures { children_left result ≡ children_of (entries_in self.now) id }

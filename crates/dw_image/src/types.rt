@@ -40,9 +40,9 @@ impl TypeId {
     }
 }
 
+#[tactic(auto, unfolding(crate::specs::Images::units_in, crate::specs::Images::steps_in, crate::specs::Images::size_table_in))]
 impl Image<'_> {
     /// The type at an entry. None if its tag is not a type's.
-    #[tactic(auto, unfolding(crate::specs::Images::units_in))]
     pub fn type_at(&self, id: EntryId) -> Option<TypeId>
         requires { id < length (entries_in self.now) }
         ensures exact { result ≡ type_number (entries_in self.now) id }
@@ -56,7 +56,7 @@ impl Image<'_> {
     }
 
     /// The type that an entry's DW_AT_type reaches (DWARF 5, section 2.2). No rule fails, so what it reaches is a type.
-    #[tactic(auto, unfolding(crate::specs::Images::units_in))]
+    #[tactic(auto, unfolding(crate::specs::Images::units_in), using(crate::proofs::UnitLemmas::type_is_target))]
     pub fn type_of(&self, id: EntryId) -> Option<TypeId>
         requires { id < length (entries_in self.now) }
         ensures exact { result ≡ type_in self.now (entry_of (entries_in self.now) id) }
@@ -67,7 +67,6 @@ impl Image<'_> {
     }
 
     /// The size of a type in bytes, below 2^63. None if its size is not known.
-    #[tactic(auto, unfolding(crate::specs::Images::units_in, crate::specs::Images::size_table_in))]
     pub fn size_of(&self, id: TypeId) -> Option<u64>
         requires { id < length (entries_in self.now) }
         ensures { result ≡ size_table_in self.now id }
@@ -76,7 +75,6 @@ impl Image<'_> {
     }
 
     /// The known count of a dimension: how many elements it has (DWARF 5, section 5.13). None for any other entry.
-    #[tactic(auto, unfolding(crate::specs::Images::units_in))]
     pub fn count_of(&self, id: EntryId) -> Option<u128>
         requires { id < length (entries_in self.now) }
         ensures { result ≡ count_at (units_in self.now) id }
@@ -85,7 +83,6 @@ impl Image<'_> {
     }
 
     /// The steps by value of all entries. An entry is the node of its number.
-    #[tactic(auto, unfolding(crate::specs::Images::units_in, crate::specs::Images::steps_in))]
     pub fn by_value(&self) -> &ByValue
         ensures { ⟦<ByValue as StepGraph>⟧.graph result.now ≡ steps_in self.now }
     {
@@ -102,7 +99,6 @@ impl Image<'_> {
 
     /// The k-th entry, from 0, that an entry holds by value: its type, the types of its plain members in their order,
     /// what its signature names. None past the last.
-    #[tactic(auto, unfolding(crate::specs::Images::units_in, crate::specs::Images::steps_in))]
     pub fn step(&self, id: EntryId, k: usize) -> Option<EntryId>
         requires { id < length (entries_in self.now) }
         ensures exact { result ≡ slice_get (steps_of (steps_in self.now) id) k }

@@ -17,8 +17,8 @@ returns-then-group-eq3-clause-passed c =
 
 pub returns-in_err-links-clause-fault : goal.returns-in_err-links-clause-fault
 returns-in_err-links-clause-fault c =
-    let p = err_from_is_err_and c.from_residual-in_err-links.result c.from_residual-in_err-links.ensures.1 in
-    rw (p.1, p.2) (faulty_weaker c.in_err-links.field-0.0 (wrong_link c.args.entries) c.in_err-links.ensures.fault)
+    let here = faulty_weaker c.in_err-links.field-0.0 (wrong_link c.args.entries) c.in_err-links.ensures.fault in
+    search (rules, err_from_is_err_and, here)
 
 pub returns-then-group-le5-clause-passed : goal.returns-then-group-le5-clause-passed
 returns-then-group-le5-clause-passed c =
@@ -27,8 +27,8 @@ returns-then-group-le5-clause-passed c =
 
 pub returns-in_err-steps-clause-fault : goal.returns-in_err-steps-clause-fault
 returns-in_err-steps-clause-fault c =
-    let p = err_from_is_err_and c.from_residual-in_err-steps.result c.from_residual-in_err-steps.ensures.1 in
-    rw (p.1, p.2) (rw c.in_ok-links.ensures.entries at c.in_err-steps.ensures.fault)
+    let here = rw c.in_ok-links.ensures.entries at c.in_err-steps.ensures.fault in
+    search (rules, err_from_is_err_and, here)
 
 pub returns-then-group-le7-clause-passed : goal.returns-then-group-le7-clause-passed
 returns-then-group-le7-clause-passed c =
@@ -55,12 +55,8 @@ pub invariant_of-result-clause-measured : goal.invariant_of-result-clause-measur
 invariant_of-result-clause-measured c =
     let ordered = c.in_ok-steps.ensures.order in
     let sized = c.in_ok-sizes.ensures in
-    let here : AreMeasures (units_of c.in_ok-links.links.entries.now) c.in_ok-sizes.sizes = record {
-      shapes = ordered.shapes;
-      contained = ordered.contained;
-      long = sized.long;
-      sizes = record { one = sized.only; none = sized.sound };
-    } in
+    let here : AreMeasures (units_of c.in_ok-links.links.entries.now) c.in_ok-sizes.sizes =
+    search (rules, ordered, sized) in
     rw c.in_ok-links.ensures.entries at here
 
 pub returns-clause-sound : goal.returns-clause-sound
@@ -70,9 +66,5 @@ pub returns-clause-passed : goal.returns-clause-passed
 returns-clause-passed c =
     let ordered = c.in_ok-steps.ensures.order in
     let sized = c.in_ok-sizes.ensures in
-    rw c.in_ok-links.ensures.entries at (pass_all c.in_ok-links.links c.args.group c.in_ok-sizes.sizes (record {
-      shapes = ordered.shapes;
-      contained = ordered.contained;
-      long = sized.long;
-      sizes = record { one = sized.only; none = sized.sound };
-    }))
+    rw c.in_ok-links.ensures.entries at
+    (pass_all c.in_ok-links.links c.args.group c.in_ok-sizes.sizes (search (rules, ordered, sized)))

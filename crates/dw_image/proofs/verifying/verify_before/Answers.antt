@@ -1,15 +1,10 @@
 use Rattle.std.proofs.Common.{arith}
 use Rattle.dw_forms.specs.Rules.{group_of}
-use Rattle.dw_entries.specs.Views.{sections_of}
-use Rattle.dw_image.specs.Headline.{IsFaultOf}
 use Rattle.dw_image.proofs.JoinLemmas.{pass_fault}
 use Rattle.dw_image.proofs.verifying.verify_before.Goals as goal
 
 pub returns-in-Err-Fault : goal.returns-in-Err-Fault
 returns-in-Err-Fault c =
-    let judged : IsFaultOf (sections_of c.args.entries) c.in-Err-Fault.fault =
-    rw c.in-Err-Fault.field-0-is at c.in-Err-Fault.ensures.fault in
-    let one = c.group-in-Err-Fault.ensures in
-    let two = c.group-in-Err-Fault-2.ensures in
+    let judged = rw c.in-Err-Fault.field-0-is at c.in-Err-Fault.ensures.fault in
     pass_fault c.args.entries c.in-Err-Fault.fault (group_of c.args.rule) judged.first
-    (omega (arith, c.if-group.false, one, two))
+    (omega (arith, c.if-group.false, c.group-in-Err-Fault.ensures, c.group-in-Err-Fault-2.ensures))
