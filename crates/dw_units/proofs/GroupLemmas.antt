@@ -26,11 +26,7 @@ Passes s group units = HasNone (failures_of s units group)
 -- units that stand alone
 pub passes_all : (s : Sections) (group : Group) (units : List DebugUnit) → StandsAlone s units → Passes s group units
 passes_all s classes units one = one.classes
-passes_all s strings units one = one.strings
-passes_all s references units one = one.references
-passes_all s shapes units one = one.shapes
-passes_all s cycles units one = no_cycle_holds units one.contained
-passes_all s sizes units one = search (rules, none_by_size)
+passes_all s _ units one = search (rules, no_cycle_holds, none_by_size)
 
 measured_all : (s : Sections) (group : Group) (units : List DebugUnit) → StandsAlone s units → IsMeasured group units
 measured_all s group units one = search rules

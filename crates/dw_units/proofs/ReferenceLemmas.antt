@@ -54,8 +54,7 @@ module _ {s : Sections} {all : List DebugUnit} {number first : ℕ} {units : Lis
     none_in_place : (offset id : ℕ) → reach_in_unit (entries_of units) (placed units) j offset ≡ None
         → reach_in_unit (entries_of all) (placed all) (number + j) offset ≡ Some id → ⊥
     none_in_place offset id none reached =
-        let t =
-        (at_reach_in_unit (entries_of all) (placed all) (number + j) offset id reached).target in
+        let t = (at_reach_in_unit (entries_of all) (placed all) (number + j) offset id reached).target in
         let of = t.in_unit in
         let i = own_entry id t.within (omega (arith, of)) (omega (arith, of, below)) in
         let e_is = get_or_from_slice_get (entries_of units) i.inner i.entry no_entry i.is_entry in

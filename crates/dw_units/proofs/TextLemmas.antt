@@ -55,7 +55,7 @@ entry_inside : (a : List ℕ) (at : ℕ) (units : List DebugUnit) (k : ℕ) (e :
 entry_inside a at [] k e are from is = absurd cc
 entry_inside a at (u ∷ us) k e are from is =
     let any : ℕ → ℕ → ℕ = λ number code. 0 in
-    let all : List DebugUnit = u ∷ us in
+    let all = u ∷ us in
     subst (λ (n : ℕ). (n ≤ e.at) × (e.at < n + length (units_bytes all))) from.0
     (rises_inside u.at (u.at + length (units_bytes all)) (records_of any all) k (record_of any e)
     (subst (Rises u.at (u.at + length (units_bytes all))) (sym (records_kept any all))

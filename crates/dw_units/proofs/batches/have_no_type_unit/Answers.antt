@@ -7,5 +7,4 @@ pub returns : goal.returns
 returns c =
     no_type_unit_of (units_of c.args.entries.now)
     (λ k below. c.loop-number.invariant k
-    (let end = c.unit_count-number-end.ensures in let past = c.loop-number-test.false in
-    omega (arith, below, end, past)))
+    (omega (arith, below, c.unit_count-number-end.ensures, c.loop-number-test.false)))

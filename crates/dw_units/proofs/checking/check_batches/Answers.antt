@@ -7,10 +7,9 @@ loop-k-init c = (none_so_far c.args.sections.now, rw c.in-Some.is at c.in_ok-siz
 
 pub verify_next-requires : goal.verify_next-requires
 verify_next-requires c =
-    let end = c.len-k-end.ensures in
-    let below = c.loop-k-test.true in
     fits_in c.args.sections.now c.loop-k.at c.loop-k.so_far c.loop-k.invariant.0 c.in-Some.sizes.items c.loop-k.k
-    c.index-size.result.now (omega (arith, end, below)) c.index-size.ensures c.loop-k.invariant.1
+    c.index-size.result.now (omega (arith, c.len-k-end.ensures, c.loop-k-test.true)) c.index-size.ensures
+    c.loop-k.invariant.1
 
 pub returns-in-Err-Fault : goal.returns-in-Err-Fault
 returns-in-Err-Fault c =
@@ -22,5 +21,5 @@ pub returns : goal.returns
 returns c =
     found_in c.args.sections.now c.loop-k.at c.loop-k.so_far c.loop-k.invariant.0
     (none_left c.args.sections.now c.loop-k.at c.in-Some.sizes.items c.loop-k.k
-    (let end = c.len-k-end.ensures in let past = c.loop-k-test.false in omega (arith, end, past))
+    (omega (arith, c.len-k-end.ensures, c.loop-k-test.false))
     c.loop-k.invariant.1)

@@ -1,8 +1,5 @@
 use Rattle.std.proofs.Common.{subst}
 use Rattle.dw_entries.specs.Views.{sections_of, units_of}
-use Rattle.dw_forms.specs.Rules.{group_of}
-use Rattle.dw_image.specs.GroupsBefore.{FailsBefore, PassBefore}
-use Rattle.dw_image.specs.Headline.{IsFaultOf, IsImageOf}
 use Rattle.dw_units.specs.Counts.{AreCounts}
 use Rattle.dw_units.specs.BatchSections.{passes, sound}
 use Rattle.dw_units.proofs.CountLemmas.{fault_after}
@@ -10,28 +7,23 @@ use Rattle.dw_units.proofs.checking.verify_entries.Goals as goal
 
 pub returns-in-Some : goal.returns-in-Some
 returns-in-Some c =
-    let judged : IsImageOf (sections_of c.args.entries) c.in-Sound-2.image =
-    rw c.in-Sound-2.is at c.in_ok-image-in-Sound.ensures in
+    let judged = rw c.in-Sound-2.is at c.in_ok-image-in-Sound.ensures in
     rw (c.in-Sound.is, c.in-Some.ensures) (sound c.in-Sound.counts c.of.result
     (subst (λ s. AreCounts s c.of.result) judged.sections c.of.ensures.counts))
 
 pub returns-in-Sound : goal.returns-in-Sound
 returns-in-Sound c =
-    let judged : IsFaultOf (sections_of c.args.entries) c.in-Fault-2.fault =
-    rw c.in-Fault-2.is at c.in_ok-image-in-Sound.ensures in
+    let judged = rw c.in-Fault-2.is at c.in_ok-image-in-Sound.ensures in
     fault_after (sections_of c.args.entries) (units_of c.args.entries) c.args.so_far c.in-Fault-2.fault
     c.args.elsewhere c.requires judged (rw c.in-Sound.is tt) c.firmly_found.result c.firmly_found.ensures
 
 pub returns-in-Some-2 : goal.returns-in-Some-2
 returns-in-Some-2 c =
-    let judged : FailsBefore (sections_of c.args.entries) (group_of c.in-Fault.least.rule) c.in-Some-2.fault =
-    rw c.in-Some-2.is at c.in_ok-fault-in-Fault.ensures in
+    let judged = rw c.in-Some-2.is at c.in_ok-fault-in-Fault.ensures in
     fault_after (sections_of c.args.entries) (units_of c.args.entries) c.args.so_far c.in-Some-2.fault
     c.args.elsewhere c.requires judged.is_fault (rw c.in-Fault.is judged.early) c.firmly_found-in-Some-2.result
     c.firmly_found-in-Some-2.ensures
 
 pub returns : goal.returns
 returns c =
-    let passed : PassBefore (sections_of c.args.entries) (units_of c.args.entries) (group_of c.in-Fault.least.rule) =
-    rw c.in-None-2.is at c.in_ok-fault-in-Fault.ensures in
-    rw c.in-Fault.is (passes c.in-Fault.least passed)
+    rw c.in-Fault.is (passes c.in-Fault.least (rw c.in-None-2.is at c.in_ok-fault-in-Fault.ensures))
