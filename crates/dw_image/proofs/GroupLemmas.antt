@@ -15,7 +15,7 @@ use Rattle.dw_elf.specs.declared.sections.Sections.{Sections}
 use Rattle.dw_entries.specs.Units.{DebugUnit, AreUnits}
 use Rattle.dw_entries.proofs.EntryFacts.{entries_rise, Entry}
 use Rattle.dw_links.proofs.RuleGroups.{string_failures, reference_failures}
-use Rattle.dw_image.specs.FirstFault.{Group, classes, strings, references, cycles, turn_of, failures_of, IsFirstIn}
+use Rattle.dw_image.specs.FirstFault.{Group, classes, strings, cycles, turn_of, failures_of, IsFirstIn}
 
 -- two places are one, or one of them comes first
 abbrev Compared : Place → Place → Type 0

@@ -81,6 +81,9 @@ type_is_target i id below =
     typed us id e (value_at_entry e DW_AT_type) _ (have_targets _ _ us i.entries.scanned.1.spells i.references)
     (slice_get-get_or (entries_of us) id no_entry below) refl refl
 
+-- what `Image::step` is proved by
+pub ruleset steps = (nodes-are, step-below, step-there, step-past)
+
 -- ---- the unit at hand
 
 -- what is told of a unit is what is known of it at hand

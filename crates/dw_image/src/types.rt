@@ -99,6 +99,7 @@ impl Image<'_> {
 
     /// The k-th entry, from 0, that an entry holds by value: its type, the types of its plain members in their order,
     /// what its signature names. None past the last.
+    #[tactic(auto, unfolding(crate::specs::Images::units_in, crate::specs::Images::steps_in), using(crate::proofs::UnitLemmas::steps))]
     pub fn step(&self, id: EntryId, k: usize) -> Option<EntryId>
         requires { id < length (entries_in self.now) }
         ensures exact { result ≡ slice_get (steps_of (steps_in self.now) id) k }

@@ -41,7 +41,7 @@ fn slot(section: &[u8], size: u8, base: u32, index: u64) -> u64
 
 impl UnitAtHand {
     /// The unit with this number.
-    #[tactic(auto, unfolding(crate::specs::Images::units_in))]
+    #[tactic(auto, unfolding(crate::specs::Images::units_in), using(crate::proofs::UnitLemmas::unit_told))]
     pub fn read(image: &Image<'_>, number: usize) -> UnitAtHand
         requires { number < unit_count image.now }
         ensures unit { IsAtHand image.now result }

@@ -38,12 +38,11 @@ returns-then-group-le7-clause-passed c =
 
 pub returns-in_err-sizes-clause-fault : goal.returns-in_err-sizes-clause-fault
 returns-in_err-sizes-clause-fault c =
-    let p = err_from_is_err_and c.from_residual-in_err-sizes.result c.from_residual-in_err-sizes.ensures.1 in
     let links = c.in_ok-links in
     let ordered = c.in_ok-steps.ensures.order in
-    let fault = faulty_weaker c.in_err-sizes.field-0.0
-    (λ fault. wrong_size links.links fault ordered.shapes ordered.contained) c.in_err-sizes.ensures.fault in
-    rw (p.1, p.2) (rw links.ensures.entries at fault)
+    let here = rw links.ensures.entries at (faulty_weaker c.in_err-sizes.field-0.0
+    (λ fault. wrong_size links.links fault ordered.shapes ordered.contained) c.in_err-sizes.ensures.fault) in
+    search (rules, err_from_is_err_and, here)
 
 pub invariant_of-result-clause-classes : goal.invariant_of-result-clause-classes
 invariant_of-result-clause-classes c = rw c.in_ok-links.ensures.entries at c.in_ok-links.links.classes

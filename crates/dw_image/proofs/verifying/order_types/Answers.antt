@@ -1,3 +1,4 @@
+use Rattle.std.proofs.Common.{rules}
 use Rattle.std.proofs.lemmas.Result.{err_from_is_err_and}
 use Rattle.dw_entries.proofs.StopLaws.{faulty_weaker}
 use Rattle.dw_image.proofs.JoinLemmas.{wrong_shape, contains_itself}
@@ -5,8 +6,8 @@ use Rattle.dw_image.proofs.verifying.order_types.Goals as goal
 
 pub returns-in_err-steps-clause-fault : goal.returns-in_err-steps-clause-fault
 returns-in_err-steps-clause-fault c =
-    let p = err_from_is_err_and c.from_residual.result c.from_residual.ensures.1 in
-    rw (p.1, p.2) (faulty_weaker c.in_err-steps.field-0.0 (wrong_shape c.args.links.now) c.in_err-steps.ensures.fault)
+    let here = faulty_weaker c.in_err-steps.field-0.0 (wrong_shape c.args.links.now) c.in_err-steps.ensures.fault in
+    search (rules, err_from_is_err_and, here)
 
 pub returns-in-Ok-clause-steps : goal.returns-in-Ok-clause-steps
 returns-in-Ok-clause-steps c = record { graph = c.in_ok-steps.ensures.graph; types = c.in_ok-steps.ensures.types }
