@@ -10,7 +10,7 @@ use Rattle.dw_entries.proofs.EntryFacts.{unit_placed, Entry, entries_of, placed}
 use Rattle.dw_image.proofs.JoinLemmas.{none_at}
 use Rattle.dw_elf.specs.Sections.{IsPart}
 use Rattle.dw_entries.specs.declared.header.UnitHeader.{UnitHeader}
-use Rattle.dw_entries.specs.Units.{DebugUnit, AreFrom, SpellsInfo, units_bytes, Spells}
+use Rattle.dw_entries.specs.Units.{AreFrom, SpellsInfo, units_bytes, Spells}
 use Rattle.dw_entries.specs.Failures.{Rule, Failure, HasNone}
 use Rattle.dw_entries.specs.Faults.{Fails}
 use Rattle.dw_links.specs.Strings.{StringFailsIn, StringFailures, Sections}
@@ -38,6 +38,7 @@ use Rattle.dw_forms.specs.declared.rule.Rule.TheVariants.{WrongClass}
 use Rattle.dw_links.specs.RulesOfAttributes.{NeverFailsAt, Rules, EntryHead}
 use Rattle.dw_links.proofs.ListLookups.{none_concerned}
 use Rattle.dw_links.specs.References.{is_signature, Datum}
+use Rattle.dw_units.proofs.MovedEntries.{IsEntry, Units}
 
 -- ---- the rules on strings of two sections that differ in .debug_info alone
 
@@ -50,34 +51,31 @@ pub record Shares (s own : Sections) : Type 0 where
 
 module _ (s own : Sections) (shares : Shares s own) where
   string_in_own : (header : UnitHeader) (texts addresses : Option ℕ) (head : EntryHead) (attribute : ℕ) (v : Datum)
-      (rule : Rule)
-      → StringFailsIn s header texts addresses head attribute v rule
+      (rule : Rule) → StringFailsIn s header texts addresses head attribute v rule
       → StringFailsIn own header texts addresses head attribute v rule
   string_in_own header texts addresses head attribute v rule fails = search rules
 
-  strings_own : (us : List DebugUnit) (f : Failure) → StringFailures s us f → StringFailures own us f
+  strings_own : (us : Units) (f : Failure) → StringFailures s us f → StringFailures own us f
   strings_own us f fails = search (rules, string_in_own)
 
 shares_of : (s own : Sections) (from to : ℕ) → IsPart s from to own → Shares s own
-shares_of s own from to part = search (rules)
+shares_of s own from to part = search rules
 
 shares_back : (s own : Sections) → Shares s own → Shares own s
 shares_back s own shares = search (rules, shares)
 
-measured_by : (s : Sections) (group : Group) (fault : Fault) (units : List DebugUnit) → IsFirstIn s units group fault
+measured_by : (s : Sections) (group : Group) (fault : Fault) (units : Units) → IsFirstIn s units group fault
     → IsMeasured group units
-measured_by s sizes fault units first = search (rules)
+measured_by s sizes fault units first = search rules
 measured_by s _ fault units first = tt
 
 module _ (s own : Sections) (shares : Shares s own) where
   -- the groups ask the same of both
-  none_own : (us : List DebugUnit) (group : Group) → HasNone (failures_of own us group)
-      → HasNone (failures_of s us group)
+  none_own : (us : Units) (group : Group) → HasNone (failures_of own us group) → HasNone (failures_of s us group)
   none_own us strings none = λ f fails. none f (strings_own s own shares us f fails)
   none_own us _ none = none
 
-  first_own : (us : List DebugUnit) (group : Group) (fault : Fault) → IsFirstIn own us group fault
-      → IsFirstIn s us group fault
+  first_own : (us : Units) (group : Group) (fault : Fault) → IsFirstIn own us group fault → IsFirstIn s us group fault
   first_own us strings fault first = record {
     holds = record {
       failure = first.holds.failure;
@@ -101,25 +99,25 @@ pub trees_of : (s own : Sections) (at size : ℕ) → IsPart s at (at + size) ow
 trees_of s own at size part stop fails = search (rules, shares_of, bytes_of)
 
 -- a part of sections is one batch, these units
-pub record IsBatch (s own : Sections) (at size : ℕ) (units : List DebugUnit) : Type 0 where
+pub record IsBatch (s own : Sections) (at size : ℕ) (units : Units) : Type 0 where
   pub part : IsPart s at (at + size) own
   pub spelled : SpellsInfo own units
-  pub only : (others : List DebugUnit) → SpellsInfo own others → others ≡ units
+  pub only : (others : Units) → SpellsInfo own others → others ≡ units
   pub no_type_unit : HaveNoTypeUnit units
   pub stays_inside : EachEntry StaysInside (entries_of units)
 
 -- the group of the fault of a batch
-pub record IsOfGroup (s : Sections) (units : List DebugUnit) (fault : Fault) : Type 0 where
+pub record IsOfGroup (s : Sections) (units : Units) (fault : Fault) : Type 0 where
   pub group : Group
   pub ready : IsReady s group units
   pub fails : FailsAlone s units group fault
 
-module _ {s own : Sections} {at size : ℕ} {units : List DebugUnit} (batch : IsBatch s own at size units) where
+module _ {s own : Sections} {at size : ℕ} {units : Units} (batch : IsBatch s own at size units) where
   shares : Shares s own
   shares = search (rules, shares_of)
 
   pub are_from : AreFrom at units
-  are_from = search (rules)
+  are_from = search rules
 
   pub stays : StaysAlone s units
   stays =
@@ -163,10 +161,10 @@ refer_inside entries elsewhere other refer = search rules
 -- ---- no type unit
 
 -- the unit with this number is no type unit
-abbrev pub IsNoTypeUnit : List DebugUnit → ℕ → Type 0
+abbrev pub IsNoTypeUnit : Units → ℕ → Type 0
 IsNoTypeUnit us k = IfSome (slice_get (placed us) k) (λ p. type_unit_of p.unit.header.kind ≡ None)
 
-pub no_type_unit_of : (us : List DebugUnit) → ((k : ℕ) → k < length us → IsNoTypeUnit us k) → HaveNoTypeUnit us
+pub no_type_unit_of : (us : Units) → ((k : ℕ) → k < length us → IsNoTypeUnit us k) → HaveNoTypeUnit us
 no_type_unit_of us none = search (rules, recursion_from_All, unit_placed, slice_get-get_or)
 
 -- ---- what the forms of declarations say of values
@@ -194,17 +192,15 @@ passes_where holds spec never x a is head rule so =
     (λ v. let no : true ≡ false = sym so ∙ never x.version x.address_size a.bytes a.value v in cc)
 
 -- no value under such a declaration leaves its unit by a signature
-form_passes : (spec : AttributeSpec) → (leaves_by spec.form ≡ BySignature → ⊥)
-    → NeverFailsAt (Where is_signature) spec
+form_passes : (spec : AttributeSpec) → (leaves_by spec.form ≡ BySignature → ⊥) → NeverFailsAt (Where is_signature) spec
 form_passes spec other = search (rules, passes_where, stays_by_form)
 
 -- nor is one an offset of .debug_info
 offset_passes : (spec : AttributeSpec) → leaves_by spec.form ≡ Never → NeverFailsAt (Where is_offset) spec
 offset_passes spec never = search (rules, passes_where, no_offset_by_form)
 
-none_where : (holds : Datum → Bool) (a info : List ℕ) (us : List DebugUnit) (kept : List AttributeSpec)
-    → Spells a us info
-    → ((id : ℕ) (e : Entry) → slice_get (entries_of us) id ≡ Some e
+none_where : (holds : Datum → Bool) (a info : List ℕ) (us : Units) (kept : List AttributeSpec) → Spells a us info
+    → ((id : ℕ) (e : Entry) → IsEntry us id e
     → All (λ (spec : AttributeSpec). Contains kept spec) e.head.decl.attributes)
     → ((k : ℕ) (spec : AttributeSpec) → slice_get kept k ≡ Some spec → NeverFailsAt (Where holds) spec)
     → EachEntry (λ e. (position attribute : ℕ) (v : Datum) → HasAttribute e position attribute v → holds v ≡ false)
@@ -215,10 +211,9 @@ none_where holds a info us kept spells declared pass id e is position attribute 
     position attribute v has WrongClass)
 
 -- the values of entries refer as the forms of their declarations allow
-pub refer_of : (a info : List ℕ) (us : List DebugUnit) (kept : List AttributeSpec) → Spells a us info
-    → ((id : ℕ) (e : Entry) → slice_get (entries_of us) id ≡ Some e
-    → All (λ (spec : AttributeSpec). Contains kept spec) e.head.decl.attributes)
-    → (most : Elsewhere)
+pub refer_of : (a info : List ℕ) (us : Units) (kept : List AttributeSpec) → Spells a us info
+    → ((id : ℕ) (e : Entry) → IsEntry us id e
+    → All (λ (spec : AttributeSpec). Contains kept spec) e.head.decl.attributes) → (most : Elsewhere)
     → ((k : ℕ) (spec : AttributeSpec) → slice_get kept k ≡ Some spec → IsAllowed most (leaves_by spec.form))
     → Refer (entries_of us) most
 refer_of a info us kept spells declared Never allowed = (

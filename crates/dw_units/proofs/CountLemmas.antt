@@ -8,7 +8,7 @@ use Rattle.dw_elf.specs.Sections.{IsPart}
 use Rattle.dw_entries.specs.declared.fault.Fault.{Fault}
 use Rattle.dw_entries.specs.declared.entries.Entries.{Entries}
 use Rattle.dw_entries.specs.EntryRules.{EachEntry}
-use Rattle.dw_entries.specs.Units.{DebugUnit, AreFrom, SpellsInfo, unit_bytes, units_bytes}
+use Rattle.dw_entries.specs.Units.{AreFrom, SpellsInfo, unit_bytes, units_bytes}
 use Rattle.dw_entries.specs.Views.{sections_of, units_of, Entry, entries_of}
 use Rattle.dw_entries.specs.Failures.{HasNone, plain_fault_of, IsPlainFault}
 use Rattle.dw_entries.specs.Faults.{Fails}
@@ -30,7 +30,7 @@ use Rattle.dw_units.specs.ByUnit.{IsMeasured, StaysAlone}
 use Rattle.dw_units.specs.Counts.{IsFoundIn, sums}
 use Rattle.dw_units.specs.BatchSections.{AreCounted, AreSizes, HasLeast, IsFirmlyFound, IsReady, IsFoundAfter, IsFoundOf, IsFoundUpTo, IsLess, IsWhollyFound, Refer, fails, passes, sound}
 use Rattle.dw_units.proofs.AloneLemmas.{IsBatch, IsOfGroup, are_from, bytes, failed, passed, stands, stays}
-use Rattle.dw_units.proofs.MovedEntries.{from_both, from_parts, entries_both, moved}
+use Rattle.dw_units.proofs.MovedEntries.{Units, total, from_both, from_parts, entries_both, moved}
 use Rattle.dw_units.proofs.TreeLemmas.{trees_first, fails_with_more}
 use Rattle.dw_units.proofs.GroupLemmas.{all_ready, first_by_parts, ready_before, passes_all, ready_all, ready_two, stand_none, stand_two, valid_of}
 
@@ -41,33 +41,32 @@ types_moved : (n first : ℕ) (es : List Entry)
 types_moved n first [] = refl
 types_moved n first (e ∷ es) = search (rules, sum_by-cons, moved, (types_moved n first es))
 
-counted_more : (s : Sections) (us units : List DebugUnit) (a b : Counts) → AreFrom s.base (us ++ units)
-    → AreCounted s us a → StandsAlone s units → b.units ≡ length units → b.entries ≡ length (entries_of units)
+counted_more : (s : Sections) (us units : Units) (a b : Counts) → AreFrom s.base (us ++ units)
+    → AreCounted s us a → StandsAlone s units → b.units ≡ length units → b.entries ≡ total units
     → b.types ≡ count_by is_type_entry (entries_of units) → AreCounted s (us ++ units) (sums a b)
 counted_more s us units a b from are alone its_units its_entries its_types =
     search (rules, entries_both, sum_by-append, stand_two, length-append, length-map, types_moved)
 
 -- ---- one batch more
 
-measured_by : (s : Sections) (group : Group) (turn : ℕ) (units : List DebugUnit) → turn ≡ turn_of group
+measured_by : (s : Sections) (group : Group) (turn : ℕ) (units : Units) → turn ≡ turn_of group
     → PassBefore s units turn → IsMeasured group units
 measured_by s group turn units is pass = search rules
 
 -- units with a least fault are ready for its group
-least_ready : (s : Sections) (us : List DebugUnit) → AreFrom s.base us → (fault : Fault)
+least_ready : (s : Sections) (us : Units) → AreFrom s.base us → (fault : Fault)
     → (least : HasLeast s us fault) → IsReady s least.group us
 least_ready s us from fault least =
     subst (IsReady s least.group) (sym least.are)
-    (all_ready s s.base least.before least.units least.behind (subst (AreFrom s.base) least.are from) least.group
+    (all_ready s _ _ _ _ (subst (AreFrom s.base) least.are from) least.group
     least.early least.one least.late)
 
-stays_found : (s : Sections) (us : List DebugUnit) → AreFrom s.base us → (it : Found) → IsFoundOf s us it
-    → StaysAlone s us
+stays_found : (s : Sections) (us : Units) → AreFrom s.base us → (it : Found) → IsFoundOf s us it → StaysAlone s us
 stays_found s us from (found.Sound c) are = (ready_all s classes us are.alone).stays
 stays_found s us from (found.Fault fault) least = (least_ready s us from fault least).stays
 
 -- no rule of a fault's group, nor of an earlier one, fails at the units before, if the fault is less
-passed_before : (s : Sections) (us : List DebugUnit) → AreFrom s.base us → (so_far : Found) (group : Group)
+passed_before : (s : Sections) (us : Units) → AreFrom s.base us → (so_far : Found) (group : Group)
     (alone : Fault) → group_of alone.rule ≡ turn_of group → IsLess so_far alone.rule → IsFoundOf s us so_far
     → IsReady s group us × HasNone (failures_of s us group)
 passed_before s us from (found.Sound c) group alone rank less are = search (rules, ready_all, passes_all)
@@ -77,7 +76,7 @@ passed_before s us from (found.Fault old) group alone rank less least =
     let all = least_ready s us from old least in
     (ready_before s group least.group (omega (arith, turns)) us all, all.below group turns)
 
-module _ {s own : Sections} {at size : ℕ} {units : List DebugUnit} (batch : IsBatch s own at size units)
+module _ {s own : Sections} {at size : ℕ} {units : Units} (batch : IsBatch s own at size units)
     (within : at + size ≤ length s.info.now) where
   -- the units begin where those before them end
   follow : (so_far : Found) (up : IsFoundUpTo s at so_far) → AreFrom s.base (up.units ++ units)
@@ -90,18 +89,18 @@ module _ {s own : Sections} {at size : ℕ} {units : List DebugUnit} (batch : Is
       counted_more s up.units units a b (follow so_far up) up.of_units
       (stands batch b counts)
       (counts.unit_count ∙ ap length only)
-      (counts.entry_count ∙ ap (λ (us : List DebugUnit). length (entries_of us)) only)
-      (counts.type_count ∙ ap (λ (us : List DebugUnit). count_by is_type_entry (entries_of us)) only)
+      (counts.entry_count ∙ ap total only)
+      (counts.type_count ∙ ap (λ (us : Units). count_by is_type_entry (entries_of us)) only)
   found_more so_far up _ (passes fault pass) =
       let least : HasLeast s up.units fault = up.of_units in
       let rank = rank_of s least.units least.group fault least.fails.first in
       let there = passed batch (group_of fault.rule) pass in
-      let are = ap (λ (xs : List DebugUnit). xs ++ units) least.are
+      let are = ap (λ (xs : Units). xs ++ units) least.are
       ∙ append_assoc least.before (least.units ++ least.behind) units
-      ∙ ap (λ (xs : List DebugUnit). least.before ++ xs) (append_assoc least.units least.behind units) in
-      let behind_it = from_parts s.base least.before (least.units ++ (least.behind ++ units))
+      ∙ ap (λ (xs : Units). least.before ++ xs) (append_assoc least.units least.behind units) in
+      let behind_it = from_parts _ least.before _
       (subst (AreFrom s.base) are (follow so_far up)) in
-      let late = ready_two s _ least.behind units (from_parts _ least.units (least.behind ++ units) behind_it.1).1
+      let late = ready_two s _ _ _ (from_parts _ least.units _ behind_it.1).1
       least.group least.late (record {
         stays = stays batch;
         measured = measured_by s least.group (group_of fault.rule) units rank there;
@@ -112,7 +111,7 @@ module _ {s own : Sections} {at size : ℕ} {units : List DebugUnit} (batch : Is
       let one : IsOfGroup s units fault = failed batch fault firm is_fault in
       let rank = rank_of s units one.group fault one.fails.first in
       let before = passed_before s up.units up.from so_far one.group fault rank less up.of_units in
-      let are = ap (λ (xs : List DebugUnit). up.units ++ xs) (sym (append-nil units)) in
+      let are = ap (λ (xs : Units). up.units ++ xs) (sym (append-nil units)) in
       let late = ready_all s one.group [] (stand_none s) in
       search (rules, are, before, one, late)
 
@@ -148,16 +147,15 @@ module _ {s own : Sections} {at size : ℕ} {units : List DebugUnit} (batch : Is
 -- what is found up to the end of one batch more, which these entries are
 pub next_of : (s own : Sections) (at size : ℕ) (entries : Entries) → at + size ≤ length s.info.now
     → IsPart s at (at + size) own → sections_of entries ≡ own
-    → ((units : List DebugUnit) → SpellsInfo own units → units ≡ units_of entries)
+    → ((units : Units) → SpellsInfo own units → units ≡ units_of entries)
     → HaveNoTypeUnit (units_of entries) → EachEntry StaysInside (entries_of (units_of entries))
-    → (so_far : Found) (r : Option Found)
-    → IfSome r (IsFoundAfter (sections_of entries) (units_of entries) so_far)
+    → (so_far : Found) (r : Option Found) → IfSome r (IsFoundAfter (sections_of entries) (units_of entries) so_far)
     → IfSome r (λ more. IsFoundUpTo s at so_far → IsFoundUpTo s (at + size) more)
 next_of s own at size entries within part same only no_type_unit stays_inside so_far r after =
     search (rules, next, are_from)
 
 -- a fault of the entries of one batch more, which is less than those before it
-pub fault_after : (own : Sections) (units : List DebugUnit) (so_far : Found) (fault : Fault)
+pub fault_after : (own : Sections) (units : Units) (so_far : Found) (fault : Fault)
     (elsewhere : Elsewhere) → Refer (entries_of units) elsewhere → IsFaultOf own fault → IsLess so_far fault.rule
     → (r : Option Found) → IfSome r (IsFirmlyFound elsewhere fault) → IfSome r (IsFoundAfter own units so_far)
 fault_after own units so_far fault elsewhere refer is less (Some it) (same, firm) =
@@ -192,7 +190,7 @@ module _ (s : Sections) (at : ℕ) (so_far : Found) (up : IsFoundUpTo s at so_fa
           }) in
           search (rules, (sound_by s up.units valid))
       go (found.Fault fault) least =
-          fault_of s fault (first_by_parts s least.before least.units least.behind least.group fault
+          fault_of s fault (first_by_parts s _ _ _ _ fault
           (subst (AreFrom s.base) least.are up.from) least.early least.passed.1 least.one least.fails least.late
           (all ∙ ap units_bytes least.are))
 
@@ -219,7 +217,7 @@ module _ (s : Sections) (at : ℕ) (so_far : Found) (up : IsFoundUpTo s at so_fa
 -- one batch more
 pub size_more : (some all rest : List ℕ) (size : ℕ) → AreSizes some all rest → size ≤ length rest
     → AreSizes (some ++ size ∷ []) all (drop size rest)
-size_more [] all rest size is within = search (rules)
+size_more [] all rest size is within = search rules
 size_more (one ∷ some) all rest size (fits, more) within =
     (fits, size_more some (drop one all) rest size more within)
 

@@ -4,7 +4,7 @@ use Rattle.std.specs.List.{AllByRecursion}
 use Rattle.std.proofs.lemmas.Grind.{flat_map-append}
 use Rattle.dw_elf.specs.declared.sections.Sections.{Sections}
 use Rattle.dw_entries.specs.declared.fault.Fault.{Fault}
-use Rattle.dw_entries.specs.Units.{DebugUnit, AreFrom, SpellsInfo, units_bytes}
+use Rattle.dw_entries.specs.Units.{AreFrom, SpellsInfo, units_bytes}
 use Rattle.dw_entries.specs.Failures.{HasNone, plain_fault_of}
 use Rattle.dw_image.specs.FirstFault.{Group, classes, strings, references, shapes, cycles, sizes, turn_of, failures_of, IsFirstIn, IsFirstFault, in_group}
 use Rattle.dw_image.specs.Valid.{HasSizes, IsValidBy}
@@ -13,54 +13,54 @@ use Rattle.dw_image.proofs.MeasureLemmas.{no_cycle_holds, none_by_size}
 use Rattle.dw_units.specs.IndependentBatches.{joined, JoinsUnits, StandsAlone}
 use Rattle.dw_units.specs.ByUnit.{FailsAlone, IsFirm, PassesBelow, PassesThrough, IsMeasured, FirstOfUnits, StaysAlone}
 use Rattle.dw_units.specs.BatchSections.{IsReady}
-use Rattle.dw_units.proofs.MovedEntries.{all_joined, from_parts, AreTwo, part_of, stays_none}
+use Rattle.dw_units.proofs.MovedEntries.{Units, all_joined, from_parts, AreTwo, part_of, stays_none}
 use Rattle.dw_units.proofs.TextLemmas.{AreOfGroup, none_of_two, first_of_group, classes_of_parts, strings_of_parts}
 use Rattle.dw_units.proofs.ReferenceLemmas.{at_attributes, references_of_parts}
 use Rattle.dw_units.proofs.WindowLemmas.{whole, window}
 use Rattle.dw_units.proofs.TypeLemmas.{contained_two, cycle_of_part, no_cycle_two, shapes_of_parts, sizes_of_parts, table_two}
 
 -- no rule of a group fails at units alone
-abbrev Passes : Sections → Group → List DebugUnit → Type 0
+abbrev Passes : Sections → Group → Units → Type 0
 Passes s group units = HasNone (failures_of s units group)
 
 -- units that stand alone
-pub passes_all : (s : Sections) (group : Group) (units : List DebugUnit) → StandsAlone s units → Passes s group units
+pub passes_all : (s : Sections) (group : Group) (units : Units) → StandsAlone s units → Passes s group units
 passes_all s classes units one = one.classes
 passes_all s _ units one = search (rules, no_cycle_holds, none_by_size)
 
-measured_all : (s : Sections) (group : Group) (units : List DebugUnit) → StandsAlone s units → IsMeasured group units
+measured_all : (s : Sections) (group : Group) (units : Units) → StandsAlone s units → IsMeasured group units
 measured_all s group units one = search rules
 
-pub ready_all : (s : Sections) (group : Group) (units : List DebugUnit) → StandsAlone s units → IsReady s group units
+pub ready_all : (s : Sections) (group : Group) (units : Units) → StandsAlone s units → IsReady s group units
 ready_all s group units one = search (rules, measured_all, passes_all)
 
 -- units that are ready for a group are ready for the groups before it
-measured_before : (group later : Group) → turn_of group ≤ turn_of later → (units : List DebugUnit)
+measured_before : (group later : Group) → turn_of group ≤ turn_of later → (units : Units)
     → IsMeasured later units → IsMeasured group units
 measured_before group later le units is = search rules
 
-pub ready_before : (s : Sections) (group later : Group) → turn_of group ≤ turn_of later → (units : List DebugUnit)
+pub ready_before : (s : Sections) (group later : Group) → turn_of group ≤ turn_of later → (units : Units)
     → IsReady s later units → IsReady s group units
 ready_before s group later le units one = search (rules, measured_before)
 
 -- the failures of a group, but for cycles, are those of the parts
-of_parts : (s : Sections) (group : Group) → (turn_of group ≡ 6 → ⊥) → (all : List DebugUnit) → StaysAlone s all
+of_parts : (s : Sections) (group : Group) → (turn_of group ≡ 6 → ⊥) → (all : Units) → StaysAlone s all
     → IsMeasured group all → AreOfGroup s group all
-of_parts s classes other all stays measured = classes_of_parts s (IsReady s classes) all stays
-of_parts s strings other all stays measured = strings_of_parts s (IsReady s strings) all stays
+of_parts s classes other all stays measured = classes_of_parts _ _ _ stays
+of_parts s strings other all stays measured = strings_of_parts _ _ _ stays
 of_parts s references other all stays measured = search (rules, references_of_parts)
 of_parts s shapes other all stays measured =
-    shapes_of_parts s (IsReady s shapes) all stays (λ units one. one.below references (omega arith))
+    shapes_of_parts _ _ _ stays (λ units one. one.below references (omega arith))
 of_parts s cycles other all stays measured = absurd (other refl)
 of_parts s sizes other all stays measured =
-    sizes_of_parts s (IsReady s sizes) all stays (λ units one. one.below references (omega arith))
+    sizes_of_parts _ _ _ stays (λ units one. one.below references (omega arith))
     (λ units one. one.measured) measured
 
 -- ---- two lists of units
 
-module _ (s : Sections) (at : ℕ) (us more : List DebugUnit) (from : AreFrom at (us ++ more)) where
+module _ (s : Sections) (at : ℕ) (us more : Units) (from : AreFrom at (us ++ more)) where
   two : (group : Group) → IsReady s group us → IsReady s group more → AreTwo s at us more
-  two group one other = search (rules)
+  two group one other = search rules
 
   measured_two : (group : Group) → IsReady s group us → IsReady s group more → IsMeasured group (us ++ more)
   measured_two sizes one other =
@@ -105,7 +105,7 @@ stand_none s = record {
   strings = λ f fails. search rules;
   references = λ f fails. let is = (at_attributes s [] (stays_none s) f fails).is_item in absurd cc;
   shapes = λ f fails. search rules;
-  contained = search (rules);
+  contained = search rules;
   sizes = (
     λ n. None,
     record {
@@ -122,8 +122,8 @@ stand_none s = record {
 
 -- ---- the laws
 
-pub valid_of : (s : Sections) (us : List DebugUnit) → StandsAlone s us → SpellsInfo s us → IsValidBy s us
-valid_of s us one spelled = search (rules)
+pub valid_of : (s : Sections) (us : Units) → StandsAlone s us → SpellsInfo s us → IsValidBy s us
+valid_of s us one spelled = search rules
 
 pub join : JoinsUnits
 join s bs all spelled =
@@ -131,7 +131,7 @@ join s bs all spelled =
     (all_joined (StandsAlone s) (stand_none s) (stand_two s) s.base bs spelled.are_from all) spelled
 
 -- units that are ready, with others before them that pass the group and others behind
-module _ (s : Sections) (at : ℕ) (before units behind : List DebugUnit)
+module _ (s : Sections) (at : ℕ) (before units behind : Units)
     (from : AreFrom at (before ++ (units ++ behind))) where
   rest_ready : (group : Group) → IsReady s group units → IsReady s group behind → IsReady s group (units ++ behind)
   rest_ready =
@@ -158,7 +158,7 @@ module _ (s : Sections) (at : ℕ) (before units behind : List DebugUnit)
   }
 
 -- some units pass through the group at which those behind them fail, and others pass the earlier groups
-pub first_by_parts : (s : Sections) (before units behind : List DebugUnit) (group : Group) (fault : Fault)
+pub first_by_parts : (s : Sections) (before units behind : Units) (group : Group) (fault : Fault)
     → AreFrom s.base (before ++ (units ++ behind)) → IsReady s group before → Passes s group before
     → IsReady s group units → FailsAlone s units group fault → IsReady s group behind
     → drop s.base s.info.now ≡ units_bytes (before ++ (units ++ behind)) → IsFirstFault s fault
@@ -172,14 +172,14 @@ first_by_parts s before units behind group fault from early none one fails late 
     })
 
 -- what is known of each of some batches, and of others behind them
-split : (P : List DebugUnit → Type 0) (bs others : List (List DebugUnit)) → AllByRecursion P (bs ++ others)
+split : (P : Units → Type 0) (bs others : List Units) → AllByRecursion P (bs ++ others)
     → AllByRecursion P bs × AllByRecursion P others
 split P [] others all = (tt, all)
 split P (units ∷ bs) others (one, all) = search (rules, (split P bs others all))
 
-ready_each : (s : Sections) (group : Group) (P Q : List DebugUnit → Type 0)
-    → ((units : List DebugUnit) → StaysAlone s units → IsMeasured group units → P units → Q units)
-    → (bs : List (List DebugUnit)) → AllByRecursion (StaysAlone s) bs → AllByRecursion (IsMeasured group) bs
+ready_each : (s : Sections) (group : Group) (P Q : Units → Type 0)
+    → ((units : Units) → StaysAlone s units → IsMeasured group units → P units → Q units)
+    → (bs : List Units) → AllByRecursion (StaysAlone s) bs → AllByRecursion (IsMeasured group) bs
     → AllByRecursion P bs → AllByRecursion Q bs
 ready_each s group P Q into [] stay measured all = tt
 ready_each s group P Q into (units ∷ bs) (stays, stay) (one, measured) (holds, all) =
@@ -188,7 +188,7 @@ ready_each s group P Q into (units ∷ bs) (stays, stay) (one, measured) (holds,
 -- THE law
 pub first_by_unit : FirstOfUnits
 first_by_unit s before units behind group fault all measured passed fails below parts =
-    let same = flat_map-append (λ (batch : List DebugUnit). batch) before (units ∷ behind) in
+    let same = flat_map-append (λ (batch : Units). batch) before (units ∷ behind) in
     let from = subst (AreFrom s.base) same all.follow in
     let place = s.base + length (units_bytes (joined before)) in
     let (front, there) = from_parts s.base (joined before) (units ++ joined behind) from in

@@ -15,12 +15,24 @@ use Rattle.dw_entries.proofs.UnitRanges.{get_front, get_behind}
 use Rattle.dw_links.proofs.ClassLemmas.{in_units}
 use Rattle.dw_units.specs.ByUnit.{StaysAlone}
 
--- units that begin at an offset are placed from there on, and so are their entries
-placed_there : (at : ℕ) (us : List DebugUnit) → AreFrom at us → placed us ≡ placed_from at 0 us
-placed_there at [] from = refl
-placed_there at (u ∷ us) from = search (rules)
+-- units, one after another
+abbrev pub Units : Type 0
+Units = List DebugUnit
 
-placed_from-append : (at first : ℕ) (us vs : List DebugUnit) → placed_from at first (us ++ vs)
+-- how many entries units have
+abbrev pub total : Units → ℕ
+total us = length (entries_of us)
+
+-- the entry of units with this number
+abbrev pub IsEntry : Units → ℕ → Entry → Type 0
+IsEntry us k e = slice_get (entries_of us) k ≡ Some e
+
+-- units that begin at an offset are placed from there on, and so are their entries
+placed_there : (at : ℕ) (us : Units) → AreFrom at us → placed us ≡ placed_from at 0 us
+placed_there at [] from = refl
+placed_there at (u ∷ us) from = search rules
+
+placed_from-append : (at first : ℕ) (us vs : Units) → placed_from at first (us ++ vs)
     ≡ placed_from at first us ++ placed_from (at + length (units_bytes us)) (first + units_count us) vs
 placed_from-append at first [] vs = search (rules, add-zero)
 placed_from-append at first (u ∷ us) vs =
@@ -30,29 +42,29 @@ placed_from-append at first (u ∷ us) vs =
       (placed_from-append (at + length (unit_bytes u)) (first + node_count u.root) us vs),
     )
 
-entries_there : (at : ℕ) (us : List DebugUnit) → AreFrom at us → entries_of us ≡ entries_from 0 0 at us
+entries_there : (at : ℕ) (us : Units) → AreFrom at us → entries_of us ≡ entries_from 0 0 at us
 entries_there at [] from = refl
-entries_there at (u ∷ us) from = search (rules)
+entries_there at (u ∷ us) from = search rules
 
 -- some units, and those after them
-pub from_parts : (at : ℕ) (us more : List DebugUnit) → AreFrom at (us ++ more)
+pub from_parts : (at : ℕ) (us more : Units) → AreFrom at (us ++ more)
     → AreFrom at us × AreFrom (at + length (units_bytes us)) more
-from_parts at [] more from = search (rules)
+from_parts at [] more from = search rules
 from_parts at (u ∷ us) more (here, from) =
     search (rules, (from_parts (at + length (unit_bytes u)) us more from), length-append)
 
-pub from_both : (at : ℕ) (us more : List DebugUnit) → AreFrom at us → AreFrom (at + length (units_bytes us)) more
+pub from_both : (at : ℕ) (us more : Units) → AreFrom at us → AreFrom (at + length (units_bytes us)) more
     → AreFrom at (us ++ more)
-from_both at [] more from rest = search (rules)
+from_both at [] more from rest = search rules
 from_both at (u ∷ us) more (here, from) rest =
     let there : at + length (units_bytes (u ∷ us)) ≡ at + length (unit_bytes u) + length (units_bytes us) =
     omega (arith, length-append (unit_bytes u) (units_bytes us)) in
     (here, from_both (at + length (unit_bytes u)) us more from (rw there at rest))
 
 -- what holds of no unit, and of units with more behind them as it does of both, holds of batches joined
-pub all_joined : (P : List DebugUnit → Type 0) → P []
-    → ((at : ℕ) (us more : List DebugUnit) → AreFrom at (us ++ more) → P us → P more → P (us ++ more))
-    → (at : ℕ) (bs : List (List DebugUnit)) → AreFrom at (joined bs) → AllByRecursion P bs → P (joined bs)
+pub all_joined : (P : Units → Type 0) → P []
+    → ((at : ℕ) (us more : Units) → AreFrom at (us ++ more) → P us → P more → P (us ++ more))
+    → (at : ℕ) (bs : List Units) → AreFrom at (joined bs) → AllByRecursion P bs → P (joined bs)
 all_joined P empty both at [] from all = empty
 all_joined P empty both at (units ∷ bs) from (one, more) =
     both at units (joined bs) from one
@@ -84,12 +96,6 @@ first_moved : (ns : Nodes) (first id to : ℕ) → to ≡ first + id → first_i
 first_moved ns first id to is = search rules
 
 module _ (number first : ℕ) where
-  head_moved : (unit unit_to : ℕ) (above next above_to next_to : Option ℕ) (depth at : ℕ) (h : Head)
-      → unit_to ≡ number + unit → above_to ≡ moved_number first above → next_to ≡ moved_number first next
-      → ◌≡◌ {A = Entry} (record { at = at; unit = unit_to; parent = above_to; depth = depth; next = next_to; head = h })
-      (moved number first (record { at = at; unit = unit; parent = above; depth = depth; next = next; head = h }))
-  head_moved unit unit_to above next above_to next_to depth at h u q r = rw (u, q, r) refl
-
   mutual
     node_moved : (unit unit_to : ℕ) (above next above_to next_to : Option ℕ) (depth id id_to at : ℕ) (n : Node)
         → unit_to ≡ number + unit → id_to ≡ first + id
@@ -97,13 +103,16 @@ module _ (number first : ℕ) where
         → node_entries unit_to above_to depth next_to id_to at n
         ≡ map (moved number first) (node_entries unit above depth next id at n)
     node_moved unit unit_to above next above_to next_to depth id id_to at (leaf h) u i q r =
-        ap (λ (e : Entry). e ∷ []) (head_moved unit unit_to above next above_to next_to depth at h u q r)
+        rw (u, q, r) refl
     node_moved unit unit_to above next above_to next_to depth id id_to at (parent h ns z) u i q r =
         rw (
-          head_moved unit unit_to above next above_to next_to depth at h u q r,
-          nodes_moved unit unit_to id id_to (suc depth) (suc id) (suc id_to) (at + length (head_bytes h)) ns u i
-              (omega arith),
-        )
+          u,
+          q,
+          r,
+          nodes_moved unit (number + unit) id id_to (suc depth) (suc id) (suc id_to) (at + length (head_bytes h)) ns
+              refl
+              i (omega arith),
+        ) refl
 
     nodes_moved : (unit unit_to above above_to depth id id_to at : ℕ) (ns : Nodes)
         → unit_to ≡ number + unit → above_to ≡ first + above → id_to ≡ first + id
@@ -121,8 +130,7 @@ module _ (number first : ℕ) where
         )
 
   -- the entries of units among all
-  units_moved : (unit id unit_to id_to at : ℕ) (us : List DebugUnit) → unit_to ≡ number + unit
-      → id_to ≡ first + id
+  units_moved : (unit id unit_to id_to at : ℕ) (us : Units) → unit_to ≡ number + unit → id_to ≡ first + id
       → entries_from unit_to id_to at us ≡ map (moved number first) (entries_from unit id at us)
   units_moved unit id unit_to id_to at [] u i = refl
   units_moved unit id unit_to id_to at (v ∷ us) u i =
@@ -135,7 +143,7 @@ module _ (number first : ℕ) where
       )
 
   -- and the units themselves
-  placed_moved : (id id_to at : ℕ) (us : List DebugUnit) → id_to ≡ first + id
+  placed_moved : (id id_to at : ℕ) (us : Units) → id_to ≡ first + id
       → placed_from at id_to us ≡ map (moved_unit first) (placed_from at id us)
   placed_moved id id_to at [] i = refl
   placed_moved id id_to at (v ∷ us) i =
@@ -152,13 +160,13 @@ map_some : {X Y : Type 0} (f : X → Y) (o : Option X) (y : Y) → option_map f 
 map_some f o y is = search rules
 
 -- units with more behind them: all entries, and all units as they are placed
-pub entries_both : (at : ℕ) (us more : List DebugUnit) → AreFrom at (us ++ more)
-    → entries_of (us ++ more) ≡ entries_of us ++ map (moved (length us) (length (entries_of us))) (entries_of more)
+pub entries_both : (at : ℕ) (us more : Units) → AreFrom at (us ++ more)
+    → entries_of (us ++ more) ≡ entries_of us ++ map (moved (length us) (total us)) (entries_of more)
 entries_both at us more from =
     search (rules, from_parts, entries_there, length-entries_from, units_moved, entries_from-append)
 
-placed_both : (at : ℕ) (us more : List DebugUnit) → AreFrom at (us ++ more)
-    → placed (us ++ more) ≡ placed us ++ map (moved_unit (length (entries_of us))) (placed more)
+placed_both : (at : ℕ) (us more : Units) → AreFrom at (us ++ more)
+    → placed (us ++ more) ≡ placed us ++ map (moved_unit (total us)) (placed more)
 placed_both at us more from =
     search (rules, from_parts, entries_there, length-entries_from, placed_moved, placed_there, placed_from-append)
 
@@ -174,8 +182,7 @@ module _ {X : Type 0} (f : X → X) (xs ys zs : List X) (is : zs ≡ xs ++ map f
       ap (λ (l : List X). slice_get l (length xs + i)) is ∙ get_behind xs (map f ys) (length xs + i) (omega arith)
       ∙ ap (slice_get (map f ys)) none ∙ slice_get-map f ys i ∙ ap (option_map f) is_x
 
-  get_either : (i : ℕ) (x : X) → slice_get zs i ≡ Some x
-      → (slice_get xs i ≡ Some x)
+  get_either : (i : ℕ) (x : X) → slice_get zs i ≡ Some x → (slice_get xs i ≡ Some x)
       ⊎ ((j : ℕ) × (y : X) × (slice_get ys j ≡ Some y) × (i ≡ length xs + j) × (f y ≡ x))
   get_either i x is_x =
       let here = ap (λ (l : List X). slice_get l i) (sym is) ∙ is_x in
@@ -190,32 +197,30 @@ module _ {X : Type 0} (f : X → X) (xs ys zs : List X) (is : zs ≡ xs ++ map f
 -- ---- some units among all
 
 -- an entry among all is one of these units, the first of which has this number, as its first entry has that
-pub record IsIn (number first : ℕ) (units : List DebugUnit) (i : ℕ) (e : Entry) : Type 0 where
+pub record IsIn (number first : ℕ) (units : Units) (i : ℕ) (e : Entry) : Type 0 where
   pub inner : ℕ
   pub entry : Entry
-  pub is_entry : slice_get (entries_of units) inner ≡ Some entry
+  pub is_entry : IsEntry units inner entry
   pub begins : i ≡ first + inner
   pub same : moved number first entry ≡ e
 
 -- or it is one of other units: before these, or behind them
-pub data IsOut (number first : ℕ) (units : List DebugUnit) (i : ℕ) (e : Entry) : Type 0 where
+pub data IsOut (number first : ℕ) (units : Units) (i : ℕ) (e : Entry) : Type 0 where
   early : e.unit < number → i < first → IsOut number first units i e
   late : number + length units ≤ e.unit
-      → ((k : ℕ) → e.parent ≡ Some k → first + length (entries_of units) ≤ k) → IsOut number first units i e
+      → ((k : ℕ) → e.parent ≡ Some k → first + total units ≤ k) → IsOut number first units i e
 
 -- these units are among all, and stay alone: their entries and themselves, by their numbers among all
-pub record IsPart (s : Sections) (all : List DebugUnit) (number first : ℕ) (units : List DebugUnit) : Type 0 where
+pub record IsPart (s : Sections) (all : Units) (number first : ℕ) (units : Units) : Type 0 where
   pub stays : StaysAlone s units
-  pub get : (inner : ℕ) (d : Entry) → slice_get (entries_of units) inner ≡ Some d
-      → slice_get (entries_of all) (first + inner) ≡ Some (moved number first d)
+  pub get : (inner : ℕ) (d : Entry) → IsEntry units inner d → IsEntry all (first + inner) (moved number first d)
   pub unit_get : (j : ℕ) (q : PlacedUnit) → slice_get (placed units) j ≡ Some q
       → slice_get (placed all) (number + j) ≡ Some (moved_unit first q)
-  pub covers : (i : ℕ) (e : Entry) → slice_get (entries_of all) i ≡ Some e
-      → IsIn number first units i e ⊎ IsOut number first units i e
+  pub covers : (i : ℕ) (e : Entry) → IsEntry all i e → IsIn number first units i e ⊎ IsOut number first units i e
 
 -- an entry is of one of the units
-pub unit_below : (s : Sections) (units : List DebugUnit) → StaysAlone s units → (inner : ℕ) (e : Entry)
-    → slice_get (entries_of units) inner ≡ Some e → e.unit < length units
+pub unit_below : (s : Sections) (units : Units) → StaysAlone s units → (inner : ℕ) (e : Entry)
+    → IsEntry units inner e → e.unit < length units
 unit_below s units stays inner e is =
     in_units s.«abbrev».now (units_bytes units) units inner e (record { are = stays.are; parts = refl }) is
 
@@ -230,9 +235,9 @@ unmoved : (e : Entry) → moved 0 0 e ≡ e
 unmoved e = search (rules, unmoved_number)
 
 -- units after some and before others are among all
-pub part_of : (s : Sections) (at : ℕ) (before units behind : List DebugUnit)
+pub part_of : (s : Sections) (at : ℕ) (before units behind : Units)
     → AreFrom at (before ++ (units ++ behind)) → StaysAlone s before → StaysAlone s units
-    → IsPart s (before ++ (units ++ behind)) (length before) (length (entries_of before)) units
+    → IsPart s (before ++ (units ++ behind)) (length before) (total before) units
 part_of s at before units behind from first stays = record {
   stays = stays;
   get = λ inner d is.
@@ -245,23 +250,23 @@ part_of s at before units behind from first stays = record {
   covers = λ i e is.
       elim (get_either _ (entries_of before) (entries_of rest) _ entries i e is) [
         | inl here ↦
-            inr (early (unit_below s before first i e here) (slice_get_within (entries_of before) i e here))
+            inr (early (unit_below s before first i e here) (slice_get_within _ _ _ here))
         | inr (j, d, is_d, begins, same) ↦
             elim (get_either _ (entries_of units) (entries_of behind) _ inside j d is_d) [
               | inl here ↦ inl (record { inner = j; entry = d; is_entry = here; begins = begins; same = same })
               | inr (k, c, is_c, past, also) ↦
                   inr (late
                   (omega (arith, ap (λ (x : Entry). x.unit) same, ap (λ (x : Entry). x.unit) also)) (λ m is.
-                  let (a, is_a, one) = some_moved (length (entries_of before)) d.parent m
+                  let (a, is_a, one) = some_moved (total before) d.parent m
                   (ap (λ (x : Entry). x.parent) same ∙ is) in
-                  let (b, is_b, two) = some_moved (length (entries_of units)) c.parent a
+                  let (b, is_b, two) = some_moved (total units) c.parent a
                   (ap (λ (x : Entry). x.parent) also ∙ is_a) in
                   omega (arith, one, two)))
             ]
       ];
 }
   where
-    rest : List DebugUnit
+    rest : Units
     rest = units ++ behind
 
     place : ℕ
@@ -271,28 +276,25 @@ part_of s at before units behind from first stays = record {
     there = (from_parts at before rest from).1
 
     entries : entries_of (before ++ rest)
-        ≡ entries_of before ++ map (moved (length before) (length (entries_of before))) (entries_of rest)
+        ≡ entries_of before ++ map (moved (length before) (total before)) (entries_of rest)
     entries = entries_both at before rest from
 
-    inside : entries_of rest
-        ≡ entries_of units ++ map (moved (length units) (length (entries_of units))) (entries_of behind)
+    inside : entries_of rest ≡ entries_of units ++ map (moved (length units) (total units)) (entries_of behind)
     inside = entries_both place units behind there
 
 pub stays_none : (s : Sections) → StaysAlone s []
-stays_none s = search (rules)
+stays_none s = search rules
 
 -- of two lists of units, the first and the second; and each entry is of one of them
-module _ (s : Sections) (at : ℕ) (us more : List DebugUnit) (from : AreFrom at (us ++ more)) where
+module _ (s : Sections) (at : ℕ) (us more : Units) (from : AreFrom at (us ++ more)) where
   pub front : StaysAlone s us → IsPart s (us ++ more) 0 0 us
   front stays = part_of s at [] us more from (stays_none s) stays
 
-  pub behind : StaysAlone s us → StaysAlone s more
-      → IsPart s (us ++ more) (length us) (length (entries_of us)) more
+  pub behind : StaysAlone s us → StaysAlone s more → IsPart s (us ++ more) (length us) (total us) more
   behind first stays =
       rw (append-nil more) at (part_of s at us more [] (rw (sym (append-nil more)) at from) first stays)
 
-  pub halves : (i : ℕ) (e : Entry) → slice_get (entries_of (us ++ more)) i ≡ Some e
-      → IsIn 0 0 us i e ⊎ IsIn (length us) (length (entries_of us)) more i e
+  pub halves : (i : ℕ) (e : Entry) → IsEntry (us ++ more) i e → IsIn 0 0 us i e ⊎ IsIn (length us) (total us) more i e
   halves i e is =
       elim (get_either _ (entries_of us) (entries_of more) _ (entries_both at us more from) i e is) [
         | inl here ↦
@@ -302,22 +304,22 @@ module _ (s : Sections) (at : ℕ) (us more : List DebugUnit) (from : AreFrom at
       ]
 
 -- units that stay alone, and others behind them
-pub record AreTwo (s : Sections) (at : ℕ) (us more : List DebugUnit) : Type 0 where
+pub record AreTwo (s : Sections) (at : ℕ) (us more : Units) : Type 0 where
   pub from : AreFrom at (us ++ more)
   pub one : StaysAlone s us
   pub other : StaysAlone s more
 
 -- the same by number
-module _ {s : Sections} {all : List DebugUnit} {number first : ℕ} {units : List DebugUnit}
+module _ {s : Sections} {all : Units} {number first : ℕ} {units : Units}
     (p : IsPart s all number first units) (inner : ℕ) where
-  got : inner < length (entries_of units) → slice_get (entries_of all) (first + inner)
+  got : inner < total units → slice_get (entries_of all) (first + inner)
       ≡ Some (moved number first (entry_of (entries_of units) inner))
   got inside = search (rules, slice_get-get_or, inside)
 
-  pub entry_within : inner < length (entries_of units) → first + inner < length (entries_of all)
+  pub entry_within : inner < total units → first + inner < total all
   entry_within inside = search (rules, slice_get_within, got)
 
-  pub entry_at : inner < length (entries_of units) → entry_of (entries_of all) (first + inner)
+  pub entry_at : inner < total units → entry_of (entries_of all) (first + inner)
       ≡ moved number first (entry_of (entries_of units) inner)
   entry_at inside = search (rules, get_or_from_slice_get, got)
 

@@ -10,7 +10,7 @@ use Rattle.dw_links.specs.Targets.{reach_in_unit, reach_of, entry_at as offset_i
 use Rattle.dw_links.proofs.TargetLemmas.{reach_in_unit_is, at_reach_in_unit, entry_at_is, there_is, reach_within, entry_of, no_entry, type_unit_of}
 use Rattle.dw_links.specs.References.{is_signature, permits, is_reference_value, NoSignatureThere, IsOtherThan, ReachesWrong, ReferenceFailsBy, ReferenceFails, HeaderFailures, AttributeFailures, ReferenceFailures, Datum}
 use Rattle.dw_units.specs.ByUnit.{StaysAlone, is_offset, IsFirm}
-use Rattle.dw_units.proofs.MovedEntries.{IsIn, IsPart, moved_number, entry_at, entry_within, unit_at, unit_within, moved, none_moved, some_moved, unit_below}
+use Rattle.dw_units.proofs.MovedEntries.{IsEntry, Units, total, IsIn, IsPart, moved_number, entry_at, entry_within, unit_at, unit_within, moved, none_moved, some_moved, unit_below}
 use Rattle.std.proofs.lemmas.Grind.{common_steps}
 use Rattle.dw_entries.specs.Lookups.{entry_head}
 use Rattle.dw_forms.specs.declared.rule.Rule.TheVariants.{NoEntry, WrongKind, NotNextSibling, NoSignature}
@@ -20,10 +20,14 @@ use Rattle.dw_links.proofs.ListLookups.{there}
 use Rattle.dw_units.specs.IndependentBatches.{HaveNoTypeUnit}
 use Rattle.dw_units.proofs.TextLemmas.{AreOfParts, FailsBy, heads_of_parts}
 
-module _ {s : Sections} {all : List DebugUnit} {number first : ℕ} {units : List DebugUnit} (whole : StaysAlone s all)
+-- what a value in a unit of these reaches
+abbrev reach : Units → ℕ → Datum → Option ℕ
+reach us = reach_of (entries_of us) (placed us)
+
+module _ {s : Sections} {all : Units} {number first : ℕ} {units : Units} (whole : StaysAlone s all)
     (p : IsPart s all number first units) where
   -- an entry of one of the units
-  own_entry : (i : ℕ) → i < length (entries_of all) → number ≤ (entry_of (entries_of all) i).unit
+  own_entry : (i : ℕ) → i < total all → number ≤ (entry_of (entries_of all) i).unit
       → (entry_of (entries_of all) i).unit < number + length units
       → IsIn number first units i (entry_of (entries_of all) i)
   own_entry i within low high = search (rules, slice_get-get_or)
@@ -38,8 +42,7 @@ module _ {s : Sections} {all : List DebugUnit} {number first : ℕ} {units : Lis
     at_same : (placed_of (placed all) (number + j)).at ≡ (placed_of (placed units) j).at
     at_same = ap (λ (u : PlacedUnit). u.at) (unit_at p j below)
 
-    reached_in_place : (offset id : ℕ)
-        → reach_in_unit (entries_of units) (placed units) j offset ≡ Some id
+    reached_in_place : (offset id : ℕ) → reach_in_unit (entries_of units) (placed units) j offset ≡ Some id
         → reach_in_unit (entries_of all) (placed all) (number + j) offset ≡ Some (first + id)
     reached_in_place offset id reached =
         let t = (at_reach_in_unit (entries_of units) (placed units) j offset id reached).target in
@@ -62,7 +65,7 @@ module _ {s : Sections} {all : List DebugUnit} {number first : ℕ} {units : Lis
         (record {
           unit_within = omega (arith, below, length-placed units);
           target = record {
-            within = slice_get_within (entries_of units) i.inner i.entry i.is_entry;
+            within = slice_get_within _ _ _ i.is_entry;
             begins = omega (arith, t.begins, ap (λ (e : Entry). e.at) i.same, ap (λ (e : Entry). e.at) e_is, at_same);
             in_unit = omega (arith, ap (λ (e : Entry). e.unit) i.same, ap (λ (e : Entry). e.unit) e_is, of);
           };
@@ -72,7 +75,7 @@ module _ {s : Sections} {all : List DebugUnit} {number first : ℕ} {units : Lis
     info_in_place : (offset id : ℕ) → offset_is (entries_of units) offset ≡ Some id
         → offset_is (entries_of all) offset ≡ Some (first + id)
     info_in_place offset id reached =
-        let t = there_is (entries_of units) offset id reached in
+        let t = there_is _ _ _ reached in
         let at = ap (λ (e : Entry). e.at) (entry_at p id t.within) ∙ t.begins in
         search (rules, rise, at, (entry_within p id t.within), entry_at_is)
 
@@ -85,10 +88,9 @@ module _ {s : Sections} {all : List DebugUnit} {number first : ℕ} {units : Lis
     info_either offset o reached = search (rules, info_in_place)
 
     -- what a value reaches is the same in the place of the units, or no entry of theirs starts at the offset
-    reach_either : (v : Datum) → is_signature v ≡ false
-        → (reach_of (entries_of all) (placed all) (number + j) v
-        ≡ moved_number first (reach_of (entries_of units) (placed units) j v))
-        ⊎ ((is_offset v ≡ true) × (reach_of (entries_of units) (placed units) j v ≡ None))
+    reach_either : (v : Datum) → is_signature v ≡ false → (reach all (number + j) v
+        ≡ moved_number first (reach units j v))
+        ⊎ ((is_offset v ≡ true) × (reach units j v ≡ None))
     reach_either v stays = search (rules, info_either, in_unit_moved)
 
 -- ---- the rules
@@ -98,9 +100,8 @@ eqb_moved at a b = search (rules, eqb-true, eq-eqb)
 
 -- a target is permitted in its place as alone
 permits_moved : (number first : ℕ) (e t : Entry) (attribute : ℕ)
-    → permits (entry_head (moved number first e)) attribute (moved number first t)
-    ≡ permits (entry_head e) attribute t
-permits_moved number first e t attribute = search (rules)
+    → permits (entry_head (moved number first e)) attribute (moved number first t) ≡ permits (entry_head e) attribute t
+permits_moved number first e t attribute = search rules
 
 reached_below : (entries : List Entry) (units : List PlacedUnit) (unit : ℕ) (v : Datum) (k : ℕ)
     → reach_of entries units unit v ≡ Some k → k < length entries
@@ -122,19 +123,17 @@ next_none : (first : ℕ) (next reached : Option ℕ) → reached ≡ None → I
 next_none first next reached none apart there = search rules
 
 one_least : (rule : Rule) → 1 ≤ number_of rule
-one_least rule = search (rules)
+one_least rule = search rules
 
-module _ {s : Sections} {all : List DebugUnit} {number first : ℕ} {units : List DebugUnit} (whole : StaysAlone s all)
+module _ {s : Sections} {all : Units} {number first : ℕ} {units : Units} (whole : StaysAlone s all)
     (p : IsPart s all number first units) where
-  wrong_alone : (e : Entry) (attribute : ℕ) (alone : Option ℕ)
-      → ((k : ℕ) → alone ≡ Some k → k < length (entries_of units))
+  wrong_alone : (e : Entry) (attribute : ℕ) (alone : Option ℕ) → ((k : ℕ) → alone ≡ Some k → k < total units)
       → ReachesWrong (entries_of all) (entry_head (moved number first e)) attribute
-      (moved_number first alone)
-      → ReachesWrong (entries_of units) (entry_head e) attribute alone
+      (moved_number first alone) → ReachesWrong (entries_of units) (entry_head e) attribute alone
   wrong_alone e attribute alone below wrong =
       let (id, is_id, same) = some_moved first alone wrong.id wrong.reaches in
       let (t, is_t) = there (entries_of units) id (below id is_id) in
-      let target = same_some (slice_get (entries_of all) wrong.id) wrong.target (moved number first t) wrong.is_target
+      let target = same_some _ _ _ wrong.is_target
       (ap (slice_get (entries_of all)) (sym same) ∙ p.get id t is_t) in
       let refused = sym (permits_moved number first e t attribute)
       ∙ ap (permits (entry_head (moved number first e)) attribute) (sym target) ∙ wrong.wrong in
@@ -153,7 +152,7 @@ module _ {s : Sections} {all : List DebugUnit} {number first : ℕ} {units : Lis
   -- the rules at a value of an entry alone, and there in its place
   module _ (e : Entry) (attribute : ℕ) (v : Datum) (stays : is_signature v ≡ false) where
     abbrev alone : Option ℕ
-    alone = reach_of (entries_of units) (placed units) e.unit v
+    alone = reach units e.unit v
 
     abbrev Alone : Rule → Type 0
     Alone = ReferenceFailsBy (entries_of units) (placed units) (entry_head e) attribute v
@@ -162,7 +161,7 @@ module _ {s : Sections} {all : List DebugUnit} {number first : ℕ} {units : Lis
     There = ReferenceFailsBy (entries_of all) (placed all) (entry_head (moved number first e)) attribute v
 
     abbrev IsReached : Type 0
-    IsReached = reach_of (entries_of all) (placed all) (number + e.unit) v ≡ moved_number first alone
+    IsReached = reach all (number + e.unit) v ≡ moved_number first alone
 
     by_alone : (rule : Rule) → IsReached → There rule → Alone rule
     by_alone NoEntry reached (other, none) = search (rules, none_moved)
@@ -182,11 +181,10 @@ module _ {s : Sections} {all : List DebugUnit} {number first : ℕ} {units : Lis
     by_none rule none other fails = search (rules, next_none, no_signature)
 
   -- what fails in the place of the batch
-  reference_down : (inner : ℕ) (e : Entry) → slice_get (entries_of units) inner ≡ Some e
+  reference_down : (inner : ℕ) (e : Entry) → IsEntry units inner e
       → (attribute : ℕ) (v : Datum) (rule : Rule) → is_signature v ≡ false
       → ReferenceFails (entries_of all) (placed all) (entry_head (moved number first e))
-      attribute v rule
-      → FailsBy (ReferenceFails (entries_of units) (placed units) (entry_head e) attribute v) rule
+      attribute v rule → FailsBy (ReferenceFails (entries_of units) (placed units) (entry_head e) attribute v) rule
   reference_down inner e is_e attribute v rule stays (reference, fails) =
       let below = unit_below s units p.stays inner e is_e in
       elim (reach_either whole p e.unit below v stays) [
@@ -195,7 +193,7 @@ module _ {s : Sections} {all : List DebugUnit} {number first : ℕ} {units : Lis
       ]
 
   -- what fails at the batch alone
-  reference_up : (inner : ℕ) (e : Entry) → slice_get (entries_of units) inner ≡ Some e
+  reference_up : (inner : ℕ) (e : Entry) → IsEntry units inner e
       → (position attribute : ℕ) (v : Datum) (rule : Rule) → HasAttribute e position attribute v
       → is_signature v ≡ false
       → ReferenceFails (entries_of units) (placed units) (entry_head e) attribute v rule → IsFirm units rule
@@ -213,26 +211,25 @@ module _ {s : Sections} {all : List DebugUnit} {number first : ℕ} {units : Lis
         )
       ]
 
-no_header_in : (us : List DebugUnit) → HaveNoTypeUnit us → (number : ℕ) (q : PlacedUnit)
+no_header_in : (us : Units) → HaveNoTypeUnit us → (number : ℕ) (q : PlacedUnit)
     → slice_get (placed us) number ≡ Some q → type_unit_of q.unit.header.kind ≡ None
 no_header_in us none number q is =
     let here = (place_of us number q is).is_unit in
     rw (get_or_from_slice_get us number q.unit q.unit here) at
-    (All-from_recursion (λ (u : DebugUnit). type_unit_of u.header.kind ≡ None) us none number q.unit
-    (slice_get_within us number q.unit here))
+    (All-from_recursion _ us none number q.unit
+    (slice_get_within _ _ _ here))
 
 -- no unit is a type unit, so no rule fails at a header
-no_header_fails : (entries : List Entry) (us : List DebugUnit) → HaveNoTypeUnit us
-    → HasNone (HeaderFailures entries (placed us))
+no_header_fails : (entries : List Entry) (us : Units) → HaveNoTypeUnit us → HasNone (HeaderFailures entries (placed us))
 no_header_fails entries us none f fails = search (rules, no_header_in)
 
 -- the failures at headers are none, so those at attributes are all
-pub at_attributes : (s : Sections) (us : List DebugUnit) → StaysAlone s us → (f : Failure) → ReferenceFailures us f
+pub at_attributes : (s : Sections) (us : Units) → StaysAlone s us → (f : Failure) → ReferenceFailures us f
     → AttributeFailures (entries_of us) (placed us) f
 at_attributes s us stays f (inl header) = absurd (no_header_fails (entries_of us) us stays.no_type_unit f header)
 at_attributes s us stays f (inr attribute) = attribute
 
-pub references_of_parts : (s : Sections) (May : List DebugUnit → Type 0) (all : List DebugUnit) → StaysAlone s all
+pub references_of_parts : (s : Sections) (May : Units → Type 0) (all : Units) → StaysAlone s all
     → AreOfParts s May ReferenceFailures all
 references_of_parts s May all whole =
     heads_of_parts s May ReferenceFailures (λ units. ReferenceFails (entries_of units) (placed units)) all whole
@@ -246,21 +243,20 @@ references_of_parts s May all whole =
 -- ---- where the rules on references hold of the units
 
 offset_refers : (v : Datum) → is_offset v ≡ true → is_reference_value v ≡ true
-offset_refers v is = search (rules)
+offset_refers v is = search rules
 
 -- the values of an entry reach the same in its place
-pub value_moved : {s : Sections} {all : List DebugUnit} {number first : ℕ} {units : List DebugUnit}
+pub value_moved : {s : Sections} {all : Units} {number first : ℕ} {units : Units}
     → StaysAlone s all → (p : IsPart s all number first units) → HasNone (ReferenceFailures units)
-    → (inner : ℕ) (e : Entry) → slice_get (entries_of units) inner ≡ Some e
-    → (position attribute : ℕ) (v : Datum) → HasAttribute e position attribute v
-    → reach_of (entries_of all) (placed all) (number + e.unit) v
-    ≡ moved_number first (reach_of (entries_of units) (placed units) e.unit v)
+    → (inner : ℕ) (e : Entry) → IsEntry units inner e
+    → (position attribute : ℕ) (v : Datum) → HasAttribute e position attribute v → reach all (number + e.unit) v
+    ≡ moved_number first (reach units e.unit v)
 value_moved {s = s} {units = units} whole p none inner e is_e position attribute v has =
     let inside = p.stays.stays inner e is_e position attribute v has in
     elim (reach_either whole p e.unit (unit_below s units p.stays inner e is_e) v inside) [
       | inl same ↦ same
       | inr (offset, nothing) ↦
-          absurd (none_at (entries_of units) (ReferenceFails (entries_of units) (placed units))
+          absurd (none_at (entries_of units) (ReferenceFails _ (placed units))
           (λ f fails. none f (inr fails))
           inner e is_e position attribute v has NoEntry (offset_refers v offset, (inside, nothing)))
     ]

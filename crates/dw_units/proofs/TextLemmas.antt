@@ -3,7 +3,7 @@
 use Rattle.std.proofs.Common.{rules, ◌≡◌, ℕ, zero, suc, ◌+◌, ◌<◌, ◌≤◌, ◌⊎◌, List, [], ◌∷◌, ◌++◌, length, Some, sym, subst, inl, inr, arith, slice_get, Option, None, refl, ap, ◌∙◌, if◌then◌else◌, ◌==◌, option_and_then}
 use Rattle.dw_entries.specs.declared.header.UnitHeader.{UnitHeader}
 use Rattle.dw_entries.specs.declared.records.Record.{Record}
-use Rattle.dw_entries.specs.Units.{DebugUnit, AreFrom, AreUnits, units_bytes}
+use Rattle.dw_entries.specs.Units.{AreFrom, AreUnits, units_bytes}
 use Rattle.dw_entries.specs.declared.fault.PlainFault.{PlainFault}
 use Rattle.dw_entries.specs.Records.{records_kept}
 use Rattle.dw_entries.specs.Scanned.{record_of, records_of}
@@ -12,7 +12,7 @@ use Rattle.dw_entries.proofs.EntryFacts.{kept_get, first_entry, length-placed, E
 use Rattle.dw_image.specs.FirstFault.{Group, failures_of}
 use Rattle.dw_units.specs.ByUnit.{IsFirm, StaysAlone}
 use Rattle.dw_units.specs.BatchSections.{IsReady}
-use Rattle.dw_units.proofs.MovedEntries.{from_parts, IsIn, IsPart, behind, front, halves, part_of, moved_number, none_moved, moved, moved_unit, unit_below}
+use Rattle.dw_units.proofs.MovedEntries.{IsEntry, Units, total, from_parts, IsIn, IsPart, behind, front, halves, part_of, moved_number, none_moved, moved, moved_unit, unit_below}
 use Rattle.dw_entries.specs.Header.{version_of}
 use Rattle.dw_forms.specs.Rules.{number_of}
 use Rattle.dw_entries.specs.EntryRules.{HasAttribute, InList, values_of, Rule, Failure}
@@ -35,7 +35,7 @@ IsOfEntry at (at_attribute offset position) = offset ≡ at
 
 -- nothing at an entry precedes what is at an earlier one
 later_entry : (a b : ℕ) (f g : Failure) → a < b → IsOfEntry a f.place → IsOfEntry b g.place → Precedes g f → ⊥
-later_entry a b f g less at_f at_g precedes = search (rules)
+later_entry a b f g less at_f at_g precedes = search rules
 
 -- ---- the entries of units are in their bytes
 
@@ -49,9 +49,8 @@ rises_inside low high [] k r p is = absurd cc
 rises_inside low high (q ∷ rs) zero r p is = search (rules, rises_between)
 rises_inside low high (q ∷ rs) (suc k) r p is = search (rules, (rises_inside (suc q.at) high rs k r p.1 is))
 
-entry_inside : (a : List ℕ) (at : ℕ) (units : List DebugUnit) (k : ℕ) (e : Entry) → AreUnits a units
-    → AreFrom at units → slice_get (entries_of units) k ≡ Some e
-    → (at ≤ e.at) × (e.at < at + length (units_bytes units))
+entry_inside : (a : List ℕ) (at : ℕ) (units : Units) (k : ℕ) (e : Entry) → AreUnits a units
+    → AreFrom at units → IsEntry units k e → (at ≤ e.at) × (e.at < at + length (units_bytes units))
 entry_inside a at [] k e are from is = absurd cc
 entry_inside a at (u ∷ us) k e are from is =
     let any : ℕ → ℕ → ℕ = λ number code. 0 in
@@ -71,28 +70,28 @@ pub record IsOfPart (Alone : Failure → Type 0) (f : Failure) : Type 0 where
   pub early : (h : Failure) → Precedes f h → Precedes failure h
 
 -- it fails at an entry, so it is one of the units that have the entry
-pub record IsAtEntry (s : Sections) (all : List DebugUnit) (May : List DebugUnit → Type 0)
-    (Fails : List DebugUnit → Failure → Type 0) (f : Failure) : Type 0 where
+pub record IsAtEntry (s : Sections) (all : Units) (May : Units → Type 0)
+    (Fails : Units → Failure → Type 0) (f : Failure) : Type 0 where
   pub which : ℕ
   pub entry : Entry
-  pub is_entry : slice_get (entries_of all) which ≡ Some entry
+  pub is_entry : IsEntry all which entry
   pub stands : IsOfEntry entry.at f.place
-  pub down : (number first : ℕ) (units : List DebugUnit) → IsPart s all number first units → May units
+  pub down : (number first : ℕ) (units : Units) → IsPart s all number first units → May units
       → IsIn number first units which entry → IsOfPart (Fails units) f
 
 -- the failures among all are those of each part alone; one that depends on the other units apart
-pub record AreOfParts (s : Sections) (May : List DebugUnit → Type 0) (Fails : List DebugUnit → Failure → Type 0)
-    (all : List DebugUnit) : Type 0 where
+pub record AreOfParts (s : Sections) (May : Units → Type 0) (Fails : Units → Failure → Type 0)
+    (all : Units) : Type 0 where
   pub at : (f : Failure) → Fails all f → IsAtEntry s all May Fails f
-  pub up : (number first : ℕ) (units : List DebugUnit) → IsPart s all number first units → May units
+  pub up : (number first : ℕ) (units : Units) → IsPart s all number first units → May units
       → (g : Failure) → Fails units g → IsFirm units g.rule → Fails all g
 
-abbrev pub AreOfGroup : Sections → Group → List DebugUnit → Type 0
+abbrev pub AreOfGroup : Sections → Group → Units → Type 0
 AreOfGroup s group = AreOfParts s (IsReady s group) (λ units. failures_of s units group)
 
 module _ (s : Sections) (group : Group) where
   -- of two lists of units, a failure is one of the first or of the second
-  of_two : (at : ℕ) (us more : List DebugUnit) → AreFrom at (us ++ more) → IsReady s group us → IsReady s group more
+  of_two : (at : ℕ) (us more : Units) → AreFrom at (us ++ more) → IsReady s group us → IsReady s group more
       → AreOfGroup s group (us ++ more) → (f : Failure) → failures_of s (us ++ more) group f
       → IsOfPart (failures_of s us group) f ⊎ IsOfPart (failures_of s more group) f
   of_two at us more from one other are f fails =
@@ -100,20 +99,19 @@ module _ (s : Sections) (group : Group) where
       elim (halves s at us more from i.which i.entry i.is_entry) [
         | inl here ↦ inl (i.down 0 0 us (front s at us more from one.stays) one here)
         | inr here ↦
-            inr (i.down (length us) (length (entries_of us)) more (behind s at us more from one.stays other.stays)
+            inr (i.down (length us) (total us) more (behind s at us more from one.stays other.stays)
             other here)
       ]
 
-  pub none_of_two : (at : ℕ) (us more : List DebugUnit) → AreFrom at (us ++ more) → IsReady s group us
+  pub none_of_two : (at : ℕ) (us more : Units) → AreFrom at (us ++ more) → IsReady s group us
       → IsReady s group more → AreOfGroup s group (us ++ more) → HasNone (failures_of s us group)
       → HasNone (failures_of s more group) → HasNone (failures_of s (us ++ more) group)
   none_of_two at us more from one other are none none_behind f fails = search (rules, of_two)
 
 module _ (s : Sections) (group : Group)
-    (of : (us : List DebugUnit) → IsReady s group us → AreOfGroup s group us) where
+    (of : (us : Units) → IsReady s group us → AreOfGroup s group us) where
   -- a failure of units is at one of their entries
-  at_one : (place : ℕ) (us : List DebugUnit) → IsReady s group us → AreFrom place us → (f : Failure)
-      → failures_of s us group f
+  at_one : (place : ℕ) (us : Units) → IsReady s group us → AreFrom place us → (f : Failure) → failures_of s us group f
       → (x : ℕ) × (place ≤ x) × (x < place + length (units_bytes us)) × IsOfEntry x f.place
   at_one place us ready from f fails =
       let i = (of us ready).at f fails in
@@ -121,7 +119,7 @@ module _ (s : Sections) (group : Group)
       (i.entry.at, low, high, i.stands)
 
   -- units have the first failure, if none fails before them
-  pub first_of_group : (at : ℕ) (before units more : List DebugUnit) (broken : PlainFault)
+  pub first_of_group : (at : ℕ) (before units more : Units) (broken : PlainFault)
       → AreFrom at (before ++ (units ++ more)) → IsReady s group before → IsReady s group units
       → IsReady s group more → IsReady s group (units ++ more) → IsReady s group (before ++ (units ++ more))
       → HasNone (failures_of s before group) → IsFirm units broken.rule → IsFirst (failures_of s units group) broken
@@ -129,7 +127,7 @@ module _ (s : Sections) (group : Group)
   first_of_group at before units more broken from early one late rest all none firm first = record {
     failure = first.failure;
     fails =
-        (of (before ++ (units ++ more)) all).up (length before) (length (entries_of before)) units
+        (of (before ++ (units ++ more)) all).up (length before) (total before) units
         (part_of s at before units more from early.stays one.stays) one first.failure first.fails
         (subst (IsFirm units) first.named.rule firm);
     named = first.named;
@@ -170,11 +168,10 @@ abbrev pub FailsBy : (Rule → Type 0) → Rule → Type 0
 FailsBy Fails rule = (least : Rule) × Fails least × (number_of least ≤ number_of rule)
 
 -- a rule fails at an attribute of an entry in its place just where another does at the entry alone
-abbrev pub FailAlike : Sections → (List DebugUnit → Rules) → List DebugUnit → Type 0
+abbrev pub FailAlike : Sections → (Units → Rules) → Units → Type 0
 FailAlike s Fails all =
-    (number first : ℕ) (units : List DebugUnit) → IsPart s all number first units → (inner : ℕ) (e : Entry)
-    → slice_get (entries_of units) inner ≡ Some e → (position attribute : ℕ) (v : Datum) (rule : Rule)
-    → HasAttribute e position attribute v
+    (number first : ℕ) (units : Units) → IsPart s all number first units → (inner : ℕ) (e : Entry)
+    → IsEntry units inner e → (position attribute : ℕ) (v : Datum) (rule : Rule) → HasAttribute e position attribute v
     → (Fails all (entry_head (moved number first e)) attribute v rule
     → FailsBy (Fails units (entry_head e) attribute v) rule)
     × (Fails units (entry_head e) attribute v rule → IsFirm units rule
@@ -182,20 +179,19 @@ FailAlike s Fails all =
 
 no_later : (f g : Failure) → f.place ≡ g.place → number_of g.rule ≤ number_of f.rule → (h : Failure) → Precedes f h
     → Precedes g h
-no_later f g place early h precedes = search (rules)
+no_later f g place early h precedes = search rules
 
 -- a group's failures are each at an entry, by its number
-abbrev pub AreAt : Sections → (Fails : List DebugUnit → Failure → Type 0)
-    → (List DebugUnit → ℕ → Entry → Failure → Type 0) → Type 0
-AreAt s Fails At = (us : List DebugUnit) → StaysAlone s us → (f : Failure)
+abbrev pub AreAt : Sections → (Fails : Units → Failure → Type 0) → (Units → ℕ → Entry → Failure → Type 0) → Type 0
+AreAt s Fails At = (us : Units) → StaysAlone s us → (f : Failure)
     → (Fails us f → InList (entries_of us) (At us) f) × (InList (entries_of us) (At us) f → Fails us f)
 
 -- those among all are those of each part alone, if those at an entry in its place are those at the entry alone
-pub items_of_parts : (s : Sections) (May : List DebugUnit → Type 0) (Fails : List DebugUnit → Failure → Type 0)
-    (At : List DebugUnit → ℕ → Entry → Failure → Type 0) (all : List DebugUnit) → StaysAlone s all → AreAt s Fails At
+pub items_of_parts : (s : Sections) (May : Units → Type 0) (Fails : Units → Failure → Type 0)
+    (At : Units → ℕ → Entry → Failure → Type 0) (all : Units) → StaysAlone s all → AreAt s Fails At
     → ((node : ℕ) (e : Entry) (f : Failure) → At all node e f → IsOfEntry e.at f.place)
-    → ((number first : ℕ) (units : List DebugUnit) → IsPart s all number first units → May units
-    → (inner : ℕ) (e : Entry) → slice_get (entries_of units) inner ≡ Some e → (f : Failure)
+    → ((number first : ℕ) (units : Units) → IsPart s all number first units → May units
+    → (inner : ℕ) (e : Entry) → IsEntry units inner e → (f : Failure)
     → (At all (first + inner) (moved number first e) f → IsOfPart (At units inner e) f)
     × (At units inner e f → IsFirm units f.rule → At all (first + inner) (moved number first e) f))
     → AreOfParts s May Fails all
@@ -218,11 +214,11 @@ items_of_parts s May Fails At all whole are stands alike = record {
       let there = p.get here.number here.item here.is_item in search (rules, same, there, (are all whole g));
 }
 
-pub heads_of_parts : (s : Sections) (May : List DebugUnit → Type 0) (Named : List DebugUnit → Failure → Type 0)
-    (Fails : List DebugUnit → Rules) (all : List DebugUnit) → StaysAlone s all
+pub heads_of_parts : (s : Sections) (May : Units → Type 0) (Named : Units → Failure → Type 0)
+    (Fails : Units → Rules) (all : Units) → StaysAlone s all
     → AreAt s Named (λ us node. AtHead (Fails us)) → FailAlike s Fails all → AreOfParts s May Named all
 heads_of_parts s May Named Fails all whole are alike =
-    items_of_parts s May Named (λ us node. AtHead (Fails us)) all whole are (λ node e f fails. rw fails.place refl)
+    items_of_parts _ _ _ _ _ whole are (λ node e f fails. rw fails.place refl)
     (λ number first units p may inner e is f. (
       λ fails.
           let (least, alone, early) = (alike number first units p inner e is fails.position f.attribute fails.value
@@ -244,7 +240,7 @@ module _ (s : Sections) (header : UnitHeader) (strings addresses : Option ℕ) (
       → StringFailsIn s header strings addresses (entry_head (moved number first e)) attribute v rule
   strings_in_place is = search (rules, moved_number)
 
-module _ {s : Sections} {all : List DebugUnit} {number first : ℕ} {units : List DebugUnit}
+module _ {s : Sections} {all : Units} {number first : ℕ} {units : Units}
     (p : IsPart s all number first units) where
   -- a unit of the batch, in its place
   placed_at : (e : Entry) (q r : PlacedUnit) → slice_get (placed units) e.unit ≡ Some q
@@ -252,7 +248,7 @@ module _ {s : Sections} {all : List DebugUnit} {number first : ℕ} {units : Lis
   placed_at e q r is_q is_r = search (rules, same_some, (p.unit_get e.unit q is_q))
 
   -- the unit of an entry
-  unit_at_hand : (inner : ℕ) (e : Entry) → slice_get (entries_of units) inner ≡ Some e
+  unit_at_hand : (inner : ℕ) (e : Entry) → IsEntry units inner e
       → (q : PlacedUnit) × (slice_get (placed units) e.unit ≡ Some q)
   unit_at_hand inner e is =
       there (placed units) e.unit (omega (arith, unit_below s units p.stays inner e is, length-placed units))
@@ -262,7 +258,7 @@ module _ {s : Sections} {all : List DebugUnit} {number first : ℕ} {units : Lis
   class_in_place : (e : Entry) (attribute : ℕ) (v : Datum) (rule : Rule)
       → ClassFails (placed units) (entry_head e) attribute v rule
       → ClassFails (placed all) (entry_head (moved number first e)) attribute v rule
-  class_in_place e attribute v rule fails = search (rules)
+  class_in_place e attribute v rule fails = search rules
 
   -- ---- strings and addresses
 
@@ -279,10 +275,10 @@ module _ {s : Sections} {all : List DebugUnit} {number first : ℕ} {units : Lis
       else option_and_then section_offset_in (value_in (values_of h) attribute) in
       ap F among.is_entry ∙ ap G heads ∙ sym (ap F alone.is_entry)
 
-module _ (s : Sections) (May : List DebugUnit → Type 0) (all : List DebugUnit) (whole : StaysAlone s all) where
+module _ (s : Sections) (May : Units → Type 0) (all : Units) (whole : StaysAlone s all) where
   pub classes_of_parts : AreOfParts s May ClassFailures all
   classes_of_parts =
-      heads_of_parts s May ClassFailures (λ units. ClassFails (placed units)) all whole
+      heads_of_parts _ _ _ (λ units. ClassFails (placed units)) _ whole
       (λ us stays f. (λ fails. fails, λ fails. fails))
       (λ number first units p inner e is_e position attribute v rule has.
       let (q, is_q) = unit_at_hand p inner e is_e in (
@@ -292,7 +288,7 @@ module _ (s : Sections) (May : List DebugUnit → Type 0) (all : List DebugUnit)
 
   pub strings_of_parts : AreOfParts s May (StringFailures s) all
   strings_of_parts =
-      heads_of_parts s May (StringFailures s) (λ units. StringFails s (entries_of units) (placed units)) all whole
+      heads_of_parts _ _ _ (λ units. StringFails s (entries_of units) (placed units)) _ whole
       (λ us stays f. (λ fails. fails, λ fails. fails))
       (λ number first units p inner e is_e position attribute v rule has.
       let (q, is_q) = unit_at_hand p inner e is_e in (

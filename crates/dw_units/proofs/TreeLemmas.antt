@@ -75,10 +75,8 @@ unit_more bytes more whole = go (ltb (length bytes) 4) refl
         let alone : unit_at bytes ≡ after_length n (nat_lt n 0xfffffff0) (drop 4 bytes ++ []) =
         ap unit_at (sym (append-nil bytes)) ∙ unit_front bytes [] four in
         let content = append-nil (drop 4 bytes) in
-        unit_front bytes more four
-        ∙ after_more n (nat_lt n 0xfffffff0) (drop 4 bytes) more (λ cut.
-        whole (alone ∙ ap (after_length n (nat_lt n 0xfffffff0)) content ∙ cut))
-        ∙ sym alone
+        unit_front bytes more four ∙ after_more n (nat_lt n 0xfffffff0) (drop 4 bytes) more (λ cut.
+        whole (alone ∙ ap (after_length n (nat_lt n 0xfffffff0)) content ∙ cut)) ∙ sym alone
 
 header_more : (size : ℕ) (bytes more : List ℕ) → (header_at size bytes ≡ Err UnitCut → ⊥)
     → header_at size (bytes ++ more) ≡ header_at size bytes

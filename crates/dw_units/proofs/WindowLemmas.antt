@@ -20,7 +20,7 @@ use Rattle.dw_links.specs.Signatures.{type_unit_of}
 use Rattle.dw_entries.proofs.HeadLaws.{all-append}
 use Rattle.dw_units.specs.IndependentBatches.{StaysInside}
 use Rattle.dw_units.specs.ByUnit.{StaysAlone}
-use Rattle.dw_units.proofs.MovedEntries.{AreTwo, IsIn, IsPart, behind, front, halves, early, late, moved_number, moved, moved_unit, entry_at, entry_within, unit_at, unit_below}
+use Rattle.dw_units.proofs.MovedEntries.{IsEntry, Units, total, AreTwo, IsIn, IsPart, behind, front, halves, early, late, moved_number, moved, moved_unit, entry_at, entry_within, unit_at, unit_below}
 use Rattle.dw_units.proofs.ReferenceLemmas.{value_moved}
 use Rattle.std.proofs.lemmas.List.{get_or-map, length-map}
 use Rattle.dw_types.specs.Counts.{count_of}
@@ -30,21 +30,23 @@ use Rattle.dw_types.specs.Kinds.{has_members}
 use Rattle.dw_types.specs.Shapes.{fails_shape, is_defined_member, is_plain, numberless, passes_at, sight}
 use Rattle.dw_links.proofs.TableLemmas.{target_within}
 
+-- numbers, each with this added
+abbrev pub raise : ℕ → List ℕ → List ℕ
+raise first = map (λ (n : ℕ). first + n)
+
 -- the entries of the units among all are those of the units alone, moved; and no child of one of them is elsewhere
-pub record IsWindow (all : List DebugUnit) (number first : ℕ) (units : List DebugUnit) : Type 0 where
-  pub within : (inner : ℕ) → inner < length (entries_of units) → first + inner < length (entries_of all)
-  pub entries : (inner : ℕ) → inner < length (entries_of units)
+pub record IsWindow (all : Units) (number first : ℕ) (units : Units) : Type 0 where
+  pub within : (inner : ℕ) → inner < total units → first + inner < total all
+  pub entries : (inner : ℕ) → inner < total units
       → entry_in all (first + inner) ≡ moved number first (entry_in units inner)
-  pub targets : (inner attribute : ℕ) → inner < length (entries_of units)
+  pub targets : (inner attribute : ℕ) → inner < total units
       → target_of (entries_of all) (placed all) (entry_in all (first + inner)) attribute
       ≡ moved_number first (target_of (entries_of units) (placed units) (entry_in units inner) attribute)
-  pub address_sizes : (inner : ℕ) → inner < length (entries_of units)
+  pub address_sizes : (inner : ℕ) → inner < total units
       → unit_address_size all (first + inner) ≡ unit_address_size units inner
-  pub languages : (inner : ℕ) → inner < length (entries_of units)
-      → language all (first + inner) ≡ language units inner
-  pub children : (i inner : ℕ) → i < length (entries_of all) → inner < length (entries_of units)
-      → (entry_in all i).parent ≡ Some (first + inner)
-      → (k : ℕ) × (k < length (entries_of units)) × (i ≡ first + k)
+  pub languages : (inner : ℕ) → inner < total units → language all (first + inner) ≡ language units inner
+  pub children : (i inner : ℕ) → i < total all → inner < total units → (entry_in all i).parent ≡ Some (first + inner)
+      → (k : ℕ) × (k < total units) × (i ≡ first + k)
 
 language_is : (units : List PlacedUnit) (number : ℕ) → language_at units number ≡ language_of (placed_of units number)
 language_is units number = of (slice_get units number) ∙ ap language_of (unwrap_or-slice_get units number no_placed)
@@ -53,36 +55,32 @@ language_is units number = of (slice_get units number) ∙ ap language_of (unwra
     of None = refl
     of (Some u) = refl
 
-module _ {s : Sections} {all : List DebugUnit} {number first : ℕ} {units : List DebugUnit} (whole : StaysAlone s all)
+module _ {s : Sections} {all : Units} {number first : ℕ} {units : Units} (whole : StaysAlone s all)
     (p : IsPart s all number first units) (none : HasNone (ReferenceFailures units)) where
-  target_moved : (inner : ℕ) (e : Entry) → slice_get (entries_of units) inner ≡ Some e → (attribute : ℕ)
+  target_moved : (inner : ℕ) (e : Entry) → IsEntry units inner e → (attribute : ℕ)
       → target_of (entries_of all) (placed all) (moved number first e) attribute
       ≡ moved_number first (target_of (entries_of units) (placed units) e attribute)
   unfolding target_of
   target_moved inner e is_e attribute =
       search (rules, (value_moved whole p none inner e is_e), moved_number, found_value)
 
-  is_at : (inner : ℕ) → inner < length (entries_of units)
-      → slice_get (entries_of units) inner ≡ Some (entry_in units inner)
+  is_at : (inner : ℕ) → inner < total units → IsEntry units inner (entry_in units inner)
   is_at inner inside = search (rules, slice_get-get_or)
 
   -- the unit of an entry
-  in_unit : (inner : ℕ) → inner < length (entries_of units)
-      → placed_of (placed all) (entry_in all (first + inner)).unit
+  in_unit : (inner : ℕ) → inner < total units → placed_of (placed all) (entry_in all (first + inner)).unit
       ≡ moved_unit first (placed_of (placed units) (entry_in units inner).unit)
   in_unit inner inside =
       let e = entry_in units inner in
       let below = unit_below s units p.stays inner e (is_at inner inside) in
-      ap (λ (d : Entry). placed_of (placed all) d.unit) (entry_at p inner inside)
-      ∙ unit_at p e.unit below
+      ap (λ (d : Entry). placed_of (placed all) d.unit) (entry_at p inner inside) ∙ unit_at p e.unit below
 
-  children : (i inner : ℕ) → i < length (entries_of all) → inner < length (entries_of units)
-      → (entry_in all i).parent ≡ Some (first + inner)
-      → (j : ℕ) × (j < length (entries_of units)) × (i ≡ first + j)
+  children : (i inner : ℕ) → i < total all → inner < total units → (entry_in all i).parent ≡ Some (first + inner)
+      → (j : ℕ) × (j < total units) × (i ≡ first + j)
   children i inner below inside parent =
-      elim (p.covers i (entry_in all i) (slice_get-get_or (entries_of all) i no_entry below)) [
+      elim (p.covers i (entry_in all i) (slice_get-get_or _ _ no_entry below)) [
         | inl here ↦
-            (here.inner, slice_get_within (entries_of units) here.inner here.entry here.is_entry, here.begins)
+            (here.inner, slice_get_within _ _ _ here.is_entry, here.begins)
         | inr (early unit before) ↦ absurd (omega (arith, parent-first all i (first + inner) parent, before))
         | inr (late unit parents) ↦ absurd (omega (arith, parents (first + inner) parent, inside))
       ]
@@ -93,8 +91,7 @@ module _ {s : Sections} {all : List DebugUnit} {number first : ℕ} {units : Lis
     entries = entry_at p;
     targets = λ inner attribute inside.
         ap (λ (e : Entry). target_of (entries_of all) (placed all) e attribute)
-        (entry_at p inner inside)
-        ∙ target_moved inner (entry_in units inner) (is_at inner inside) attribute;
+        (entry_at p inner inside) ∙ target_moved inner (entry_in units inner) (is_at inner inside) attribute;
     address_sizes = λ inner inside. ap (λ (u : PlacedUnit). u.unit.header.address_size) (in_unit inner inside);
     languages = λ inner inside.
         language_is (placed all) (entry_in all (first + inner)).unit
@@ -103,22 +100,20 @@ module _ {s : Sections} {all : List DebugUnit} {number first : ℕ} {units : Lis
   }
 
 -- an entry among all is one of these units, the first of which has this number
-pub record IsAt (first : ℕ) (units : List DebugUnit) (i : ℕ) : Type 0 where
+pub record IsAt (first : ℕ) (units : Units) (i : ℕ) : Type 0 where
   pub inner : ℕ
-  pub inside : inner < length (entries_of units)
+  pub inside : inner < total units
   pub begins : i ≡ first + inner
 
-at_of : (number first : ℕ) (units : List DebugUnit) (i : ℕ) (e : Entry) → IsIn number first units i e
-    → IsAt first units i
+at_of : (number first : ℕ) (units : Units) (i : ℕ) (e : Entry) → IsIn number first units i e → IsAt first units i
 at_of number first units i e here = search (rules, slice_get_within)
 
 -- of two lists of units, the windows of both
-module _ {s : Sections} {at : ℕ} {us more : List DebugUnit} (two : AreTwo s at us more) where
+module _ {s : Sections} {at : ℕ} {us more : Units} (two : AreTwo s at us more) where
   pub whole : StaysAlone s (us ++ more)
   whole = record {
-    are = all-append (IsUnit s.«abbrev».now) us more two.one.are two.other.are;
-    no_type_unit = all-append (λ (u : DebugUnit). type_unit_of u.header.kind ≡ None) us more two.one.no_type_unit
-        two.other.no_type_unit;
+    are = all-append _ us more two.one.are two.other.are;
+    no_type_unit = all-append _ us more two.one.no_type_unit two.other.no_type_unit;
     stays = λ i e is.
         elim (halves s at us more two.from i e is) [
           | inl here ↦ subst StaysInside here.same (two.one.stays here.inner here.entry here.is_entry)
@@ -126,20 +121,18 @@ module _ {s : Sections} {at : ℕ} {us more : List DebugUnit} (two : AreTwo s at
         ];
   }
 
-  pub where_is : (i : ℕ) → i < length (entries_of (us ++ more))
-      → IsAt 0 us i ⊎ IsAt (length (entries_of us)) more i
+  pub where_is : (i : ℕ) → i < total (us ++ more) → IsAt 0 us i ⊎ IsAt (total us) more i
   where_is i below =
       let e = entry_in (us ++ more) i in
-      elim (halves s at us more two.from i e (slice_get-get_or (entries_of (us ++ more)) i no_entry below)) [
+      elim (halves s at us more two.from i e (slice_get-get_or _ _ no_entry below)) [
         | inl here ↦ inl (at_of 0 0 us i e here)
-        | inr here ↦ inr (at_of (length us) (length (entries_of us)) more i e here)
+        | inr here ↦ inr (at_of (length us) (total us) more i e here)
       ]
 
   pub one_window : HasNone (ReferenceFailures us) → IsWindow (us ++ more) 0 0 us
   one_window none = search (rules, window, whole, front)
 
-  pub other_window : HasNone (ReferenceFailures more)
-      → IsWindow (us ++ more) (length us) (length (entries_of us)) more
+  pub other_window : HasNone (ReferenceFailures more) → IsWindow (us ++ more) (length us) (total us) more
   other_window none = search (rules, window, whole, behind)
 
 -- ---- shapes, and steps by value
@@ -147,19 +140,19 @@ module _ {s : Sections} {at : ℕ} {us more : List DebugUnit} (two : AreTwo s at
 some_of_moved : (first : ℕ) (o : Option ℕ) → is_some (moved_number first o) ≡ is_some o
 some_of_moved first o = search rules
 
-module _ {all : List DebugUnit} {number first : ℕ} {units : List DebugUnit}
+module _ {all : Units} {number first : ℕ} {units : Units}
     (w : IsWindow all number first units) where
   -- an entry without the numbers of others
-  seen_same : (inner : ℕ) → inner < length (entries_of units)
+  seen_same : (inner : ℕ) → inner < total units
       → numberless (entry_in all (first + inner)) ≡ numberless (entry_in units inner)
-  seen_same inner inside = search (rules)
+  seen_same inner inside = search rules
 
   -- tests of the entries to which it refers
-  passes_same : (test : Entry → Bool) (o : Option ℕ) → ((k : ℕ) → o ≡ Some k → k < length (entries_of units))
+  passes_same : (test : Entry → Bool) (o : Option ℕ) → ((k : ℕ) → o ≡ Some k → k < total units)
       → passes_at all test (moved_number first o) ≡ passes_at units test o
   passes_same test o below = search (rules, seen_same)
 
-  module _ (inner : ℕ) (inside : inner < length (entries_of units)) where
+  module _ (inner : ℕ) (inside : inner < total units) where
     parent_seen : (test : Entry → Bool) → passes_at all test (entry_in all (first + inner)).parent
         ≡ passes_at units test (entry_in units inner).parent
     parent_seen test = search (rules, passes_same, parent-first)
@@ -185,10 +178,8 @@ module _ {all : List DebugUnit} {number first : ℕ} {units : List DebugUnit}
     shape_same rule = search (rules, sight_same)
 
   -- entries of the window have the same offsets
-  pub offsets_same : (nodes : List ℕ)
-      → ((k : ℕ) → k < length nodes → slice_index nodes k < length (entries_of units))
-      → map (λ (n : ℕ). (entry_in units n).at) nodes
-      ≡ map (λ (n : ℕ). (entry_in all n).at) (map (λ (n : ℕ). first + n) nodes)
+  pub offsets_same : (nodes : List ℕ) → ((k : ℕ) → k < length nodes → slice_index nodes k < total units)
+      → map (λ (n : ℕ). (entry_in units n).at) nodes ≡ map (λ (n : ℕ). (entry_in all n).at) (raise first nodes)
   offsets_same [] inside = refl
   offsets_same (n ∷ nodes) inside =
       let here = sym (ap (λ (e : Entry). e.at) (w.entries n (inside 0 (omega arith)))) in
@@ -204,7 +195,7 @@ module _ (g f : Graph) (a b : List ℕ) (long : length b ≡ length a)
     (step : (k : ℕ) → k + 1 < length a → IsStep g (slice_index a k) (slice_index a (k + 1))
     → IsStep f (slice_index b k) (slice_index b (k + 1))) where
   closed_there : IsClosed g a → IsClosed f b
-  closed_there it = search (rules)
+  closed_there it = search rules
 
   cycle_there : ((i j : ℕ) → i < length a → j < length a → slice_index b i ≡ slice_index b j
       → slice_index a i ≡ slice_index a j) → IsCycle g a → IsCycle f b
@@ -213,11 +204,11 @@ module _ (g f : Graph) (a b : List ℕ) (long : length b ≡ length a)
 -- a graph of n nodes among those of another, by their numbers there: their steps go to one another
 pub record IsAmong (g f : Graph) (first n : ℕ) : Type 0 where
   pub long : length f ≡ n
-  pub rows : (k : ℕ) → k < n → steps_of g (first + k) ≡ map (λ (j : ℕ). first + j) (steps_of f k)
+  pub rows : (k : ℕ) → k < n → steps_of g (first + k) ≡ raise first (steps_of f k)
   pub leads : LeadsToNodes f
 
 pub raised : (first : ℕ) (nodes : List ℕ) (k : ℕ) → k < length nodes
-    → slice_index (map (λ (n : ℕ). first + n) nodes) k ≡ first + slice_index nodes k
+    → slice_index (raise first nodes) k ≡ first + slice_index nodes k
 raised first nodes k below = search (rules, get_or-map)
 
 module _ {g f : Graph} {first n : ℕ} (among : IsAmong g f first n) where
@@ -234,9 +225,9 @@ module _ {g f : Graph} {first n : ℕ} (among : IsAmong g f first n) where
       (step_at f from k, omega (arith, among.leads from k inside, among.long), to_is, (k, inside, refl))
 
   -- a cycle of the nodes alone is one there
-  pub cycle_in_place : (nodes : List ℕ) → IsCycle f nodes → IsCycle g (map (λ (n : ℕ). first + n) nodes)
+  pub cycle_in_place : (nodes : List ℕ) → IsCycle f nodes → IsCycle g (raise first nodes)
   cycle_in_place nodes cycle =
-      cycle_there f g nodes (map (λ (n : ℕ). first + n) nodes) (length-map nodes (λ (n : ℕ). first + n))
+      cycle_there f g nodes (raise first nodes) (length-map nodes (λ (n : ℕ). first + n))
       (λ i j i_in j_in le. omega (arith, le, raised first nodes i i_in, raised first nodes j j_in))
       (λ k next step.
       let here : k < length nodes = omega (arith, next) in

@@ -13,8 +13,6 @@ pub loop-next-preserved : goal.loop-next-preserved
 loop-next-preserved c =
     let batch = c.first_batch-batch.result in
     rw (c.in_ok-push.ensures.items, take_rest c.loop-next.rest.now batch.size) (
-      size_more c.loop-next.sizes.items (drop c.args.sections.now.base c.args.sections.now.info.now)
-          c.loop-next.rest.now batch.size
-          c.loop-next.invariant.0 c.first_batch-batch.ensures.within.1,
-      next_fits c.loop-next.rest.now batch.size batch.next c.first_batch-batch.ensures.next,
+      size_more _ _ _ _ c.loop-next.invariant.0 c.first_batch-batch.ensures.within.1,
+      next_fits _ _ _ c.first_batch-batch.ensures.next,
     )

@@ -1,5 +1,4 @@
 use Rattle.std.proofs.Common.{subst}
-use Rattle.dw_entries.specs.Views.{sections_of, units_of}
 use Rattle.dw_units.specs.Counts.{AreCounts}
 use Rattle.dw_units.specs.BatchSections.{passes, sound}
 use Rattle.dw_units.proofs.CountLemmas.{fault_after}
@@ -14,14 +13,12 @@ returns-in-Some c =
 pub returns-in-Sound : goal.returns-in-Sound
 returns-in-Sound c =
     let judged = rw c.in-Fault-2.is at c.in_ok-image-in-Sound.ensures in
-    fault_after (sections_of c.args.entries) (units_of c.args.entries) c.args.so_far c.in-Fault-2.fault
-    c.args.elsewhere c.requires judged (rw c.in-Sound.is tt) c.firmly_found.result c.firmly_found.ensures
+    fault_after _ _ _ _ _ c.requires judged (rw c.in-Sound.is tt) _ c.firmly_found.ensures
 
 pub returns-in-Some-2 : goal.returns-in-Some-2
 returns-in-Some-2 c =
     let judged = rw c.in-Some-2.is at c.in_ok-fault-in-Fault.ensures in
-    fault_after (sections_of c.args.entries) (units_of c.args.entries) c.args.so_far c.in-Some-2.fault
-    c.args.elsewhere c.requires judged.is_fault (rw c.in-Fault.is judged.early) c.firmly_found-in-Some-2.result
+    fault_after _ _ _ _ _ c.requires judged.is_fault (rw c.in-Fault.is judged.early) _
     c.firmly_found-in-Some-2.ensures
 
 pub returns : goal.returns
