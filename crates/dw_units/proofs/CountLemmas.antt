@@ -16,7 +16,7 @@ use Rattle.dw_image.specs.Lookups.{is_type_entry}
 use Rattle.dw_image.proofs.JoinLemmas.{fault_of, sound_by}
 use Rattle.dw_forms.specs.Rules.{group_of}
 use Rattle.dw_forms.specs.declared.rule.Rule.TheVariants.{UnitCut}
-use Rattle.dw_image.specs.FirstFault.{Group, classes, failures_of, in_trees, sizes, turn_of}
+use Rattle.dw_image.specs.FirstFault.{Group, classes, failures_of, in_trees, turn_of}
 use Rattle.dw_image.proofs.GroupLemmas.{rank_of}
 use Rattle.dw_image.specs.GroupsBefore.{PassBefore}
 use Rattle.dw_image.specs.Headline.{IsFaultOf}

@@ -2,7 +2,7 @@
 -- they have among all; and what holds of batches joined.
 use Rattle.std.proofs.Common.{rules, ◌≡◌, ℕ, ◌+◌, List, [], ◌∷◌, ◌++◌, length, refl, arith, length-append, suc, ◌-◌, ◌<◌, ◌≤◌, ◌⊎◌, map, Option, Some, None, sym, ap, ◌∙◌, inl, inr, append-nil, slice_get, option_map, add-zero}
 use Rattle.std.specs.List.{AllByRecursion}
-use Rattle.dw_entries.specs.Units.{DebugUnit, AreFrom, unit_bytes, units_bytes, Head}
+use Rattle.dw_entries.specs.Units.{DebugUnit, AreFrom, unit_bytes, units_bytes}
 use Rattle.dw_units.specs.IndependentBatches.{joined}
 use Rattle.std.proofs.lemmas.List.{map-append}
 use Rattle.std.proofs.lemmas.Option.{get_or_from_slice_get, slice_get-get_or, slice_get-map, slice_get_within}
@@ -102,16 +102,14 @@ module _ (number first : ℕ) where
         → above_to ≡ moved_number first above → next_to ≡ moved_number first next
         → node_entries unit_to above_to depth next_to id_to at n
         ≡ map (moved number first) (node_entries unit above depth next id at n)
-    node_moved unit unit_to above next above_to next_to depth id id_to at (leaf h) u i q r =
-        rw (u, q, r) refl
+    node_moved unit unit_to above next above_to next_to depth id id_to at (leaf h) u i q r = rw (u, q, r) refl
     node_moved unit unit_to above next above_to next_to depth id id_to at (parent h ns z) u i q r =
         rw (
           u,
           q,
           r,
           nodes_moved unit (number + unit) id id_to (suc depth) (suc id) (suc id_to) (at + length (head_bytes h)) ns
-              refl
-              i (omega arith),
+              refl i (omega arith),
         ) refl
 
     nodes_moved : (unit unit_to above above_to depth id id_to at : ℕ) (ns : Nodes)

@@ -2,7 +2,7 @@
 use Rattle.std.proofs.Common.{rules, ◌≡◌, ℕ, ◌+◌, ◌<◌, ◌≤◌, ◌⊎◌, true, false, List, length, Option, Some, None, sym, ap, ◌∙◌, inl, inr, arith, ◌==◌, subst, eq-eqb, slice_get, eqb-true}
 use Rattle.std.proofs.lemmas.Option.{get_or_from_slice_get, slice_get-get_or, slice_get_within}
 use Rattle.dw_elf.specs.declared.sections.Sections.{Sections}
-use Rattle.dw_entries.specs.Entries.{Entry, entries_of, PlacedUnit, placed, DebugUnit}
+use Rattle.dw_entries.specs.Entries.{Entry, entries_of, PlacedUnit, placed}
 use Rattle.dw_entries.proofs.EntryFacts.{entries_rise, length-placed, place_of, placed_of}
 use Rattle.std.proofs.lemmas.List.Elements.{All-from_recursion}
 use Rattle.dw_image.proofs.JoinLemmas.{none_at}

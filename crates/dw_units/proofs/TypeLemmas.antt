@@ -1,6 +1,6 @@
 -- Shapes, containment and sizes: the failures among all are those of each part alone, and so are cycles; one table of
 -- sizes for all is made of those of the parts.
-use Rattle.std.proofs.Common.{◌≡◌, ℕ, Bool, ◌+◌, ◌-◌, ◌<◌, List, ◌++◌, length, sym, ap, ◌∙◌, inl, inr, ◌⊎◌, arith, slice_index, rules, ◌≤◌, true, false, refl, nat_lt, lt-ltb, if◌then◌else◌}
+use Rattle.std.proofs.Common.{◌≡◌, ℕ, Bool, ◌+◌, ◌-◌, ◌<◌, List, ◌++◌, sym, ap, ◌∙◌, inl, inr, ◌⊎◌, arith, slice_index, rules, ◌≤◌, true, false, refl, nat_lt, lt-ltb, if◌then◌else◌}
 use Rattle.std.proofs.lemmas.Option.{slice_get_within}
 use Rattle.dw_elf.specs.declared.sections.Sections.{Sections}
 use Rattle.dw_entries.specs.declared.fault.Fault.{Fault}

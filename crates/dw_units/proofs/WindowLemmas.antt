@@ -6,7 +6,6 @@ use Rattle.std.specs.Option.{option_map_or}
 use Rattle.std.proofs.lemmas.Option.{slice_get-get_or, slice_get_within, unwrap_or-slice_get}
 use Rattle.dw_elf.specs.declared.sections.Sections.{Sections}
 use Rattle.dw_entries.specs.ByNumber.{no_entry, no_placed, placed_of}
-use Rattle.dw_entries.specs.Units.{DebugUnit, IsUnit}
 use Rattle.dw_entries.specs.Entries.{Entry, entries_of, PlacedUnit, placed}
 use Rattle.dw_links.specs.declared.constant.Constant.TheVariants.{Absent}
 use Rattle.dw_links.specs.Constants.{language_at, language_of}
@@ -16,7 +15,6 @@ use Rattle.dw_links.specs.Targets.{target_of}
 use Rattle.dw_links.proofs.HeldTexts.{found_value}
 use Rattle.dw_types.specs.Entries.{unit_address_size, entry_in, language, type_target}
 use Rattle.dw_types.proofs.SiblingLemmas.{parent-first}
-use Rattle.dw_links.specs.Signatures.{type_unit_of}
 use Rattle.dw_entries.proofs.HeadLaws.{all-append}
 use Rattle.dw_units.specs.IndependentBatches.{StaysInside}
 use Rattle.dw_units.specs.ByUnit.{StaysAlone}

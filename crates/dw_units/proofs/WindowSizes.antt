@@ -1,5 +1,5 @@
 -- Children and sizes in a window are those of the batch alone.
-use Rattle.std.proofs.Common.{rules, ◌≡◌, ℕ, ◌+◌, ◌-◌, zero, suc, ◌<◌, ◌≤◌, Bool, false, List, [], ◌∷◌, ◌++◌, length, map, flat_map, filter, Option, Some, None, refl, ap, ◌∙◌, arith, if◌then◌else◌, ◌||◌, All}
+use Rattle.std.proofs.Common.{rules, ◌≡◌, ℕ, ◌+◌, ◌-◌, zero, suc, ◌<◌, ◌≤◌, Bool, false, List, [], ◌∷◌, ◌++◌, map, flat_map, filter, Option, Some, None, refl, ap, ◌∙◌, arith, if◌then◌else◌, ◌||◌, All}
 use Rattle.std.specs.List.{list_any, range_with_len}
 use Rattle.std.proofs.lemmas.Bool.{false_from_ne_true}
 use Rattle.dw_forms.specs.declared.rule.Rule.{Rule}
@@ -11,7 +11,6 @@ use Rattle.dw_types.specs.Extents.{ends_past_container}
 use Rattle.dw_types.specs.Kinds.{is_subrange}
 use Rattle.dw_types.specs.Steps.{by_value, member_step, steps_by_value, targets_if}
 use Rattle.dw_types.proofs.StepLemmas.{by_value-at, by_value-leads, length-by_value}
-use Rattle.dw_forms.specs.Codes.{DW_AT_signature, DW_AT_type}
 use Rattle.std.proofs.lemmas.List.{map-append}
 use Rattle.dw_types.specs.SizeTables.{Size}
 use Rattle.dw_types.specs.Sizes.{array_size, element_count, elements_by, factor_of, product_of, size_line, size_of_kind, size_to}

@@ -1,4 +1,4 @@
-use Rattle.std.proofs.Common.{drop, sym}
+use Rattle.std.proofs.Common.{sym}
 use Rattle.std.proofs.lemmas.List.{take_rest}
 use Rattle.dw_units.proofs.CountLemmas.{next_fits, size_more}
 use Rattle.dw_units.proofs.batches.separate_batches.Goals as goal
