@@ -33,8 +33,8 @@ fn text_by<'a>(section: &'a [u8], offset: usize, span: StringSpan) -> Text<'a>
 #[derive(Drop)]
 pub struct Source<'a> {
     pub image: &'a Image<'a>,
-    strings: Strings<'a, 'a>,
-    ghost same: { strings.image ≡ image },
+    strings: Strings<'a>,
+    ghost same: { strings.sections ≡ sections_in image.now },
 }
 
 impl<'a> Source<'a> {
@@ -42,7 +42,7 @@ impl<'a> Source<'a> {
     pub fn read(alloc: Global, image: &'a Image<'a>) -> Result<Source<'a>, AllocError>
         ensures { IfOk result (λ it. it.image ≡ image.entry) }
     {
-        let strings = Strings::read(alloc, image)?;
+        let strings = Strings::read(alloc, image.sections())?;
         Ok(Source { image, strings })
     }
 

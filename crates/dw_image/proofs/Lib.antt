@@ -3,5 +3,4 @@ pub mod RulesByNumber
 pub mod GroupLemmas
 pub mod JoinLemmas
 pub mod LookupLemmas
-pub mod SpanLemmas
-pub mod UnitLemmas
+pub mod TypeLemmas

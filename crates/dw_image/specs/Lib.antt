@@ -10,8 +10,7 @@ pub use Rattle.dw_links.specs.References
 pub use Rattle.dw_links.specs.Constants
 pub use Rattle.dw_links.specs.Contributions
 pub use Rattle.dw_links.specs.Slots
+pub use Rattle.dw_links.specs.StringSpans
 pub use Rattle.dw_links.specs.ValueTexts
 -- State.
 pub mod StepsAndSizes
-pub mod StringSpans
-pub mod UnitsAtHand

@@ -56,7 +56,7 @@ impl Image<'_> {
     }
 
     /// The type that an entry's DW_AT_type reaches (DWARF 5, section 2.2). No rule fails, so what it reaches is a type.
-    #[tactic(auto, unfolding(crate::specs::Images::units_in), using(crate::proofs::UnitLemmas::type_is_target))]
+    #[tactic(auto, unfolding(crate::specs::Images::units_in), using(crate::proofs::TypeLemmas::type_is_target))]
     pub fn type_of(&self, id: EntryId) -> Option<TypeId>
         requires { id < length (entries_in self.now) }
         ensures exact { result ≡ type_in self.now (entry_of (entries_in self.now) id) }
@@ -99,7 +99,7 @@ impl Image<'_> {
 
     /// The k-th entry, from 0, that an entry holds by value: its type, the types of its plain members in their order,
     /// what its signature names. None past the last.
-    #[tactic(auto, unfolding(crate::specs::Images::units_in, crate::specs::Images::steps_in), using(crate::proofs::UnitLemmas::steps))]
+    #[tactic(auto, unfolding(crate::specs::Images::units_in, crate::specs::Images::steps_in), using(crate::proofs::TypeLemmas::steps))]
     pub fn step(&self, id: EntryId, k: usize) -> Option<EntryId>
         requires { id < length (entries_in self.now) }
         ensures exact { result ≡ slice_get (steps_of (steps_in self.now) id) k }

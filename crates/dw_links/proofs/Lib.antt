@@ -2,6 +2,7 @@ pub mod ListLookups
 pub mod ClassLemmas
 pub mod TargetLemmas
 pub mod SlotLemmas
+pub mod SpanLemmas
 pub mod TableLemmas
 pub mod LinkedEntries
 pub mod RuleSteps

@@ -15,6 +15,7 @@ pub mod LinkLaws
 -- State.
 pub mod UnitContributions
 pub mod Slots
+pub mod StringSpans
 pub mod SignedTypes
 pub mod UnitAtHand
 pub mod DeclaredEntries

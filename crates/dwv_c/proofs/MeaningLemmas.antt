@@ -19,11 +19,11 @@ use Rattle.dw_image.specs.declared.image.Image.{Image}
 use Rattle.dw_image.specs.Images.{entries_in, sections_in, unit_count, units_in}
 use Rattle.dwv_c.specs.declared.meaning.Meaning.TheVariants.{Address, Text}
 use Rattle.dwv_c.specs.declared.places.Span.{Span}
-use Rattle.dw_image.specs.declared.unit_at_hand.UnitAtHand.{UnitAtHand}
+use Rattle.dwv_c.specs.declared.unit_at_hand.UnitAtHand.{UnitAtHand}
 use Rattle.dwv_c.specs.Meanings.{MeansIn}
 use Rattle.dwv_c.specs.declared.places.Holders.{Holders}
 use Rattle.dwv_c.specs.SectionPlaces.{IsTextSpan}
-use Rattle.dw_image.specs.UnitsAtHand.{IsAtHand, place_at}
+use Rattle.dwv_c.specs.UnitsAtHand.{IsAtHand, place_at}
 use Rattle.dwv_c.specs.ValueRows.{value_place, value_text}
 
 module _ (h : Holders) (i : Image) (u : UnitAtHand) (hand : IsAtHand i u) (end : ℕ) (v : Datum) where

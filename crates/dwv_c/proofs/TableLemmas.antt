@@ -16,10 +16,10 @@ use Rattle.dw_image.specs.declared.image.Image.{Image}
 use Rattle.dw_image.specs.Images.{entries_in, entry_count, name_in, name_place_in}
 use Rattle.dwv_c.specs.declared.meaning.ValueRow.{ValueRow}
 use Rattle.dwv_c.specs.declared.meaning.Meaning.{Meaning}
-use Rattle.dw_image.specs.declared.unit_at_hand.UnitAtHand.{UnitAtHand}
+use Rattle.dwv_c.specs.declared.unit_at_hand.UnitAtHand.{UnitAtHand}
 use Rattle.dwv_c.specs.declared.places.Span.{Span}
 use Rattle.dwv_c.specs.Meanings.{named_after}
-use Rattle.dw_image.specs.UnitsAtHand.{HasValue}
+use Rattle.dwv_c.specs.UnitsAtHand.{HasValue}
 use Rattle.dwv_c.specs.declared.places.Holders.{Holders}
 use Rattle.dwv_c.specs.SectionPlaces.{IsNameSpan, nowhere}
 use Rattle.dwv_c.specs.ValueRows.{HasMeaning, IsMeaning, IsValueRow, Told, told, values_from, values_in}

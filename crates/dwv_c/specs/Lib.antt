@@ -10,3 +10,4 @@ pub mod Checked
 pub mod FrameState
 pub mod Meanings
 pub mod TableState
+pub mod UnitsAtHand

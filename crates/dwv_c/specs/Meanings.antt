@@ -10,7 +10,7 @@ use Rattle.dwv_c.specs.declared.meaning.Meaning.{Meaning}
 use Rattle.dwv_c.specs.declared.meaning.Meaning.TheVariants.{Text}
 use Rattle.dwv_c.specs.declared.places.Holders.{Holders}
 use Rattle.dwv_c.specs.declared.places.Span.{Span}
-use Rattle.dw_image.specs.declared.unit_at_hand.UnitAtHand.{UnitAtHand}
+use Rattle.dwv_c.specs.declared.unit_at_hand.UnitAtHand.{UnitAtHand}
 use Rattle.dwv_c.specs.ValueRows.{IsMeaning}
 
 -- ---- places

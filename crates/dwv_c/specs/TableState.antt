@@ -8,8 +8,8 @@ use Rattle.dwv_c.specs.declared.places.Holders.{Holders}
 use Rattle.dwv_c.specs.declared.table_rows.Links.{Links}
 use Rattle.dwv_c.specs.declared.table_rows.EntryRow.{EntryRow}
 use Rattle.dwv_c.specs.declared.meaning.ValueRow.{ValueRow}
-use Rattle.dw_image.specs.declared.unit_at_hand.UnitAtHand.{UnitAtHand}
-use Rattle.dw_image.specs.UnitsAtHand.{IsAtHand}
+use Rattle.dwv_c.specs.declared.unit_at_hand.UnitAtHand.{UnitAtHand}
+use Rattle.dwv_c.specs.UnitsAtHand.{IsAtHand}
 use Rattle.dwv_c.specs.Tables.{HaveEntries, HaveValues, greatest, row_of}
 
 -- one more than the depth in a parent's row, or 0 if there is no parent

@@ -5,7 +5,7 @@ ghost use Rattle.dw_entries.specs.OwnBytes.{EndsAt};
 ghost use Rattle.dw_forms.specs.Value.{text, view};
 ghost use Rattle.dw_image.specs.Images.{sections_in};
 ghost use Rattle.dw_image.specs.Slots.{BeginsString};
-ghost use Rattle.dw_image.specs.UnitsAtHand.{HasValue, IsAtHand, is_address, is_string};
+ghost use Rattle.dwv_c.specs.UnitsAtHand.{HasValue, IsAtHand, is_address, is_string};
 ghost use Rattle.dw_image.specs.ValueTexts.{text_there};
 ghost use Rattle.dw_links.specs.References.{is_reference_value};
 ghost use Rattle.dw_links.specs.declared.texts.TextPlace.TheVariants.{Info};
@@ -14,8 +14,9 @@ ghost use Rattle.dwv_c.specs.SectionPlaces.{IsSpan, IsTextSpan};
 
 use crate::meaning::Meaning;
 use crate::places::{Holders, INFO, LINE_STR, STR, Span};
+use crate::unit_at_hand::UnitAtHand;
 use dw_forms::Value;
-use dw_image::{Image, Strings, TextPlace, UnitAtHand};
+use dw_image::{Image, Strings, TextPlace};
 use std::alloc::{AllocError, Global};
 
 /// What the values of an image are resolved by.
@@ -23,8 +24,8 @@ use std::alloc::{AllocError, Global};
 pub struct Resolver<'i, 'a> {
     pub image: &'i Image<'a>,
     pub holders: Holders<'a>,
-    strings: Strings<'i, 'a>,
-    ghost same: { strings.image ≡ image },
+    strings: Strings<'a>,
+    ghost same: { strings.sections ≡ sections_in image.now },
     ghost there: { AreThere image.now holders },
 }
 
@@ -39,7 +40,7 @@ impl<'i, 'a> Resolver<'i, 'a> {
         ensures image { IfOk result (λ it. it.image ≡ image.entry) }
         ensures holders { IfOk result (λ it. it.holders ≡ holders.entry) }
     {
-        let strings = Strings::read(alloc, image)?;
+        let strings = Strings::read(alloc, image.sections())?;
         Ok(Resolver {
             image,
             holders,

@@ -1,8 +1,8 @@
 use Rattle.std.proofs.Common.{ℕ, List, ◌∙◌, ap, refl, subst}
 use Rattle.dw_links.specs.Contributions.{string_at}
-use Rattle.dw_image.specs.StringSpans.{IsSpan}
-use Rattle.dw_image.proofs.SpanLemmas.{span-front, span-joined}
-use Rattle.dw_image.proofs.strings.span_by.Goals as goal
+use Rattle.dw_links.specs.StringSpans.{IsSpan}
+use Rattle.dw_links.proofs.SpanLemmas.{span-front, span-joined}
+use Rattle.dw_links.proofs.string_spans.span_by.Goals as goal
 
 pub returns-then-front-offset : goal.returns-then-front-offset
 returns-then-front-offset c =

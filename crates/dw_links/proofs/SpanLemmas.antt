@@ -8,8 +8,8 @@ use Rattle.std.proofs.lemmas.Option.{slice_get-get_or}
 use Rattle.std.proofs.Math.Nat.{div-add-mod}
 use Rattle.dw_entries.proofs.UnitRanges.{get_front, get_behind}
 use Rattle.dw_links.specs.Contributions.{string_at}
-use Rattle.dw_image.specs.declared.strings.StringSpan.{StringSpan}
-use Rattle.dw_image.specs.StringSpans.{AreSpans, IsSpan}
+use Rattle.dw_links.specs.declared.string_spans.StringSpan.{StringSpan}
+use Rattle.dw_links.specs.StringSpans.{AreSpans, IsSpan}
 
 -- ---- what comes before the first element that passes a test, in a list of two parts
 

@@ -12,7 +12,7 @@ use Rattle.dw_links.specs.Slots.{BeginsString}
 use Rattle.dw_links.specs.ValueTexts.{text_of_value, text_place_of, text_there}
 use Rattle.dw_image.specs.declared.image.Image.{Image}
 use Rattle.dw_image.specs.Images.{entries_in, unit_count, units_in}
-use Rattle.dw_image.specs.declared.unit_at_hand.UnitAtHand.{UnitAtHand}
+use Rattle.dwv_c.specs.declared.unit_at_hand.UnitAtHand.{UnitAtHand}
 
 -- the unit, at its place
 abbrev pub place_at : Image → UnitAtHand → PlacedUnit

@@ -1,5 +1,5 @@
-use Rattle.dw_image.proofs.SpanLemmas.{span-before, spans-more}
-use Rattle.dw_image.proofs.strings.StringTable.read.Goals as goal
+use Rattle.dw_links.proofs.SpanLemmas.{span-before, spans-more}
+use Rattle.dw_links.proofs.string_spans.StringTable.read.Goals as goal
 
 pub span_by-span-requires-clause-next : goal.span_by-span-requires-clause-next
 span_by-span-requires-clause-next c =

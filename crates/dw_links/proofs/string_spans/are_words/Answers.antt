@@ -1,8 +1,8 @@
 use Rattle.std.proofs.Common.{rules, ◌≡◌, Bool, get_or, ap, sym, ◌∙◌, ◌&&◌}
 use Rattle.std.specs.Char.{is_ascii_alphanumeric}
 use Rattle.std.proofs.lemmas.List.Folds.{list_all_more}
-use Rattle.dw_image.specs.StringSpans.{is_word_byte}
-use Rattle.dw_image.proofs.strings.are_words.Goals as goal
+use Rattle.dw_links.specs.StringSpans.{is_word_byte}
+use Rattle.dw_links.proofs.string_spans.are_words.Goals as goal
 
 pub loop-k-preserved : goal.loop-k-preserved
 loop-k-preserved c =

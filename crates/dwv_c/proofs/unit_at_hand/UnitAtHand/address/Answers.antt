@@ -1,5 +1,5 @@
-use Rattle.dw_image.proofs.UnitLemmas.{address_based, address_slot, size_few, size_some}
-use Rattle.dw_image.proofs.unit_at_hand.UnitAtHand.address.Goals as goal
+use Rattle.dwv_c.proofs.UnitAtHandLemmas.{address_based, address_slot, size_few, size_some}
+use Rattle.dwv_c.proofs.unit_at_hand.UnitAtHand.address.Goals as goal
 
 pub returns-in_err-self-in-AddrIndex-clause-none : goal.returns-in_err-self-in-AddrIndex-clause-none
 returns-in_err-self-in-AddrIndex-clause-none c =

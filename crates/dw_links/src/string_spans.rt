@@ -1,16 +1,14 @@
-//! What is known of the strings that the entries of an image share. A string is not read again for each of its
-//! suffixes.
+//! What is known of the strings that entries share. A string is not read again for each of its suffixes.
 
 ghost use Rattle.std.specs.Prelude.{◌≡◌, ◌≤◌, length, drop, IfOk};
 ghost use Rattle.std.specs.List.{list_all};
 ghost use Rattle.dw_links.specs.Contributions.{string_at};
 ghost use Rattle.dw_links.specs.Slots.{IsTextPlace};
 ghost use Rattle.dw_links.specs.ValueTexts.{text_there};
-ghost use Rattle.dw_image.specs.Images.{sections_in};
-ghost use Rattle.dw_image.specs.StringSpans.{AreSpans, IsSpan, is_word_byte};
+ghost use Rattle.dw_links.specs.StringSpans.{AreSpans, IsSpan, is_word_byte};
 
-use crate::image::Image;
-use dw_links::{TextPlace, string_from};
+use crate::texts::{TextPlace, string_from};
+use dw_elf::Sections;
 use std::alloc::{AllocError, Global};
 
 /// How many bytes lie between two offsets whose strings are known. A string is read up to the next of them.
@@ -103,28 +101,27 @@ impl<'a> StringTable<'a> {
     }
 }
 
-/// An image, and what is known of the strings that its entries share.
+/// Sections, and what is known of the strings that their entries share.
 #[derive(Drop)]
-pub struct Strings<'i, 'a> {
-    pub image: &'i Image<'a>,
+pub struct Strings<'a> {
+    pub sections: Sections<'a>,
     /// The strings of .debug_str.
     str: StringTable<'a>,
     /// Those of .debug_line_str.
     line_str: StringTable<'a>,
-    ghost same_str: { str.section ≡ (sections_in image.now).str },
-    ghost same_line_str: { line_str.section ≡ (sections_in image.now).line_str },
+    ghost same_str: { str.section ≡ sections.str },
+    ghost same_line_str: { line_str.section ≡ sections.line_str },
 }
 
-impl<'i, 'a> Strings<'i, 'a> {
-    /// An image, whose two sections of strings are read once.
-    pub fn read(alloc: Global, image: &'i Image<'a>) -> Result<Strings<'i, 'a>, AllocError>
-        ensures { IfOk result (λ it. it.image ≡ image.entry) }
+impl<'a> Strings<'a> {
+    /// Sections, whose two of strings are read once.
+    pub fn read(alloc: Global, sections: &Sections<'a>) -> Result<Strings<'a>, AllocError>
+        ensures { IfOk result (λ it. it.sections ≡ sections.now) }
     {
-        let sections = image.sections();
         let str = StringTable::read(alloc, sections.str)?;
         let line_str = StringTable::read(alloc, sections.line_str)?;
         Ok(Strings {
-            image,
+            sections: *sections,
             str,
             line_str,
         })
@@ -132,11 +129,11 @@ impl<'i, 'a> Strings<'i, 'a> {
 
     /// What the text at a place is. One in .debug_info is read to its end.
     pub fn span(&self, place: TextPlace) -> StringSpan
-        requires { IsTextPlace (sections_in self.now.image.now) place }
-        ensures { IsSpan (text_there (sections_in self.now.image.now) place) result }
+        requires { IsTextPlace self.now.sections place }
+        ensures { IsSpan (text_there self.now.sections place) result }
     {
         match place {
-            TextPlace::Info(offset) => span_of(string_from(self.image.sections().info, offset)),
+            TextPlace::Info(offset) => span_of(string_from(self.sections.info, offset)),
             TextPlace::Str(offset) => self.str.span(offset),
             TextPlace::LineStr(offset) => self.line_str.span(offset),
         }

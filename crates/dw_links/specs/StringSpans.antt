@@ -3,7 +3,7 @@ use Rattle.std.specs.Prelude.{◌≡◌, ℕ, ◌+◌, ◌-◌, ◌*◌, ◌/◌
 use Rattle.std.specs.List.{list_all}
 use Rattle.std.specs.Char.{is_ascii_alphanumeric}
 use Rattle.dw_links.specs.Contributions.{string_at}
-use Rattle.dw_image.specs.declared.strings.StringSpan.{StringSpan}
+use Rattle.dw_links.specs.declared.string_spans.StringSpan.{StringSpan}
 
 -- a letter, a digit or an underscore
 abbrev pub is_word_byte : ℕ → Bool

@@ -8,12 +8,12 @@ ghost use Rattle.dw_image.specs.Images.{entries_in, sections_in, unit_count, uni
 ghost use Rattle.dw_links.specs.ValueTexts.{address_of};
 ghost use Rattle.dw_links.specs.References.{is_reference_value};
 ghost use Rattle.dw_links.specs.Targets.{reach_of};
-ghost use Rattle.dw_image.specs.UnitsAtHand.{HasValue, IsAtHand, IsStringOf, is_address, is_string};
+ghost use Rattle.dwv_c.specs.UnitsAtHand.{HasValue, IsAtHand, IsStringOf, is_address, is_string};
 
-use crate::image::Image;
 use dw_entries::constants::*;
 use dw_entries::{EntryId, UnitHeader};
 use dw_forms::Value;
+use dw_image::Image;
 use dw_links::{TextPlace, base_in_unit, number};
 
 /// A unit of an image, with what its values are resolved by.
@@ -41,7 +41,7 @@ fn slot(section: &[u8], size: u8, base: u32, index: u64) -> u64
 
 impl UnitAtHand {
     /// The unit with this number.
-    #[tactic(auto, unfolding(crate::specs::Images::units_in), using(crate::proofs::UnitLemmas::unit_told))]
+    #[tactic(auto, unfolding(dw_image::specs::Images::units_in), using(crate::proofs::UnitAtHandLemmas::unit_told))]
     pub fn read(image: &Image<'_>, number: usize) -> UnitAtHand
         requires { number < unit_count image.now }
         ensures unit { IsAtHand image.now result }

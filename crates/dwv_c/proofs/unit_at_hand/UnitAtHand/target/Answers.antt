@@ -1,6 +1,6 @@
 use Rattle.dw_forms.specs.Value.{view}
-use Rattle.dw_image.proofs.UnitLemmas.{no_reference}
-use Rattle.dw_image.proofs.unit_at_hand.UnitAtHand.target.Goals as goal
+use Rattle.dwv_c.proofs.UnitAtHandLemmas.{no_reference}
+use Rattle.dwv_c.proofs.unit_at_hand.UnitAtHand.target.Goals as goal
 
 pub returns-clause-none : goal.returns-clause-none
 returns-clause-none c =

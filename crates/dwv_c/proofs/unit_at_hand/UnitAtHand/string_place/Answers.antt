@@ -1,5 +1,5 @@
-use Rattle.dw_image.proofs.UnitLemmas.{index_is, line_str_is, str_is, string_based, string_slot}
-use Rattle.dw_image.proofs.unit_at_hand.UnitAtHand.string_place.Goals as goal
+use Rattle.dwv_c.proofs.UnitAtHandLemmas.{index_is, line_str_is, str_is, string_based, string_slot}
+use Rattle.dwv_c.proofs.unit_at_hand.UnitAtHand.string_place.Goals as goal
 
 pub returns-in-Str-clause-some : goal.returns-in-Str-clause-some
 returns-in-Str-clause-some c =
