@@ -15,7 +15,7 @@ use Rattle.dw_links.specs.Contributions.{IsContribution, slot_count, slot_at, Ha
 use Rattle.dw_links.specs.Bases.{section_offset_in, base_in}
 use Rattle.dw_links.specs.Strings.{BaseFails, StringFailsIn, StringFailures, IsStringContribution, IsAddressContribution, StringIndexFails, AddressIndexFails, Sections}
 use Rattle.dw_forms.specs.declared.rule.Rule.TheVariants.{BadStrBase, StrIndex, StringEnd, BadAddrBase, AddrIndex}
-use Rattle.dw_links.specs.Slots.{TextLies, AddressLies, IsTextPlace, BeginsString}
+use Rattle.dw_links.specs.Slots.{TextLies, IsTextPlace, BeginsString}
 use Rattle.dw_links.specs.LinkLaws.{HasStringAt, HasAddressAt, HasItsText, HasTexts}
 use Rattle.std.specs.List.{position_or_len, before_first}
 use Rattle.std.proofs.lemmas.Bool.{cases_lt, eqb-true, ne_eqb}
@@ -303,22 +303,17 @@ module _ (s : Sections) (us : List DebugUnit) (none : HasNone (StringFailures s 
         (passes_at s us id e p position attribute _ none is in_unit has)
     held position attribute _ has = tt
 
-    its_text : (attribute : ℕ) (v : Datum) → value_at_entry e attribute ≡ Some v → HasItsText s (entries_of us) p v
+    pub its_text : (attribute : ℕ) (v : Datum) → value_at_entry e attribute ≡ Some v → HasItsText s (entries_of us) p v
     its_text attribute v value =
         let (position, here) = found_value (values_of e.head) attribute v value in held position attribute v here
 
-    -- a text and an address of an entry
+    -- a text of an entry
     pub text_lies : (attribute : ℕ) (v : Datum) → value_at_entry e attribute ≡ Some v
         → TextLies s (base_in (entries_of us) p DW_AT_str_offsets_base) v
     text_lies attribute (str offset) value = its_text attribute (str offset) value
     text_lies attribute (line_str offset) value = its_text attribute (line_str offset) value
     text_lies attribute (str_index index) value = its_text attribute (str_index index) value
     text_lies attribute _ value = tt
-
-    pub address_lies : (attribute : ℕ) (v : Datum) → value_at_entry e attribute ≡ Some v
-        → AddressLies s p.unit.header (base_in (entries_of us) p DW_AT_addr_base) v
-    address_lies attribute (addr_index index) value = its_text attribute (addr_index index) value
-    address_lies attribute _ value = tt
 
 pub texts_of : (s : Sections) (units : List DebugUnit) → HasNone (StringFailures s units) → HasTexts s units
 texts_of s units none id e is position attribute v has unit in_unit =

@@ -1,13 +1,15 @@
 -- What is read of units, one after the other, and the targets of types, which are kept of each entry.
-use Rattle.std.proofs.Common.{rules, ◌≡◌, ℕ, ◌<◌, List, length, map, get_or, Option, Some, option_map, ap, ◌∙◌, ◌+◌, ◌≤◌, [], ◌∷◌, ◌++◌, take, refl, arith, ◌==◌, false, sym, subst, inl, inr, slice_get, option_and_then}
+use Rattle.std.proofs.Common.{rules, ◌≡◌, ℕ, ◌<◌, List, length, map, get_or, Option, Some, option_map, ap, ◌∙◌, ◌+◌, ◌≤◌, [], ◌∷◌, ◌++◌, take, refl, arith, sym, subst, inl, inr, slice_get, option_and_then}
 use Rattle.std.proofs.lemmas.Option.{slice_get_within, slice_get-get_or, slice_get-map, get_or_from_slice_get, option_and_then_some}
 use Rattle.std.proofs.lemmas.List.{map_more, take_all}
 use Rattle.std.proofs.lemmas.Bool.{ne_eqb}
 use Rattle.dw_forms.specs.declared.value.Value.{Value}
 pub use Rattle.dw_forms.specs.Value.{view}
+use Rattle.dw_forms.specs.Value.{Datum}
 use Rattle.dw_entries.specs.declared.units.UnitHead.{UnitHead}
 pub use Rattle.dw_entries.specs.declared.entries.Entries.{Entries}
 pub use Rattle.dw_entries.specs.ByNumber.{no_entry, entry_of, placed_of, unit_of}
+use Rattle.dw_entries.specs.Views.{sections_of}
 pub use Rattle.dw_entries.specs.Views.{all_entries, all_units, units_of, Entry, PlacedUnit, entries_of, placed}
 use Rattle.dw_entries.specs.Lookups.{value_at_entry, value_in, unit_head, values_of}
 use Rattle.dw_entries.proofs.EntryFacts.{unit_placed, HasFirst, first_entry}
@@ -15,10 +17,12 @@ use Rattle.dw_entries.specs.Header.{IsSize, version_of}
 use Rattle.dw_entries.proofs.Firsts.{same_some}
 use Rattle.dw_entries.proofs.HeadLaws.{all_get, unit_sized, DebugUnit, Spells}
 use Rattle.dw_entries.specs.Grammar.{Head}
-use Rattle.dw_forms.specs.Codes.{DW_AT_language}
+use Rattle.dw_forms.specs.Codes.{DW_AT_addr_base, DW_AT_language}
+use Rattle.dw_links.specs.AttributeTexts.{address_at}
+use Rattle.dw_links.specs.ValueTexts.{address_of}
 pub use Rattle.dw_links.specs.Bases.{kept_base, section_offset_in, base_in, bases_in}
 pub use Rattle.dw_links.specs.Constants.{constant_of, language_of, Constant}
-pub use Rattle.dw_links.specs.Tables.{target_of_type, AreTables, LinkTables}
+pub use Rattle.dw_links.specs.Tables.{target_of_type, AreTables, LinkTables, base_at, header_at}
 use Rattle.dw_links.specs.Targets.{target_of}
 use Rattle.dw_links.proofs.TargetLemmas.{reached_within}
 use Rattle.dw_links.proofs.ListLookups.{there}
@@ -78,7 +82,7 @@ entry_unit entries id below =
     (in_units _ _ (units_of entries) id e entries.scanned.1.spells
     (slice_get-get_or (all_entries entries) id no_entry below))
 
--- the base that is kept of it
+-- the base that is kept of an entry's unit
 pub kept_at : (entries : Entries) (id attribute : ℕ) (bases : List (Option ℕ)) → id < length (all_entries entries)
     → bases ≡ bases_in (all_entries entries) (all_units entries) attribute
     → kept_base bases (entry_of (all_entries entries) id).unit
@@ -96,6 +100,29 @@ sized «abbrev» info us number p spells below is =
     let unit : u ≡ p.unit = sym same ∙ ap (λ (x : PlacedUnit). x.unit) one in
     let P : DebugUnit → Type 0 = λ x. IsSize x.header.address_size in
     subst P unit (unit_sized «abbrev» u (all_get _ us number u spells.are is_u)).size
+
+pub size_in : (entries : Entries) (unit : ℕ) → unit < length (units_of entries)
+    → IsSize (placed_of (all_units entries) unit).unit.header.address_size
+size_in entries unit below =
+    sized _ _ (units_of entries) _ _ entries.scanned.1.spells below (unit_there (units_of entries) unit below)
+
+-- the base of a unit, by what is kept of all
+pub based : (entries : Entries) (unit attribute : ℕ) (bases : List (Option ℕ)) (found : Option ℕ)
+    → unit < length (units_of entries) → bases ≡ bases_in (all_entries entries) (all_units entries) attribute
+    → found ≡ kept_base bases unit → base_at entries unit attribute ≡ found
+based entries unit attribute bases found below all told =
+    sym (told ∙ kept_is (all_entries entries) (all_units entries) attribute bases _ _ all
+    (unit_there (units_of entries) unit below))
+
+-- the address of an entry's attribute, by its value
+pub address_is : (entries : Entries) (id attribute : ℕ) (v : Datum) → id < length (all_entries entries)
+    → Some v ≡ value_at_entry (entry_of (all_entries entries) id) attribute
+    → address_of (sections_of entries) (header_at entries (entry_of (all_entries entries) id).unit)
+    (base_at entries (entry_of (all_entries entries) id).unit DW_AT_addr_base) v
+    ≡ address_at (sections_of entries) (all_entries entries) (all_units entries) (entry_of (all_entries entries) id)
+    attribute
+unfolding address_at
+address_is entries id attribute v below value = rw (entry_unit entries id below, ← value) refl
 
 pub size_above : (size : ℕ) → IsSize size → 0 < size
 size_above size is = elim is [ inl four ↦ omega (arith, four) | inr eight ↦ omega (arith, eight) ]

@@ -1,12 +1,12 @@
--- State: strings that end, and addresses that are within their sections.
-use Rattle.std.specs.Prelude.{ℕ, ◌≤◌, length, Option}
+-- State: strings that begin within their sections.
+use Rattle.std.specs.Prelude.{◌≡◌, ℕ, ◌≤◌, length, Option, Some}
 use Rattle.dw_elf.specs.declared.sections.Sections.{Sections}
-use Rattle.dw_forms.specs.Value.{Datum, str, line_str, str_index, addr_index}
-use Rattle.dw_entries.specs.declared.header.UnitHeader.{UnitHeader}
+use Rattle.dw_forms.specs.Value.{Datum, str, line_str, str_index}
 use Rattle.dw_links.specs.declared.texts.TextPlace.{TextPlace}
 use Rattle.dw_links.specs.declared.texts.TextPlace.TheVariants.{Info, Str, LineStr}
 use Rattle.dw_links.specs.Contributions.{HasZeroFrom}
-use Rattle.dw_links.specs.LinkLaws.{HasStringAt, HasAddressAt}
+use Rattle.dw_links.specs.LinkLaws.{HasStringAt}
+use Rattle.dw_links.specs.ValueTexts.{text_of_value, text_place_of, text_there}
 
 -- a string begins where a value says, in a unit that has this base
 abbrev pub TextLies : Sections → (base : Option ℕ) → Datum → Type 0
@@ -27,7 +27,8 @@ BeginsString sections (Info offset) = HasZeroFrom sections.info.now offset
 BeginsString sections (Str offset) = HasZeroFrom sections.str.now offset
 BeginsString sections (LineStr offset) = HasZeroFrom sections.line_str.now offset
 
--- the address of a value is there, in a unit that has this base
-abbrev pub AddressLies : Sections → UnitHeader → (base : Option ℕ) → Datum → Type 0
-AddressLies sections header base (addr_index index) = HasAddressAt sections header base index
-AddressLies sections header base _ = Unit {0}
+-- a string begins at this place, and is the text of a value in a unit that has this base
+pub record IsStringOf (s : Sections) (base : Option ℕ) (v : Datum) (p : TextPlace) : Type 0 where
+  pub place : (end : ℕ) → text_place_of s base v end ≡ Some p
+  pub text : text_of_value s base v ≡ Some (text_there s p)
+  pub begins : BeginsString s p

@@ -1,26 +1,27 @@
 //! The texts and addresses of attributes (DWARF 5, sections 7.26 and 7.27), and where a text is.
 
-ghost use Rattle.std.specs.Prelude.{◌≡◌, ℕ, ◌+◌, ◌*◌, ◌<◌, ◌≤◌, length, Some, IfSome, option_copied};
-ghost use Rattle.std.specs.Prelude.{option_map};
-ghost use Rattle.dw_forms.specs.Value.{view};
+ghost use Rattle.std.specs.Prelude.{◌≡◌, ℕ, ◌+◌, ◌*◌, ◌<◌, ◌≤◌, length, Some, IfSome};
+ghost use Rattle.std.specs.Prelude.{option_copied, option_map};
+ghost use Rattle.dw_forms.specs.Codes.{DW_AT_str_offsets_base, DW_AT_addr_base};
+ghost use Rattle.dw_forms.specs.Value.{view, str_index, addr_index};
 ghost use Rattle.dw_entries.specs.ByNumber.{entry_of};
-ghost use Rattle.dw_entries.specs.Header.{IsSize};
 ghost use Rattle.dw_entries.specs.Lookups.{value_at_entry};
 ghost use Rattle.dw_entries.specs.ValuePlaces.{end_of};
 ghost use Rattle.dw_entries.specs.Views.{sections_of, all_entries, all_units, units_of};
 ghost use Rattle.dw_entries.specs.Failures.{HasNone};
 ghost use Rattle.dw_links.specs.Bases.{kept_base};
 ghost use Rattle.dw_links.specs.Contributions.{string_at, slot_at};
-ghost use Rattle.dw_links.specs.Slots.{IsTextPlace, BeginsString, AddressLies, TextLies};
+ghost use Rattle.dw_links.specs.LinkLaws.{HasStringAt, HasAddressAt};
+ghost use Rattle.dw_links.specs.Slots.{IsTextPlace, IsStringOf, BeginsString, TextLies};
 ghost use Rattle.dw_links.specs.ValueTexts.{text_there, text_of_value, text_place_of, address_of};
 ghost use Rattle.dw_links.specs.Strings.{StringFailures};
-ghost use Rattle.dw_links.specs.Tables.{AreTables};
+ghost use Rattle.dw_links.specs.Tables.{AreTables, base_at, header_at};
 ghost use Rattle.dw_links.specs.AttributeTexts.{text_at, text_place_at, address_at};
 
 use crate::contribution::number;
 use crate::tables::LinkTables;
 use dw_elf::Sections;
-use dw_entries::{Entries, EntryId, UnitHeader};
+use dw_entries::{Entries, EntryId};
 use dw_forms::{Attribute, Value};
 use memchr::memchr;
 
@@ -72,12 +73,11 @@ fn slot(section: &[u8], size: u8, base: u32, index: u64) -> u64
     number(section, base as usize + size * index as usize, size)
 }
 
-/// The base of an entry's unit, among those of all units.
-fn base_of(bases: &[Option<u32>], entries: &Entries<'_>, id: EntryId) -> Option<u32>
-    requires { id < length (all_entries entries.now) }
-    ensures { result ≡ kept_base bases.now (entry_of (all_entries entries.now) id).unit }
+/// The base of a unit, among those of all units.
+fn base_of(bases: &[Option<u32>], unit: usize) -> Option<u32>
+    ensures { result ≡ kept_base bases.now unit }
 {
-    *bases.get(entries.unit_of(id))?
+    *bases.get(unit)?
 }
 
 /// Where the text of the value of an entry's attribute is, if that is a string. The base of the entry's unit, among
@@ -110,29 +110,10 @@ fn place_of_value(
         Value::Str(offset) => Some(TextPlace::Str(offset as usize)),
         Value::LineStr(offset) => Some(TextPlace::LineStr(offset as usize)),
         Value::StrIndex(index) => {
-            let base = base_of(bases, entries, id)?;
+            let base = base_of(bases, entries.unit_of(id))?;
             let offset = slot(entries.sections().str_offsets, 4, base, index);
             Some(TextPlace::Str(offset as usize))
         }
-        _ => None,
-    }
-}
-
-/// The address of a value, if that is an address.
-#[tactic(auto, using(crate::proofs::SlotLemmas::slot_within))]
-fn address_of_value(
-    sections: &Sections<'_>,
-    header: UnitHeader,
-    base: Option<u32>,
-    value: Value<'_>,
-) -> Option<u64>
-    requires size { IsSize header.address_size }
-    requires lies { AddressLies sections.now header base (view value) }
-    ensures { result ≡ address_of sections.now header base (view value.entry) }
-{
-    match value {
-        Value::Addr(address) => Some(address),
-        Value::AddrIndex(index) => Some(slot(sections.addr, header.address_size, base?, index)),
         _ => None,
     }
 }
@@ -177,6 +158,41 @@ impl LinkTables {
         Some(place.text(entries.sections()))
     }
 
+    /// Where the string of an index is, in a unit.
+    pub fn place_of_index(&self, entries: &Entries<'_>, unit: usize, index: u64) -> TextPlace
+        requires unit { unit < length (units_of entries.now) }
+        requires tables { AreTables entries.now self.now }
+        requires lies { HasStringAt (sections_of entries.now) (base_at entries.now unit DW_AT_str_offsets_base) index }
+        ensures { IsStringOf (sections_of entries.now) (base_at entries.now unit DW_AT_str_offsets_base)
+            (str_index index) result }
+    {
+        match base_of(self.str_bases.as_slice(), unit) {
+            Some(base) => {
+                let offset = slot(entries.sections().str_offsets, 4, base, index);
+                TextPlace::Str(offset as usize)
+            }
+            None => unreachable!(),
+        }
+    }
+
+    /// The address of an index, in a unit.
+    pub fn address_of_index(&self, entries: &Entries<'_>, unit: usize, index: u64) -> u64
+        requires unit { unit < length (units_of entries.now) }
+        requires tables { AreTables entries.now self.now }
+        requires lies { HasAddressAt (sections_of entries.now) (header_at entries.now unit)
+            (base_at entries.now unit DW_AT_addr_base) index }
+        ensures { address_of (sections_of entries.now) (header_at entries.now unit)
+            (base_at entries.now unit DW_AT_addr_base) (addr_index index) ≡ Some result }
+    {
+        match base_of(self.addr_bases.as_slice(), unit) {
+            Some(base) => {
+                let size = entries.unit(unit).header.address_size;
+                slot(entries.sections().addr, size, base, index)
+            }
+            None => unreachable!(),
+        }
+    }
+
     /// The address of an entry's attribute. None if the attribute is absent or no address.
     pub fn address(&self, entries: &Entries<'_>, id: EntryId, attribute: Attribute) -> Option<u64>
         requires id { id < length (all_entries entries.now) }
@@ -186,8 +202,12 @@ impl LinkTables {
             (all_units entries.now) (entry_of (all_entries entries.now) id) attribute }
     {
         let value = entries.value(id, attribute)?;
-        let header = entries.unit(entries.unit_of(id)).header;
-        let base = base_of(self.addr_bases.as_slice(), entries, id);
-        address_of_value(entries.sections(), header, base, value)
+        match value {
+            Value::Addr(address) => Some(address),
+            Value::AddrIndex(index) => {
+                Some(self.address_of_index(entries, entries.unit_of(id), index))
+            }
+            _ => None,
+        }
     }
 }

@@ -7,4 +7,4 @@ pub mod NamedLemmas
 pub mod TableLemmas
 pub mod TableRowLemmas
 pub mod TextLemmas
-pub mod UnitAtHandLemmas
+pub mod ValueLemmas

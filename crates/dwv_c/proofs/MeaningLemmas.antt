@@ -1,15 +1,16 @@
 -- What the values of entries of an image mean.
-use Rattle.std.proofs.Common.{◌≡◌, ℕ, ◌<◌, List, length, length-drop, Option, Some, ap, subst, ◌∙◌, arith}
+use Rattle.std.proofs.Common.{◌≡◌, ℕ, ◌<◌, List, length, length-drop, Some, ap, ◌∙◌, arith}
 use Rattle.std.specs.Prelude.{slice_get}
 use Rattle.dw_forms.specs.Value.{Datum}
 use Rattle.dw_entries.specs.declared.entries.Entries.{Entries}
-use Rattle.dw_entries.specs.declared.header.UnitHeader.{UnitHeader}
 use Rattle.dw_entries.specs.declared.units.UnitHead.{UnitHead}
 use Rattle.dw_entries.specs.Entries.{Entry, placed}
 use Rattle.dw_entries.specs.ByNumber.{entry_of, placed_of}
 use Rattle.dw_entries.specs.Lookups.{unit_head}
 use Rattle.dw_entries.specs.Views.{all_entries, all_units}
 use Rattle.dw_entries.proofs.ScanLaws.{few_units}
+use Rattle.dw_forms.specs.Codes.{DW_AT_str_offsets_base, DW_AT_addr_base}
+use Rattle.dw_links.specs.Tables.{base_at}
 use Rattle.dw_links.specs.ValueTexts.{address_of, text_of_value, text_place_of}
 use Rattle.dw_links.specs.declared.texts.TextPlace.{TextPlace}
 use Rattle.dw_links.proofs.ClassLemmas.{unit_there}
@@ -19,44 +20,40 @@ use Rattle.dw_image.specs.declared.image.Image.{Image}
 use Rattle.dw_image.specs.Images.{entries_in, sections_in, unit_count, units_in}
 use Rattle.dwv_c.specs.declared.meaning.Meaning.TheVariants.{Address, Text}
 use Rattle.dwv_c.specs.declared.places.Span.{Span}
-use Rattle.dwv_c.specs.declared.unit_at_hand.UnitAtHand.{UnitAtHand}
 use Rattle.dwv_c.specs.Meanings.{MeansIn}
 use Rattle.dwv_c.specs.declared.places.Holders.{Holders}
 use Rattle.dwv_c.specs.SectionPlaces.{IsTextSpan}
-use Rattle.dwv_c.specs.UnitsAtHand.{IsAtHand, place_at}
 use Rattle.dwv_c.specs.ValueRows.{value_place, value_text}
 
-module _ (h : Holders) (i : Image) (u : UnitAtHand) (hand : IsAtHand i u) (end : ℕ) (v : Datum) where
-  its_unit : (e : Entry) → e.unit ≡ u.number → slice_get (placed (units_in i)) e.unit ≡ Some (place_at i u)
-  its_unit e in_unit = ap (slice_get (placed (units_in i))) in_unit ∙ unit_there (units_in i) u.number hand.within
+module _ (h : Holders) (i : Image) (unit : ℕ) (below : unit < unit_count i) (end : ℕ) (v : Datum) where
+  its_unit : (e : Entry) → e.unit ≡ unit
+      → slice_get (placed (units_in i)) e.unit ≡ Some (placed_of (placed (units_in i)) unit)
+  its_unit e in_unit = ap (slice_get (placed (units_in i))) in_unit ∙ unit_there (units_in i) unit below
 
-  pub text_means : (t : List ℕ) (p : TextPlace) (s : Span) → text_of_value (sections_in i) u.str_base v ≡ Some t
-      → text_place_of (sections_in i) u.str_base v end ≡ Some p → IsTextSpan h t p s → MeansIn h i u end v (Text s)
+  pub text_means : (t : List ℕ) (p : TextPlace) (s : Span)
+      → text_of_value (sections_in i) (base_at i.entries unit DW_AT_str_offsets_base) v ≡ Some t
+      → text_place_of (sections_in i) (base_at i.entries unit DW_AT_str_offsets_base) v end ≡ Some p
+      → IsTextSpan h t p s → MeansIn h i unit end v (Text s)
+  unfolding units_in
   text_means t p s told at there e in_unit =
-      let value : value_text i e v ≡ Some t =
-      rw (its_unit e in_unit) (subst (λ (b : Option ℕ). text_of_value (sections_in i) b v ≡ Some t) hand.str_base told)
-      in
-      let place : value_place i e end v ≡ Some p =
-      rw (its_unit e in_unit)
-      (subst (λ (b : Option ℕ). text_place_of (sections_in i) b v end ≡ Some p) hand.str_base at) in
+      let value : value_text i e v ≡ Some t = rw (its_unit e in_unit) told in
+      let place : value_place i e end v ≡ Some p = rw (its_unit e in_unit) at in
       (t, p, value, place, there)
 
-  pub address_means : (n : ℕ) → address_of (sections_in i) u.header u.addr_base v ≡ Some n
-      → MeansIn h i u end v (Address n)
-  address_means n told e in_unit =
-      rw (its_unit e in_unit)
-      (subst (λ (b : Option ℕ). address_of (sections_in i) (place_at i u).unit.header b v ≡ Some n) hand.addr_base
-      (subst (λ (x : UnitHeader). address_of (sections_in i) x u.addr_base v ≡ Some n) hand.header told))
+  pub address_means : (n : ℕ) → address_of (sections_in i) (placed_of (all_units i.entries) unit).unit.header
+      (base_at i.entries unit DW_AT_addr_base) v ≡ Some n → MeansIn h i unit end v (Address n)
+  unfolding units_in
+  address_means n told e in_unit = rw (its_unit e in_unit) told
 
 -- ---- units
 
 -- the number of a unit has 32 bits
-pub unit_fits : (i : Image) (u : UnitAtHand) → IsAtHand i u → u.number < 4294967296
+pub unit_fits : (i : Image) (unit : ℕ) → unit < unit_count i → unit < 4294967296
 unfolding units_in
-unit_fits i u hand =
+unit_fits i unit below =
     omega (
       arith,
-      hand.within,
+      below,
       few_units _ (units_in i) i.entries.scanned.1.spells.are,
       ap length i.entries.scanned.1.spells.parts,
       length-drop i.entries.sections.base i.entries.sections.info.now,

@@ -16,10 +16,9 @@ use Rattle.dw_image.specs.declared.image.Image.{Image}
 use Rattle.dw_image.specs.Images.{entries_in, entry_count, name_in, name_place_in}
 use Rattle.dwv_c.specs.declared.meaning.ValueRow.{ValueRow}
 use Rattle.dwv_c.specs.declared.meaning.Meaning.{Meaning}
-use Rattle.dwv_c.specs.declared.unit_at_hand.UnitAtHand.{UnitAtHand}
 use Rattle.dwv_c.specs.declared.places.Span.{Span}
 use Rattle.dwv_c.specs.Meanings.{named_after}
-use Rattle.dwv_c.specs.UnitsAtHand.{HasValue}
+use Rattle.dwv_c.specs.Meanings.{HasValue}
 use Rattle.dwv_c.specs.declared.places.Holders.{Holders}
 use Rattle.dwv_c.specs.SectionPlaces.{IsNameSpan, nowhere}
 use Rattle.dwv_c.specs.ValueRows.{HasMeaning, IsMeaning, IsValueRow, Told, told, values_from, values_in}
@@ -207,11 +206,11 @@ module _ (h : Holders) (i : Image) (id at : ℕ) (item : PlacedValue) (left : Li
   }
 
   -- the value at hand is one of the entry
-  pub value_of_entry : (u : UnitAtHand) → u.number ≡ (entry_of (entries_in i) id).unit → HasValue i u item.value
-  value_of_entry u unit = record {
+  pub value_of_entry : (unit : ℕ) → unit ≡ (entry_of (entries_in i) id).unit → HasValue i unit item.value
+  value_of_entry unit is = record {
     id = id;
     within = w.within;
-    in_unit = sym unit;
+    in_unit = sym is;
     position = length w.done;
     attribute = item.attribute;
     has = has_here;

@@ -10,4 +10,3 @@ pub mod Checked
 pub mod FrameState
 pub mod Meanings
 pub mod TableState
-pub mod UnitsAtHand

@@ -1,16 +1,17 @@
 -- State: what a value means before its row is written.
-use Rattle.std.specs.Prelude.{◌≡◌, ℕ, ◌+◌, ◌≤◌, ◌==◌, List, length, Option, None, Some, if◌then◌else◌}
+use Rattle.std.specs.Prelude.{◌≡◌, ℕ, ◌+◌, ◌<◌, ◌≤◌, ◌==◌, List, length, Option, None, Some, if◌then◌else◌}
 use Rattle.dw_elf.specs.Sections.{IsAt}
 use Rattle.dw_forms.specs.Codes.{DW_AT_name}
 use Rattle.dw_forms.specs.Value.{Datum}
+use Rattle.dw_entries.specs.ByNumber.{entry_of}
+use Rattle.dw_entries.specs.EntryRules.{HasAttribute}
 use Rattle.dw_entries.specs.Entries.{Entry}
 use Rattle.dw_image.specs.declared.image.Image.{Image}
-use Rattle.dw_image.specs.Images.{sections_in}
+use Rattle.dw_image.specs.Images.{entries_in, sections_in}
 use Rattle.dwv_c.specs.declared.meaning.Meaning.{Meaning}
 use Rattle.dwv_c.specs.declared.meaning.Meaning.TheVariants.{Text}
 use Rattle.dwv_c.specs.declared.places.Holders.{Holders}
 use Rattle.dwv_c.specs.declared.places.Span.{Span}
-use Rattle.dwv_c.specs.declared.unit_at_hand.UnitAtHand.{UnitAtHand}
 use Rattle.dwv_c.specs.ValueRows.{IsMeaning}
 
 -- ---- places
@@ -29,9 +30,18 @@ pub record AreThere (i : Image) (h : Holders) : Type 0 where
 
 -- ---- meanings
 
--- this is what a value means at each entry of the unit at hand that has it
-abbrev pub MeansIn : (h : Holders) → Image → UnitAtHand → (end : ℕ) → Datum → Meaning → Type 0
-MeansIn h i u end v m = (e : Entry) → e.unit ≡ u.number → IsMeaning h i e end v m
+-- an entry of the unit with this number has this value
+pub record HasValue (i : Image) (unit : ℕ) (v : Datum) : Type 0 where
+  pub id : ℕ
+  pub within : id < length (entries_in i)
+  pub in_unit : (entry_of (entries_in i) id).unit ≡ unit
+  pub position : ℕ
+  pub attribute : ℕ
+  pub has : HasAttribute (entry_of (entries_in i) id) position attribute v
+
+-- this is what a value means at each entry of the unit that has it
+abbrev pub MeansIn : (h : Holders) → Image → (unit end : ℕ) → Datum → Meaning → Type 0
+MeansIn h i unit end v m = (e : Entry) → e.unit ≡ unit → IsMeaning h i e end v m
 
 -- the bytes of a meaning that is a text
 abbrev pub text_span : Meaning → Option Span

@@ -10,7 +10,6 @@ mod meaning;
 mod places;
 mod table;
 mod table_rows;
-mod unit_at_hand;
 mod values;
 mod verdict;
 

@@ -10,13 +10,12 @@ ghost use Rattle.dwv_c.specs.Meanings.{AreThere};
 ghost use Rattle.dwv_c.specs.SectionPlaces.{IsNameSpan, nowhere};
 ghost use Rattle.dwv_c.specs.Tables.{AreHolders, AreTable, HasRoom, HaveEntries, HaveUnits, HaveValues, IsEntryRow};
 ghost use Rattle.dwv_c.specs.Tables.{PutsTable, arrays, counts_of, value_count, values_before};
-ghost use Rattle.dwv_c.specs.TableState.{AreBefore, AreOf, IsUnitOf};
+ghost use Rattle.dwv_c.specs.TableState.{AreBefore, IsUnitOf};
 ghost use Rattle.dwv_c.specs.Verdicts.{Given, IsSound, of_image};
 
 use crate::meaning::{ValueRow, named_after, value_row};
 use crate::places::{Holders, Span};
 use crate::table_rows::{EntryRow, Links, TableCounts, UnitRow, depth_by_rows, row_with, unit_row};
-use crate::unit_at_hand::UnitAtHand;
 use crate::values::Resolver;
 use crate::verdict::{NO_MEMORY, SOUND, TOO_SHORT, Verdict, verdict_of_counts};
 use dw_entries::{Cursor, EntryId};
@@ -31,12 +30,12 @@ impl<'i, 'a> Resolver<'i, 'a> {
     #[tactic(auto, unfolding(dw_image::specs::Images::units_in, dw_image::specs::Images::sections_in))]
     fn put_values(
         &self,
-        unit: &UnitAtHand,
+        unit: usize,
         values: &mut [ValueRow],
         from: usize,
         id: EntryId,
     ) -> (usize, Option<Span>)
-        requires unit { IsUnitOf self.now.image.now unit.now id }
+        requires unit { IsUnitOf self.now.image.now unit id }
         requires room { value_count self.now.image.now ≤ length values.old }
         requires from { from ≡ values_before self.now.image.now id }
         requires before { HaveValues self.now.holders self.now.image.now from values.old }
@@ -48,7 +47,7 @@ impl<'i, 'a> Resolver<'i, 'a> {
         ensures rows { HaveValues self.now.holders self.now.image.now result.0 values.new }
         ensures rest { drop result.0 values.new ≡ drop result.0 values.old }
     {
-        let mut left = self.image.scanned().placed(id, unit.number);
+        let mut left = self.image.scanned().placed(id, unit);
         let mut at = from;
         let mut named = None;
         'items: while let Some((attribute, value, end)) = left.next_placed() {
@@ -64,14 +63,14 @@ impl<'i, 'a> Resolver<'i, 'a> {
     #[tactic(auto, unfolding(dw_image::specs::Images::units_in))]
     fn entry_row(
         &self,
-        unit: &UnitAtHand,
+        unit: usize,
         entries: &[EntryRow],
         from: usize,
         next: usize,
         name: Option<Span>,
         id: EntryId,
     ) -> EntryRow
-        requires unit { IsUnitOf self.now.image.now unit.now id }
+        requires unit { IsUnitOf self.now.image.now unit id }
         requires room { id ≤ length entries.now }
         requires before { HaveEntries self.now.holders self.now.image.now id entries.now }
         requires from { from ≡ values_before self.now.image.now id }
@@ -88,7 +87,7 @@ impl<'i, 'a> Resolver<'i, 'a> {
         let links = Links {
             first_value: from,
             values: next - from,
-            unit: unit.number,
+            unit,
             parent: image.parent(id),
             next_sibling: image.scanned().next_sibling(id),
         };
@@ -100,20 +99,19 @@ impl<'i, 'a> Resolver<'i, 'a> {
     fn put_entry(
         &self,
         cursor: &mut Cursor<'i, 'a>,
-        unit: &mut UnitAtHand,
         entries: &mut [EntryRow],
         values: &mut [ValueRow],
         number: usize,
         from: usize,
     ) -> usize
-        requires at { AreOf self.now.image.now cursor.old unit.old }
+        requires cursor { cursor.old.entries.now ≡ self.now.image.now.entries }
         requires number { number < entry_count self.now.image.now }
         requires room { number < length entries.old }
         requires value_room { value_count self.now.image.now ≤ length values.old }
         requires from { from ≡ values_before self.now.image.now number }
         requires before { AreBefore self.now.holders self.now.image.now number from entries.old
             values.old }
-        ensures at { AreOf self.now.image.now cursor.new unit.new }
+        ensures cursor { cursor.new.entries.now ≡ self.now.image.now.entries }
         ensures next { result ≡ values_before self.now.image.now (number + 1) }
         ensures rows { AreBefore self.now.holders self.now.image.now (number + 1) result entries.new
             values.new }
@@ -121,8 +119,7 @@ impl<'i, 'a> Resolver<'i, 'a> {
             × (drop result values.new ≡ drop result values.old) }
     {
         let id = self.image.scanned().id(number);
-        let entry = cursor.at(id);
-        unit.keep(self.image, entry.unit());
+        let unit = cursor.at(id).unit();
         let (next, name) = self.put_values(unit, values, from, id);
         entries[number] = self.entry_row(unit, entries, from, next, name, id);
         next
@@ -139,14 +136,10 @@ impl<'i, 'a> Resolver<'i, 'a> {
             ≡ drop (entry_count self.now.image.now) entries.old)
             × (drop (value_count self.now.image.now) values.new ≡ drop (value_count self.now.image.now) values.old) }
     {
-        if self.image.units() == 0 {
-            return;
-        }
         let mut cursor = self.image.scanned().cursor();
-        let mut unit = UnitAtHand::read(self.image, 0);
         let mut at = 0;
         for number in 0..self.image.entries() {
-            at = self.put_entry(&mut cursor, &mut unit, entries, values, number, at);
+            at = self.put_entry(&mut cursor, entries, values, number, at);
         }
     }
 }

@@ -1,20 +1,18 @@
 //! What the values of entries mean, each resolved as far as the rules go.
 
-ghost use Rattle.std.specs.Prelude.{◌≡◌, ◌++◌, ◌∷◌, ℕ, [], IfOk, true};
+ghost use Rattle.std.specs.Prelude.{◌≡◌, ◌<◌, ◌++◌, ◌∷◌, ℕ, [], IfOk, true};
 ghost use Rattle.dw_entries.specs.OwnBytes.{EndsAt};
 ghost use Rattle.dw_forms.specs.Value.{text, view};
-ghost use Rattle.dw_image.specs.Images.{sections_in};
+ghost use Rattle.dw_image.specs.Images.{sections_in, unit_count};
 ghost use Rattle.dw_image.specs.Slots.{BeginsString};
-ghost use Rattle.dwv_c.specs.UnitsAtHand.{HasValue, IsAtHand, is_address, is_string};
 ghost use Rattle.dw_image.specs.ValueTexts.{text_there};
 ghost use Rattle.dw_links.specs.References.{is_reference_value};
 ghost use Rattle.dw_links.specs.declared.texts.TextPlace.TheVariants.{Info};
-ghost use Rattle.dwv_c.specs.Meanings.{AreThere, IsPartOfSection, MeansIn};
+ghost use Rattle.dwv_c.specs.Meanings.{AreThere, HasValue, IsPartOfSection, MeansIn};
 ghost use Rattle.dwv_c.specs.SectionPlaces.{IsSpan, IsTextSpan};
 
 use crate::meaning::Meaning;
 use crate::places::{Holders, INFO, LINE_STR, STR, Span};
-use crate::unit_at_hand::UnitAtHand;
 use dw_forms::Value;
 use dw_image::{Image, Strings, TextPlace};
 use std::alloc::{AllocError, Global};
@@ -99,71 +97,54 @@ impl<'i, 'a> Resolver<'i, 'a> {
     }
 
     /// What a reference means.
-    fn reference(&self, unit: &UnitAtHand, value: &Value<'a>) -> Meaning
-        requires unit { IsAtHand self.now.image.now unit.now }
-        requires value { HasValue self.now.image.now unit.now (view value.now) }
+    fn reference(&self, unit: usize, value: &Value<'a>) -> Meaning
+        requires unit { unit < unit_count self.now.image.now }
+        requires value { HasValue self.now.image.now unit (view value.now) }
         requires reference { is_reference_value (view value.now) ≡ true }
-        ensures { (end : ℕ) → MeansIn self.now.holders self.now.image.now unit.now end
+        ensures { (end : ℕ) → MeansIn self.now.holders self.now.image.now unit end
             (view value.now) result }
     {
-        match unit.target(self.image, value) {
+        match self.image.links().reach(self.image.scanned(), unit, value) {
             Some(target) => Meaning::Reference(target.number() as u32),
             None => unreachable!(),
         }
     }
 
-    /// What an address means.
-    fn address(&self, unit: &UnitAtHand, value: &Value<'a>) -> Meaning
-        requires unit { IsAtHand self.now.image.now unit.now }
-        requires value { HasValue self.now.image.now unit.now (view value.now) }
-        requires address { is_address (view value.now) ≡ true }
-        ensures { (end : ℕ) → MeansIn self.now.holders self.now.image.now unit.now end
-            (view value.now) result }
-    {
-        match unit.address(self.image, value) {
-            Some(address) => Meaning::Address(address),
-            None => unreachable!(),
-        }
-    }
-
-    /// What a text of .debug_str or .debug_line_str means.
-    fn string(&self, unit: &UnitAtHand, value: &Value<'a>) -> Meaning
-        requires unit { IsAtHand self.now.image.now unit.now }
-        requires value { HasValue self.now.image.now unit.now (view value.now) }
-        requires string { is_string (view value.now) ≡ true }
-        ensures { (end : ℕ) → MeansIn self.now.holders self.now.image.now unit.now end
-            (view value.now) result }
-    {
-        match unit.string_place(self.image, value) {
-            Some(place) => Meaning::Text(self.text_at(place)),
-            None => unreachable!(),
-        }
-    }
-
     /// What a text means that is in its value, whose bytes end at this offset of .debug_info.
-    fn text(&self, unit: &UnitAtHand, bytes: &[u8], end: usize) -> Meaning
-        requires unit { IsAtHand self.now.image.now unit.now }
+    fn text(&self, unit: usize, bytes: &[u8], end: usize) -> Meaning
+        requires unit { unit < unit_count self.now.image.now }
         requires place { EndsAt (sections_in self.now.image.now).info.now (text bytes.now) end }
-        ensures { MeansIn self.now.holders self.now.image.now unit.now end (text bytes.now) result }
+        ensures { MeansIn self.now.holders self.now.image.now unit end (text bytes.now) result }
     {
         let offset = end - (bytes.len() + 1);
         Meaning::Text(self.text_in_info(offset, bytes))
     }
 
     /// What a value means. Its bytes, if it has some itself, end at this offset of .debug_info.
-    pub fn meaning(&self, unit: &UnitAtHand, value: &Value<'a>, end: usize) -> Meaning
-        requires unit { IsAtHand self.now.image.now unit.now }
-        requires value { HasValue self.now.image.now unit.now (view value.now) }
+    pub fn meaning(&self, unit: usize, value: &Value<'a>, end: usize) -> Meaning
+        requires unit { unit < unit_count self.now.image.now }
+        requires value { HasValue self.now.image.now unit (view value.now) }
         requires place { EndsAt (sections_in self.now.image.now).info.now (view value.now) end }
-        ensures { MeansIn self.now.holders self.now.image.now unit.now end (view value.now) result }
+        ensures { MeansIn self.now.holders self.now.image.now unit end (view value.now) result }
     {
         match *value {
             Value::Text(bytes) => self.text(unit, bytes, end),
-            Value::Str(_) | Value::LineStr(_) | Value::StrIndex(_) => self.string(unit, value),
+            Value::Str(offset) => Meaning::Text(self.text_at(TextPlace::Str(offset as usize))),
+            Value::LineStr(offset) => Meaning::Text(self.text_at(TextPlace::LineStr(
+                offset as usize,
+            ))),
+            Value::StrIndex(index) => {
+                let entries = self.image.scanned();
+                Meaning::Text(self.text_at(self.image.links().place_of_index(entries, unit, index)))
+            }
             Value::Block(bytes) => Meaning::Block(self.span(end - bytes.len(), bytes)),
             Value::Expr(bytes) => Meaning::Expression(self.span(end - bytes.len(), bytes)),
             Value::Wide(bytes) => Meaning::Wide(self.span(end - bytes.len(), bytes)),
-            Value::Addr(_) | Value::AddrIndex(_) => self.address(unit, value),
+            Value::Addr(address) => Meaning::Address(address),
+            Value::AddrIndex(index) => {
+                let entries = self.image.scanned();
+                Meaning::Address(self.image.links().address_of_index(entries, unit, index))
+            }
             Value::RefInfo(_) | Value::RefUnit(_) | Value::RefSig(_) => self.reference(unit, value),
             Value::Unsigned(number) => Meaning::Unsigned(number),
             Value::Signed(number) => Meaning::Signed(number),

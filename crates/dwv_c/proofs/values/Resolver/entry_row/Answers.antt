@@ -23,7 +23,7 @@ overflow_sub-links c =
     omega (arith, c.requires.from, c.requires.next, counted)
 
 pub row_with-requires : goal.row_with-requires
-row_with-requires c = unit_fits c.args.self.now.image.now c.args.unit.now c.requires.unit.hand
+row_with-requires c = unit_fits c.args.self.now.image.now c.args.unit c.requires.unit.known
 
 pub returns : goal.returns
 unfolding units_in

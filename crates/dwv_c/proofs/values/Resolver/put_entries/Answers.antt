@@ -13,7 +13,7 @@ loop-number-preserved c =
     let below : n < entry_count i = search rules in
     let more : c.loop-number.at ≤ c.put_entry-at.result = omega (arith, values_rise i n below, so_far.at, put.next) in
     record {
-      of = put.at;
+      cursor = put.cursor;
       at = put.next;
       rows = put.rows;
       other_entries =

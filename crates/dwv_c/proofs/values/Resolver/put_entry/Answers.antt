@@ -2,10 +2,14 @@ use Rattle.dwv_c.proofs.MeaningLemmas.{unit_looked_up}
 use Rattle.dwv_c.proofs.TableRowLemmas.{entries_more}
 use Rattle.dwv_c.proofs.values.Resolver.put_entry.Goals as goal
 
-pub keep-requires-clause-number : goal.keep-requires-clause-number
-keep-requires-clause-number c =
-    unit_looked_up c.args.self.now.image.now c.args.cursor.now.entries.now _ c.id-id.result c.unit.result
-    c.requires.at.cursor c.at-entry.ensures.found (rw c.id-id.ensures c.requires.number) c.unit.ensures
+pub put_values-next-requires-clause-unit : goal.put_values-next-requires-clause-unit
+put_values-next-requires-clause-unit c = record {
+  known =
+      unit_looked_up c.args.self.now.image.now c.args.cursor.now.entries.now _ c.id-id.result c.unit-unit.result
+      c.requires.cursor c.at.ensures.found (rw c.id-id.ensures c.requires.number) c.unit-unit.ensures;
+  within = rw c.id-id.ensures c.requires.number;
+  in_unit = c.unit-unit.ensures;
+}
 
 pub returns-clause-rows : goal.returns-clause-rows
 returns-clause-rows c = record {

@@ -36,7 +36,7 @@ meaning-meaning-requires-clause-value c =
     let w = subst (λ (l : List PlacedValue). IsAtValue h i c.args.id c.items.at l c.items.named) c.in-Some.ensures.steps
     c.items.invariant.here in
     let own = value_of_entry h i c.args.id c.items.at _ (placed_left c.next_placed.new.self) c.items.named w
-    c.args.unit.now c.requires.unit.in_unit in
+    c.args.unit c.requires.unit.in_unit in
     search (rules, own)
 
 pub meaning-meaning-requires-clause-place : goal.meaning-meaning-requires-clause-place

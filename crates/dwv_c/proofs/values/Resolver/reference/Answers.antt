@@ -6,8 +6,9 @@ use Rattle.dw_links.specs.Targets.{reach_of}
 use Rattle.dwv_c.proofs.values.Resolver.reference.Goals as goal
 
 pub returns : goal.returns
+unfolding units_in
 returns c end e in_unit =
     let i = c.args.self.now.image.now in
     rw c.number.ensures
     (ap (λ (unit : ℕ). reach_of (entries_in i) (placed (units_in i)) unit (view c.args.value.now)) in_unit
-    ∙ sym c.target.ensures.exact ∙ c.in-Some.is)
+    ∙ sym (rw c.scanned.ensures at c.reach.ensures) ∙ c.in-Some.is)
