@@ -15,7 +15,7 @@ ghost use Rattle.dw_forms.specs.Value.{view};
 ghost use Rattle.dw_entries.specs.Lookups.{nth_of, full_head, value_at_entry};
 ghost use Rattle.dw_entries.specs.Entries.{placed};
 ghost use Rattle.dw_links.specs.Slots.{IsTextPlace, BeginsString};
-ghost use Rattle.dw_links.specs.Targets.{target_of, reach_of};
+ghost use Rattle.dw_links.specs.Targets.{target_of};
 ghost use Rattle.dw_links.specs.ValueTexts.{text_there};
 ghost use Rattle.dw_types.specs.Children.{children_of};
 
@@ -187,14 +187,6 @@ impl<'a> Image<'a> {
         ensures { option_copied result ≡ name_in self.now (entry_of (entries_in self.now) id) }
     {
         self.tables.text(&self.entries, id, DW_AT_name)
-    }
-
-    /// The entry that a value in a unit refers to. None if the value is no reference. An attribute's own is `target`.
-    pub fn reach(&self, unit: usize, value: &Value<'_>) -> Option<EntryId>
-        requires { unit < unit_count self.now }
-        ensures { result ≡ reach_of (entries_in self.now) (placed (units_in self.now)) unit (view value.now) }
-    {
-        self.tables.reach(&self.entries, unit, value)
     }
 
     /// The children of an entry, in rising offset.
