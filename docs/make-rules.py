@@ -8,7 +8,8 @@ The table has a line for each rule: its code, its name, the sentence that says w
 it names, whether it names an attribute, and how a valid file has it. From it come the tables of RULES.md and
 REPORTS.md, the lists of dwv.1, the texts of `explain` and of SARIF (contrib/dwv_tools/rules.txt), those of the Rust
 crate, the enums of rules in the code with their codes, names and groups, what specs/ say of these, and the comments of
-specs/ that say what a rule is. In a comment the sentence is the first paragraph.
+specs/ that say what a rule is. In a comment the sentence is the first paragraph. The smallest files of the rules on
+types come from tests/rows/types.txt into RULES.md.
 
 The other table has a line for each code: its name, what uses it (the code of the checks, or the rules of specs/ too),
 whether a tag is that of a type, and of a form its variant, its first version, and its layout in words and as specs/
@@ -39,6 +40,8 @@ ENUMS = {
 FAULTS = [file for file, _, _ in ENUMS.values()]
 # Chapters that name a rule above a definition.
 SPECS = [f"crates/dw_links/specs/{chapter}.antt" for chapter in ("Classes", "References")]
+# The rows of tests in which a row that is named after a rule has its smallest file.
+ROWS = "tests/rows/types.txt"
 
 
 class Rule:
@@ -117,6 +120,24 @@ def page_table(rules):
     used = [k for k in range(len(titles)) if any(row[k] for row in rows)]
     lines = [[row[k] for k in used] for row in [titles, ["---"] * len(titles), *rows]]
     return ["", *("|".join(["", *(f" {it} " if it != "---" else it for it in line), ""]) for line in lines), ""]
+
+
+def smallest_files(rules):
+    """The rows that are named after rules, each after the parts that no row before it has."""
+    blocks, found = (TOP / ROWS).read_text().rstrip("\n").split("\n\n"), []
+    for rule in rules:
+        for row in (it for it in blocks if re.search(rf"(?m)^row {rule.code} {rule.name}\b", it)):
+            words = set(re.findall(r"\w+", row))
+            found += [it for it in blocks if words & set(re.findall(r"(?m)^part (\w+)", it)) and it not in found]
+            found.append(row)
+    return ["", "```text", "\n\n".join(found), "```", ""]
+
+
+def rules_page(text, rules):
+    """RULES.md with its tables, and with the smallest files that are rows."""
+    mark, end = "<!-- made by docs/make-rules.py", "<!-- end -->"
+    text = put(text, f"{mark}:", end, lambda groups: page_table(of(rules, groups)))
+    return put(text, f"{mark}, from {ROWS}:", end, lambda groups: smallest_files(of(rules, groups)))
 
 
 def with_cells(text, rules):
@@ -362,8 +383,7 @@ def made():
     rules = table()
     faults = [rule for rule in rules if rule.letter == "E" or rule.group]
     of_files = [rule for rule in rules if rule.letter != "P"]
-    yield "docs/RULES.md", lambda text: put(text, "<!-- made by docs/make-rules.py:", "<!-- end -->",
-                                            lambda groups: page_table(of(rules, groups)))
+    yield "docs/RULES.md", lambda text: rules_page(text, rules)
     yield "docs/REPORTS.md", lambda text: with_cells(text, of(rules, "P"))
     yield "docs/dwv.1", lambda text: put(text, r'\.\\" made by docs/make-rules.py:', '.\\" end',
                                          lambda groups: manual_list(of(rules, groups)))

@@ -2,9 +2,9 @@
 """Runs the program on the smallest file of each rule: the rows in docs/RULES.md.
 
 A row is named after its rule and must print that rule. Each rule in the tables of the page must have a row: one of the
-page, or for a rule on ranges one of tests/rows/ranges.txt, which tests/rows.py runs. A file that is too large as a
-whole is tried too, if there is memory for it. The script prints one line a row and ends with
-'N passed, N failed, N skipped'.
+page, where `make docs` writes those of tests/rows/types.txt too, or for a rule on ranges one of tests/rows/ranges.txt,
+which tests/rows.py runs. A file that is too large as a whole is tried too, if there is memory for it. The script prints
+one line a row and ends with 'N passed, N failed, N skipped'.
 """
 import os
 import pathlib
