@@ -1,5 +1,6 @@
 #!/usr/bin/env python3
-"""Runs dwv and its peers on the smallest file of each rule, and writes which report it into docs/COMPARISON.md.
+"""Runs dwv and its peers on the smallest file of each rule, and writes which report it into docs/COMPARISON.md, and
+there the list of the rules that none of them reports.
 
 What each prints first is written into bench/out/reports.md.
 
@@ -8,11 +9,13 @@ over a unit that is shorter; if dwv would report another rule, the file stays as
 prints for the sound files of that page is no report.
 """
 import datetime
+import itertools
 import pathlib
 import re
 import shutil
 import subprocess
 import sys
+import textwrap
 
 sys.dont_write_bytecode = True
 sys.path.insert(0, str(pathlib.Path(__file__).resolve().parent.parent / "tests"))
@@ -130,6 +133,25 @@ def compared(tools):
     ]
 
 
+def unreported(text):
+    """The rules that no peer reports by the table of the page. If one reports another file of the rule, the file is
+    named."""
+    lines = [line.strip("|").split("|") for line in re.findall(r"(?m)^\|[A-Z]\d+\|.*$", text)]
+    reported = {rule for rule, _, *marks in lines if "yes" in marks}
+    names = dict.fromkeys(f"{rule} ({name.partition(', ')[2] or name})" if rule in reported else rule
+                          for rule, name, *marks in lines if "yes" not in marks)
+    runs = itertools.groupby(enumerate(names), lambda it: (it[1][0], int(it[1][1:].split()[0]) - it[0], ")" in it[1]))
+    for run in ([name for _, name in run] for _, run in runs):
+        yield f"{run[0]} to {run[-1]}" if run[2:] else ", ".join(run)
+
+
+def with_list(text):
+    """The page with its list of the rules that no peer reports."""
+    begin, end = r"  <!-- the rules, made by bench/compare.py -->\n", r"  <!-- end -->\n"
+    lines = textwrap.wrap(f"{', '.join(unreported(text))}.", 120, initial_indent="  ", subsequent_indent="  ")
+    return re.sub(f"(?s)({begin}).*?({end})", lambda it: "\n".join([it[1] + lines[0], *lines[1:], it[2]]), text)
+
+
 def main():
     common.build()
     tools = [tool for tool in TOOLS if tool == "dwv check" or shutil.which(tool.split(" ")[0])]
@@ -139,8 +161,10 @@ def main():
         about += f" Not installed: {', '.join(absent)}."
     marks, said = compared(tools)
     common.rewrite(PAGE, [about, "", *marks])
+    PAGE.write_text(with_list(PAGE.read_text()))
     REPORTS.parent.mkdir(exist_ok=True)
     REPORTS.write_text("".join(f"{line}\n" for line in [about, "", *said]))
 
 
-main()
+if __name__ == "__main__":
+    main()

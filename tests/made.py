@@ -1,8 +1,8 @@
 #!/usr/bin/env python3
 """Tests that `make docs` would change nothing, that docs/rules.tsv has the rules of the code, that each rule has one
 wording, that docs/where.py finds its definition and its check, that a crate has the names in what PROOFS.md claims of
-it, that each definition in the tables has a sentence, that READING.md shows the code as it is, and that each link
-between pages has a place.
+it, that each definition in the tables has a sentence, that READING.md shows the code as it is, that COMPARISON.md lists
+the rules that no peer reports by its table, and that each link between pages has a place.
 
 It prints one line a test and ends with 'N passed, N failed, N skipped'.
 """
@@ -86,6 +86,9 @@ def main():
     tally.same("definitions in the tables without a sentence", [it for it in lines if it.endswith("`:")], [])
     tally.same("names in what PROOFS.md claims", list(unknown_names()), [])
     tally.same("code in READING.md", list(unlike_the_code()), [])
+    compare = runpy.run_path(str(TOP / "bench/compare.py"))
+    page = compare["PAGE"].read_text()
+    tally.add("the list of COMPARISON.md", None if compare["with_list"](page) == page else "it is not as the table")
     for path in sorted(PAGES):
         tally.same(f"links of {path.relative_to(TOP)}", list(broken_links(path)), [])
     return tally.end()

@@ -50,8 +50,8 @@ pub record HasReferences (units : List DebugUnit) : Type 0 where
   pub targets : HaveTargets units
   pub types : HaveTypes units
 
--- containment: arrays and members have their types and no count is below 0; no list of steps by value returns to its
--- start, where a step is from an entry to what it holds as its type, as the type of a plain member, or by its signature
+-- containment: no entry violates a rule on shapes (Y); no list of steps by value returns to its start, where a step is
+-- from an entry to what it holds as its type, as the type of a plain member, or by its signature
 pub record HoldsNoneOfItself (units : List DebugUnit) : Type 0 where
   pub shapes : HasNone (ShapeFailures units)
   pub steps : (from to : ℕ) → IsStep (by_value units) from to ↔ IsStepByValue units from to
