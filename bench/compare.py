@@ -147,7 +147,7 @@ def unreported(text):
 
 def with_list(text):
     """The page with its list of the rules that no peer reports."""
-    begin, end = r"  <!-- the rules, made by bench/compare.py -->\n", r"  <!-- end -->\n"
+    begin, end = r"  <!-- list made by bench/compare.py -->\n", r"  <!-- end -->\n"
     lines = textwrap.wrap(f"{', '.join(unreported(text))}.", 120, initial_indent="  ", subsequent_indent="  ")
     return re.sub(f"(?s)({begin}).*?({end})", lambda it: "\n".join([it[1] + lines[0], *lines[1:], it[2]]), text)
 
