@@ -9,7 +9,6 @@ over a unit that is shorter; if dwv would report another rule, the file stays as
 prints for the sound files of that page is no report.
 """
 import datetime
-import itertools
 import pathlib
 import re
 import shutil
@@ -134,21 +133,25 @@ def compared(tools):
 
 
 def unreported(text):
-    """The rules that no peer reports by the table of the page. If one reports another file of the rule, the file is
-    named."""
+    """The rules that no peer reports, by the page's table. A file is named if a peer reports another of its rule."""
     lines = [line.strip("|").split("|") for line in re.findall(r"(?m)^\|[A-Z]\d+\|.*$", text)]
     reported = {rule for rule, _, *marks in lines if "yes" in marks}
     names = dict.fromkeys(f"{rule} ({name.partition(', ')[2] or name})" if rule in reported else rule
                           for rule, name, *marks in lines if "yes" not in marks)
-    runs = itertools.groupby(enumerate(names), lambda it: (it[1][0], int(it[1][1:].split()[0]) - it[0], ")" in it[1]))
-    for run in ([name for _, name in run] for _, run in runs):
-        yield f"{run[0]} to {run[-1]}" if run[2:] else ", ".join(run)
+    runs = []
+    for name in names:
+        last = re.fullmatch(r"([A-Z])(\d+)", runs[-1][-1]) if runs else None
+        if last and name == f"{last[1]}{int(last[2]) + 1}":
+            runs[-1].append(name)
+        else:
+            runs.append([name])
+    return ", ".join(f"{run[0]} to {run[-1]}" if run[2:] else ", ".join(run) for run in runs)
 
 
 def with_list(text):
     """The page with its list of the rules that no peer reports."""
     begin, end = r"  <!-- list made by bench/compare.py -->\n", r"  <!-- end -->\n"
-    lines = textwrap.wrap(f"{', '.join(unreported(text))}.", 120, initial_indent="  ", subsequent_indent="  ")
+    lines = textwrap.wrap(f"{unreported(text)}.", 120, initial_indent="  ", subsequent_indent="  ")
     return re.sub(f"(?s)({begin}).*?({end})", lambda it: "\n".join([it[1] + lines[0], *lines[1:], it[2]]), text)
 
 
