@@ -17,10 +17,11 @@ use Rattle.dw_links.proofs.ClassLemmas.{unit_there}
 use Rattle.dw_links.proofs.TableLemmas.{first_within}
 use Rattle.dw_links.proofs.UnitToAll.{unit_below}
 use Rattle.dw_image.specs.declared.image.Image.{Image}
-use Rattle.dw_image.specs.Images.{entries_in, sections_in, unit_count, units_in}
+use Rattle.dw_image.specs.Images.{entries_in, entry_count, sections_in, unit_count, units_in}
 use Rattle.dwv_c.specs.declared.meaning.Meaning.TheVariants.{Address, Text}
 use Rattle.dwv_c.specs.declared.places.Span.{Span}
 use Rattle.dwv_c.specs.Meanings.{MeansIn}
+use Rattle.dwv_c.specs.TableState.{IsUnitOf}
 use Rattle.dwv_c.specs.declared.places.Holders.{Holders}
 use Rattle.dwv_c.specs.SectionPlaces.{IsTextSpan}
 use Rattle.dwv_c.specs.ValueRows.{value_place, value_text}
@@ -60,13 +61,15 @@ unit_fits i unit below =
       i.entries.sections.info_fits,
     )
 
--- the unit of an entry that is looked up is one of the units
-pub unit_looked_up : (i : Image) (es : Entries) (found : Entry) (id unit : ℕ) → es ≡ i.entries
-    → found ≡ entry_of (all_entries es) id → id < length (entries_in i) → unit ≡ found.unit → unit < unit_count i
+-- the unit of an entry that is looked up
+pub unit_found : (i : Image) (es : Entries) (found : Entry) (number id unit : ℕ) → es ≡ i.entries
+    → found ≡ entry_of (all_entries es) id → number < entry_count i → id ≡ number → unit ≡ found.unit
+    → IsUnitOf i unit id
 unfolding units_in
-unit_looked_up i es found id unit same is within told =
-    unit_below i.entries id unit within
-    (told ∙ ap (λ (e : Entry). e.unit) (is ∙ ap (λ (x : Entries). entry_of (all_entries x) id) same))
+unit_found i es found number id unit same is below named told =
+    let within : id < length (entries_in i) = rw named below in
+    let its = told ∙ ap (λ (e : Entry). e.unit) (is ∙ ap (λ (x : Entries). entry_of (all_entries x) id) same) in
+    record { known = unit_below i.entries id unit within its; within = within; in_unit = its }
 
 -- the first entry of a unit is one of the entries
 pub first_in : (i : Image) (number : ℕ) (told : UnitHead) → number < unit_count i

@@ -1,17 +1,16 @@
 -- What is known of the values of entries of an image: each text and each address is there, and each reference has a
 -- target, since no rule fails.
-use Rattle.std.proofs.Common.{rules, ◌≡◌, ℕ, ◌<◌, length, Some, None, slice_get, Option, refl, true, false, IfNone, inr, ap, ◌∙◌}
-use Rattle.std.proofs.lemmas.Bool.{false_from_ne_true}
+use Rattle.std.proofs.Common.{rules, ◌≡◌, ℕ, ◌<◌, None, slice_get, refl, true, inr, ap, ◌∙◌}
 use Rattle.std.proofs.lemmas.Option.{slice_get-get_or}
 use Rattle.dw_forms.specs.Value.{Datum, ref_info, ref_unit, ref_sig}
 use Rattle.dw_forms.specs.declared.rule.Rule.TheVariants.{NoEntry, NoSignature}
 use Rattle.dw_entries.specs.Lookups.{entry_head}
 use Rattle.dw_entries.proofs.EntryFacts.{entries_rise}
 use Rattle.dw_entries.proofs.Firsts.{OffsetsRise, Rule, HasNone}
+use Rattle.dw_links.specs.LinkLaws.{HasItsText}
 use Rattle.dw_links.specs.References.{ReferenceFails, ReferenceFailures, is_reference_value}
-use Rattle.dw_links.specs.Tables.{LiesIn}
 use Rattle.dw_links.proofs.LinkedEntries.{reach_of}
-use Rattle.dw_links.proofs.TableLemmas.{entry_of, no_entry, placed, unit_there}
+use Rattle.dw_links.proofs.TableLemmas.{entry_of, no_entry, placed, placed_of, unit_there}
 use Rattle.dw_links.proofs.TargetLemmas.{type_is}
 use Rattle.dw_image.specs.declared.image.Image.{Image}
 use Rattle.dw_image.specs.Images.{entries_in, units_in, sections_in, unit_count}
@@ -19,8 +18,8 @@ use Rattle.dw_image.proofs.JoinLemmas.{none_at, sound_image}
 use Rattle.dwv_c.specs.Meanings.{HasValue}
 
 -- a text or an address is there
-pub lies : (i : Image) (unit : ℕ) → unit < unit_count i → (v : Datum) → HasValue i unit v → LiesIn i.entries unit v
-unfolding units_in sections_in
+pub lies : (i : Image) (unit : ℕ) → unit < unit_count i → (v : Datum) → HasValue i unit v
+    → HasItsText (sections_in i) (entries_in i) (placed_of (placed (units_in i)) unit) v
 lies i unit below v x =
     (sound_image i).sound.texts x.id (entry_of (entries_in i) x.id)
     (slice_get-get_or (entries_in i) x.id no_entry x.within) x.position x.attribute v x.has _
@@ -62,8 +61,6 @@ module _ (i : Image) (unit : ℕ) where
       )
   no_target _ x is none = absurd cc
 
-  -- a value without a target is no reference
-  pub no_reference : (v : Datum) → HasValue i unit v
-      → None ≡ reach_of (entries_in i) (placed (units_in i)) unit v → is_reference_value v ≡ false
-  no_reference v x is =
-      false_from_ne_true (is_reference_value v) (λ yes. no_target v x yes (search (rules, x.in_unit)))
+  pub has_target : (v : Datum) → HasValue i unit v → is_reference_value v ≡ true
+      → None ≡ reach_of (entries_in i) (placed (units_in i)) unit v → ⊥
+  has_target v x asked is = no_target v x asked (search (rules, x.in_unit))

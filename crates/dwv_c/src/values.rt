@@ -97,6 +97,7 @@ impl<'i, 'a> Resolver<'i, 'a> {
     }
 
     /// What a reference means.
+    #[tactic(auto, unfolding(dw_image::specs::Images::units_in))]
     fn reference(&self, unit: usize, value: &Value<'a>) -> Meaning
         requires unit { unit < unit_count self.now.image.now }
         requires value { HasValue self.now.image.now unit (view value.now) }
@@ -121,6 +122,7 @@ impl<'i, 'a> Resolver<'i, 'a> {
     }
 
     /// What a value means. Its bytes, if it has some itself, end at this offset of .debug_info.
+    #[tactic(auto, unfolding(dw_image::specs::Images::units_in, dw_image::specs::Images::sections_in))]
     pub fn meaning(&self, unit: usize, value: &Value<'a>, end: usize) -> Meaning
         requires unit { unit < unit_count self.now.image.now }
         requires value { HasValue self.now.image.now unit (view value.now) }

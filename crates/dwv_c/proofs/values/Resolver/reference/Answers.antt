@@ -3,7 +3,14 @@ use Rattle.dw_forms.specs.Value.{view}
 use Rattle.dw_entries.specs.Entries.{placed}
 use Rattle.dw_image.specs.Images.{entries_in, units_in}
 use Rattle.dw_links.specs.Targets.{reach_of}
+use Rattle.dwv_c.proofs.ValueLemmas.{has_target}
 use Rattle.dwv_c.proofs.values.Resolver.reference.Goals as goal
+
+pub unreachable-requires : goal.unreachable-requires
+unfolding units_in
+unreachable-requires c =
+    has_target c.args.self.now.image.now c.args.unit (view c.args.value.now) c.requires.value c.requires.reference
+    (sym c.in-None.is ∙ rw c.scanned.ensures at c.reach.ensures)
 
 pub returns : goal.returns
 unfolding units_in
