@@ -126,39 +126,31 @@ pub place_told : (s : Sections) (entries : List Entry) (units : List PlacedUnit)
     → result ≡ text_place_at s entries units e attribute
 unfolding text_place_at
 place_told s entries units e p attribute v base result is_p value is_base told =
-    rw (is_p, ← is_base) (go (placed_value_at e attribute) refl)
+    rw (is_p, ← is_base) (go (placed_value_at e attribute) (value ∙ value_placed e attribute) told)
   where
-    go : (found : Option PlacedValue) → placed_value_at e attribute ≡ found
-        → result ≡ option_and_then (λ (w : PlacedValue). text_place_of s base w.value w.end)
-        (placed_value_at e attribute)
-    go None none =
-        let both : Some v ≡ None = value ∙ value_placed e attribute
-        ∙ ap (option_map (λ (w : PlacedValue). w.value)) none in
-        absurd cc
-    go (Some w) some =
-        let both : Some v ≡ Some w.value = value ∙ value_placed e attribute
-        ∙ ap (option_map (λ (x : PlacedValue). x.value)) some in
+    go : (found : Option PlacedValue) → Some v ≡ option_map (λ (w : PlacedValue). w.value) found
+        → ((end : ℕ) → option_map (λ (w : PlacedValue). w.end) found ≡ Some end → result ≡ text_place_of s base v end)
+        → result ≡ option_and_then (λ (w : PlacedValue). text_place_of s base w.value w.end) found
+    go None some at = absurd cc
+    go (Some w) some at =
+        let both : Some v ≡ Some w.value = some in
         let same : v ≡ w.value = cc in
-        told w.end (ap (option_map (λ (x : PlacedValue). x.end)) some)
-        ∙ ap (λ (d : Datum). text_place_of s base d w.end) same
-        ∙ sym (ap (option_and_then (λ (x : PlacedValue). text_place_of s base x.value x.end)) some)
+        rw (← same) (at w.end refl)
 
 -- of an attribute that it lacks
 pub place_none : (s : Sections) (entries : List Entry) (units : List PlacedUnit) (e : Entry) (attribute : ℕ)
     → None ≡ value_at_entry e attribute → None ≡ text_place_at s entries units e attribute
 unfolding text_place_at
-place_none s entries units e attribute none = go (placed_value_at e attribute) refl (slice_get units e.unit)
+place_none s entries units e attribute none =
+    go (placed_value_at e attribute) (none ∙ value_placed e attribute) (slice_get units e.unit)
   where
-    go : (found : Option PlacedValue) → placed_value_at e attribute ≡ found → (unit : Option PlacedUnit)
-        → ◌≡◌ {A = Option TextPlace} None (option_and_then (λ (p : PlacedUnit). option_and_then
-        (λ (v : PlacedValue). text_place_of s (base_in entries p DW_AT_str_offsets_base) v.value v.end)
-        (placed_value_at e attribute)) unit)
-    go found is None = refl
-    go None is (Some p) = rw is refl
-    go (Some w) is (Some p) =
-        let both : None ≡ Some w.value = none ∙ value_placed e attribute
-        ∙ ap (option_map (λ (x : PlacedValue). x.value)) is in
-        absurd cc
+    go : (found : Option PlacedValue) → None ≡ option_map (λ (w : PlacedValue). w.value) found
+        → (unit : Option PlacedUnit) → ◌≡◌ {A = Option TextPlace} None (option_and_then (λ (p : PlacedUnit).
+        option_and_then (λ (v : PlacedValue).
+        text_place_of s (base_in entries p DW_AT_str_offsets_base) v.value v.end) found) unit)
+    go None is None = refl
+    go None is (Some p) = refl
+    go (Some w) is unit = absurd cc
 
 -- ---- the attribute that a value is found at
 
@@ -183,39 +175,6 @@ found_value (x ∷ values) attribute v is =
 
 -- ---- what no failure says
 
--- no rule fails at an attribute
-pub passes_at : (sections : Sections) (us : List DebugUnit) (id : ℕ) (e : Entry) (p : PlacedUnit)
-    (position attribute : ℕ) (v : Datum) → HasNone (StringFailures sections us) → slice_get (entries_of us) id ≡ Some e
-    → slice_get (placed us) e.unit ≡ Some p
-    → HasAttribute e position attribute v → (rule : Rule)
-    → StringFailsIn sections p.unit.header (base_in (entries_of us) p DW_AT_str_offsets_base)
-    (base_in (entries_of us) p DW_AT_addr_base) (entry_head e) attribute v rule → ⊥
-passes_at sections us id e p position attribute v none is is_unit has rule fails =
-    none (record { rule = rule; place = at_attribute e.at position; attribute = attribute })
-    (record {
-      number = id;
-      item = e;
-      is_item = is;
-      fails =
-          record {
-            position = position;
-            value = v;
-            has = has;
-            place = refl;
-            fails = record { unit = p; in_unit = is_unit; fails = fails };
-          };
-    })
-
-pub passes_string : (sections : Sections) (us : List DebugUnit) (id : ℕ) (e : Entry) (p : PlacedUnit) (attribute : ℕ)
-    (v : Datum) → HasNone (StringFailures sections us) → slice_get (entries_of us) id ≡ Some e
-    → slice_get (placed us) e.unit ≡ Some p
-    → value_at_entry e attribute ≡ Some v → (rule : Rule)
-    → StringFailsIn sections p.unit.header (base_in (entries_of us) p DW_AT_str_offsets_base)
-    (base_in (entries_of us) p DW_AT_addr_base) (entry_head e) attribute v rule → ⊥
-passes_string sections us id e p attribute v none is is_unit value =
-    let (position, here) = found_value (values_of e.head) attribute v value in
-    passes_at sections us id e p position attribute v none is is_unit here
-
 -- a base is what the first entry of a unit of version 5 says
 pub record SaysBase (es : List Entry) (p : PlacedUnit) (attribute base : ℕ) : Type 0 where
   pub version : version_of p.unit.header.kind ≢ 4
@@ -231,20 +190,6 @@ base_said : (es : List Entry) (p : PlacedUnit) (attribute base : ℕ) → base_i
     → SaysBase es p attribute base
 base_said es p attribute base is = search (rules, option_and_then_some, offset_said)
 
--- so no rule on bases fails at it
-pub sound : (sections : Sections) (us : List DebugUnit) (k : ℕ) (p : PlacedUnit) (attribute base : ℕ) (rule : Rule)
-    → HasNone (StringFailures sections us) → slice_get (placed us) k ≡ Some p
-    → base_in (entries_of us) p attribute ≡ Some base
-    → BaseFails sections p.unit.header attribute base rule → ⊥
-sound sections us k p attribute base rule none is said fails =
-    let says = base_said (entries_of us) p attribute base said in
-    let has = first_entry us k p is in
-    let same = same_some (slice_get (entries_of us) p.first) has.entry says.first has.is_entry says.is_first in
-    let unit = sym (ap (λ (e : Entry). e.unit) same) ∙ has.is_first.unit in
-    passes_string sections us p.first says.first p attribute (sec_offset base) none says.is_first
-    (ap (slice_get (placed us)) unit ∙ is) says.value rule
-    (sym (ap (λ (e : Entry). e.parent) same) ∙ has.is_first.parent, says.version, fails)
-
 -- a contribution is at the base, or none is
 contribution_or_not : (section : List ℕ) (slot mark base : ℕ) → Decided (IsContribution section slot mark base)
 contribution_or_not section slot mark base = search (rules, decide_le, decide_lt, decide_eq)
@@ -252,8 +197,6 @@ contribution_or_not section slot mark base = search (rules, decide_le, decide_lt
 if_each : (o : Option ℕ) (P : ℕ → Type 0) → ((n : ℕ) → o ≡ Some n → P n) → IfSome o P
 if_each None P each = tt
 if_each (Some n) P each = each n refl
-
--- ---- what no failure means
 
 string_held : (s : Sections) (base : Option ℕ) (index : ℕ) → IfSome base (IsStringContribution s)
     → ((rule : Rule) → StringIndexFails s base index rule → ⊥) → HasStringAt s base index
@@ -278,29 +221,65 @@ address_held s header (Some base) index holds passes = (
       (λ above. passes AddrIndex (holds, grind (arith, above))),
 )
 
-module _ (s : Sections) (us : List DebugUnit) (none : HasNone (StringFailures s us)) (id : ℕ) (e : Entry)
-    (p : PlacedUnit) (is : slice_get (entries_of us) id ≡ Some e) (in_unit : slice_get (placed us) e.unit ≡ Some p)
-  where
-    held : (position attribute : ℕ) (v : Datum) → slice_get (values_of e.head) position ≡ Some (attribute, v)
-        → HasItsText s (entries_of us) p v
+module _ (s : Sections) (us : List DebugUnit) (none : HasNone (StringFailures s us)) where
+  abbrev Fails : Entry → PlacedUnit → ℕ → Datum → Rule → Type 0
+  Fails e p = StringFailsIn s p.unit.header (base_in (entries_of us) p DW_AT_str_offsets_base)
+      (base_in (entries_of us) p DW_AT_addr_base) (entry_head e)
+
+  -- no rule fails at an attribute
+  passes_at : (id : ℕ) (e : Entry) (p : PlacedUnit) → slice_get (entries_of us) id ≡ Some e
+      → slice_get (placed us) e.unit ≡ Some p → (position attribute : ℕ) (v : Datum)
+      → HasAttribute e position attribute v → (rule : Rule) → Fails e p attribute v rule → ⊥
+  passes_at id e p is is_unit position attribute v has rule fails =
+      none (record { rule = rule; place = at_attribute e.at position; attribute = attribute })
+      (record {
+        number = id;
+        item = e;
+        is_item = is;
+        fails =
+            record {
+              position = position;
+              value = v;
+              has = has;
+              place = refl;
+              fails = record { unit = p; in_unit = is_unit; fails = fails };
+            };
+      })
+
+  -- so no rule on bases fails at one
+  sound : (k : ℕ) (p : PlacedUnit) (attribute base : ℕ) (rule : Rule) → slice_get (placed us) k ≡ Some p
+      → base_in (entries_of us) p attribute ≡ Some base → BaseFails s p.unit.header attribute base rule → ⊥
+  sound k p attribute base rule is said fails =
+      let says = base_said (entries_of us) p attribute base said in
+      let has = first_entry us k p is in
+      let same = same_some (slice_get (entries_of us) p.first) has.entry says.first has.is_entry says.is_first in
+      let unit = sym (ap (λ (e : Entry). e.unit) same) ∙ has.is_first.unit in
+      let (position, here) = found_value (values_of says.first.head) attribute (sec_offset base) says.value in
+      passes_at p.first says.first p says.is_first (ap (slice_get (placed us)) unit ∙ is) position attribute _ here rule
+      (sym (ap (λ (e : Entry). e.parent) same) ∙ has.is_first.parent, says.version, fails)
+
+  module _ (id : ℕ) (e : Entry) (p : PlacedUnit) (is : slice_get (entries_of us) id ≡ Some e)
+      (in_unit : slice_get (placed us) e.unit ≡ Some p) where
+    passes : (position attribute : ℕ) (v : Datum) → HasAttribute e position attribute v → (rule : Rule)
+        → Fails e p attribute v rule → ⊥
+    passes = passes_at id e p is in_unit
+
+    held : (position attribute : ℕ) (v : Datum) → HasAttribute e position attribute v → HasItsText s (entries_of us) p v
     held position attribute (str offset) has =
-        sure (ends_or_not s.str.now offset) (passes_at s us id e p position attribute _ none is in_unit has StringEnd)
+        sure (ends_or_not s.str.now offset) (passes position attribute _ has StringEnd)
     held position attribute (line_str offset) has =
-        sure (ends_or_not s.line_str.now offset)
-        (passes_at s us id e p position attribute _ none is in_unit has StringEnd)
+        sure (ends_or_not s.line_str.now offset) (passes position attribute _ has StringEnd)
     held position attribute (str_index index) has =
         string_held s (base_in (entries_of us) p DW_AT_str_offsets_base) index
         (if_each _ _ (λ base named. sure (contribution_or_not s.str_offsets.now 4 0 base)
-        (λ broken. sound s us e.unit p DW_AT_str_offsets_base base BadStrBase none in_unit named
-        (inl (refl, refl, broken)))))
-        (passes_at s us id e p position attribute _ none is in_unit has)
+        (λ broken. sound e.unit p DW_AT_str_offsets_base base BadStrBase in_unit named (inl (refl, refl, broken)))))
+        (passes position attribute _ has)
     held position attribute (addr_index index) has =
         let size : ℕ = p.unit.header.address_size in
         address_held s p.unit.header (base_in (entries_of us) p DW_AT_addr_base) index
         (if_each _ _ (λ base named. sure (contribution_or_not s.addr.now size size base)
-        (λ broken. sound s us e.unit p DW_AT_addr_base base BadAddrBase none in_unit named
-        (inr (refl, refl, broken)))))
-        (passes_at s us id e p position attribute _ none is in_unit has)
+        (λ broken. sound e.unit p DW_AT_addr_base base BadAddrBase in_unit named (inr (refl, refl, broken)))))
+        (passes position attribute _ has)
     held position attribute _ has = tt
 
     pub its_text : (attribute : ℕ) (v : Datum) → value_at_entry e attribute ≡ Some v → HasItsText s (entries_of us) p v

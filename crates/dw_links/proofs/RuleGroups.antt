@@ -57,7 +57,7 @@ pub no_signature : (entries : Entries) (unit : ℕ) (v : Datum)
     → reach_of (all_entries entries) (all_units entries) unit v ≡ None → NoSignatureThere (all_units entries) v
 no_signature entries unit (ref_sig s) none is nowhere = λ number has.
     let us = units_of entries in
-    let (id, reaches) = by_signature us unit s _ refl (entries_rise _ us entries.scanned.1.spells.are) none
+    let (id, reaches) = by_signature us none unit s _ refl (entries_rise _ us entries.scanned.1.spells.are)
     (λ unsigned. unsigned number has) in
     none-some id (sym nowhere ∙ reaches)
 no_signature entries unit _ none is nowhere = absurd cc
@@ -69,20 +69,6 @@ not_unsigned entries units unit (ref_sig s) id reaches none =
     let found = at_type entries units s id reaches in none found.number found.has
 not_unsigned entries units unit _ id reaches none = none
 
--- the kinds of its form and of its target are permitted
-not_wrong : (entries : List Entry) (head : EntryHead) (a : ℕ) (v : Datum) (id : ℕ) → true ≡ permits_form head a v
-    → true ≡ permits head a (entry_of entries id) → IsWrongKind entries head a v (Some id) → ⊥
-not_wrong entries head a v id form kind wrong =
-    elim wrong [
-      | inl other ↦ let both : true ≡ false = form ∙ other in cc
-      | inr other ↦
-          let some : Some id ≡ Some other.id = other.reaches in
-          let same : id ≡ other.id = cc in
-          let target : entry_of entries id ≡ other.target = ap (entry_of entries) same
-          ∙ get_or_from_slice_get entries other.id other.target no_entry other.is_target in
-          let both : true ≡ false = kind ∙ ap (permits head a) target ∙ other.wrong in cc
-    ]
-
 -- a sibling attribute reaches the next sibling
 pub right_sibling : (next reached : Option ℕ) (id : ℕ) → reached ≡ Some id → next ≡ Some id → IsOtherThan next reached
     → ⊥
@@ -93,41 +79,48 @@ pub other_sibling : (next reached : Option ℕ) (id : ℕ) → reached ≡ Some 
 other_sibling None reached id reaches other = tt
 other_sibling (Some n) reached id reaches other = (id, reaches, λ same. other (ap (λ (i : ℕ). Some i) (sym same)))
 
-no_entry_not : (entries : List Entry) (units : List PlacedUnit) (unit : ℕ) (v : Datum) (id : ℕ)
-    → reach_of entries units unit v ≡ Some id → NoEntryThere v (reach_of entries units unit v) → ⊥
-no_entry_not entries units unit v id reaches none = none-some id (sym none.1 ∙ reaches)
+module _ (entries : List Entry) (units : List PlacedUnit) (head : EntryHead) (a : ℕ) (v : Datum) (id : ℕ)
+    (reaches : reach_of entries units head.unit v ≡ Some id) where
+  abbrev Fails : Rule → Type 0
+  Fails = ReferenceFails entries units head a v
 
--- four rules are asked of references
-by_rule : (entries : List Entry) (units : List PlacedUnit) (entry : EntryHead) (a : ℕ) (v : Datum) (P : Rule → Type 0)
-    → (ReferenceFails entries units entry a v rule.NoEntry → P rule.NoEntry)
-    → (ReferenceFails entries units entry a v rule.WrongKind → P rule.WrongKind)
-    → (ReferenceFails entries units entry a v rule.NotNextSibling → P rule.NotNextSibling)
-    → (ReferenceFails entries units entry a v rule.NoSignature → P rule.NoSignature)
-    → (r : Rule) → ReferenceFails entries units entry a v r → P r
-by_rule entries units entry a v P p q s t rule.NoEntry fails = p fails
-by_rule entries units entry a v P p q s t rule.WrongKind fails = q fails
-by_rule entries units entry a v P p q s t rule.NotNextSibling fails = s fails
-by_rule entries units entry a v P p q s t rule.NoSignature fails = t fails
-by_rule entries units entry a v P p q s t _ fails = absurd fails.1
+  no_entry_not : NoEntryThere v (reach_of entries units head.unit v) → ⊥
+  no_entry_not none = none-some id (sym none.1 ∙ reaches)
 
-pub least_other : (entries : List Entry) (units : List PlacedUnit) (head : EntryHead) (a : ℕ) (v : Datum) (id : ℕ)
-    → reach_of entries units head.unit v ≡ Some id → true ≡ permits_form head a v
-    → true ≡ permits head a (entry_of entries id) → (r : Rule)
-    → ReferenceFails entries units head a v r → number_of r < 3 → ⊥
-least_other entries units head a v id reaches form kind =
-    let right = not_wrong entries head a v id form kind in search (rules, by_rule, no_entry_not)
+  -- four rules are asked of references
+  by_rule : (P : Rule → Type 0) → (Fails rule.NoEntry → P rule.NoEntry) → (Fails rule.WrongKind → P rule.WrongKind)
+      → (Fails rule.NotNextSibling → P rule.NotNextSibling) → (Fails rule.NoSignature → P rule.NoSignature) → (r : Rule)
+      → Fails r → P r
+  by_rule P p q s t rule.NoEntry fails = p fails
+  by_rule P p q s t rule.WrongKind fails = q fails
+  by_rule P p q s t rule.NotNextSibling fails = s fails
+  by_rule P p q s t rule.NoSignature fails = t fails
+  by_rule P p q s t _ fails = absurd fails.1
 
-pub least_none : (entries : List Entry) (units : List PlacedUnit) (head : EntryHead) (a : ℕ) (v : Datum) (id : ℕ)
-    → reach_of entries units head.unit v ≡ Some id → true ≡ permits_form head a v
-    → true ≡ permits head a (entry_of entries id)
-    → ((a ≡ 1) × IsOtherThan head.next_sibling (reach_of entries units head.unit v) → ⊥)
-    → (r : Rule) → ReferenceFails entries units head a v r → ⊥
-least_none entries units head a v id reaches form kind next =
-    by_rule entries units head a v (λ r. ⊥) (λ f. no_entry_not entries units head.unit v id reaches f.1)
-    (λ f. not_wrong entries head a v id form kind (subst (IsWrongKind entries head a v) reaches f.1)) (λ f. next f.1)
-    (λ f. not_unsigned entries units head.unit v id reaches f.1)
+  module _ (form : true ≡ permits_form head a v) (kind : true ≡ permits head a (entry_of entries id)) where
+    -- the kinds of its form and of its target are permitted
+    not_wrong : IsWrongKind entries head a v (Some id) → ⊥
+    not_wrong wrong =
+        elim wrong [
+          | inl other ↦ let both : true ≡ false = form ∙ other in cc
+          | inr other ↦
+              let some : Some id ≡ Some other.id = other.reaches in
+              let same : id ≡ other.id = cc in
+              let target : entry_of entries id ≡ other.target = ap (entry_of entries) same
+              ∙ get_or_from_slice_get entries other.id other.target no_entry other.is_target in
+              let both : true ≡ false = kind ∙ ap (permits head a) target ∙ other.wrong in cc
+        ]
 
-pub wrong_first : (entries : List Entry) (units : List PlacedUnit) (head : EntryHead) (a : ℕ) (v : Datum) (id : ℕ)
-    → is_reference_value v ≡ true → reach_of entries units head.unit v ≡ Some id
-    → IsWrongKind entries head a v (Some id) → IsLeast (ReferenceFails entries units head a v) (Some rule.WrongKind)
-wrong_first entries units head a v id reference reaches wrong = search (rules, by_rule, no_entry_not)
+    pub least_other : (r : Rule) → Fails r → number_of r < 3 → ⊥
+    least_other = search (rules, by_rule, no_entry_not, not_wrong)
+
+    pub least_none : ((a ≡ 1) × IsOtherThan head.next_sibling (reach_of entries units head.unit v) → ⊥) → (r : Rule)
+        → Fails r → ⊥
+    least_none next =
+        by_rule (λ r. ⊥) (λ f. no_entry_not f.1)
+        (λ f. not_wrong (subst (IsWrongKind entries head a v) reaches f.1)) (λ f. next f.1)
+        (λ f. not_unsigned entries units head.unit v id reaches f.1)
+
+  pub wrong_first : is_reference_value v ≡ true → IsWrongKind entries head a v (Some id)
+      → IsLeast Fails (Some rule.WrongKind)
+  wrong_first reference wrong = search (rules, by_rule, no_entry_not)

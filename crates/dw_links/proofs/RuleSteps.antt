@@ -171,8 +171,8 @@ module _ (entries : Entries) (e : Entry) (left : List (ℕ × Datum)) where
       → SoFar entries e left kept → ArePassed DoesNotLead left → IsEntryLinked entries e target
   unfolding target_of
   linked_at_end kept target is s passed = record {
-    strings = checked_all (FailsByText entries) DoesNotLead (passes_texts entries) e left s.strings passed;
-    references = checked_all (FailsByTarget entries) DoesNotLead (passes_targets entries) e left s.references passed;
+    strings = checked_all _ _ (passes_texts entries) e left s.strings passed;
+    references = checked_all _ _ (passes_targets entries) e left s.references passed;
     is_target = is ∙ keeps_all (target_by entries (entry_head e)) (values_of e.head) left kept s.keeps passed;
   }
 
@@ -183,15 +183,11 @@ module _ (entries : Entries) (e : Entry) (left : List (ℕ × Datum)) where
         → Reaches entries (entry_head e) item.0 item.1 reached → after ≡ kept_after kept item.0 reached
         → SoFar entries e behind after
     more_so_far after reached r is = record {
-      strings =
-          checked_more (FailsByText entries) DoesNotLead (passes_texts entries) e left behind item.0 item.1
-          s.strings next r.strings;
-      references =
-          checked_more (FailsByTarget entries) DoesNotLead (passes_targets entries) e left behind item.0 item.1
-          s.references next r.references;
+      strings = checked_more _ _ (passes_texts entries) e left behind _ _ s.strings next r.strings;
+      references = checked_more _ _ (passes_targets entries) e left behind _ _ s.references next r.references;
       keeps =
-          rw (is, r.is_target) (keeps_more (target_by entries (entry_head e)) (values_of e.head) left behind kept
-          item.0 item.1 s.keeps next);
+          rw (is, r.is_target) (keeps_more (target_by entries (entry_head e)) (values_of e.head) left behind kept _ _
+          s.keeps next);
     }
 
     -- where a rule fails, that is the first failure of its group
@@ -199,8 +195,8 @@ module _ (entries : Entries) (e : Entry) (left : List (ℕ × Datum)) where
         → IsFirstAtEntry entries e broken
     fails_so_far broken fails =
         elim fails [
-          | inl f ↦ inl (checked_fails (FailsByText entries) DoesNotLead (passes_texts entries) e left behind
-              item.0 item.1 s.strings next f.rule broken f.least f.named)
-          | inr f ↦ inr (checked_fails (FailsByTarget entries) DoesNotLead (passes_targets entries) e left behind
-              item.0 item.1 s.references next f.rule broken f.least f.named)
+          | inl f ↦ inl (checked_fails _ _ (passes_texts entries) e left behind _ _ s.strings next f.rule broken
+              f.least f.named)
+          | inr f ↦ inr (checked_fails _ _ (passes_targets entries) e left behind _ _ s.references next f.rule broken
+              f.least f.named)
         ]

@@ -34,36 +34,40 @@ module _ {X : Type 0} (p : X → Bool) where
 
 -- ---- the string at the front of some bytes, by the bytes before an offset and by the string there
 
--- a string that ends before the offset
-pub span-front : (bytes : List ℕ) (offset : ℕ) (front : StringSpan) → offset ≤ length bytes
-    → IsSpan (string_at (take offset bytes) 0) front → front.len < offset → IsSpan (string_at bytes 0) front
-span-front bytes offset front within is short =
-    let all = length-take-le offset bytes within in
-    let ends = is.long in
-    let same : string_at bytes 0 ≡ string_at (take offset bytes) 0 =
-    ap (before_first (λ (byte : ℕ). byte == 0)) (sym (take-append-drop offset bytes))
-    ∙ before-front (λ (byte : ℕ). byte == 0) (take offset bytes) (drop offset bytes) (omega arith) in
-    rw same is
+module _ (bytes before text : List ℕ) (offset : ℕ) (front : StringSpan) (within : offset ≤ length bytes)
+    (split : before ≡ take offset bytes) (told : text ≡ string_at before 0) (is : IsSpan text front) where
+  here : IsSpan (string_at (take offset bytes) 0) front
+  here = rw (← split, ← told) is
 
--- one that goes on there
-pub span-joined : (bytes : List ℕ) (offset : ℕ) (next front : StringSpan) (both : Bool)
-    → offset ≤ length bytes → IsSpan (string_at (drop offset bytes) 0) next
-    → IsSpan (string_at (take offset bytes) 0) front → offset ≤ front.len → both ≡ (front.words && next.words)
-    → IsSpan (string_at bytes 0) (record { len = offset + next.len; words = both })
-span-joined bytes offset next front both within known is long split =
-    let size = length-take-le offset bytes within in
-    let joined = λ (xs : List ℕ).
-    before-joined (λ (byte : ℕ). byte == 0) (take offset bytes) xs (omega (arith, is.long, size, long)) in
-    search (
-      rules,
-      (joined (drop offset bytes)),
-      (joined []),
-      size,
-      take-append-drop,
-      append-nil,
-      list_all-append,
-      length-append,
-    )
+  -- a string that ends before the offset
+  pub span-front : front.len < offset → IsSpan (string_at bytes 0) front
+  span-front short =
+      let all = length-take-le offset bytes within in
+      let ends = here.long in
+      let same : string_at bytes 0 ≡ string_at (take offset bytes) 0 =
+      ap (before_first (λ (byte : ℕ). byte == 0)) (sym (take-append-drop offset bytes))
+      ∙ before-front (λ (byte : ℕ). byte == 0) (take offset bytes) (drop offset bytes) (omega arith) in
+      rw same here
+
+  -- one that goes on there
+  pub span-joined : (next : StringSpan) (both : Bool) → IsSpan (string_at (drop offset bytes) 0) next
+      → offset ≤ front.len → both ≡ (front.words && next.words)
+      → IsSpan (string_at bytes 0) (record { len = offset + next.len; words = both })
+  span-joined next both known long joint =
+      let size = length-take-le offset bytes within in
+      let part = here in
+      let joined = λ (xs : List ℕ).
+      before-joined (λ (byte : ℕ). byte == 0) (take offset bytes) xs (omega (arith, here.long, size, long)) in
+      search (
+        rules,
+        (joined (drop offset bytes)),
+        (joined []),
+        size,
+        take-append-drop,
+        append-nil,
+        list_all-append,
+        length-append,
+      )
 
 -- what is known of the last k blocks
 pub record SpansTo (section : List ℕ) (k : ℕ) (spans : List StringSpan) (last : StringSpan) : Type 0 where

@@ -132,51 +132,45 @@ pub unit_header : (us : List DebugUnit) (number : ℕ) → number < length us
     → (placed_of (placed us) number).unit.header ≡ (unit_of us number).header
 unit_header us number below = search (rules, unit_placed, slice_get-get_or, get_or_from_slice_get)
 
--- a unit's first entry
-pub first_within : (us : List DebugUnit) (number : ℕ) (told : UnitHead) → number < length us
-    → told ≡ unit_head (placed_of (placed us) number) → told.first < length (entries_of us)
-first_within us number told below tells =
-    let p = placed_of (placed us) number in
-    let has = first_entry us number p (unit_there us number below) in
-    let first : told.first ≡ p.first = ap (λ (x : UnitHead). x.first) tells in
-    let within = slice_get_within (entries_of us) p.first has.entry has.is_entry in
-    omega (arith, first, within)
+module _ (us : List DebugUnit) (number : ℕ) (told : UnitHead) (below : number < length us)
+    (tells : told ≡ unit_head (placed_of (placed us) number)) where
+  abbrev p : PlacedUnit
+  p = placed_of (placed us) number
 
--- it is the one that was told
-first_told : (us : List DebugUnit) (number : ℕ) (told : UnitHead) → number < length us
-    → told ≡ unit_head (placed_of (placed us) number)
-    → (has : HasFirst (entries_of us) (placed_of (placed us) number).first number (placed_of (placed us) number))
-    × (entry_of (entries_of us) told.first ≡ has.entry)
-first_told us number told below tells =
-    let p = placed_of (placed us) number in
-    let has = first_entry us number p (unit_there us number below) in (
-      has,
+  has : HasFirst (entries_of us) p.first number p
+  has = first_entry us number p (unit_there us number below)
+
+  -- a unit's first entry
+  pub first_within : told.first < length (entries_of us)
+  first_within =
+      omega (
+        arith,
+        ap (λ (x : UnitHead). x.first) tells,
+        slice_get_within (entries_of us) p.first has.entry has.is_entry,
+      )
+
+  -- it is the one that was told
+  first_told : entry_of (entries_of us) told.first ≡ has.entry
+  first_told =
       ap (entry_of (entries_of us)) (ap (λ (x : UnitHead). x.first) tells)
-          ∙ get_or_from_slice_get (entries_of us) p.first has.entry no_entry has.is_entry,
-    )
+      ∙ get_or_from_slice_get (entries_of us) p.first has.entry no_entry has.is_entry
 
--- the base that was read
-pub base_read : (us : List DebugUnit) (number attribute : ℕ) (told : UnitHead) (v : Option Value) → number < length us
-    → told ≡ unit_head (placed_of (placed us) number) → (version_of told.header.kind ≡ 4 → ⊥)
-    → option_map view v ≡ value_at_entry (entry_of (entries_of us) told.first) attribute
-    → option_and_then section_offset_in (option_map view v)
-    ≡ base_in (entries_of us) (placed_of (placed us) number) attribute
-base_read us number attribute told v below tells not_4 read =
-    let p = placed_of (placed us) number in
-    let (has, same) = first_told us number told below tells in
-    let value : option_map view v ≡ value_at_entry has.entry attribute =
-    read ∙ ap (λ (e : Entry). value_at_entry e attribute) same in
-    let version : version_of p.unit.header.kind ≡ 4
-    → ⊥ = λ four. not_4 (ap (λ (x : UnitHead). version_of x.header.kind) tells ∙ four) in
-    ap (option_and_then section_offset_in) value
-    ∙ (rw (ne_eqb (version_of p.unit.header.kind) 4 version, has.is_entry) refl)
+  -- the base that was read
+  pub base_read : (attribute : ℕ) (v : Option Value) → (version_of told.header.kind ≡ 4 → ⊥)
+      → option_map view v ≡ value_at_entry (entry_of (entries_of us) told.first) attribute
+      → option_and_then section_offset_in (option_map view v) ≡ base_in (entries_of us) p attribute
+  base_read attribute v not_4 read =
+      ap (option_and_then section_offset_in) (read ∙ ap (λ (e : Entry). value_at_entry e attribute) first_told)
+      ∙ (rw (
+        ne_eqb (version_of p.unit.header.kind) 4
+            (λ four. not_4 (ap (λ (x : UnitHead). version_of x.header.kind) tells ∙ four)),
+        has.is_entry,
+      ) refl)
 
--- the language that was read
-pub language_read : (us : List DebugUnit) (number : ℕ) (told : UnitHead) (v : Option Value) (language : Constant)
-    → number < length us → told ≡ unit_head (placed_of (placed us) number)
-    → option_map view v ≡ value_at_entry (entry_of (entries_of us) told.first) DW_AT_language
-    → language ≡ constant_of (option_map view v) → language ≡ language_of (placed_of (placed us) number)
-language_read us number told v language below tells read is =
-    let (has, same) = first_told us number told below tells in
-    is ∙ ap constant_of (read ∙ ap (λ (e : Entry). value_at_entry e DW_AT_language) same)
-    ∙ ap (λ (h : Head). constant_of (value_in (values_of h) DW_AT_language)) has.is_first.head
+  -- the language that was read
+  pub language_read : (v : Option Value) (language : Constant)
+      → option_map view v ≡ value_at_entry (entry_of (entries_of us) told.first) DW_AT_language
+      → language ≡ constant_of (option_map view v) → language ≡ language_of p
+  language_read v language read is =
+      is ∙ ap constant_of (read ∙ ap (λ (e : Entry). value_at_entry e DW_AT_language) first_told)
+      ∙ ap (λ (h : Head). constant_of (value_in (values_of h) DW_AT_language)) has.is_first.head

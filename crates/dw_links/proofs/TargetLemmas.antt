@@ -20,38 +20,36 @@ past true p n q e = absurd cc
 past false p n q e = ltb-false p n q
 
 -- the place of the first item that passes the test is the position
-pub position_is : {X : Type 0} (test : X → Bool) (xs : List X) (i : ℕ) (x : X) → slice_get xs i ≡ Some x
-    → test x ≡ true → ((j : ℕ) (y : X) → j < i → slice_get xs j ≡ Some y → test y ≡ false)
-    → position_from test 0 xs ≡ Some i
-position_is test xs i x is passes before =
-    let within = slice_get_within xs i x is in
-    let is_i : position_or_len test xs ≡ i = position_or_len_is test xs i x (omega (arith, within))
-    (λ k lt. before k (get_or xs k x) lt (slice_get-get_or xs k x (omega (arith, within, lt))))
-    (λ _. ap test (get_or_from_slice_get xs i x x is) ∙ passes) in
-    sym (position_from-zero test xs) ∙ rw (is_i, lt-ltb i (length xs) within) refl
+module _ {X : Type 0} (test : X → Bool) (xs : List X) where
+  pub position_is : (i : ℕ) (x : X) → slice_get xs i ≡ Some x → test x ≡ true
+      → ((j : ℕ) (y : X) → j < i → slice_get xs j ≡ Some y → test y ≡ false) → position_from test 0 xs ≡ Some i
+  position_is i x is passes before =
+      let within = slice_get_within xs i x is in
+      let is_i : position_or_len test xs ≡ i = position_or_len_is test xs i x (omega (arith, within))
+      (λ k lt. before k (get_or xs k x) lt (slice_get-get_or xs k x (omega (arith, within, lt))))
+      (λ _. ap test (get_or_from_slice_get xs i x x is) ∙ passes) in
+      sym (position_from-zero test xs) ∙ rw (is_i, lt-ltb i (length xs) within) refl
 
--- at the position is such an item
-pub place_is : {X : Type 0} (test : X → Bool) (xs : List X) (k : ℕ) → position_from test 0 xs ≡ Some k
-    → (x : X) × (slice_get xs k ≡ Some x) × (test x ≡ true)
-place_is test xs k is =
-    let (less, same) = cond_some (ltb (position_or_len test xs) (length xs)) (position_or_len test xs) k
-    (position_from-zero test xs ∙ is) in
-    let within = ltb-true (position_or_len test xs) (length xs) less in
-    let (x, is_x) = there xs k (omega (arith, same, within)) in (
-      x,
-      is_x,
-      ap test (sym (get_or_from_slice_get xs k x x is_x) ∙ ap (λ (n : ℕ). get_or xs n x) (sym same))
-          ∙ passes_at_first test xs x within,
-    )
+  -- at the position is such an item
+  pub place_is : (k : ℕ) → position_from test 0 xs ≡ Some k → (x : X) × (slice_get xs k ≡ Some x) × (test x ≡ true)
+  place_is k is =
+      let (less, same) = cond_some (ltb (position_or_len test xs) (length xs)) (position_or_len test xs) k
+      (position_from-zero test xs ∙ is) in
+      let within = ltb-true (position_or_len test xs) (length xs) less in
+      let (x, is_x) = there xs k (omega (arith, same, within)) in (
+        x,
+        is_x,
+        ap test (sym (get_or_from_slice_get xs k x x is_x) ∙ ap (λ (n : ℕ). get_or xs n x) (sym same))
+            ∙ passes_at_first test xs x within,
+      )
 
--- where there is no position, no item passes
-pub none_passes : {X : Type 0} (test : X → Bool) (xs : List X) → position_from test 0 xs ≡ None → (j : ℕ) (y : X)
-    → slice_get xs j ≡ Some y → test y ≡ false
-none_passes test xs none j y at =
-    let all = past (ltb (position_or_len test xs) (length xs)) (position_or_len test xs) (length xs) refl
-    (position_from-zero test xs ∙ none) in
-    ap test (sym (get_or_from_slice_get xs j y y at))
-    ∙ fails_before_first test xs j y (omega (arith, all, slice_get_within xs j y at))
+  -- where there is no position, no item passes
+  pub none_passes : position_from test 0 xs ≡ None → (j : ℕ) (y : X) → slice_get xs j ≡ Some y → test y ≡ false
+  none_passes none j y at =
+      let all = past (ltb (position_or_len test xs) (length xs)) (position_or_len test xs) (length xs) refl
+      (position_from-zero test xs ∙ none) in
+      ap test (sym (get_or_from_slice_get xs j y y at))
+      ∙ fails_before_first test xs j y (omega (arith, all, slice_get_within xs j y at))
 
 -- an answer that is exact both ways is the one that a function gives
 pub answer_is : (Is : ℕ → Type 0) (given answer : Option ℕ) → ((i : ℕ) → given ≡ Some i → Is i)
@@ -78,81 +76,81 @@ found_entry test entries id is =
     let (e, is_e, passes) = place_is test entries id is in
     (slice_get_within entries id e is_e, ap test (get_or_from_slice_get entries id e no_entry is_e) ∙ passes)
 
-pub entry_at_is : (entries : List Entry) (offset id : ℕ) → OffsetsRise entries
-    → IsEntryAt entries offset id → entry_at entries offset ≡ Some id
-unfolding entry_at
-entry_at_is entries offset id rise found =
-    at_offset (λ (e : Entry). e.at == offset) entries offset id rise (λ e. eqb-true e.at offset) found.within
-    (eq-eqb (entry_of entries id).at offset found.begins)
+module _ (entries : List Entry) where
+  pub entry_at_is : (offset id : ℕ) → OffsetsRise entries → IsEntryAt entries offset id
+      → entry_at entries offset ≡ Some id
+  unfolding entry_at
+  entry_at_is offset id rise found =
+      at_offset (λ (e : Entry). e.at == offset) entries offset id rise (λ e. eqb-true e.at offset) found.within
+      (eq-eqb (entry_of entries id).at offset found.begins)
 
-pub there_is : (entries : List Entry) (offset id : ℕ) → entry_at entries offset ≡ Some id
-    → IsEntryAt entries offset id
-unfolding entry_at
-there_is entries offset id is =
-    let found = found_entry (λ (e : Entry). e.at == offset) entries id is in
-    record { within = found.0; begins = eqb-true (entry_of entries id).at offset found.1 }
+  pub there_is : (offset id : ℕ) → entry_at entries offset ≡ Some id → IsEntryAt entries offset id
+  unfolding entry_at
+  there_is offset id is =
+      let found = found_entry (λ (e : Entry). e.at == offset) entries id is in
+      record { within = found.0; begins = eqb-true (entry_of entries id).at offset found.1 }
 
-pub entry_number_is : (entries : List Entry) (unit offset id : ℕ) → OffsetsRise entries
-    → IsEntryIn entries unit offset id
-    → entry_number_at entries unit offset ≡ Some id
-unfolding entry_number_at
-entry_number_is entries unit offset id rise found =
-    let e = entry_of entries id in
-    at_offset (λ (e : Entry). e.unit == unit && e.at == offset) entries offset id rise
-    (λ e is. eqb-true e.at offset (and_parts (e.unit == unit) (e.at == offset) is).1) found.within
-    (rw (eq-eqb e.unit unit found.in_unit, eq-eqb e.at offset found.begins) refl)
+  pub entry_number_is : (unit offset id : ℕ) → OffsetsRise entries → IsEntryIn entries unit offset id
+      → entry_number_at entries unit offset ≡ Some id
+  unfolding entry_number_at
+  entry_number_is unit offset id rise found =
+      let e = entry_of entries id in
+      at_offset (λ (e : Entry). e.unit == unit && e.at == offset) entries offset id rise
+      (λ e is. eqb-true e.at offset (and_parts (e.unit == unit) (e.at == offset) is).1) found.within
+      (rw (eq-eqb e.unit unit found.in_unit, eq-eqb e.at offset found.begins) refl)
 
-pub at_entry_number : (entries : List Entry) (unit offset id : ℕ) → entry_number_at entries unit offset ≡ Some id
-    → IsEntryIn entries unit offset id
-unfolding entry_number_at
-at_entry_number entries unit offset id is =
-    let e = entry_of entries id in
-    let found = found_entry (λ (e : Entry). e.unit == unit && e.at == offset) entries id is in
-    let both = and_parts (e.unit == unit) (e.at == offset) found.1 in
-    record {
-      within = found.0;
-      begins = eqb-true e.at offset both.1;
-      in_unit = eqb-true e.unit unit both.0;
-    }
+  pub at_entry_number : (unit offset id : ℕ) → entry_number_at entries unit offset ≡ Some id
+      → IsEntryIn entries unit offset id
+  unfolding entry_number_at
+  at_entry_number unit offset id is =
+      let e = entry_of entries id in
+      let found = found_entry (λ (e : Entry). e.unit == unit && e.at == offset) entries id is in
+      let both = and_parts (e.unit == unit) (e.at == offset) found.1 in
+      record {
+        within = found.0;
+        begins = eqb-true e.at offset both.1;
+        in_unit = eqb-true e.unit unit both.0;
+      }
 
--- what a search by offset answers
-pub entry_found : (entries : List Entry) (offset : ℕ) (answer : Option ℕ)
-    → OffsetsRise entries → IfSome answer (λ id. (entry_of entries id).at ≡ offset)
-    → IfSome answer (λ id. id < length entries)
-    → IfNone answer (All (λ e. e.at ≢ offset) entries) → answer ≡ entry_at entries offset
-entry_found entries offset None rise found within none =
-    answer_is (IsEntryAt entries offset) (entry_at entries offset) None (there_is entries offset)
-    (λ id. entry_at_is entries offset id rise) tt (λ id found. none id no_entry found.within found.begins)
-entry_found entries offset (Some id) rise found within none =
-    sym (entry_at_is entries offset id rise (record { within = within; begins = found }))
+  -- what a search by offset answers
+  pub entry_found : (offset : ℕ) (answer : Option ℕ) → OffsetsRise entries
+      → IfSome answer (λ id. (entry_of entries id).at ≡ offset) → IfSome answer (λ id. id < length entries)
+      → IfNone answer (All (λ e. e.at ≢ offset) entries) → answer ≡ entry_at entries offset
+  entry_found offset None rise found within none =
+      answer_is (IsEntryAt entries offset) (entry_at entries offset) None (there_is offset)
+      (λ id. entry_at_is offset id rise) tt (λ id found. none id no_entry found.within found.begins)
+  entry_found offset (Some id) rise found within none =
+      sym (entry_at_is offset id rise (record { within = within; begins = found }))
 
 -- ---- entries by their offsets from a header
 
-pub reach_in_unit_is : (entries : List Entry) (units : List PlacedUnit) (unit offset id : ℕ) → OffsetsRise entries
-    → ReachesInUnit entries units unit offset id → reach_in_unit entries units unit offset ≡ Some id
-reach_in_unit_is entries units unit offset id rise reached =
-    rw (slice_get-get_or units unit no_placed reached.unit_within)
-    (entry_number_is entries unit ((placed_of units unit).at + offset) id rise reached.target)
+module _ (entries : List Entry) (units : List PlacedUnit) where
+  pub reach_in_unit_is : (unit offset id : ℕ) → OffsetsRise entries → ReachesInUnit entries units unit offset id
+      → reach_in_unit entries units unit offset ≡ Some id
+  reach_in_unit_is unit offset id rise reached =
+      rw (slice_get-get_or units unit no_placed reached.unit_within)
+      (entry_number_is entries unit ((placed_of units unit).at + offset) id rise reached.target)
 
-pub at_reach_in_unit : (entries : List Entry) (units : List PlacedUnit) (unit offset id : ℕ)
-    → reach_in_unit entries units unit offset ≡ Some id → ReachesInUnit entries units unit offset id
-at_reach_in_unit entries units unit offset id is =
-    option_and_then_some (λ (u : PlacedUnit). entry_number_at entries unit (u.at + offset)) (slice_get units unit) id is
-    (λ u is_u found.
-    let same = get_or_from_slice_get units unit u no_placed is_u in
-    record {
-      unit_within = slice_get_within units unit u is_u;
-      target =
-          at_entry_number entries unit ((placed_of units unit).at + offset) id
-          (ap (λ (x : PlacedUnit). entry_number_at entries unit (x.at + offset)) same ∙ found);
-    })
+  pub at_reach_in_unit : (unit offset id : ℕ) → reach_in_unit entries units unit offset ≡ Some id
+      → ReachesInUnit entries units unit offset id
+  at_reach_in_unit unit offset id is =
+      option_and_then_some (λ (u : PlacedUnit). entry_number_at entries unit (u.at + offset)) (slice_get units unit) id
+      is
+      (λ u is_u found.
+      let same = get_or_from_slice_get units unit u no_placed is_u in
+      record {
+        unit_within = slice_get_within units unit u is_u;
+        target =
+            at_entry_number entries unit ((placed_of units unit).at + offset) id
+            (ap (λ (x : PlacedUnit). entry_number_at entries unit (x.at + offset)) same ∙ found);
+      })
 
-pub reach_in_unit_answer : (entries : List Entry) (units : List PlacedUnit) (unit offset : ℕ) (answer : Option ℕ)
-    → OffsetsRise entries → IfSome answer (ReachesInUnit entries units unit offset)
-    → IfNone answer ((id : ℕ) → ReachesInUnit entries units unit offset id → ⊥)
-    → answer ≡ reach_in_unit entries units unit offset
-reach_in_unit_answer entries units unit offset answer rise =
-    search (rules, answer_is, at_reach_in_unit, reach_in_unit_is)
+  pub reach_in_unit_answer : (unit offset : ℕ) (answer : Option ℕ) → OffsetsRise entries
+      → IfSome answer (ReachesInUnit entries units unit offset)
+      → IfNone answer ((id : ℕ) → ReachesInUnit entries units unit offset id → ⊥)
+      → answer ≡ reach_in_unit entries units unit offset
+  reach_in_unit_answer unit offset answer rise =
+      search (rules, answer_is, at_reach_in_unit, reach_in_unit_is)
 
 -- ---- type units by their signatures
 
@@ -169,100 +167,98 @@ signed_with signature (Some (other, type_offset)) is =
 abbrev signs : ℕ → PlacedUnit → Bool
 signs signature u = is_signature_of signature (type_unit_of u.unit.header.kind)
 
-signature_here : (units : List PlacedUnit) (signature number : ℕ) (u : PlacedUnit) → slice_get units number ≡ Some u
-    → signs signature u ≡ true → HasSignature units signature number
-signature_here units signature number u is passes = search (rules, signed_with)
+module _ (units : List PlacedUnit) (signature : ℕ) where
+  signature_here : (number : ℕ) (u : PlacedUnit) → slice_get units number ≡ Some u → signs signature u ≡ true
+      → HasSignature units signature number
+  signature_here number u is passes = search (rules, signed_with)
 
--- the first unit that is found has the signature
-pub at_first_signed : (units : List PlacedUnit) (signature number : ℕ) → first_signed units signature ≡ Some number
-    → HasSignature units signature number
-unfolding first_signed
-at_first_signed units signature number is =
-    let (u, is_u, passes) = place_is (signs signature) units number is in
-    signature_here units signature number u is_u passes
+  -- the first unit that is found has the signature
+  pub at_first_signed : (number : ℕ) → first_signed units signature ≡ Some number → HasSignature units signature number
+  unfolding first_signed
+  at_first_signed number is =
+      let (u, is_u, passes) = place_is (signs signature) units number is in
+      signature_here number u is_u passes
 
--- a unit that has it, and none before it has, is found first
-pub first_signed_is : (units : List PlacedUnit) (signature number : ℕ) → HasSignature units signature number
-    → ((j : ℕ) → j < number → HasSignature units signature j → ⊥) → first_signed units signature ≡ Some number
-unfolding first_signed
-first_signed_is units signature number has none =
-    search (rules, position_is, is_signed, false_unless, signature_here)
+  -- a unit that has it, and none before it has, is found first
+  pub first_signed_is : (number : ℕ) → HasSignature units signature number
+      → ((j : ℕ) → j < number → HasSignature units signature j → ⊥) → first_signed units signature ≡ Some number
+  unfolding first_signed
+  first_signed_is number has none =
+      search (rules, position_is, is_signed, false_unless, signature_here)
 
--- where none is found, none has the signature
-pub none_signed : (units : List PlacedUnit) (signature : ℕ) → first_signed units signature ≡ None → (number : ℕ)
-    → HasSignature units signature number → ⊥
-unfolding first_signed
-none_signed units signature none number has = search (rules, is_signed, none_passes)
+  -- where none is found, none has the signature
+  pub none_signed : first_signed units signature ≡ None → (number : ℕ) → HasSignature units signature number → ⊥
+  unfolding first_signed
+  none_signed none number has = search (rules, is_signed, none_passes)
 
 -- ---- types by signatures
 
-pub type_of_unit_is : (entries : List Entry) (units : List PlacedUnit) (unit signature type_offset : ℕ) (u : PlacedUnit)
-    (target : Option ℕ) → slice_get units unit ≡ Some u
-    → type_unit_of u.unit.header.kind ≡ Some (signature, type_offset)
-    → reach_in_unit entries units unit type_offset ≡ target → type_of_unit entries units unit ≡ target
-type_of_unit_is entries units unit signature type_offset u target is kind reached = search (rules)
+module _ (entries : List Entry) (units : List PlacedUnit) where
+  pub type_of_unit_is : (unit signature type_offset : ℕ) (u : PlacedUnit) (target : Option ℕ)
+      → slice_get units unit ≡ Some u → type_unit_of u.unit.header.kind ≡ Some (signature, type_offset)
+      → reach_in_unit entries units unit type_offset ≡ target → type_of_unit entries units unit ≡ target
+  type_of_unit_is unit signature type_offset u target is kind reached = search (rules)
 
--- at the type offset of the first type unit that has the signature
-pub at_type : (entries : List Entry) (units : List PlacedUnit) (signature id : ℕ)
-    → option_and_then (type_of_unit entries units) (first_signed units signature) ≡ Some id
-    → ReachesBySignature entries units signature id
-at_type entries units signature id is =
-    option_and_then_some (type_of_unit entries units) (first_signed units signature) id is
-    (λ number found typed.
-    let has = at_first_signed units signature number found in
-    let reached = at_reach_in_unit entries units number has.type_offset id
-    (sym (type_of_unit_is entries units number signature has.type_offset has.unit
-    (reach_in_unit entries units number has.type_offset) has.is_unit has.signed refl) ∙ typed) in
-    let same = get_or_from_slice_get units number has.unit no_placed has.is_unit in
-    record {
-      number = number;
-      has = has;
-      target = subst (λ (u : PlacedUnit). IsEntryIn entries number (u.at + has.type_offset) id) same reached.target;
-    })
+  -- at the type offset of the first type unit that has the signature
+  pub at_type : (signature id : ℕ)
+      → option_and_then (type_of_unit entries units) (first_signed units signature) ≡ Some id
+      → ReachesBySignature entries units signature id
+  at_type signature id is =
+      option_and_then_some (type_of_unit entries units) (first_signed units signature) id is
+      (λ number found typed.
+      let has = at_first_signed units signature number found in
+      let reached = at_reach_in_unit entries units number has.type_offset id
+      (sym (type_of_unit_is number signature has.type_offset has.unit
+      (reach_in_unit entries units number has.type_offset) has.is_unit has.signed refl) ∙ typed) in
+      let same = get_or_from_slice_get units number has.unit no_placed has.is_unit in
+      record {
+        number = number;
+        has = has;
+        target = subst (λ (u : PlacedUnit). IsEntryIn entries number (u.at + has.type_offset) id) same reached.target;
+      })
 
-pub type_is : (entries : List Entry) (units : List PlacedUnit) (signature id : ℕ) → OffsetsRise entries
-    → HaveDistinctSignatures units → ReachesBySignature entries units signature id
-    → option_and_then (type_of_unit entries units) (first_signed units signature) ≡ Some id
-type_is entries units signature id rise distinct reached =
-    let within = slice_get_within units reached.number reached.has.unit reached.has.is_unit in
-    let same = get_or_from_slice_get units reached.number reached.has.unit no_placed reached.has.is_unit in
-    rw (first_signed_is units signature reached.number reached.has
-    (λ j less has. let one = distinct signature j reached.number has reached.has in omega (arith, one, less)))
-    (type_of_unit_is entries units reached.number signature reached.has.type_offset reached.has.unit (Some id)
-    reached.has.is_unit reached.has.signed
-    (reach_in_unit_is entries units reached.number reached.has.type_offset id rise
-    (record {
-      unit_within = within;
-      target =
-          subst (λ (u : PlacedUnit). IsEntryIn entries reached.number (u.at + reached.has.type_offset) id) (sym same)
-          reached.target;
-    })))
+  pub type_is : (signature id : ℕ) → OffsetsRise entries → HaveDistinctSignatures units
+      → ReachesBySignature entries units signature id
+      → option_and_then (type_of_unit entries units) (first_signed units signature) ≡ Some id
+  type_is signature id rise distinct reached =
+      let within = slice_get_within units reached.number reached.has.unit reached.has.is_unit in
+      let same = get_or_from_slice_get units reached.number reached.has.unit no_placed reached.has.is_unit in
+      rw (first_signed_is units signature reached.number reached.has
+      (λ j less has. let one = distinct signature j reached.number has reached.has in omega (arith, one, less)))
+      (type_of_unit_is reached.number signature reached.has.type_offset reached.has.unit (Some id)
+      reached.has.is_unit reached.has.signed
+      (reach_in_unit_is entries units reached.number reached.has.type_offset id rise
+      (record {
+        unit_within = within;
+        target =
+            subst (λ (u : PlacedUnit). IsEntryIn entries reached.number (u.at + reached.has.type_offset) id) (sym same)
+            reached.target;
+      })))
 
--- what is read of all units is the type of a signature
-pub signed_type_is : (entries : List Entry) (units : List PlacedUnit) (signature : ℕ) (o : Option ℕ)
-    → IsSignedType entries units signature (length units) o → o ≡ signed_type entries units signature
-signed_type_is entries units signature None none =
-    ap (option_and_then (type_of_unit entries units))
-    (answer_is (λ i. first_signed units signature ≡ Some i) (first_signed units signature) None (λ i is. is)
-    (λ i is. is) tt (λ i is. let has = at_first_signed units signature i is in
-    none i (slice_get_within units i has.unit has.is_unit) has))
-signed_type_is entries units signature (Some id) found =
-    sym (rw found.2 found.3)
+  -- what is read of all units is the type of a signature
+  pub signed_type_is : (signature : ℕ) (o : Option ℕ) → IsSignedType entries units signature (length units) o
+      → o ≡ signed_type entries units signature
+  signed_type_is signature None none =
+      ap (option_and_then (type_of_unit entries units))
+      (answer_is (λ i. first_signed units signature ≡ Some i) (first_signed units signature) None (λ i is. is)
+      (λ i is. is) tt (λ i is. let has = at_first_signed units signature i is in
+      none i (slice_get_within units i has.unit has.is_unit) has))
+  signed_type_is signature (Some id) found =
+      sym (rw found.2 found.3)
 
--- ---- what a value reaches
+  -- ---- what a value reaches
 
--- what is reached is an entry
-pub reached_within : (entries : List Entry) (units : List PlacedUnit) (unit : ℕ) (v : Datum) (id : ℕ)
-    → reach_of entries units unit v ≡ Some id → id < length entries
-reached_within entries units unit (ref_info offset) id is =
-    (there_is entries offset id is).within
-reached_within entries units unit (ref_unit offset) id is =
-    (at_reach_in_unit entries units unit offset id is).target.within
-reached_within entries units unit (ref_sig signature) id is = (at_type entries units signature id is).target.within
-reached_within entries units unit _ id is = absurd cc
+  -- what is reached is an entry
+  pub reached_within : (unit : ℕ) (v : Datum) (id : ℕ) → reach_of entries units unit v ≡ Some id → id < length entries
+  reached_within unit (ref_info offset) id is =
+      (there_is entries offset id is).within
+  reached_within unit (ref_unit offset) id is =
+      (at_reach_in_unit entries units unit offset id is).target.within
+  reached_within unit (ref_sig signature) id is = (at_type signature id is).target.within
+  reached_within unit _ id is = absurd cc
 
--- so its number is below their count
-pub reach_within : (entries : List Entry) (units : List PlacedUnit) (unit : ℕ) (v : Datum) (answer : Option ℕ)
-    → answer ≡ reach_of entries units unit v → IfSome answer (λ t. t < length entries)
-reach_within entries units unit v None is = tt
-reach_within entries units unit v (Some t) is = search (rules, reached_within)
+  -- so its number is below their count
+  pub reach_within : (unit : ℕ) (v : Datum) (answer : Option ℕ) → answer ≡ reach_of entries units unit v
+      → IfSome answer (λ t. t < length entries)
+  reach_within unit v None is = tt
+  reach_within unit v (Some t) is = search (rules, reached_within)

@@ -1,11 +1,9 @@
 -- Chapter: the text or the address of an attribute of an entry (DWARF 5, 7.26 and 7.27).
 use Rattle.std.specs.Prelude.{ℕ, List, Option, slice_get, option_and_then}
-use Rattle.dw_elf.specs.declared.sections.Sections.{Sections}
 use Rattle.dw_forms.specs.Codes.{DW_AT_str_offsets_base, DW_AT_addr_base}
-use Rattle.dw_entries.specs.Lookups.{value_at_entry, Entry, PlacedUnit}
-use Rattle.dw_links.specs.Bases.{base_in}
+use Rattle.dw_links.specs.Bases.{base_in, value_at_entry, Entry, PlacedUnit}
 use Rattle.dw_entries.specs.ValuePlaces.{PlacedValue, placed_value_at}
-use Rattle.dw_links.specs.ValueTexts.{text_of_value, text_place_of, address_of, TextPlace}
+use Rattle.dw_links.specs.ValueTexts.{text_of_value, text_place_of, address_of, Sections, TextPlace}
 
 -- the text of an attribute of an entry; None where the attribute is absent or no string
 unfoldable pub text_at : Sections → List Entry → List PlacedUnit → Entry → (attribute : ℕ) → Option (List ℕ)

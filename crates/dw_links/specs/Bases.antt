@@ -1,8 +1,8 @@
 -- Chapter: the offset at which a unit's contribution starts (DWARF 5, 7.26 and 7.27).
 use Rattle.std.specs.Prelude.{ℕ, ◌==◌, List, map, Option, None, Some, slice_get, if◌then◌else◌, option_and_then}
 use Rattle.dw_forms.specs.Value.{Datum, sec_offset}
-use Rattle.dw_entries.specs.Header.{version_of}
-use Rattle.dw_entries.specs.Lookups.{value_at_entry, Entry, PlacedUnit}
+pub use Rattle.dw_entries.specs.Header.{version_of}
+pub use Rattle.dw_entries.specs.Lookups.{value_at_entry, Entry, PlacedUnit}
 
 -- the offset into a section that a value is, if its class is that of such offsets
 abbrev pub section_offset_in : Datum → Option ℕ

@@ -2,12 +2,10 @@
 -- The sentences that name a rule are made by docs/make-rules.py from docs/rules.tsv.
 use Rattle.std.specs.Prelude.{◌≡◌, ℕ, false, List, slice_get, Some}
 pub use Rattle.dw_forms.specs.Classes.{class_of, allows_in, is_one_of}
-use Rattle.dw_forms.specs.Value.{Datum}
 use Rattle.dw_forms.specs.declared.rule.Rule.TheVariants.{WrongClass}
 use Rattle.dw_entries.specs.Header.{version_of}
 use Rattle.dw_entries.specs.Entries.{entries_of, PlacedUnit, placed, DebugUnit}
-use Rattle.dw_entries.specs.EntryRules.{AtEntries, Failure, Rule}
-use Rattle.dw_links.specs.RulesOfAttributes.{AtHead, EntryHead}
+use Rattle.dw_links.specs.RulesOfAttributes.{AtHead, AtEntries, Failure, Rule, EntryHead, Datum}
 
 -- WrongClass: the value has none of the classes that the attribute may have
 pub record ClassFails (units : List PlacedUnit) (head : EntryHead) (attribute : ℕ) (v : Datum) (rule : Rule) :

@@ -3,18 +3,16 @@
 use Rattle.std.specs.Prelude.{◌≡◌, ℕ, ◌+◌, ◌<◌, true, List, Option, None, Some, slice_get}
 use Rattle.dw_forms.specs.Codes.{DW_AT_sibling, DW_AT_str_offsets_base, DW_AT_addr_base}
 use Rattle.dw_forms.specs.Value.{Datum, str, line_str, str_index, addr_index}
-use Rattle.dw_entries.specs.declared.header.UnitHeader.{UnitHeader}
-use Rattle.dw_entries.specs.Entries.{Entry, PlacedUnit, entries_of, placed, DebugUnit}
 use Rattle.dw_entries.specs.EntryRules.{EachEntry, HasAttribute}
 use Rattle.dw_entries.specs.Lookups.{entry_head, value_at_entry}
 use Rattle.dw_entries.specs.EntriesAt.{IsEntryIn}
 use Rattle.dw_forms.specs.declared.class.Class.TheVariants.{Reference}
 use Rattle.dw_links.specs.Classes.{class_of}
-use Rattle.dw_links.specs.References.{permits, permits_form, HasType}
+use Rattle.dw_links.specs.References.{permits, permits_form, HasType, Entry, PlacedUnit, entries_of, placed, DebugUnit}
 use Rattle.dw_links.specs.Signatures.{type_unit_of, HasSignature, HaveDistinctSignatures}
 use Rattle.dw_links.specs.Targets.{reach_of, target_of}
 use Rattle.dw_links.specs.Contributions.{slot_count, slot_at, HasZeroFrom}
-use Rattle.dw_links.specs.Strings.{IsStringContribution, IsAddressContribution, Sections, base_in}
+use Rattle.dw_links.specs.Strings.{IsStringContribution, IsAddressContribution, Sections, base_in, UnitHeader}
 
 -- each attribute of each entry, with its value
 abbrev pub EachValue : (Entry → ℕ → Datum → Type 0) → List Entry → Type 0

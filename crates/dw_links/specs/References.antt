@@ -6,7 +6,7 @@ pub use Rattle.dw_forms.specs.Value.{Datum, flag, ref_info, ref_unit, ref_sig}
 use Rattle.dw_forms.specs.declared.rule.Rule.TheVariants.{NoEntry, WrongKind, NotNextSibling, NoSignature}
 use Rattle.dw_forms.specs.declared.rule.Rule.TheVariants.{SignatureTwice, BadTypeOffset}
 use Rattle.dw_entries.specs.Lookups.{value_at_entry}
-use Rattle.dw_entries.specs.Entries.{Entry, PlacedUnit, entries_of, placed, DebugUnit}
+pub use Rattle.dw_entries.specs.Entries.{Entry, PlacedUnit, entries_of, placed, DebugUnit}
 use Rattle.dw_entries.specs.EntriesAt.{IsEntryIn, entry_of}
 use Rattle.dw_entries.specs.Places.{at_header}
 use Rattle.dw_entries.specs.EntryRules.{AtPlace, AtEntries, InList, Failure, Rule}

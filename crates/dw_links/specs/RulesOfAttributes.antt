@@ -1,8 +1,8 @@
 -- Chapter: rules on the attributes of entries, and the declarations at which none of them can fail.
 use Rattle.std.specs.Prelude.{ℕ}
 pub use Rattle.dw_entries.specs.declared.entry.EntryHead.{EntryHead}
-use Rattle.dw_entries.specs.Grammar.{Context, Attribute, IsAttribute, Datum, AttributeSpec}
-use Rattle.dw_entries.specs.EntryRules.{AtAttributes, Failure, Rule}
+pub use Rattle.dw_entries.specs.Grammar.{Context, Attribute, IsAttribute, Datum, AttributeSpec}
+pub use Rattle.dw_entries.specs.EntryRules.{AtAttributes, AtEntries, Failure, Rule}
 pub use Rattle.dw_entries.specs.Lookups.{entry_head, Entry}
 
 -- which rules fail at an attribute with a value, by what is told of its entry

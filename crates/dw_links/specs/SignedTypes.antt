@@ -2,8 +2,8 @@
 use Rattle.std.specs.Prelude.{◌≡◌, ℕ, ◌<◌, List, Option, None, Some}
 use Rattle.std.specs.Ordering.{nat_cmp}
 use Rattle.std.specs.BTreeMap.{BTreeMap, get}
-use Rattle.dw_entries.specs.declared.entries.Entries.{Entries}
-use Rattle.dw_entries.specs.Views.{all_entries, all_units, Entry, PlacedUnit}
+pub use Rattle.dw_entries.specs.declared.entries.Entries.{Entries}
+pub use Rattle.dw_entries.specs.Views.{all_entries, all_units, Entry, PlacedUnit}
 use Rattle.dw_links.specs.Signatures.{HasSignature, first_signed}
 use Rattle.dw_links.specs.Targets.{type_of_unit, signed_type}
 

@@ -1,12 +1,10 @@
 -- State: strings that begin within their sections.
 use Rattle.std.specs.Prelude.{◌≡◌, ℕ, ◌≤◌, length, Option, Some}
-use Rattle.dw_elf.specs.declared.sections.Sections.{Sections}
 use Rattle.dw_forms.specs.Value.{Datum, str, line_str, str_index}
-use Rattle.dw_links.specs.declared.texts.TextPlace.{TextPlace}
 use Rattle.dw_links.specs.declared.texts.TextPlace.TheVariants.{Info, Str, LineStr}
 use Rattle.dw_links.specs.Contributions.{HasZeroFrom}
 use Rattle.dw_links.specs.LinkLaws.{HasStringAt}
-use Rattle.dw_links.specs.ValueTexts.{text_of_value, text_place_of, text_there}
+use Rattle.dw_links.specs.ValueTexts.{text_of_value, text_place_of, text_there, Sections, TextPlace}
 
 -- a string begins where a value says, in a unit that has this base
 abbrev pub TextLies : Sections → (base : Option ℕ) → Datum → Type 0

@@ -3,14 +3,12 @@ use Rattle.std.specs.Prelude.{◌≡◌, ◌≢◌, ℕ, ◌<◌, ◌≤◌, ◌
 pub use Rattle.dw_elf.specs.declared.sections.Sections.{Sections}
 use Rattle.dw_forms.specs.Value.{Datum, str, line_str, str_index, addr_index, sec_offset}
 use Rattle.dw_forms.specs.declared.rule.Rule.TheVariants.{BadStrBase, StrIndex, StringEnd, BadAddrBase, AddrIndex}
-use Rattle.dw_entries.specs.declared.header.UnitHeader.{UnitHeader}
-use Rattle.dw_entries.specs.Header.{version_of}
+pub use Rattle.dw_entries.specs.declared.header.UnitHeader.{UnitHeader}
 use Rattle.dw_entries.specs.Entries.{Entry, PlacedUnit, entries_of, placed, DebugUnit}
-use Rattle.dw_entries.specs.EntryRules.{AtEntries, Failure, Rule}
-use Rattle.dw_links.specs.RulesOfAttributes.{AtHead, EntryHead}
+use Rattle.dw_links.specs.RulesOfAttributes.{AtHead, AtEntries, Failure, Rule, EntryHead}
 use Rattle.dw_forms.specs.Codes.{DW_AT_str_offsets_base, DW_AT_addr_base}
 use Rattle.dw_links.specs.Contributions.{IsContribution, slot_count, slot_at, HasZeroFrom}
-pub use Rattle.dw_links.specs.Bases.{base_in}
+pub use Rattle.dw_links.specs.Bases.{base_in, version_of}
 
 -- the header of a string contribution ends with two zero bytes, and a slot has 4 bytes
 abbrev pub IsStringContribution : Sections → ℕ → Type 0

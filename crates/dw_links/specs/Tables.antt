@@ -2,13 +2,11 @@
 use Rattle.std.specs.Prelude.{◌≡◌, ℕ, List, map, Option}
 use Rattle.dw_forms.specs.Codes.{DW_AT_type, DW_AT_str_offsets_base, DW_AT_addr_base}
 use Rattle.dw_entries.specs.ByNumber.{placed_of}
-use Rattle.dw_entries.specs.declared.entries.Entries.{Entries}
 use Rattle.dw_entries.specs.declared.header.UnitHeader.{UnitHeader}
-use Rattle.dw_entries.specs.Views.{all_entries, all_units, Entry, PlacedUnit}
 pub use Rattle.dw_links.specs.declared.tables.LinkTables.{LinkTables}
 use Rattle.dw_links.specs.Bases.{base_in, bases_in}
 use Rattle.dw_links.specs.Constants.{language_of}
-use Rattle.dw_links.specs.SignedTypes.{HasSignedTypes}
+use Rattle.dw_links.specs.SignedTypes.{HasSignedTypes, Entries, all_entries, all_units, Entry, PlacedUnit}
 use Rattle.dw_links.specs.Targets.{target_of}
 
 -- the target of an entry's type

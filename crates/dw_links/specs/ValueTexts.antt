@@ -1,6 +1,6 @@
 -- Chapter: the text or the address of a value (DWARF 5, 7.26 and 7.27).
 use Rattle.std.specs.Prelude.{ℕ, suc, ◌-◌, List, length, Option, None, Some, option_map}
-use Rattle.dw_elf.specs.declared.sections.Sections.{Sections}
+pub use Rattle.dw_elf.specs.declared.sections.Sections.{Sections}
 use Rattle.dw_forms.specs.Value.{Datum, address, text, str, line_str, str_index, addr_index}
 use Rattle.dw_entries.specs.declared.header.UnitHeader.{UnitHeader}
 pub use Rattle.dw_links.specs.declared.texts.TextPlace.{TextPlace}

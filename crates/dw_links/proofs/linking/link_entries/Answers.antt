@@ -1,23 +1,14 @@
-use Rattle.std.proofs.Common.{rules, ◌≡◌, ◌<◌, ◌≤◌, ◌∙◌, ℕ, Some, length, take, arith, sym, subst, slice_get, length-set, take_all}
+use Rattle.std.proofs.Common.{rules, ◌≡◌, ◌<◌, ◌≤◌, ◌∙◌, ℕ, Some, length, arith, sym, subst, slice_get, length-set, take_all}
 use Rattle.std.proofs.lemmas.Option.{slice_get-get_or}
 use Rattle.dw_entries.proofs.FirstPlaces.{none_by_both}
-use Rattle.dw_forms.specs.Codes.{DW_AT_str_offsets_base, DW_AT_addr_base}
 use Rattle.dw_links.specs.EntryLinks.{IsEntryLinked, IsFirstAtEntry}
 use Rattle.dw_links.proofs.LeadSteps.{may_link, keeps_none, keeps_whole, only_none}
-use Rattle.dw_links.proofs.TableLemmas.{map_one_more, map_all, no_entry, entry_of, placed_of, all_entries, all_units, units_of, Entries, placed, unit_there, language_of, target_of_type, base_in}
+use Rattle.dw_links.proofs.TableLemmas.{map_one_more, map_all, no_entry, entry_of, placed_of, all_entries, all_units, units_of, Entries, placed, unit_there}
 use Rattle.dw_links.proofs.UnitToAll.{more_below, none_fails, failed_first, LinkedBelow, starts_first, starts_next, none_below, types_more, FailsByText, FailsByTarget, HeaderFailures, AttributeFailures, length-placed}
 use Rattle.dw_links.proofs.linking.link_entries.Goals as goal
 
 pub loop-unit-init : goal.loop-unit-init
-loop-unit-init c =
-    let entries = c.args.entries.now in
-    let kept = keeps_none entries _ c.count-2.result c.count-2.ensures
-    (c.in_ok-known.ensures.items_if_clones_equal (only_none _ (λ known p. p))) in
-    record {
-      kept = kept;
-      read = record { str = search rules; addr = search rules; language = search rules };
-      linked = (0, starts_first (units_of entries), none_below entries c.in_ok-types.types.items (search rules));
-    }
+loop-unit-init c = search (rules, keeps_none, starts_first, none_below, only_none)
 
 pub loop-number-init : goal.loop-number-init
 loop-number-init c =
@@ -31,16 +22,8 @@ loop-number-init c =
           (starts.begins (placed_of (placed us) c.loop-unit.unit) is ∙ sym c.of_unit-references.ensures.range.0) linked;
     }
 
-pub id-id-requires : goal.id-id-requires
-id-id-requires c = omega arith
-
 pub link_entry-requires-clause-may : goal.link_entry-requires-clause-may
-link_entry-requires-clause-may c =
-    may_link c.of_unit-references.result c.id-id.result c.of_unit-references.ensures.linkable
-    (omega (arith, c.id-id.ensures, c.loop-number.auto.number)) (omega (arith, c.id-id.ensures))
-
-pub link_entry-requires-clause-kept : goal.link_entry-requires-clause-kept
-link_entry-requires-clause-kept c = search (rules)
+link_entry-requires-clause-may c = search (rules, may_link)
 
 pub first_fault-requires : goal.first_fault-requires
 first_fault-requires c =
@@ -51,9 +34,6 @@ first_fault-requires c =
     i.linked.references c.requires.headers
     (omega (arith, c.id-id.ensures))
     (subst P c.of_unit-references.ensures.entries c.in-Err.ensures.err)
-
-pub index_mut-requires : goal.index_mut-requires
-index_mut-requires c = omega (arith, c.loop-number.invariant.linked.long)
 
 pub loop-number-preserved : goal.loop-number-preserved
 loop-number-preserved c =
@@ -71,11 +51,11 @@ loop-number-preserved c =
           c.loop-number.known.ok.0 i.kept (rw same at c.in-Ok.ensures.kept);
       linked = record {
         strings =
-            more_below entries (FailsByText entries) c.loop-number.number c.id-id.result c.id-id.ensures
-            i.linked.strings below linked.strings;
+            more_below entries (FailsByText entries) _ c.id-id.result c.id-id.ensures i.linked.strings below
+            linked.strings;
         references =
-            more_below entries (FailsByTarget entries) c.loop-number.number c.id-id.result c.id-id.ensures
-            i.linked.references below linked.references;
+            more_below entries (FailsByTarget entries) _ c.id-id.result c.id-id.ensures i.linked.references below
+            linked.references;
         long = length-set c.loop-number.types.items c.loop-number.number c.in-Ok.target ∙ i.linked.long;
         types_are =
             types_more entries c.loop-number.types.items c.loop-number.number e c.in-Ok.target
@@ -90,26 +70,16 @@ loop-unit-preserved c =
     let us = units_of entries in
     let p = placed_of (placed us) c.loop-unit.unit in
     let is = unit_there us c.loop-unit.unit (omega arith) in
-    let first = c.of_unit-references.ensures.range.0 in
-    let end = c.of_unit-references.ensures.range.1 in
+    let (first, end) = c.of_unit-references.ensures.range in
     let read = c.loop-unit.invariant.read in
     let texts = c.of_unit-references.ensures.linkable.texts in
     record {
       kept = c.loop-number.invariant.kept;
       read = record {
-        str =
-            rw c.in_ok-push.ensures.items (map_one_more (λ u. base_in (all_entries entries) u DW_AT_str_offsets_base)
-            (all_units entries) c.loop-unit.str_bases.items c.loop-unit.unit p
-            c.of_unit-references.result.texts.str_base is read.str (search rules));
-        addr =
-            rw c.in_ok-push-2.ensures.items
-            (map_one_more (λ u. base_in (all_entries entries) u DW_AT_addr_base) (all_units entries)
-            c.loop-unit.addr_bases.items c.loop-unit.unit p c.of_unit-references.result.texts.addr_base is read.addr
-            (search rules));
+        str = rw c.in_ok-push.ensures.items (map_one_more _ _ _ _ p _ is read.str (search rules));
+        addr = rw c.in_ok-push-2.ensures.items (map_one_more _ _ _ _ p _ is read.addr (search rules));
         language =
-            rw c.in_ok-push-3.ensures.items
-            (map_one_more language_of (all_units entries) c.loop-unit.languages.items c.loop-unit.unit p
-            c.language_in_unit.result is read.language c.language_in_unit.ensures);
+            rw c.in_ok-push-3.ensures.items (map_one_more _ _ _ _ p _ is read.language c.language_in_unit.ensures);
       };
       linked = (
         c.loop-number.number,
@@ -135,17 +105,11 @@ returns-clause-ok c =
           (none_fails entries (FailsByTarget entries) number all linked.references);
       tables_are = record {
         signatures = c.requires.types;
-        str_bases =
-            map_all (λ u. base_in (all_entries entries) u DW_AT_str_offsets_base) (all_units entries)
-            c.loop-unit.str_bases.items c.loop-unit.unit units read.str;
-        addr_bases =
-            map_all (λ u. base_in (all_entries entries) u DW_AT_addr_base) (all_units entries)
-            c.loop-unit.addr_bases.items c.loop-unit.unit units read.addr;
-        languages = map_all language_of (all_units entries) c.loop-unit.languages.items c.loop-unit.unit units
-            read.language;
+        str_bases = map_all _ _ _ _ units read.str;
+        addr_bases = map_all _ _ _ _ units read.addr;
+        languages = map_all _ _ _ _ units read.language;
         types =
             sym (take_all number c.loop-unit.types.items (omega (arith, all, linked.long)))
-            ∙ map_all (target_of_type (all_entries entries) (all_units entries)) (all_entries entries)
-            (take number c.loop-unit.types.items) number all linked.types_are;
+            ∙ map_all _ _ _ _ all linked.types_are;
       };
     }

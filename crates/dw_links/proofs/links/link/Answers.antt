@@ -1,26 +1,14 @@
-use Rattle.std.proofs.Common.{rules, subst, inr}
+use Rattle.std.proofs.Common.{rules, inr}
 use Rattle.std.proofs.lemmas.Result.{err_from_is_err_and}
-use Rattle.dw_entries.specs.declared.fault.PlainFault.{PlainFault}
-use Rattle.dw_entries.specs.Failures.{plain_fault_of, IsFirst, IsPlainFault}
-use Rattle.dw_entries.specs.Stopped.{IfPlainFault}
-use Rattle.dw_entries.specs.Views.{units_of, entries_of, placed}
 use Rattle.dw_links.proofs.LinkedEntries.{first_by_header}
-use Rattle.dw_links.proofs.UnitToAll.{if_fault, HeaderFailures}
+use Rattle.dw_links.proofs.UnitToAll.{if_fault}
 use Rattle.dw_links.proofs.links.link.Goals as goal
 
 pub returns-in_err-check_classes-clause-fault : goal.returns-in_err-check_classes-clause-fault
 returns-in_err-check_classes-clause-fault c = search (rules, err_from_is_err_and)
 
 pub strings_first-requires : goal.strings_first-requires
-strings_first-requires c =
-    let us = units_of c.args.entries.now in
-    let Starts : PlainFault → Type 0 = IsFirst (HeaderFailures (entries_of us) (placed us)) in
-    let first : IsPlainFault Starts c.in-Err-Fault.fault =
-    subst (IfPlainFault Starts) c.in-Err-Fault.field-0-is c.in-Err-Fault.ensures.fault in
-    record {
-      holds = first_by_header (entries_of us) (placed us) (plain_fault_of c.in-Err-Fault.fault) first.holds;
-      cycle = first.cycle;
-    }
+strings_first-requires c = search (rules, first_by_header)
 
 pub returns-in-Err-Fault-clause-fault : goal.returns-in-Err-Fault-clause-fault
 returns-in-Err-Fault-clause-fault c = record {
@@ -33,6 +21,3 @@ returns-in_err-tables-clause-fault c =
     let p = err_from_is_err_and c.from_residual-in_err-tables.result c.from_residual-in_err-tables.ensures.1 in
     rw (p.1, p.2) (if_fault (λ broken first. inr (c.in_ok-check_classes.ensures.ok, first)) c.in_err-tables.field-0.0
     c.in_err-tables.ensures.fault)
-
-pub invariant_of-result : goal.invariant_of-result
-invariant_of-result c = search (rules)

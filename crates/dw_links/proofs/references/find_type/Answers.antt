@@ -8,12 +8,6 @@ use Rattle.dw_links.proofs.references.find_type.Goals as goal
 pub returns-in_default-clause-none : goal.returns-in_default-clause-none
 returns-in_default-clause-none c = search (rules, length-placed)
 
-pub tag-requires : goal.tag-requires
-tag-requires c = c.in-Some.ensures.found.target.within
-
-pub returns-then-is_type-clause-some : goal.returns-then-is_type-clause-some
-returns-then-is_type-clause-some c = search (rules)
-
 pub returns-clause-none : goal.returns-clause-none
 returns-clause-none c =
     let us = units_of c.args.entries.now in

@@ -1,4 +1,5 @@
-use Rattle.dw_entries.specs.Views.{units_of, entries_of, placed}
+use Rattle.std.proofs.Common.{rules}
+use Rattle.dw_entries.specs.Views.{units_of, entries_of}
 use Rattle.dw_entries.proofs.EntryFacts.{entries_rise}
 use Rattle.dw_links.proofs.TargetLemmas.{entry_found, reach_in_unit_answer}
 use Rattle.dw_links.proofs.targets.reach.Goals as goal
@@ -11,8 +12,4 @@ returns-in-RefInfo c =
     c.find.ensures.none)
 
 pub returns-in-RefUnit : goal.returns-in-RefUnit
-returns-in-RefUnit c =
-    let us = units_of c.args.entries.now in
-    rw c.in-RefUnit.is (reach_in_unit_answer (entries_of us) (placed us) c.args.unit c.in-RefUnit.offset
-    c.find_in_unit.result (entries_rise _ us c.args.entries.now.scanned.1.spells.are) c.find_in_unit.ensures.found
-    c.find_in_unit.ensures.none)
+returns-in-RefUnit c = search (rules, reach_in_unit_answer, entries_rise)

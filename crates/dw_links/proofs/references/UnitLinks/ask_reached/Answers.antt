@@ -17,7 +17,7 @@ returns-then-not-is_permitted-clause-rule c =
     let entries = entries_followed c.args.self.now in
     let es = all_entries entries in
     wrong_first es (all_units entries) c.args.head.now c.args.attribute (view c.args.value.now) c.args.id
-    c.requires.reference c.requires.reaches
+    c.requires.reaches c.requires.reference
     (inr (record {
       id = c.args.id;
       reaches = refl;
@@ -29,10 +29,7 @@ returns-then-not-is_permitted-clause-rule c =
     }))
 
 pub returns-then-ne-clause-rule : goal.returns-then-ne-clause-rule
-returns-then-ne-clause-rule c =
-    least_none _ _ c.args.head.now c.args.attribute (view c.args.value.now) c.args.id c.requires.reaches
-    c.if-not-is_permitted_form.ensures c.if-not-is_permitted.ensures.exact
-    (λ p. let h = c.if-ne.ensures in let q = p.0 in search rules)
+returns-then-ne-clause-rule c = search (rules, least_none)
 
 pub returns-then-eq-clause-rule : goal.returns-then-eq-clause-rule
 returns-then-eq-clause-rule c = search (rules, least_none, right_sibling)

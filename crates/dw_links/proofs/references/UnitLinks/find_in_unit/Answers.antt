@@ -3,8 +3,5 @@ use Rattle.dw_entries.proofs.EntryFacts.{entries_rise}
 use Rattle.dw_links.proofs.TargetLemmas.{reach_in_unit_answer}
 use Rattle.dw_links.proofs.references.UnitLinks.find_in_unit.Goals as goal
 
-pub find_in_range-requires-clause-unit : goal.find_in_range-requires-clause-unit
-find_in_range-requires-clause-unit c = c.requires.texts.within
-
 pub returns : goal.returns
 returns c = search (rules, reach_in_unit_answer, entries_rise)

@@ -4,18 +4,10 @@ use Rattle.dw_entries.specs.Led.{item_of}
 use Rattle.dw_entries.specs.Leading.{leading_left}
 use Rattle.dw_links.specs.UnitAtHand.{entries_followed, entry_with}
 use Rattle.dw_links.proofs.RuleSteps.{fewer, none_so_far, more_so_far, fails_so_far, linked_at_end}
-use Rattle.dw_entries.specs.EntryRules.{values_of}
-use Rattle.dw_entries.specs.Entries.{Entry}
 use Rattle.dw_links.proofs.references.UnitLinks.link_entry.Goals as goal
 
 pub loop-led-init : goal.loop-led-init
-loop-led-init c = record {
-  so_far =
-      none_so_far (entries_followed c.args.self.now) (entry_with c.args.self.now c.args.id)
-      (leading_left c.leading-leading.result)
-      (c.leading-leading.ensures ∙ ap (λ (e : Entry). values_of e.head) c.entry-entry.ensures);
-  kept = c.requires.kept;
-}
+loop-led-init c = search (rules, none_so_far)
 
 pub link_led-requires-clause-led : goal.link_led-requires-clause-led
 link_led-requires-clause-led c = (c.in-Some.ensures.led.spec, c.in-Some.ensures.led.is_led)

@@ -17,9 +17,3 @@ pub returns-then-leads_well-clause-ok : goal.returns-then-leads_well-clause-ok
 returns-then-leads_well-clause-ok c =
     well_keeps c.args.self.now c.args.id c.requires.may c.args.kept c.args.led.now c.requires.led.0 c.requires.led.1
     c.if-leads_well.ensures
-
-pub returns-clause-ok : goal.returns-clause-ok
-returns-clause-ok c = rw (← c.item-attribute.ensures) c.judge_next.ensures.ok
-
-pub returns-clause-err : goal.returns-clause-err
-returns-clause-err c = rw (← c.item-attribute.ensures) c.judge_next.ensures.err

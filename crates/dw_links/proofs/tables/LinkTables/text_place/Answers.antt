@@ -1,10 +1,10 @@
-use Rattle.std.proofs.Common.{rules, ◌≡◌, ◌∙◌, Some, sym}
+use Rattle.std.proofs.Common.{rules, ◌∙◌, sym}
 use Rattle.std.proofs.lemmas.Option.{slice_get-get_or}
 use Rattle.dw_forms.specs.Codes.{DW_AT_str_offsets_base}
 use Rattle.dw_entries.specs.Views.{sections_of, all_entries, units_of, all_units}
 use Rattle.dw_links.specs.AttributeTexts.{text_at}
 use Rattle.dw_links.proofs.TableLemmas.{entry_unit, kept_at, no_entry, entry_of, view}
-use Rattle.dw_links.proofs.HeldTexts.{place_none, place_told, begins_within, text_lies, value_at_entry}
+use Rattle.dw_links.proofs.HeldTexts.{place_none, place_told, begins_within, text_lies}
 use Rattle.dw_links.proofs.tables.LinkTables.text_place.Goals as goal
 
 pub place_of_value-requires-clause-lies : goal.place_of_value-requires-clause-lies
@@ -19,21 +19,14 @@ place_of_value-requires-clause-lies c =
 
 pub returns-clause-text : goal.returns-clause-text
 unfolding text_at
-returns-clause-text c =
-    let entries = c.args.entries.now in
-    let value : Some (view c.in_ok-value.value) ≡ value_at_entry (entry_of (all_entries entries) c.args.id)
-    c.args.attribute = c.in_ok-value.ensures in
-    let base = kept_at entries c.args.id DW_AT_str_offsets_base c.as_slice.result.now c.requires.id
-    (c.as_slice.ensures.value ∙ c.requires.tables.str_bases) in
-    rw (entry_unit entries c.args.id c.requires.id, ← value, ← base) c.place_of_value.ensures.text
+returns-clause-text c = search (rules, entry_unit, kept_at)
 
 pub returns-in_err-value-clause-text : goal.returns-in_err-value-clause-text
 unfolding text_at
 returns-in_err-value-clause-text c = search (rules, entry_unit)
 
 pub returns-clause-within : goal.returns-clause-within
-returns-clause-within c =
-    begins_within (sections_of c.args.entries.now) c.place_of_value.result c.place_of_value.ensures.begins
+returns-clause-within c = search (rules, begins_within)
 
 pub returns-clause-place : goal.returns-clause-place
 returns-clause-place c =
