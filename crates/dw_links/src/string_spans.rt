@@ -114,7 +114,7 @@ pub struct Strings<'a> {
 }
 
 impl<'a> Strings<'a> {
-    /// Sections, whose two of strings are read once.
+    /// What is known of the strings of sections, whose .debug_str and .debug_line_str are read once.
     pub fn read(alloc: Global, sections: &Sections<'a>) -> Result<Strings<'a>, AllocError>
         ensures { IfOk result (λ it. it.sections ≡ sections.now) }
     {
