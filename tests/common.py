@@ -38,6 +38,8 @@ sys.path[:0] = [str(TOP / folder) for folder in ("contrib", "bench")]
 # test fails that lacks one of these. Otherwise it is skipped, as are tests that lack any other tool.
 NEEDED = "ar bash clang g++ gcc git ld nm objcopy pkg-config readelf valgrind".split()
 IS_CI = bool(os.environ.get("CI"))
+# How many instructions a run may have for each second of its limit, where other work makes it take longer than that.
+INSTRUCTIONS = 2_000_000_000
 
 # What readelf prints before a value: its form, and where a text is that is not in the entry itself.
 BEFORE = re.compile(r"(?:\((?:str|line_str|flag|offset|index|indirect|alt)[^)]*\):? *)*")
@@ -170,6 +172,29 @@ def run(*words, memory=None, seconds=None, timeout=60, **more):
 
     ran = subprocess.run(words, capture_output=True, timeout=timeout, preexec_fn=limit if limits else None, **more)
     return ran.returncode, ran.stdout, ran.stderr
+
+
+def counted(*words, env=None):
+    """The text of a run, and how many instructions it takes, which valgrind counts."""
+    with tempfile.NamedTemporaryFile("r") as log:
+        ran = subprocess.run(["valgrind", "--tool=cachegrind", "--cache-sim=no", "--cachegrind-out-file=/dev/null",
+                              f"--log-file={log.name}", *words], stdout=subprocess.PIPE, stderr=subprocess.DEVNULL,
+                             timeout=300, env={**(env or os.environ), "PYTHONHASHSEED": "0"})
+        told = re.search(r"I\s+refs: +(\S+)", log.read())
+    return ran.stdout.decode(errors="replace"), int(told[1].replace(",", ""))
+
+
+def too_long(took, seconds, *words, env=None):
+    """What a run took, if its seconds of processor time are more than these and its instructions are too, else None.
+
+    Other work on the machine makes a time several times as long, and changes no instruction.
+    """
+    if took <= seconds:
+        return None
+    instructions = counted(*words, env=env)[1] if shutil.which("valgrind") else None
+    if instructions and instructions <= seconds * INSTRUCTIONS:
+        return None
+    return f"{took:.1f} seconds, {instructions or 'unknown'} instructions\n"
 
 
 class Failed(Exception):

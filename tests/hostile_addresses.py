@@ -109,8 +109,9 @@ def ran(*words):
     status, text, errors = common.run(*words, memory=MEMORY, seconds=END, text=True, env=env)
     after = resource.getrusage(resource.RUSAGE_CHILDREN)
     took = after.ru_utime + after.ru_stime - before.ru_utime - before.ru_stime
-    why = f"status {status}: {errors[-100:]}" if errors or status > 1 else "too slow" if took > SECONDS else None
-    return text, why, took
+    if errors or status > 1:
+        return text, f"status {status}: {errors[-100:]}", took
+    return text, common.too_long(took, SECONDS, *words, env=env), took
 
 
 def main():

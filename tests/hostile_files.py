@@ -9,7 +9,7 @@ may crash. The lines of `show` of a deep tree are far more bytes than the memory
 write nothing. The script prints one line a run with the seconds it took, and ends with 'N passed, N failed, N skipped'.
 With --list it runs nothing, and prints each file with its limits, and what must not be slow, or large, in it. With
 --only it runs those with such a name. For files of doubled_files.py the instructions are counted by valgrind, so that
-it is seen how they grow.
+it is seen how they grow. Of a run that takes longer than it may they are counted too, and decide.
 """
 import argparse
 import os
@@ -27,10 +27,8 @@ import common
 import doubled_files
 from common import DWV, linked, section, uleb, unit
 
-# Seconds that a run may take at most, far above what it takes, since other work may run beside it; and such of a run
-# whose instructions are counted.
+# Seconds that a run may take at most, far above what it takes, since other work may run beside it.
 LIMIT = 20
-LIMIT_COUNTED = 300
 MANY = 100_000
 # Structures inside one another whose lines are compared.
 NESTED = 1_000
@@ -109,12 +107,11 @@ REFERRING_TIME = 1.5
 REFERRING_MEMORY = 60
 
 
-# Seconds of processor time that one of doubled_files may take, twice those of a quiet machine, and how often that is
-# measured; bytes of memory for each byte of the file, besides those of the program; and how the instructions may grow
-# from an eighth of the file to a quarter. Instructions are counted, because no other work changes them: a time grows
-# more at the size at which a file outgrows a cache.
+# Seconds of processor time that one of doubled_files may take, twice those of a quiet machine; bytes of memory for each
+# byte of the file, besides those of the program; and how the instructions may grow from an eighth of the file to a
+# quarter. Instructions are counted, because no other work changes them: a time grows more at the size at which a file
+# outgrows a cache.
 DOUBLED = doubled_files.Limits(seconds=3, memory=60, growth=2.2)
-TRIES = 5
 DOUBLED_MORE = {"a random chain of typedefs": DOUBLED._replace(seconds=8)}
 
 
@@ -1001,8 +998,8 @@ def asking(command, *words, **limits):
 
 
 def kept_within(memory, seconds=LIMIT, command=(DWV, "check")):
-    """What returns what a command says of a file, or what it took if that is more than these: its bytes of memory or
-    its seconds of processor time."""
+    """What returns what a command says of a file, or what it took if that is more than these: its bytes of memory, or
+    its seconds of processor time (if its instructions are more too)."""
     def ask(path):
         with subprocess.Popen([*command, path], stdout=subprocess.PIPE, text=True) as run:
             text = run.stdout.read()
@@ -1011,7 +1008,7 @@ def kept_within(memory, seconds=LIMIT, command=(DWV, "check")):
         # A process counts as large as the one that made it, until it is larger.
         if had > max(memory, resource.getrusage(resource.RUSAGE_SELF).ru_maxrss << 10):
             return f"{had} bytes of memory\n"
-        return text if took <= seconds else f"{took:.1f} seconds\n"
+        return common.too_long(took, seconds, *command, path) or text
 
     ask.limits = limits_of(seconds, memory)
     return ask
@@ -1044,41 +1041,26 @@ def taken(command, path):
     return text, used.ru_utime + used.ru_stime, used.ru_maxrss << 10
 
 
-def counted(command, path):
-    """What a command says of a file, and how many instructions it takes for that."""
-    log = path.with_name("counted")
-    ran = subprocess.run(["valgrind", "--tool=cachegrind", "--cache-sim=no", "--cachegrind-out-file=/dev/null",
-                          f"--log-file={log}", *command, path], stdout=subprocess.PIPE, timeout=LIMIT_COUNTED,
-                         env={**os.environ, "PYTHONHASHSEED": "0"})
-    text, told = ran.stdout.decode(errors="replace"), re.search(r"I\s+refs: +(\S+)", log.read_text())
-    return text, int(told[1].replace(",", ""))
-
-
 def doubling(command, want, parts, limits):
     """What returns AS_WANTED, or what a command says of a file that is not wanted, or what is wrong with what it takes:
     its seconds, its memory, or how its instructions grow. They are counted for files of no sections, of an eighth of
     the size and of a quarter, each with what the command must say of it."""
     def ask(path):
-        least = LIMIT
-        for _ in range(TRIES):
-            text, took, memory = taken(command, path)
-            least = min(least, took)
-            # No other work makes a time several times as long.
-            if not text.startswith(want) or least <= limits.seconds or least > 3 * limits.seconds:
-                break
+        text, took, memory = taken(command, path)
         if not text.startswith(want):
             return text[:200]
         most = path.stat().st_size * limits.memory + PROGRAM_MEMORY
         if memory > max(most, resource.getrusage(resource.RUSAGE_SELF).ru_maxrss << 10):
             return f"{memory} bytes of memory\n"
-        if least > limits.seconds:
-            return f"{least:.1f} seconds\n"
+        late = common.too_long(took, limits.seconds, *command, path)
+        if late:
+            return late
         if not shutil.which("valgrind"):
             return AS_WANTED
         counts, beside = [], path.with_name("part")
         for part, want_of_part in parts:
             beside.write_bytes(part)
-            text, count = counted(command, beside)
+            text, count = common.counted(*command, beside)
             if not text.startswith(want_of_part):
                 return f"{text[:200]!r} of a part of {len(part):,} bytes"
             counts.append(count)

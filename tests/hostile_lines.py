@@ -142,7 +142,7 @@ def wrong(path, wanted):
     of_one = [PLACE.sub("", line) for line in wanted]
     if [PLACE.sub("", line) for line in lines[1:]] != ["", *of_one] * ((len(lines) - 1) // (len(of_one) + 1)):
         return "other programs are not like the first", took
-    return None if took <= SECONDS else "too slow", took
+    return common.too_long(took, SECONDS, LINE_ROWS, "--count", path), took
 
 
 def main():
