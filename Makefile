@@ -61,27 +61,35 @@ test: toolchain
 	tests/edits.py --apply
 	$(MAKE) --no-print-directory quick-test QUICK="rows.py examples.py"
 	RT_JOBS=$(checks) tests/prove.py
-	tests/edits.py --tenth --jobs $(checks)
+	$(MAKE) --no-print-directory lib
+	@mkdir -p out
+	tests/edits.py --tenth --jobs $(checks) > out/tenth.log 2>&1 & tenth=$$!; \
+	    $(MAKE) --no-print-directory untimed; status=$$?; \
+	    wait $$tenth || status=1; cat out/tenth.log; exit $$status
+	tests/hostile_addresses.py
+	tests/hostile_lines.py
+	tests/hostile_files.py
+	tests/sweep.py --part --jobs $(checks)
+
+# The tests that limit no times, which `make test` runs beside the tenth of the edits.
+.PHONY: untimed
+untimed:
 	tests/rows.py
 	tests/examples.py
 	tests/real-programs.py
 	tests/lines.py
 	tests/addresses.py
-	tests/hostile_addresses.py
-	tests/hostile_lines.py
-	tests/hostile_files.py
-	tests/sweep.py --part --jobs $(checks)
 	tests/refused-growths.py
 	tests/endings.py
 	tests/check.py
 	tests/preparing.py
 	tests/explain.py
 	tests/explain-html.py
-	tests/library.sh
 	tests/table.py
 	tests/c-header.py
 	tests/layouts.py
 	$(MAKE) --no-print-directory pytest
+	tests/library.sh
 
 # The tests that pytest runs, in whichever Python has it, side by side if that has the module xdist too:
 # `make pytest TESTS=tests/install.py`.
