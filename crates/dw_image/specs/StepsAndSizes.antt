@@ -7,15 +7,17 @@ use Rattle.dw_types.specs.Graphs.{HasNoCycle}
 use Rattle.dw_types.specs.Kinds.{count_of_types}
 use Rattle.dw_types.specs.Orders.{Ranking, IsOrderOf}
 use Rattle.dw_types.specs.Packing.{cut}
+use Rattle.dw_types.specs.StepFlags.{TellSizeFlags}
 use Rattle.dw_types.specs.Shapes.{ShapeFailures}
 use Rattle.dw_types.specs.Steps.{by_value}
 use Rattle.dw_types.specs.SizeTables.{Size, size_at}
 use Rattle.dw_image.specs.Valid.{HasSizes}
 
--- these are the steps by value, and this is how many entries are types
+-- these are the steps by value, this is how many entries are types, and these flags tell what the sizes ask
 pub record AreSteps (units : List DebugUnit) (steps : ByValue) : Type 0 where
   pub graph : cut steps.packed.steps 0 steps.packed.ends ≡ by_value units
   pub types : steps.types ≡ count_of_types (entries_of units)
+  pub flags : TellSizeFlags units steps.size_flags
 
 -- no rule on types fails, and these are the sizes
 pub record AreMeasures (units : List DebugUnit) (table : List Size) : Type 0 where

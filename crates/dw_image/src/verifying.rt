@@ -16,7 +16,7 @@ use crate::image::Image;
 use dw_elf::Sections;
 use dw_entries::{Entries, Fault, Rule, Section, Stop, scan};
 use dw_links::{Links, check_classes, link};
-use dw_types::{ByValue, NoMemory, Order, OrderFault, order, sizes};
+use dw_types::{ByValue, NoMemory, Order, OrderFault, order, sizes_with};
 use std::alloc::{AllocError, Global};
 
 /// What sections are found to be.
@@ -115,7 +115,7 @@ fn image_of<'a>(
     if group <= 7 {
         return Ok(None);
     }
-    let sizes = sizes(alloc, links.entries, &links, &order)?;
+    let sizes = sizes_with(alloc, &links, &order, steps.size_flags())?;
     let tables = links.into_tables();
     Ok(Some(Image {
         entries,

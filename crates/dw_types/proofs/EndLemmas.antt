@@ -1,6 +1,6 @@
 -- How a walk begins, and what holds at its end, also where it goes on past cycles: the nodes that are given up reach
 -- one, and those that have ranks reach none.
-use Rattle.std.proofs.Common.{rules, ◌≡◌, ◌≢◌, ℕ, ◌^◌, ◌+◌, ◌<◌, ◌⊎◌, ◌∙◌, true, false, [], ◌∷◌, ◌++◌, length, get_or, replicate, set, inl, inr, arith, refl, sym, ap, sum, count_by, zero, suc, ◌-◌, List, subst}
+use Rattle.std.proofs.Common.{rules, ◌≡◌, ◌≢◌, ℕ, ◌^◌, ◌+◌, ◌<◌, ◌≤◌, get_or-set_other, ◌⊎◌, ◌∙◌, true, false, [], ◌∷◌, ◌++◌, length, get_or, replicate, set, inl, inr, arith, refl, sym, ap, sum, count_by, zero, suc, ◌-◌, List, subst}
 use Rattle.std.proofs.lemmas.Bool.{cases_lt}
 use Rattle.std.proofs.lemmas.List.{length-replicate, length_push, get_or-replicate, get_or_past, get_or_default, set-set}
 use Rattle.std.proofs.lemmas.List.Sums.{sum_by-cons}
@@ -10,12 +10,15 @@ use Rattle.dw_types.specs.Cycles.{AreClear}
 use Rattle.dw_types.specs.declared.walk.Mark.{Mark}
 use Rattle.dw_types.specs.declared.walk.Mark.TheVariants.{Fresh, Open, Ranked}
 use Rattle.dw_types.specs.Graphs.{AreFirsts, Graph, FallsAlong, IsStep, FollowsSteps, step_at, steps_of}
-use Rattle.dw_types.specs.Orders.{IsOrderOf}
-use Rattle.dw_types.specs.Walks.{HasStack, IsKept, IsWalk, KeepsTaken, is_taken, IsAtCycle}
+use Rattle.dw_types.specs.declared.flags.Flags.{Flags}
+use Rattle.dw_types.specs.Orders.{AreLeaves, IsOrderOf}
+use Rattle.dw_types.specs.StepFlags.{TellSteps}
+use Rattle.dw_types.specs.StoredFlags.{flag_at}
+use Rattle.dw_types.specs.Walks.{HasLeaves, HasStack, IsKept, IsWalk, KeepsRanks, KeepsTaken, is_taken, IsAtCycle}
 use Rattle.dw_types.specs.RanksListed.{ranks_listed}
 use Rattle.dw_types.specs.WalkStates.{Kept, WalkState, counted, given_up, mark_in, mark_of, opened, ranked, without_stack}
 use Rattle.dw_types.proofs.HandLemmas.{first-ranked}
-use Rattle.dw_types.proofs.ListLemmas.{at_set}
+use Rattle.dw_types.proofs.ListLemmas.{at_push, at_set}
 use Rattle.dw_types.proofs.RankLemmas.{ranks_listed-push}
 use Rattle.dw_types.proofs.WalkLemmas.{in-graph, turns-all}
 
@@ -84,6 +87,67 @@ begun-more graph nodes marks by_rank node h inside fresh none =
     rw (set-set marks node Open Ranked, ranks_listed-push nodes by_rank node, length_push by_rank node) refl in
     subst (IsKept graph) same (first-ranked graph (begun nodes marks by_rank) node h refl inside fresh none)
 
+-- the nodes without steps before one have their ranks, and no other node was taken up
+pub record HasBegun (graph : Graph) (marks : List Mark) (by_rank : List ℕ) (end : ℕ) : Type 0 where
+  pub kept : IsKept graph (begun (length graph) marks by_rank)
+  pub leaves : AreLeaves graph by_rank (length by_rank)
+  pub taken : (node : ℕ) → node < end → length (steps_of graph node) ≡ 0 → mark_in marks node ≢ Fresh
+  pub fresh : (node : ℕ) → end ≤ node → mark_in marks node ≡ Fresh
+
+pub begun-none : (graph : Graph) → length graph < 2 ^ 64 → HasBegun graph (replicate (length graph) Fresh) [] 0
+begun-none graph few =
+    record {
+      kept = start-kept graph few;
+      leaves = (omega arith, λ k below. absurd (omega arith));
+      taken = λ node below. absurd (omega arith);
+      fresh = λ node after. get_or-same (length graph) node Fresh;
+    }
+
+module _ (graph : Graph) (marks : List Mark) (by_rank : List ℕ) (node : ℕ) (h : HasBegun graph marks by_rank node) where
+  -- the next node has steps
+  pub begun-other : length (steps_of graph node) ≢ 0 → HasBegun graph marks by_rank (node + 1)
+  begun-other some =
+      record {
+        kept = h.kept;
+        leaves = h.leaves;
+        taken = λ other below none. elim (cases_lt other node) [
+          | inl before ↦ h.taken other before none
+          | inr after ↦
+              let same : other ≡ node = omega arith in
+              absurd (some (rw (← same) none))
+        ];
+        fresh = λ other after. h.fresh other (omega arith);
+      }
+
+  -- the next node has none, and is ranked
+  pub begun-leaf : node < length graph → length (steps_of graph node) ≡ 0
+      → HasBegun graph (set marks node Ranked) (by_rank ++ node ∷ []) (node + 1)
+  begun-leaf inside none =
+      let in_marks : node < length marks = (let long = h.kept.walk.coherent.places.marks in omega arith) in
+      record {
+        kept =
+            begun-more graph (length graph) marks by_rank node h.kept inside (h.fresh node (omega arith)) none;
+        leaves = (
+          omega arith,
+          λ k below. elim (at_push by_rank k node 0 below) [
+            | inl p ↦ rw p.1 none
+            | inr p ↦ rw p.1 (h.leaves.1 k p.0)
+          ],
+        );
+        taken = λ other below empty. elim (at_set marks node other Ranked Fresh in_marks) [
+          | inl p ↦ λ is. cc
+          | inr p ↦ λ is. h.taken other (let apart = p.0 in omega arith) empty (sym p.1 ∙ is)
+        ];
+        fresh = λ other after. get_or-set_other marks node other Ranked Fresh (λ same. absurd (omega arith))
+            ∙ h.fresh other (omega arith);
+      }
+
+-- the first nodes by rank that have no steps are those that had ranks before, if these are kept
+pub leaves-kept : (graph : Graph) (old new : List ℕ) (count : ℕ) → AreLeaves graph old count → KeepsRanks old new
+    → AreLeaves graph new count
+leaves-kept graph old new count leaves keeps =
+    (omega (arith, leaves.0, keeps.0), λ k below. rw (keeps.1 k (omega (arith, leaves.0))) (leaves.1 k below))
+
 -- with an empty stack, a node that was taken up was ranked, or given up
 end-by_mark : (graph : Graph) (s : WalkState) (node : ℕ) → IsWalk graph s → s.stack ≡ [] → mark_of s node ≢ Fresh
     → (m : Mark) → mark_of s node ≡ m → (m ≡ Ranked) ⊎ ((s.gave_up ≡ true) × ReachesCycle (IsStep graph) node)
@@ -110,11 +174,35 @@ pub taken-more : (old new : List Mark) (node : ℕ) → node < length old → Ke
     → ((k : ℕ) → k < node → mark_in old k ≢ Fresh) → (k : ℕ) → k < node + 1 → mark_in new k ≢ Fresh
 taken-more old new node inside keeps before = search (rules, at_set)
 
+-- and the nodes without steps stay taken up
+pub others-kept : (graph : Graph) (old new : List Mark) (node : ℕ) → node < length old
+    → KeepsTaken (set old node Open) new → HasLeaves graph old → HasLeaves graph new
+others-kept graph old new node inside keeps known = search (rules, at_set)
+
+-- what flags of nodes with steps tell of a node
+module _ (graph : Graph) (flags : Flags) (tell : TellSteps graph flags) (node : ℕ) (inside : node < length graph) where
+  pub no-steps : flag_at flags node ≡ false → length (steps_of graph node) ≡ 0
+  no-steps unset = let told = tell.told node inside in search rules
+
+  pub some-steps : flag_at flags node ≡ true → 0 < length (steps_of graph node)
+  some-steps set = let told = tell.told node inside in search rules
+
+-- where nodes without steps were taken up, the nodes up to the next one with steps are not fresh either
+pub taken-on : (graph : Graph) (flags : Flags) (marks : List Mark) (from next : ℕ) → TellSteps graph flags
+    → HasLeaves graph marks → next ≤ length graph
+    → ((k : ℕ) → from ≤ k → k < next → flag_at flags k ≡ false)
+    → ((node : ℕ) → node < from → mark_in marks node ≢ Fresh) → (node : ℕ) → node < next → mark_in marks node ≢ Fresh
+taken-on graph flags marks from next tell known within unset before node below = elim (cases_lt node from) [
+  | inl earlier ↦ before node earlier
+  | inr later ↦
+      known node (omega arith) (no-steps graph flags tell node (omega arith) (unset node later below))
+]
+
 -- the order at the end of a walk in which each node was taken up, and none given up
-pub order-at_end : (graph : Graph) (it : Kept) → IsKept graph it → it.stack ≡ [] → it.gave_up ≡ false
-    → ((node : ℕ) → node < length graph → mark_in it.marks node ≢ Fresh)
-    → IsOrderOf graph (record { ranks = it.ranks; by_rank = it.by_rank; turns = it.turns })
-order-at_end graph it h empty kept taken =
+pub order-at_end : (graph : Graph) (it : Kept) (leaves : ℕ) → IsKept graph it → it.stack ≡ [] → it.gave_up ≡ false
+    → ((node : ℕ) → node < length graph → mark_in it.marks node ≢ Fresh) → AreLeaves graph it.by_rank leaves
+    → IsOrderOf graph (record { ranks = it.ranks; by_rank = it.by_rank; turns = it.turns; leaves = leaves })
+order-at_end graph it leaves h empty kept taken first =
     let s = counted it h.next in
     let all : (node : ℕ) → node < length graph
     → mark_of s node ≡ Ranked = λ node below. ranked-from_taken graph s node h.walk empty kept (taken node below) in
@@ -127,6 +215,7 @@ order-at_end graph it h empty kept taken =
       ranked =
           λ k below. let here = ranks.ranked k below in
           (in-graph graph s _ h.walk.coherent.places (λ fresh. cc), here.1);
+      leaves = first;
     }
 
 -- one step more at the end

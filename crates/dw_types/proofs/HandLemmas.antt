@@ -8,7 +8,7 @@ use Rattle.dw_types.specs.declared.walk.Hand.{Hand}
 use Rattle.dw_types.specs.declared.walk.Mark.{Mark}
 use Rattle.dw_types.specs.declared.walk.Mark.TheVariants.{Fresh, Open, Ranked}
 use Rattle.dw_types.specs.Graphs.{Graph, IsStep, LeadsToNodes, step_at, step_count, steps_of}
-use Rattle.dw_types.specs.Walks.{GoToRanked, IsAtCycle, IsCoherent, IsFirstOther, IsKept, IsWalk, KeepsTaken, LooksOn}
+use Rattle.dw_types.specs.Walks.{GoToRanked, IsAtCycle, IsCoherent, IsFirstOther, IsKept, IsWalk, KeepsRanks, KeepsTaken, LooksOn}
 use Rattle.dw_types.specs.WalkStates.{Kept, counted, mark_in, opened, ranked, turned, with_hand}
 use Rattle.dw_types.proofs.ListLemmas.{at_push, at_set}
 use Rattle.dw_types.proofs.RankLemmas.{done-walk, take-push}
@@ -165,6 +165,24 @@ first-kept graph it node h empty inside fresh =
 pub keeps-set : (old marks : List Mark) (node : ℕ) (mark : Mark) → node < length marks → mark ≢ Fresh
     → KeepsTaken old marks → KeepsTaken old (set marks node mark)
 keeps-set old marks node mark inside taken keeps a fresh = search (rules, at_set)
+
+-- one more node has a rank, and those before keep theirs
+keeps-push : (ranks : List ℕ) (node : ℕ) → KeepsRanks ranks (ranks ++ node ∷ [])
+keeps-push ranks node = search (rules, length_push, get_or_append_left)
+
+pub keeps-ranked : (old : Kept) (node : ℕ) (new : Kept) (at : Option Hand)
+    → MatchOption at ((old.stack ≡ []) × (new ≡ ranked old node))
+    (λ next. ranked old node ≡ with_hand new next.node next.looked) → KeepsRanks old.by_rank new.by_rank
+keeps-ranked old node new None e =
+    let same : new.by_rank ≡ old.by_rank ++ node ∷ [] = ap (λ (kept : Kept). kept.by_rank) e.1 in
+    rw same (keeps-push old.by_rank node)
+keeps-ranked old node new (Some next) e =
+    let same : old.by_rank ++ node ∷ [] ≡ new.by_rank = ap (λ (kept : Kept). kept.by_rank) e in
+    rw (← same) (keeps-push old.by_rank node)
+
+pub keeps-on : (first next last : List ℕ) → KeepsRanks first next → KeepsRanks next last → KeepsRanks first last
+keeps-on first next last a b =
+    (omega (arith, a.0, b.0), λ k below. b.1 k (omega (arith, a.0)) ∙ a.1 k below)
 
 -- the steps that are looked at are those from one on
 pub looks-after : (graph : Graph) (marks : List Mark) (node from looked : ℕ) (stop : Option ℕ)

@@ -19,5 +19,6 @@ pub mod SizeLineLemmas
 pub mod SizeRankLemmas
 pub mod SizeRuleLemmas
 pub mod SizeFaultLemmas
+pub mod SizeFlagLemmas
 pub mod FlagLemmas
 pub mod DeclaredLemmas

@@ -1,9 +1,7 @@
 -- Lines that read a table only at a node's steps: where ranks fall along the steps, exactly one table obeys them.
-use Rattle.std.proofs.Common.{rules, ◌≡◌, ◌≢◌, ℕ, ◌+◌, ◌<◌, ◌≤◌, List, length, get_or, set, arith, sym, ap, ◌∙◌, suc, zero, None, get_or-set_same, get_or-set_other}
-use Rattle.std.proofs.lemmas.Bool.{cases_lt}
+use Rattle.std.proofs.Common.{rules, ◌≡◌, ℕ, ◌<◌, List, length, get_or, arith, sym, ap, ◌∙◌, suc, zero, None}
 use Rattle.dw_types.specs.Graphs.{Graph, steps_of, step_at, LeadsToNodes, FallsAlong}
-use Rattle.dw_types.specs.Orders.{Ranking, IsOrderOf}
-use Rattle.dw_types.specs.SizeTables.{Size, size_at, cap_size}
+use Rattle.dw_types.specs.SizeTables.{Size, cap_size}
 
 -- a line for each node, which says its size by a table
 abbrev pub Lines : Type 0
@@ -83,33 +81,3 @@ module _ (graph : Graph) (ranks : List ℕ) (falls : FallsAlong graph ranks) (le
   pub same-obeys : (line : Lines) → IsLocal graph line → (exact found : ℕ → Size) → ObeysLines graph line exact
       → SameAt graph found exact → ObeysLines graph line found
   same-obeys line local exact found obeys same node in_graph = search rules
-
--- the lines of the first nodes by rank hold
-abbrev pub HasFilled : Graph → Ranking → Lines → List Size → ℕ → Type 0
-HasFilled graph order line sizes count =
-    (k : ℕ) → k < count → size_at sizes (get_or order.by_rank k 0) ≡ line (size_at sizes) (get_or order.by_rank k 0)
-
-module _ (graph : Graph) (order : Ranking) (h : IsOrderOf graph order) (line : Lines) (local : IsLocal graph line) where
-  -- a step of a node with a rank up to some place leads to none that stands there by rank
-  other-step : (place node k : ℕ) → get_or order.ranks node 0 ≤ place → place < length order.by_rank
-      → k < length (steps_of graph node)
-      → step_at graph node k ≢ get_or order.by_rank place 0
-  other-step place node k rank below in_steps same = search rules
-
-  line-kept : (sizes : List Size) (place node : ℕ) (size : Size) → node < length graph
-      → get_or order.ranks node 0 ≤ place → place < length order.by_rank
-      → line (size_at (set sizes (get_or order.by_rank place 0) size)) node ≡ line (size_at sizes) node
-  line-kept sizes place node size in_graph rank below = search (rules, get_or-set_other, other-step)
-
-  pub has-filled_more : (sizes : List Size) (count : ℕ) → length sizes ≡ length graph → count < length order.by_rank
-      → HasFilled graph order line sizes count
-      → HasFilled graph order line (set sizes (get_or order.by_rank count 0)
-      (line (size_at sizes) (get_or order.by_rank count 0))) (count + 1)
-  has-filled_more sizes count long below filled k within =
-      search (rules, line-kept, cases_lt, get_or-set_other, get_or-set_same)
-
-  pub has-filled_all : (sizes : List Size) (count : ℕ) → length order.by_rank ≤ count
-      → HasFilled graph order line sizes count → ObeysLines graph line (size_at sizes)
-  has-filled_all sizes count all filled node in_graph =
-      let place = h.listed node in_graph in
-      rw place.1 at (filled (get_or order.ranks node 0) (let p = place.0 in omega arith))

@@ -26,4 +26,5 @@ pub mod WalkStates
 pub mod Walks
 pub mod RanksListed
 pub mod StoredFlags
+pub mod StepFlags
 pub mod StoredSizes

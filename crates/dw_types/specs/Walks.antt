@@ -101,6 +101,16 @@ ComesTo graph it (Some to) = (next : List ℕ) × IsAtCycle graph (counted it ne
 abbrev pub KeepsTaken : (old new : List Mark) → Type 0
 KeepsTaken old new = (node : ℕ) → mark_in new node ≡ Fresh → mark_in old node ≡ Fresh
 
+-- each node without steps was taken up
+abbrev pub HasLeaves : Graph → List Mark → Type 0
+HasLeaves graph marks =
+    (node : ℕ) → node < length graph → length (steps_of graph node) ≡ 0 → mark_in marks node ≢ Fresh
+
+-- the nodes that had a rank have it still
+abbrev pub KeepsRanks : (old new : List ℕ) → Type 0
+KeepsRanks old new =
+    (length old ≤ length new) × ((k : ℕ) → k < length old → slice_index new k ≡ slice_index old k)
+
 -- steps of a node from one on, up to another one, go to nodes that were ranked
 abbrev pub GoToRanked : Graph → List Mark → ℕ → (from end : ℕ) → Type 0
 GoToRanked graph marks node from end =
@@ -127,3 +137,4 @@ pub record HasWalked (graph : Graph) (old new : Kept) (stop : Option ℕ) : Type
   pub comes : ComesTo graph new stop
   pub taken : KeepsTaken old.marks new.marks
   pub gave_up : new.gave_up ≡ old.gave_up
+  pub ranks : KeepsRanks old.by_rank new.by_rank

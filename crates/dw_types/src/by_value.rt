@@ -11,15 +11,18 @@ ghost use Rattle.dw_types.specs.Entries.{entry_in, signature_target, type_target
 ghost use Rattle.dw_types.specs.Graphs.{IsStep};
 ghost use Rattle.dw_types.specs.Held.{entries_held, units_held};
 ghost use Rattle.dw_types.specs.Kinds.{has_members, is_declared_type, passes_type_on, count_of_types};
+ghost use Rattle.dw_types.specs.Packing.{cut};
 ghost use Rattle.dw_types.specs.Shapes.{ShapeFailures};
+ghost use Rattle.dw_types.specs.StepFlags.{TellSizeFlags, TellSteps};
 ghost use Rattle.dw_types.specs.Steps.{by_value, member_step, steps_by_value, targets_if, IsStepByValue};
 
+use crate::flags::{Flags, SizeFlags};
 use crate::graph::{Packed, StepGraph};
 use crate::kind::{is_container, is_declarable, passes_type_on};
 use crate::linked::LinkedEntries;
 use crate::numbers::Numbers;
 use crate::shape_rules::{broken_shape, is_defined_member};
-use dw_entries::constants::Tag;
+use dw_entries::constants::*;
 use dw_entries::{Entries, EntryId, Fault, Stop};
 use dw_links::Links;
 use std::alloc::{AllocError, Global};
@@ -67,6 +70,7 @@ fn push_to(steps: &mut Numbers, to: Option<EntryId>) -> Result<(), AllocError>
 }
 
 /// Adds the steps of a structure or union that is not declared.
+#[inline(always)]
 fn push_members(
     entries: &mut LinkedEntries<'_, '_>,
     steps: &mut Numbers,
@@ -106,11 +110,41 @@ fn push_row(
     push_to(steps, signature_step(entries, id, tag))
 }
 
-/// The steps by value of each entry, and how many entries are types.
+impl SizeFlags {
+    /// The flags of entries.
+    pub(crate) fn read(
+        alloc: Global,
+        entries: &mut LinkedEntries<'_, '_>,
+    ) -> Result<Self, AllocError>
+        ensures same { OnOk result (units_held entries.new ≡ units_held entries.old) }
+        ensures told { IfOk result (TellSizeFlags (units_held entries.old)) }
+    {
+        let count = entries.count();
+        let mut leaves = Flags::none(alloc, count)?;
+        let mut members = Flags::none(alloc, count)?;
+        for node in 0..count {
+            let id = entries.id(node);
+            let decl = entries.decl(id);
+            let mut row = Numbers::with_room(alloc, 0)?;
+            if decl.is_type() {
+                push_row(entries, &mut row, id, decl.tag())?;
+            }
+            leaves.set_if(node, decl.is_type() && row.len() == 0);
+            members.set_if(node, decl.tag() == DW_TAG_member);
+        }
+        Ok(SizeFlags { leaves, members })
+    }
+}
+
+/// The steps by value of each entry, how many entries are types, and the flags by which sizes are computed.
 #[derive(Drop)]
 pub struct ByValue {
     packed: Packed,
+    /// Which entries have steps.
+    with_steps: Flags,
     types: usize,
+    size_flags: SizeFlags,
+    ghost told: { TellSteps (cut packed.steps 0 packed.ends) with_steps },
 }
 
 impl ByValue {
@@ -128,6 +162,7 @@ impl ByValue {
         ensures steps { IfOk result (λ it. (from to : ℕ) → IsStep (⟦<ByValue as StepGraph>⟧.graph it) from to
             ↔ IsStepByValue (units_of links.now.entries.now) from to) }
         ensures types { IfOk result (λ it. it.types ≡ count_of_types (all_entries links.now.entries.now)) }
+        ensures flags { IfOk result (λ it. TellSizeFlags (units_of links.now.entries.now) it.size_flags) }
         ensures sound { OnOk result (HasNone (ShapeFailures (units_of links.now.entries.now))) }
         ensures fault { IfErr result (IfPlainFault (IsFirst (ShapeFailures (units_of links.now.entries.now)))) }
     {
@@ -137,22 +172,41 @@ impl ByValue {
         let mut ends = Numbers::with_room(alloc, count)?;
         let mut end = 0;
         let mut types = 0;
+        let mut with_steps = Flags::none(alloc, count)?;
+        let mut leaves = Flags::none(alloc, count)?;
+        let mut members = Flags::none(alloc, count)?;
         for node in 0..count {
             let id = linked.id(node);
             let decl = linked.decl(id);
             let is_type = decl.is_type();
-            if let Some(rule) = broken_shape(alloc, &mut linked, id, decl)? {
-                return Err(linked.fault(alloc, id, rule));
+            let is_member = decl.tag() == DW_TAG_member;
+            if is_type || is_member {
+                if let Some(rule) = broken_shape(alloc, &mut linked, id, decl)? {
+                    return Err(linked.fault(alloc, id, rule));
+                }
+                members.set_if(node, is_member);
             }
             if is_type {
                 types += 1;
                 push_row(&mut linked, &mut steps, id, decl.tag())?;
-                end = steps.len();
+                if steps.len() == end {
+                    leaves.set_if(node, true);
+                } else {
+                    with_steps.set_if(node, true);
+                    ends.fill(end, node)?;
+                    end = steps.len();
+                    ends.push(end)?;
+                }
             }
-            ends.push(end)?;
         }
+        ends.fill(end, count)?;
         let packed = Packed::from_rows(steps, ends);
-        Ok(ByValue { packed, types })
+        Ok(ByValue {
+            packed,
+            with_steps,
+            types,
+            size_flags: SizeFlags { leaves, members },
+        })
     }
 
     /// How many entries are types.
@@ -161,10 +215,16 @@ impl ByValue {
     {
         self.types
     }
+
+    /// The flags of the entries by which their sizes are computed.
+    pub fn size_flags(&self) -> &SizeFlags
+        ensures { result.now ≡ self.now.size_flags }
+    {
+        &self.size_flags
+    }
 }
 
 impl StepGraph for ByValue {
-    ghost use Rattle.dw_types.specs.Packing.{cut};
     ghost use Rattle.dw_types.specs.PackingLaws.{cut-leads};
 
     ghost graph = { λ it. cut it.packed.steps 0 it.packed.ends };
@@ -177,6 +237,10 @@ impl StepGraph for ByValue {
 
     fn steps(&self, node: usize) -> usize {
         self.packed.steps(node)
+    }
+
+    fn with_steps(&self, alloc: Global) -> Result<Flags, AllocError> {
+        self.with_steps.copy(alloc)
     }
 
     fn step(&self, node: usize, k: usize) -> usize {

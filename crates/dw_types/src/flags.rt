@@ -1,6 +1,6 @@
-//! A bit for each entry.
+//! A bit for each entry, or for each node of a graph.
 
-ghost use Rattle.std.specs.Prelude.{◌≡◌, ◌+◌, ◌-◌, ◌*◌, ◌%◌, ◌<◌, ◌≤◌, ◌&&◌, ◌||◌, ℕ, false, length, nat_eq, IfOk};
+ghost use Rattle.std.specs.Prelude.{◌≡◌, ◌<◌, ◌≤◌, ◌&&◌, ◌||◌, ℕ, true, false, nat_eq, IfOk};
 ghost use Rattle.dw_types.specs.StoredFlags.{flag_at, flag_count};
 
 use std::alloc::{AllocError, Global};
@@ -8,9 +8,9 @@ use std::alloc::{AllocError, Global};
 /// How many flags a word has.
 const WORD: usize = 64;
 
-/// Flags of entries by their numbers, one bit each.
+/// Flags of entries, or of the nodes of a graph, by their numbers, one bit each.
 #[derive(Drop)]
-pub(crate) struct Flags {
+pub struct Flags {
     words: Vec<u64>,
 }
 
@@ -46,13 +46,13 @@ impl Flags {
         }
     }
 
-    /// How many flags from a number on are not set before the first that is, as far as their word tells.
-    #[inline(always)]
-    fn clear_from(&self, at: usize) -> usize
-        requires { at < flag_count self.now }
-        ensures { (k : ℕ) → at ≤ k → k < at + result → k < at + (64 - at % 64) → flag_at self.now k ≡ false }
+    /// The same flags.
+    pub(crate) fn copy(&self, alloc: Global) -> Result<Self, AllocError>
+        ensures { IfOk result (λ it. it.words.items ≡ self.now.words.items) }
     {
-        (self.words[at / WORD] >> (at % WORD)).trailing_zeros() as usize
+        let mut words = Vec::new(alloc);
+        words.extend_from_slice(self.words.as_slice())?;
+        Ok(Flags { words })
     }
 
     /// The first number from one on, and before another, whose flag is set. That other if there is none.
@@ -62,16 +62,23 @@ impl Flags {
         requires end { end < flag_count self.now }
         ensures within { (from ≤ result) × (result ≤ end) }
         ensures none { (k : ℕ) → from ≤ k → k < result → flag_at self.now k ≡ false }
+        ensures set { result < end → flag_at self.now result ≡ true }
     {
         let mut at = from;
         while at < end {
-            let bits = (WORD - at % WORD).min(end - at);
-            let clear = self.clear_from(at);
-            if clear < bits {
-                return at + clear;
+            let bits = self.words[at / WORD] >> (at % WORD);
+            if bits != 0 {
+                return (at + bits.trailing_zeros() as usize).min(end);
             }
-            at += bits;
+            at = (at / WORD * WORD).saturating_add(WORD);
         }
         end
     }
+}
+
+/// A flag for each entry that is a type without steps by value, and one for each that is a member.
+#[derive(Drop)]
+pub struct SizeFlags {
+    pub(crate) leaves: Flags,
+    pub(crate) members: Flags,
 }

@@ -4,9 +4,11 @@ ghost use Rattle.std.specs.Prelude.{◌≡◌, ◌<◌, length, slice_index, IfO
 ghost use Rattle.dw_types.specs.Graphs.{Graph, LeadsToNodes, steps_of, step_at};
 ghost use Rattle.dw_types.specs.Packing.{cut, begin_of, CutsInOrder, LeadsBelow};
 ghost use Rattle.dw_types.specs.RanksListed.{ranks_listed};
+ghost use Rattle.dw_types.specs.StepFlags.{TellSteps};
 
+use crate::flags::Flags;
 use crate::numbers::{NoMemory, Numbers};
-use std::alloc::Global;
+use std::alloc::{AllocError, Global};
 use std::marker::Model;
 
 /// Nodes with steps between them. A node is a number below the count of nodes, and steps of a node are
@@ -29,6 +31,17 @@ pub trait StepGraph {
         requires node_in { node < length (graph self.now) }
         requires step_in { k < length (steps_of (graph self.now) node) }
         ensures { result ≡ step_at (graph self.now) node k };
+
+    /// A flag for each node, which says whether it has steps.
+    fn with_steps(&self, alloc: Global) -> Result<Flags, AllocError>
+        ensures { IfOk result (TellSteps (graph self.now)) }
+    {
+        let mut flags = Flags::none(alloc, self.nodes())?;
+        for node in 0..self.nodes() {
+            flags.set_if(node, self.steps(node) > 0);
+        }
+        Ok(flags)
+    }
 
     /// Each step leads to a node.
     ghost leads_to_nodes: { (it : Self) → LeadsToNodes (graph it) };
@@ -118,6 +131,8 @@ pub struct Order {
     pub(crate) nodes: usize,
     pub(crate) by_rank: Numbers,
     pub(crate) turns: u128,
+    /// How many of the first nodes by rank have no steps, as far as that is known.
+    pub(crate) leaves: usize,
 }
 
 impl Model for Order {
@@ -126,7 +141,12 @@ impl Model for Order {
 
     ghost Value = { Ranking };
 
-    ghost view = { λ it. record { ranks = ranks_listed it.nodes it.by_rank; by_rank = it.by_rank; turns = it.turns } };
+    ghost view = { λ it. record {
+      ranks = ranks_listed it.nodes it.by_rank;
+      by_rank = it.by_rank;
+      turns = it.turns;
+      leaves = it.leaves;
+    } };
 }
 
 impl Order {
@@ -156,6 +176,13 @@ impl Order {
         ensures { result ≡ self.now.turns }
     {
         self.turns
+    }
+
+    /// How many of the first nodes by rank are known to have no steps.
+    pub(crate) fn leaves(&self) -> usize
+        ensures { result ≡ self.now.leaves }
+    {
+        self.leaves
     }
 
     /// How many ranks there are.

@@ -14,10 +14,11 @@ ghost use Rattle.dw_types.specs.Kinds.{kind_of};
 ghost use Rattle.dw_types.specs.Orders.{IsOrderOf};
 ghost use Rattle.dw_types.specs.SizeFaults.{IsFirstSizeFault, SizeFailures, may_fail};
 ghost use Rattle.dw_types.specs.StoredFlags.{flag_at, flag_count};
+ghost use Rattle.dw_types.specs.StepFlags.{TellSizeFlags};
 ghost use Rattle.dw_types.specs.Steps.{by_value};
 
 use crate::count::{capped_times, count_elements, natural_or};
-use crate::flags::Flags;
+use crate::flags::{Flags, SizeFlags};
 use crate::graph::Order;
 use crate::kind::{Kind, kind_of};
 use crate::linked::LinkedEntries;
@@ -127,26 +128,59 @@ fn measure(
     sizes.set(alloc, id, size)
 }
 
-/// The capped sizes of all entries, one after another in the order of the ranks, and a flag for each at which a rule on
-/// sizes may fail.
+/// The capped sizes of all entries, and a flag for each at which a rule on sizes may fail. The types without steps are
+/// measured first, and then the others in the order of the ranks.
 fn measure_all(
     alloc: Global,
     entries: &mut LinkedEntries<'_, '_>,
     order: &Order,
+    flags: &SizeFlags,
 ) -> Result<(SizeTable, Flags), AllocError>
-    requires { IsOrderOf (by_value (units_held entries.old)) order.now }
+    requires flags { TellSizeFlags (units_held entries.old) flags.now }
+    requires order { IsOrderOf (by_value (units_held entries.old)) order.now }
     ensures same { OnOk result (units_held entries.new ≡ units_held entries.old) }
     ensures long { IfOk result (λ made. length made.0 ≡ length (entries_held entries.old)) }
     ensures lines { IfOk result (λ made. ObeysCappedLines (units_held entries.old) (size_at made.0)) }
     ensures asked { IfOk result (λ made. TellAsked (units_held entries.old) (size_at made.0) made.1) }
 {
     let mut sizes = SizeTable::none(alloc, entries.count())?;
-    let mut asked = Flags::none(alloc, entries.count())?;
-    for rank in 0..order.count() {
-        let id = entries.id(order.node(rank));
+    let mut asked = flags.members.copy(alloc)?;
+    let count = entries.count();
+    let mut leaf = flags.leaves.next(0, count);
+    let mut rank = order.leaves();
+    while leaf < count || rank < order.count() {
+        let node = if leaf < count { leaf } else { order.node(rank) };
+        let id = entries.id(node);
         measure(alloc, entries, &mut sizes, &mut asked, id)?;
+        if leaf < count {
+            let next = flags.leaves.next(leaf + 1, count);
+            leaf = next;
+        } else {
+            rank += 1;
+        }
     }
     Ok((sizes, asked))
+}
+
+/// The one table of sizes, or the first fault of sizes, by flags of the entries.
+fn sizes_by(
+    alloc: Global,
+    linked: &mut LinkedEntries<'_, '_>,
+    order: &Order,
+    flags: &SizeFlags,
+) -> Result<SizeTable, Stop<Fault>>
+    requires flags { TellSizeFlags (units_held linked.old) flags.now }
+    requires order { IsOrderOf (by_value (units_held linked.old)) order.now }
+    ensures long { IfOk result (λ table. length table ≡ length (entries_held linked.old)) }
+    ensures only { IfOk result (λ table. IsSizeTable (units_held linked.old) (size_at table)) }
+    ensures sound { IfOk result (λ table. HasNone (SizeFailures (units_held linked.old) (size_at table))) }
+    ensures fault { IfErr result (IfPlainFault (IsFirstSizeFault (units_held linked.old))) }
+{
+    let (sizes, asked) = measure_all(alloc, linked, order, flags)?;
+    if let Some(found) = first_broken(alloc, linked, &sizes, &asked)? {
+        return Err(linked.fault(alloc, found.0, found.1));
+    }
+    Ok(sizes)
 }
 
 /// The one table of sizes, or the first fault of sizes. The order is that of the graph of the entries' steps by value.
@@ -164,9 +198,24 @@ pub fn sizes(
     ensures fault { IfErr result (IfPlainFault (IsFirstSizeFault (units_of links.now.entries.now))) }
 {
     let mut linked = LinkedEntries::new(entries, links.tables());
-    let (sizes, asked) = measure_all(alloc, &mut linked, order)?;
-    if let Some(found) = first_broken(alloc, &mut linked, &sizes, &asked)? {
-        return Err(linked.fault(alloc, found.0, found.1));
-    }
-    Ok(sizes)
+    let flags = SizeFlags::read(alloc, &mut linked)?;
+    sizes_by(alloc, &mut linked, order, &flags)
+}
+
+/// The same, by the flags that were found with the steps, so that no entry is looked at again for these.
+pub fn sizes_with(
+    alloc: Global,
+    links: &Links<'_, '_>,
+    order: &Order,
+    flags: &SizeFlags,
+) -> Result<SizeTable, Stop<Fault>>
+    requires flags { TellSizeFlags (units_of links.now.entries.now) flags.now }
+    requires order { IsOrderOf (by_value (units_of links.now.entries.now)) order.now }
+    ensures long { IfOk result (λ table. length table ≡ length (all_entries links.now.entries.now)) }
+    ensures only { IfOk result (λ table. IsSizeTable (units_of links.now.entries.now) (size_at table)) }
+    ensures sound { IfOk result (λ table. HasNone (SizeFailures (units_of links.now.entries.now) (size_at table))) }
+    ensures fault { IfErr result (IfPlainFault (IsFirstSizeFault (units_of links.now.entries.now))) }
+{
+    let mut linked = LinkedEntries::new(links.entries, links.tables());
+    sizes_by(alloc, &mut linked, order, flags)
 }

@@ -120,6 +120,22 @@ impl Numbers {
         Ok(())
     }
 
+    /// Adds a number until there are so many numbers.
+    pub(crate) fn fill(&mut self, number: usize, count: usize) -> Result<(), AllocError>
+        ensures { OnOk result (self.new ≡ self.old ++ replicate (count - length self.old) number) }
+    {
+        if self.large.is_empty() && number <= 0xffff_ffff {
+            if self.small.len() < count {
+                self.small.resize(count, number as u32)?;
+            }
+            return Ok(());
+        }
+        while self.len() < count {
+            self.large.push(number)?;
+        }
+        Ok(())
+    }
+
     /// Takes the last number away, if there is one.
     pub(crate) fn pop(&mut self) -> Option<usize>
         ensures { MatchOption result ((self.old ≡ []) × (self.new ≡ [])) (λ last. self.old ≡ self.new ++ last ∷ []) }

@@ -44,17 +44,21 @@ pub fn order<G: StepGraph>(alloc: Global, graph: &G) -> Result<Order, OrderFault
     ensures err { IfErr result (IsOrderFault (G.graph graph.now)) }
 {
     let nodes = graph.nodes();
-    let (firsts, mut walk) = Walk::new(alloc, graph)?;
+    let with_steps = graph.with_steps(alloc)?;
+    let (firsts, mut walk) = Walk::new(alloc, graph, &with_steps)?;
+    let leaves = walk.count_ranked();
     let with_firsts = WithFirsts { graph, firsts };
-    for start in 0..nodes {
+    let mut start = with_steps.next(0, nodes);
+    while start < nodes {
         if let Mark::Fresh = walk.mark(start) {
             if let Some(to) = walk_from(&with_firsts, &mut walk, start)? {
                 let cycle = cycle_to(alloc, graph, walk.stack(), to)?;
                 return Err(OrderFault::Cycle(cycle));
             }
         }
+        start = with_steps.next(start + 1, nodes);
     }
-    Ok(walk.into_order())
+    Ok(walk.into_order(leaves))
 }
 
 /// The nodes of a graph that reach no cycle, by rising rank: each after those that its steps lead to. This is the walk
@@ -63,14 +67,17 @@ pub fn clear_nodes<G: StepGraph>(alloc: Global, graph: &G) -> Result<Numbers, Al
     ensures { IfOk result (AreClear (G.graph graph.now)) }
 {
     let nodes = graph.nodes();
-    let (firsts, mut walk) = Walk::new(alloc, graph)?;
+    let with_steps = graph.with_steps(alloc)?;
+    let (firsts, mut walk) = Walk::new(alloc, graph, &with_steps)?;
     let with_firsts = WithFirsts { graph, firsts };
-    for start in 0..nodes {
-        if let Mark::Fresh = walk.mark(start) {
-            if let Some(_) = walk_from(&with_firsts, &mut walk, start)? {
+    let mut node = with_steps.next(0, nodes);
+    while node < nodes {
+        if let Mark::Fresh = walk.mark(node) {
+            if let Some(_) = walk_from(&with_firsts, &mut walk, node)? {
                 walk.give_up();
             }
         }
+        node = with_steps.next(node + 1, nodes);
     }
     Ok(walk.into_ranked())
 }

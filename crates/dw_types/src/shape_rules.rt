@@ -95,7 +95,7 @@ fn has_bad_count(entries: &mut LinkedEntries<'_, '_>, id: EntryId, tag: Tag) -> 
 }
 
 /// The rule on shapes that an entry with this declaration violates: the one with the least number. None but types and
-/// members are looked at.
+/// members violate one.
 #[inline(always)]
 pub(crate) fn broken_shape(
     alloc: Global,
@@ -108,9 +108,6 @@ pub(crate) fn broken_shape(
     ensures same { OnOk result (units_held entries.new ≡ units_held entries.old) }
     ensures least { IfOk result (IsLeast (λ rule. fails_shape (units_held entries.old) id rule ≡ true)) }
 {
-    if !decl.is_type() && !matches!(decl.tag(), DW_TAG_member) {
-        return Ok(None);
-    }
     if misses_type(alloc, entries, id, decl.tag())? {
         return Ok(Some(Rule::MissingType));
     }

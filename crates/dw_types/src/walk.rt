@@ -2,10 +2,13 @@
 
 ghost use Rattle.std.specs.Prelude.{◌≡◌, ◌+◌, ◌^◌, ◌<◌, [], false, length, IfOk, MatchOption, OnOk};
 ghost use Rattle.dw_types.specs.Graphs.{AreFirsts};
-ghost use Rattle.dw_types.specs.Walks.{IsKept};
+ghost use Rattle.dw_types.specs.Orders.{AreLeaves};
+ghost use Rattle.dw_types.specs.StepFlags.{TellSteps};
+ghost use Rattle.dw_types.specs.Walks.{HasLeaves, IsKept};
 ghost use Rattle.dw_types.specs.WalkStates.{mark_in, opened, ranked, turned, with_hand, without_stack};
 
 use crate::firsts::first_of;
+use crate::flags::Flags;
 use crate::graph::{Order, StepGraph};
 use crate::numbers::Numbers;
 use std::alloc::{AllocError, Global};
@@ -61,14 +64,19 @@ impl Model for Walk {
 }
 
 impl Walk {
-    /// Where the first step of each node leads, and the walk before it takes up a node with steps. Each node without
-    /// steps whose number has four bytes has its rank already, which took one turn.
+    /// Where the first step of each node leads, and the walk before it takes up a node with steps, by the flags of these.
+    /// Each node without steps has its rank already, which took one turn.
     pub(crate) fn new<G: StepGraph>(
         alloc: Global,
         graph: &G,
+        with_steps: &Flags,
     ) -> Result<(Vec<u32>, Self), AllocError>
+        requires { TellSteps (G.graph graph.now) with_steps.now }
         ensures firsts { IfOk result (λ made. AreFirsts (G.graph graph.now) made.0.items) }
         ensures kept { IfOk result (λ made. IsKept (G.graph graph.now) made.1) }
+        ensures leaves { IfOk result
+            (λ made. AreLeaves (G.graph graph.now) made.1.by_rank (length made.1.by_rank)) }
+        ensures others { IfOk result (λ made. HasLeaves (G.graph graph.now) made.1.marks) }
         ensures empty { IfOk result (λ made. made.1.stack ≡ []) }
         ensures gave_up { IfOk result (λ made. made.1.gave_up ≡ false) }
     {
@@ -76,20 +84,31 @@ impl Walk {
         let small = nodes.min(1 << 32);
         let mut firsts = vec![in alloc; 0; small]?;
         let mut marks = vec![in alloc; Mark::Fresh; nodes]?;
-        let mut by_rank = Vec::with_capacity(alloc, small)?;
-        for node in 0..small {
-            if graph.steps(node) == 0 {
-                marks[node] = Mark::Ranked;
-                by_rank.push_reserved(node as u32);
-            } else {
+        let mut leaves = Vec::with_capacity(alloc, small)?;
+        let mut from = 0;
+        while from < small {
+            let node = with_steps.next(from, small);
+            for leaf in from..node {
+                marks[leaf] = Mark::Ranked;
+                leaves.push_reserved(leaf as u32);
+            }
+            if node < small {
                 firsts[node] = first_of(graph, node);
+            }
+            from = node + 1;
+        }
+        let mut by_rank = Numbers::from_small(alloc, leaves);
+        for large in small..nodes {
+            if !with_steps.get(large) {
+                marks[large] = Mark::Ranked;
+                by_rank.push(large)?;
             }
         }
         let turns = by_rank.len() as u128;
         let walk = Walk {
             marks,
             nodes,
-            by_rank: Numbers::from_small(alloc, by_rank),
+            by_rank,
             stack: Numbers::with_room(alloc, 0)?,
             looked: Numbers::with_room(alloc, 0)?,
             turns,
@@ -165,6 +184,13 @@ impl Walk {
         Ok(())
     }
 
+    /// How many nodes have a rank.
+    pub(crate) fn count_ranked(&self) -> usize
+        ensures { result ≡ length self.now.by_rank }
+    {
+        self.by_rank.len()
+    }
+
     /// Gives up the nodes on the stack.
     pub(crate) fn give_up(&mut self)
         ensures { self.new ≡ without_stack self.old }
@@ -181,14 +207,16 @@ impl Walk {
         self.by_rank
     }
 
-    /// The ranks and the turns of a walk.
-    pub(crate) fn into_order(self) -> Order
-        ensures { result ≡ record { ranks = self.ranks; by_rank = self.by_rank; turns = self.turns } }
+    /// The ranks and the turns of a walk, and how many nodes had their ranks first.
+    pub(crate) fn into_order(self, leaves: usize) -> Order
+        ensures { result
+            ≡ record { ranks = self.ranks; by_rank = self.by_rank; turns = self.turns; leaves = leaves } }
     {
         Order {
             nodes: self.nodes,
             by_rank: self.by_rank,
             turns: self.turns,
+            leaves,
         }
     }
 }

@@ -10,7 +10,11 @@ returns-in_err-steps-clause-fault c =
     search (rules, err_from_is_err_and, here)
 
 pub returns-in-Ok-clause-steps : goal.returns-in-Ok-clause-steps
-returns-in-Ok-clause-steps c = record { graph = c.in_ok-steps.ensures.graph; types = c.in_ok-steps.ensures.types }
+returns-in-Ok-clause-steps c = record {
+  graph = c.in_ok-steps.ensures.graph;
+  types = c.in_ok-steps.ensures.types;
+  flags = c.in_ok-steps.ensures.flags;
+}
 
 pub returns-in-Err-Cycle-clause-fault : goal.returns-in-Err-Cycle-clause-fault
 returns-in-Err-Cycle-clause-fault c =

@@ -1,11 +1,11 @@
 use Rattle.std.proofs.Common.{◌≡◌, ◌-◌, ◌^◌, ◌<◌, ◌∙◌, ap, arith, refl, sym}
 use Rattle.dw_types.specs.WalkStates.{Kept, mark_in, ranked, turned, with_hand}
-use Rattle.dw_types.proofs.HandLemmas.{goes-fresh, goes-open, goes-ranked, hand-in, hand-within, looks-after, looks-within, on-coherent}
+use Rattle.dw_types.proofs.HandLemmas.{goes-fresh, goes-open, goes-ranked, hand-in, hand-within, keeps-on, keeps-ranked, looks-after, looks-within, on-coherent}
 use Rattle.dw_types.proofs.WalkLemmas.{turns-room}
 use Rattle.dw_types.proofs.ordering.walk_on.Goals as goal
 
 pub loop-at-init : goal.loop-at-init
-loop-at-init g c = (c.requires, (λ a fresh. fresh), refl)
+loop-at-init g c = (c.requires, (λ a fresh. fresh), refl, (omega arith, λ k below. refl))
 
 pub look_on-looked-requires-clause-node : goal.look_on-looked-requires-clause-node
 look_on-looked-requires-clause-node g c =
@@ -82,6 +82,7 @@ returns-in_default-mark g c =
           (λ fresh. c.in_default-mark.not-Fresh (mark ∙ fresh));
       taken = c.loop-at.invariant.1;
       gave_up = c.loop-at.invariant.2;
+      ranks = c.loop-at.invariant.3;
     }
 
 pub loop-at-preserved-in_ok-rank-in-None : goal.loop-at-preserved-in_ok-rank-in-None
@@ -96,8 +97,13 @@ loop-at-preserved-in_ok-rank-in-None g c =
     ∙ ap (λ (kept : Kept). ranked kept hand.node) c.count.ensures in
     let popped = rw same at c.pop-at.ensures in
     let on = goes-ranked graph it hand looked small (rw c.in-Some.is at c.loop-at.invariant.0) c.pop-at.new.self
-    c.pop-at.result looks popped in
-    (on.kept, (λ a fresh. c.loop-at.invariant.1 a (on.taken a fresh)), on.gave_up ∙ c.loop-at.invariant.2)
+    c.pop-at.result looks popped in (
+      on.kept,
+      (λ a fresh. c.loop-at.invariant.1 a (on.taken a fresh)),
+      on.gave_up ∙ c.loop-at.invariant.2,
+      keeps-on c.args.walk.now.by_rank it.by_rank c.pop-at.new.self.by_rank c.loop-at.invariant.3
+          (keeps-ranked (turned it (looked - hand.looked)) hand.node c.pop-at.new.self c.pop-at.result popped),
+    )
 
 pub loop-at-smaller : goal.loop-at-smaller
 loop-at-smaller g c =
@@ -128,4 +134,4 @@ loop-at-preserved g c =
     let on = goes-fresh graph it hand looked small (rw c.in-Some.is at c.loop-at.invariant.0) c.in-Some-other.to looks
     (g.met.G.StepGraph.leads_to_nodes c.args.graph.now) (sym mark ∙ c.in-Fresh.is) in
     rw (c.take_up.ensures.state, c.take_up.ensures.hand, same)
-    (on.kept, (λ a fresh. c.loop-at.invariant.1 a (on.taken a fresh)), c.loop-at.invariant.2)
+    (on.kept, (λ a fresh. c.loop-at.invariant.1 a (on.taken a fresh)), c.loop-at.invariant.2, c.loop-at.invariant.3)
