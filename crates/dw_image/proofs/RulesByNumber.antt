@@ -1,10 +1,10 @@
 -- The rule of each number in a group. All of it is made by docs/make-rules.py from docs/rules.tsv.
 use Rattle.std.proofs.Common.{ℕ, ◌==◌, if◌then◌else◌}
 use Rattle.dw_forms.specs.declared.rule.Rule.{Rule}
-use Rattle.dw_forms.specs.declared.rule.Rule.TheVariants.{BadStrBase, StrIndex, StringEnd, BadAddrBase}
+use Rattle.dw_forms.specs.declared.rule.Rule.TheVariants.{WrongClass, BadStrBase, StrIndex, StringEnd, BadAddrBase}
 use Rattle.dw_forms.specs.declared.rule.Rule.TheVariants.{AddrIndex, NoEntry, WrongKind, NotNextSibling, NoSignature}
 use Rattle.dw_forms.specs.declared.rule.Rule.TheVariants.{SignatureTwice, BadTypeOffset, MissingType, BadCount}
-use Rattle.dw_forms.specs.declared.rule.Rule.TheVariants.{NoSize, SizeTooGreat, MemberOutside, EnumSize}
+use Rattle.dw_forms.specs.declared.rule.Rule.TheVariants.{ContainsItself, NoSize, SizeTooGreat, MemberOutside, EnumSize}
 
 abbrev pub string_rule : ℕ → Rule
 string_rule number =

@@ -121,6 +121,14 @@ impl<'r, 'a> LinkedEntries<'r, 'a> {
         self.cursor.at(id)
     }
 
+    /// The entry, whose unit is looked up: for what is asked seldom, so that the unit at hand stays.
+    pub(crate) fn look_up(&self, id: EntryId) -> EntryAt<'r, 'a>
+        requires { id < length (entries_held self.now) }
+        ensures { result ≡ entry_in (units_held self.now) id }
+    {
+        self.cursor.entries.at(id)
+    }
+
     /// The entry that DW_AT_type of an entry refers to, which is kept since the links were made.
     #[inline(always)]
     pub(crate) fn type_target(&self, id: EntryId) -> Option<EntryId>

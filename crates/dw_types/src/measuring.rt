@@ -124,7 +124,7 @@ fn measure(
     }
     let entry = entries.at(id);
     let size = capped_size(entries, sizes, id, &entry, kind_of(&entry));
-    asked.set_if(id.number(), may_fail(&entry, size));
+    asked.set_if(id.number(), may_fail(entries, id, &entry, size));
     sizes.set(alloc, id, size)
 }
 

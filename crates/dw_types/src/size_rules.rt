@@ -121,23 +121,27 @@ fn wants_own(entry: &EntryAt<'_, '_>, kind: Kind) -> bool
     }
 }
 
-/// Whether the byte size is negative where it is read, or none is there where one is wanted.
+/// Whether the byte size of an entry is negative where it is read, or none is there where one is wanted. The entry is
+/// looked up here, so that the caller's need not be in memory.
 #[inline(never)]
-fn has_no_size(entry: &EntryAt<'_, '_>) -> bool
-    ensures { result ≡ has_no_size entry.now }
+fn has_no_size(entries: &LinkedEntries<'_, '_>, id: EntryId) -> bool
+    requires { id < length (entries_held entries.now) }
+    ensures { result ≡ has_no_size (entry_in (units_held entries.now) id) }
 {
-    let kind = kind_of(entry);
-    let size = Constant::read(entry, DW_AT_byte_size);
-    (kind.reads_own() && size.is_negative()) || (!size.is_present() && wants_own(entry, kind))
+    let entry = entries.look_up(id);
+    let kind = kind_of(&entry);
+    let size = Constant::read(&entry, DW_AT_byte_size);
+    (kind.reads_own() && size.is_negative()) || (!size.is_present() && wants_own(&entry, kind))
 }
 
 /// The same of an entry that has this size or none. Where it has a size, its byte size is not read again.
 #[inline(always)]
-fn lacks_size(entry: &EntryAt<'_, '_>, size: Option<u64>) -> bool
-    requires { IfSome size (λ _. has_no_size entry.now ≡ false) }
-    ensures { result ≡ has_no_size entry.now }
+fn lacks_size(entries: &LinkedEntries<'_, '_>, id: EntryId, size: Option<u64>) -> bool
+    requires id { id < length (entries_held entries.now) }
+    requires size { IfSome size (λ _. has_no_size (entry_in (units_held entries.now) id) ≡ false) }
+    ensures { result ≡ has_no_size (entry_in (units_held entries.now) id) }
 {
-    size.is_none() && has_no_size(entry)
+    size.is_none() && has_no_size(entries, id)
 }
 
 /// Whether an entry, which is at hand, is an enumeration with neither a byte size nor a type, or with one that is not
@@ -186,7 +190,7 @@ fn broken_type(
     ensures { IsLeast (λ rule. fails_size (units_held entries.now) (size_at sizes.now) id rule ≡ true) result }
 {
     let size = sizes.get(id);
-    if lacks_size(entry, size) {
+    if lacks_size(entries, id, size) {
         return Some(Rule::NoSize);
     }
     if is_too_great(size) {
@@ -252,11 +256,20 @@ fn broken_size(
 
 /// Whether a rule on sizes may fail at a type that has this size or none.
 #[inline(always)]
-pub(crate) fn may_fail(entry: &EntryAt<'_, '_>, size: Option<u64>) -> bool
-    requires { IfSome size (λ _. has_no_size entry.now ≡ false) }
+pub(crate) fn may_fail(
+    entries: &LinkedEntries<'_, '_>,
+    id: EntryId,
+    entry: &EntryAt<'_, '_>,
+    size: Option<u64>,
+) -> bool
+    requires id { id < length (entries_held entries.now) }
+    requires entry { entry.now ≡ entry_in (units_held entries.now) id }
+    requires size { IfSome size (λ _. has_no_size entry.now ≡ false) }
     ensures { result ≡ type_may_fail entry.now size }
 {
-    lacks_size(entry, size) || is_too_great(size) || matches!(entry.tag(), DW_TAG_enumeration_type)
+    lacks_size(entries, id, size)
+        || is_too_great(size)
+        || matches!(entry.tag(), DW_TAG_enumeration_type)
 }
 
 /// The first entry that violates a rule on sizes, by the sizes of all and the flags of those at which one may fail, and
