@@ -1,6 +1,6 @@
 //! LEB128 numbers (DWARF 5, 7.6).
 
-ghost use Rattle.std.specs.Prelude.{◌≡◌, ◌≤◌, ◌<◌, ◌^◌, IfOk, IfErr, OnErr};
+ghost use Rattle.std.specs.Prelude.{◌≡◌, ◌≤◌, ◌<◌, ◌^◌, IfOk, IfErr, OnErr, OnOk};
 ghost use Rattle.dw_forms.specs.Front.{BeginsWith, BeginsWithNone};
 ghost use Rattle.dw_forms.specs.Leb.{Uleb, UlebFails, Sleb, SlebFails};
 ghost use Rattle.dw_forms.specs.LebReading.{spelling_at, signed_of, uleb_at, sleb_at};
@@ -46,15 +46,56 @@ fn read_spelling(bytes: &[u8]) -> Result<Spelling, NumberFault>
 }
 
 /// A number of more bytes, or none.
-#[cold]
-#[inline(never)]
 #[tactic(auto, unfolding(crate::specs::LebReading::uleb_at))]
 fn long_uleb(bytes: &[u8]) -> Result<(u64, usize), NumberFault>
-    ensures { result ≡ uleb_at bytes.now }
+    ensures exact { result ≡ uleb_at bytes.now }
+    ensures within { IfOk result (λ r. r.1 ≤ 10) }
 {
     let spelling = read_spelling(bytes)?;
     let number = u64::try_from(spelling.sum).map_err(|_| NumberFault::BadNumber)?;
     Ok((number, spelling.len))
+}
+
+/// The most bytes of a number.
+const LONGEST: usize = 10;
+
+/// How many bytes a number of more bytes has, or one more than the most if there is none. These three return one word
+/// each, so that no caller has a result in memory.
+#[cold]
+#[inline(never)]
+fn long_len(bytes: &[u8]) -> usize
+    ensures found { IfOk (uleb_at bytes.now) (λ r. result ≡ r.1) }
+    ensures within { OnOk (uleb_at bytes.now) (result ≤ 10) }
+    ensures none { OnErr (uleb_at bytes.now) (10 < result) }
+{
+    match long_uleb(bytes) {
+        Ok((_, len)) => len,
+        Err(_) => LONGEST + 1,
+    }
+}
+
+/// A number of more bytes, or 0 if there is none.
+#[cold]
+#[inline(never)]
+fn long_number(bytes: &[u8]) -> u64
+    ensures { IfOk (uleb_at bytes.now) (λ r. result ≡ r.0) }
+{
+    match long_uleb(bytes) {
+        Ok((number, _)) => number,
+        Err(_) => 0,
+    }
+}
+
+/// Why there is none.
+#[cold]
+#[inline(never)]
+fn long_fault(bytes: &[u8]) -> NumberFault
+    ensures { IfErr (uleb_at bytes.now) (λ fault. result ≡ fault) }
+{
+    match long_uleb(bytes) {
+        Ok(_) => NumberFault::BadNumber,
+        Err(fault) => fault,
+    }
 }
 
 /// Most numbers have one byte or two.
@@ -66,7 +107,13 @@ fn uleb(bytes: &[u8]) -> Result<(u64, usize), NumberFault>
         [low, high, ..] if *high < 0x80 => {
             Ok((u64::from(*low & 0x7f) + 128 * u64::from(*high), 2))
         }
-        _ => long_uleb(bytes),
+        _ => {
+            let len = long_len(bytes);
+            if len > LONGEST {
+                return Err(long_fault(bytes));
+            }
+            Ok((long_number(bytes), len))
+        }
     }
 }
 
