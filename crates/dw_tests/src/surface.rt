@@ -241,8 +241,10 @@ fn first_step<G: StepGraph>(graph: &G) -> Option<usize> {
 /// The size of the type at an offset.
 fn size_at(alloc: Global, links: &Links<'_, '_>, offset: u32) -> Option<u64> {
     let steps: Result<ByValue, Stop<Fault>> = ByValue::new(alloc, links.entries, links);
-    let steps = steps.ok()?;
-    let order = order(alloc, &steps).ok()?;
+    let Ok(steps) = steps else { return None };
+    let Ok(order) = order(alloc, &steps) else {
+        return None
+    };
     let table: Result<SizeTable, Stop<Fault>> = sizes(alloc, links.entries, links, &order);
     table.ok()?.get(links.entries.find(offset)?)
 }
