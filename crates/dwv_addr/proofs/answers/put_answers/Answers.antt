@@ -1,5 +1,5 @@
-use Rattle.std.proofs.Common.{Option, None, List, ℕ, ◌++◌, get_or, ap, sym, ◌∙◌, append_assoc, subst, take}
-use Rattle.std.proofs.lemmas.List.{take_more}
+use Rattle.std.proofs.Common.{Option, None, List, ℕ, ◌++◌, get_or, ap, sym, ◌∙◌, append_assoc, subst, take, arith}
+use Rattle.std.proofs.lemmas.List.{take_all, take_more}
 use Rattle.dwv_addr.specs.Located.{AreAnswers}
 use Rattle.dwv_addr.proofs.LocatedLemmas.{answers_more}
 use Rattle.dwv_addr.proofs.answers.put_answers.Goals as goal
@@ -21,4 +21,15 @@ loop-question-preserved c =
           (before ++ more)) (sym (take_more asked k None c.loop-question-test.true))
           (answers_more a.json known units (take k asked) question before more
           (are units index) (is units index)),
+    )
+
+pub returns : goal.returns
+returns c =
+    let l = c.loop-question in
+    let (answer, so_far, are) = l.invariant in (
+      answer,
+      so_far,
+      λ units index.
+          subst (λ (xs : List (Option ℕ)). AreAnswers c.args.json c.args.known.now units xs answer)
+          (take_all l.question-index c.args.asked.now (omega (arith, c.loop-question-test.false))) (are units index),
     )
