@@ -64,8 +64,8 @@ impl Model for Walk {
 }
 
 impl Walk {
-    /// Where the first step of each node leads, and the walk before it takes up a node with steps, by the flags of these.
-    /// Each node without steps has its rank already, which took one turn.
+    /// Where the first step of each node leads, and the walk before it takes up a node with steps, by the flags of
+    /// these. Each node without steps has its rank already, which took one turn.
     pub(crate) fn new<G: StepGraph>(
         alloc: Global,
         graph: &G,
