@@ -11,8 +11,7 @@ use Rattle.dw_image.specs.declared.image.Image.{Image}
 use Rattle.dw_image.specs.Images.{entries_in}
 use Rattle.dw_cprint.specs.EntryShapes.{subject_in}
 use Rattle.dw_cprint.specs.Listings.{IsNamedType, AreNamedTypes, is_named_type, named_number}
-use Rattle.dw_cprint.specs.Judgements.{AreNames, IsNameOf}
-use Rattle.dw_cprint.specs.declared.words.Text.{Text}
+use Rattle.dw_cprint.specs.Judgements.{HoldsOfEach}
 use Rattle.dw_cprint.proofs.LevelLemmas.{few-entries}
 use Rattle.dw_cprint.proofs.NumberLemmas.{kept-has, range-rising, range-there}
 use Rattle.dw_cprint.proofs.ReachLemmas.{few-apart}
@@ -80,10 +79,9 @@ pub entry-there : {image : Image} {named : List ℕ} (k id : ℕ) → AreNamedTy
 entry-there {named = named} k id names inside at =
     rw (get_or_read named k id inside at 0) ((names.all (get_or named k 0)).0 (Contains-get_or named k 0 inside))
 
--- and its name
-pub name-there : {image : Image} {named : List ℕ} {names : List Text} (k id : ℕ) (name : Text)
-    → AreNames image named names → k < length named → id ≡ get_or named k id → name ≡ get_or names k name
-    → IsNameOf image id name
-name-there {named = named} {names = names} k id name are inside at told =
-    let there : k < length names = omega (arith, are.long, inside) in
-    rw (get_or_read named k id inside at 0, get_or_read names k name there told name) (are.each k name there)
+-- and what is kept of it
+pub kept-there : {X : Type 0} {P : ℕ → X → Type 0} {named : List ℕ} {kept : List X} (k id : ℕ) (it : X)
+    → HoldsOfEach P named kept → k < length named → id ≡ get_or named k id → it ≡ get_or kept k it → P id it
+kept-there {named = named} {kept = kept} k id it are inside at told =
+    let there : k < length kept = omega (arith, are.long, inside) in
+    rw (get_or_read named k id inside at 0, get_or_read kept k it there told it) (are.each k it there)

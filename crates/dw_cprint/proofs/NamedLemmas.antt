@@ -9,12 +9,13 @@ use Rattle.dw_forms.specs.Codes.{DW_TAG_typedef, DW_TAG_variable}
 use Rattle.dw_image.specs.References.{is_declared}
 use Rattle.dw_image.specs.declared.image.Image.{Image}
 use Rattle.dw_image.specs.Images.{entries_in}
-use Rattle.dw_cprint.specs.EntryShapes.{body_in, members_in, subject_in, tag_in, tag_word}
-use Rattle.dw_cprint.specs.Listings.{AreNamedTypes, IsNamedType, is_named_type, named_number}
+use Rattle.dw_cprint.specs.EntryShapes.{body_in, subject_in, tag_in, tag_word}
+use Rattle.dw_cprint.specs.Listings.{AreNamedTypes, is_named_type, named_number}
 use Rattle.dw_cprint.specs.LookUps.{entry_by, name_at, tag_at, type_at}
-use Rattle.dw_cprint.specs.Judgements.{AreNames, IsNameOf}
-use Rattle.dw_cprint.specs.Shapes.{AggregateKeyword, TagKeyword, OfAggregate, Enum, SubjectOf, declared_subject, defined_subject, typedef_subject, variable_subject}
-use Rattle.dw_cprint.specs.Steps.{member_types, types_declared}
+use Rattle.dw_cprint.specs.Judgements.{AreKinds, AreNames, HoldsOfEach, IsKindOf, IsNameOf}
+use Rattle.dw_cprint.specs.Shapes.{TagKeyword, SubjectOf, declared_subject, defined_subject, typedef_subject, variable_subject}
+use Rattle.dw_cprint.specs.declared.named.NamedKind.TheVariants as kind
+use Rattle.dw_cprint.specs.declared.named.NamedKind.{NamedKind}
 use Rattle.dw_cprint.specs.declared.words.Text.{Text}
 use Rattle.dw_cprint.proofs.ListingLemmas.{named_done}
 use Rattle.dw_cprint.proofs.NumberLemmas.{each-more}
@@ -34,29 +35,11 @@ module _ (image : Image) (id : ℕ) where
       else if variable then variable_subject (name_at image id) (type_at image id)
       else tag_in image id word
 
-  -- what is declared at a named type: a typedef, or a structure, union or enumeration with its body
-  abbrev pub named_subject : Option TagKeyword → SubjectOf
-  named_subject None = typedef_subject (name_at image id) (type_at image id)
-  named_subject (Some word) = defined_subject (name_at image id) (body_in image id word)
-
   -- a structure, union or enumeration that is only declared, or with its body
   abbrev told : Bool → TagKeyword → SubjectOf
   told declared word =
       if declared then declared_subject word (name_at image id)
       else defined_subject (name_at image id) (body_in image id word)
-
-  chosen_is : (a b : Bool) (o : Option TagKeyword) → (a ≡ true → o ≡ None)
-      → is_named_type (chosen a b o) ≡ true → chosen a b o ≡ named_subject o
-  chosen_is true b None none is = refl
-  chosen_is true b (Some word) none is = (let clash = none refl in absurd (cc))
-  chosen_is false true o none is = absurd (cc)
-  chosen_is false false None none is = absurd (cc)
-  chosen_is false false (Some word) none is = whole (is_declared (entry_by image id)) word is
-    where
-      whole : (declared : Bool) (word : TagKeyword) → is_named_type (told declared word) ≡ true
-          → told declared word ≡ named_subject (Some word)
-      whole true word is = absurd (cc)
-      whole false word is = refl
 
   chosen_word : (a b : Bool) (word : TagKeyword) → (a ≡ true → Some word ≡ None) → (b ≡ true → Some word ≡ None)
       → is_named_type (chosen a b (Some word)) ≡ (not (is_declared (entry_by image id)) && is_some (name_at image id))
@@ -99,70 +82,85 @@ module _ (image : Image) (id : ℕ) where
 
   -- ---- what is declared at one
 
-  pub named_is : (o : Option TagKeyword) → tag_word (tag_at image id) ≡ o → IsNamedType image id
-      → subject_in image id ≡ named_subject o
+  chosen_defined : (a b : Bool) (word : TagKeyword) → (a ≡ true → Some word ≡ None) → (b ≡ true → Some word ≡ None)
+      → is_declared (entry_by image id) ≡ false
+      → chosen a b (Some word) ≡ defined_subject (name_at image id) (body_in image id word)
+  chosen_defined true b word none other declared = (let clash = none refl in absurd (cc))
+  chosen_defined false true word none other declared = (let clash = other refl in absurd (cc))
+  chosen_defined false false word none other declared = ap (λ (d : Bool). told d word) declared
+
+  pub defined_kind : (word : TagKeyword) → tag_word (tag_at image id) ≡ Some word
+      → is_declared (entry_by image id) ≡ false
+      → IsKindOf image id (kind.Defined word)
   unfolding subject_in
-  named_is o is named =
+  defined_kind word is declared =
       let tag = tag_at image id in
-      chosen_is (tag == DW_TAG_typedef) (tag == DW_TAG_variable) (tag_word tag) (typedef_word tag) named.1
-      ∙ ap named_subject is
+      let one = tag == DW_TAG_typedef in
+      let other = tag == DW_TAG_variable in
+      sym (ap (chosen one other) is ∙ chosen_defined one other word
+      (λ t. sym is ∙ typedef_word tag t) (λ t. sym is ∙ variable_word tag t) declared)
 
-  pub typedef_types : tag_word (tag_at image id) ≡ None → IsNamedType image id
-      → types_declared (subject_in image id) ≡ type_at image id ∷ []
-  typedef_types is named = ap types_declared (named_is None is named)
+  pub defined_named : (word : TagKeyword) → tag_word (tag_at image id) ≡ Some word
+      → is_declared (entry_by image id) ≡ false → is_named_type (subject_in image id) ≡ is_some (name_at image id)
+  defined_named word is declared = ap is_named_type (sym (defined_kind word is declared))
 
-  pub enum_types : tag_word (tag_at image id) ≡ Some Enum → IsNamedType image id
-      → types_declared (subject_in image id) ≡ []
-  enum_types is named = ap types_declared (named_is (Some Enum) is named)
+  pub typedef_kind : tag_at image id ≡ DW_TAG_typedef
+      → IsKindOf image id (kind.Typedef (type_at image id))
+  unfolding subject_in
+  typedef_kind is = rw is refl
 
-  pub aggregate_types : (word : AggregateKeyword) → tag_word (tag_at image id) ≡ Some (OfAggregate word)
-      → IsNamedType image id → types_declared (subject_in image id) ≡ member_types (members_in image id)
-  aggregate_types word is named = ap types_declared (named_is (Some (OfAggregate word)) is named)
+-- ---- what is kept of those that were found
 
--- ---- the names of those that were found
+pub none_kept : {X : Type 0} (P : ℕ → X → Type 0) → HoldsOfEach P [] []
+none_kept P = record { long = refl; each = λ k d w. absurd (omega arith) }
 
-pub no_names : (image : Image) → AreNames image [] []
-no_names image = record { long = refl; each = λ k d w. absurd (omega arith) }
+-- one more, and what is kept of it
+one_more : {X : Type 0} (P : ℕ → X → Type 0) (ids ids' : List ℕ) (kept kept' : List X) (id : ℕ) (it : X)
+    → HoldsOfEach P ids kept
+    → P id it → ids' ≡ ids ++ id ∷ [] → kept' ≡ kept ++ it ∷ [] → HoldsOfEach P ids' kept'
+one_more P ids ids' kept kept' id it h is more more-kept = rw (more, more-kept) (record {
+  long = omega (arith, h.long, length-append ids (id ∷ []), length-append kept (it ∷ []));
+  each = λ k d w. each-more (λ j n. P (get_or (ids ++ id ∷ []) j 0) n) kept it d
+      (λ j v. rw (get_or_append_left ids (id ∷ []) 0 j (omega (arith, h.long, v))) (h.each j d v))
+      (rw (get_or_push ids id 0 (length kept) (sym h.long)) is) k w;
+})
 
--- one more, and its name
 pub names_more : (image : Image) (ids ids' : List ℕ) (names names' : List Text) (id : ℕ) (name : Text)
     → AreNames image ids names
     → IsNameOf image id name → ids' ≡ ids ++ id ∷ [] → names' ≡ names ++ name ∷ [] → AreNames image ids' names'
-names_more image ids ids' names names' id name h is more more-names = rw (more, more-names) (record {
-  long = omega (arith, h.long, length-append ids (id ∷ []), length-append names (name ∷ []));
-  each = λ k d w. each-more (λ j n. IsNameOf image (get_or (ids ++ id ∷ []) j 0) n) names name d
-      (λ j v. rw (get_or_append_left ids (id ∷ []) 0 j (omega (arith, h.long, v))) (h.each j d v))
-      (rw (get_or_push ids id 0 (length names) (sym h.long)) is) k w;
-})
+names_more image = one_more (IsNameOf image)
+
+pub kinds_more : (image : Image) (ids ids' : List ℕ) (kinds kinds' : List NamedKind) (id : ℕ) (kind : NamedKind)
+    → AreKinds image ids kinds
+    → IsKindOf image id kind → ids' ≡ ids ++ id ∷ [] → kinds' ≡ kinds ++ kind ∷ [] → AreKinds image ids' kinds'
+kinds_more image = one_more (IsKindOf image)
 
 range-more : (a n j : ℕ) → a + n ≡ j → range_with_len a (suc n) ≡ range_with_len a n ++ j ∷ []
 range-more a zero j e = let same : a ≡ j = omega arith in ap (λ (k : ℕ). k ∷ []) same
 range-more a (suc n) j e = ap (λ (l : List ℕ). a ∷ l) (range-more (a + 1) n j (omega arith))
 
--- the named types among the first so many entries, and their names
-pub record AreSoFar (image : Image) (count : ℕ) (ids : List ℕ) (names : List Text) : Type 0 where
+-- the named types among the first so many entries, their names and their kinds
+pub record AreSoFar (image : Image) (count : ℕ) (ids : List ℕ) (names : List Text) (kinds : List NamedKind)
+    : Type 0 where
   pub is : ids ≡ filter_map (named_number image) (range_with_len 0 count)
   pub are_names : AreNames image ids names
+  pub are_kinds : AreKinds image ids kinds
 
 -- one entry more
-pub so_far_more : (image : Image) (count : ℕ) (ids ids' : List ℕ) (names names' : List Text)
-    → AreSoFar image count ids names → ids' ≡ ids ++ cons_option (named_number image count) []
-    → AreNames image ids' names' → AreSoFar image (count + 1) ids' names'
-so_far_more image count ids ids' names names' h more are_names = record {
-  is =
-      let on : count + 1 ≡ suc count = omega arith in
-      more ∙ rw (h.is, on) (sym (ap (filter_map (named_number image)) (range-more 0 count count (omega arith))
-      ∙ filter_map-append (named_number image) (range_with_len 0 count) (count ∷ [])));
-  are_names = are_names;
-}
+pub is_so_far : (image : Image) (count : ℕ) (ids ids' : List ℕ)
+    → ids ≡ filter_map (named_number image) (range_with_len 0 count)
+    → ids' ≡ ids ++ cons_option (named_number image count) []
+    → ids' ≡ filter_map (named_number image) (range_with_len 0 (count + 1))
+is_so_far image count ids ids' is more =
+    let on : count + 1 ≡ suc count = omega arith in
+    more ∙ rw (is, on) (sym (ap (filter_map (named_number image)) (range-more 0 count count (omega arith))
+    ∙ filter_map-append (named_number image) (range_with_len 0 count) (count ∷ [])))
 
 -- all of them
-pub named_all : (image : Image) (count : ℕ) (ids : List ℕ) (names : List Text) → count ≡ length (entries_in image)
-    → AreSoFar image count ids names → AreNamedTypes image ids
-named_all image count ids names all h = named_done image ids (rw (← all) h.is)
+pub named_all : (image : Image) (count : ℕ) (ids : List ℕ) (names : List Text) (kinds : List NamedKind)
+    → count ≡ length (entries_in image) → AreSoFar image count ids names kinds → AreNamedTypes image ids
+named_all image count ids names kinds all h = named_done image ids (rw (← all) h.is)
 
 -- ---- what the code cites
 
-pub ruleset named_by_name = (with_word, without_word)
-
-pub ruleset types_of_named = (typedef_types, enum_types, aggregate_types)
+pub ruleset named_by_tag = (with_word, without_word, defined_named, defined_kind, typedef_kind)

@@ -3,10 +3,12 @@ use Rattle.std.specs.Prelude.{◌≡◌, ℕ, ◌<◌, Bool, true, false, List, 
 use Rattle.std.specs.Prelude.{slice_get, slice_index, slice_index_or}
 use Rattle.std.specs.Option.{option_map_or}
 use Rattle.dw_image.specs.declared.image.Image.{Image}
-use Rattle.dw_cprint.specs.EntryShapes.{shape_in, subject_in}
+use Rattle.dw_cprint.specs.EntryShapes.{body_in, shape_in, subject_in}
 use Rattle.dw_cprint.specs.LookUps.{name_at}
 use Rattle.dw_cprint.specs.Refusals.{PrintFault, HoldsNoneBelow, Refuses, IsPrinted}
-use Rattle.dw_cprint.specs.Shapes.{ShapeOf, SubjectOf}
+use Rattle.dw_cprint.specs.Shapes.{ShapeOf, SubjectOf, defined_subject, typedef_subject}
+use Rattle.dw_cprint.specs.declared.named.NamedKind.{NamedKind}
+use Rattle.dw_cprint.specs.declared.named.NamedKind.TheVariants as kind
 use Rattle.dw_cprint.specs.declared.words.Text.{Text}
 
 -- why a declaration is refused; none if no rule with a smaller number holds
@@ -28,11 +30,27 @@ level_of levels named number = option_map_or (slice_index levels) (slice_get nam
 abbrev pub IsNameOf : Image → ℕ → Text → Type 0
 IsNameOf image id text = Some text.bytes.now ≡ name_at image id
 
+-- what is declared at an entry, by its kind
+abbrev pub subject_of_kind : Image → ℕ → NamedKind → SubjectOf
+subject_of_kind image id (kind.Typedef at) = typedef_subject (name_at image id) at
+subject_of_kind image id (kind.Defined word) = defined_subject (name_at image id) (body_in image id word)
+
+-- a kind is that of an entry
+abbrev pub IsKindOf : Image → ℕ → NamedKind → Type 0
+IsKindOf image id kind = subject_of_kind image id kind ≡ subject_in image id
+
+-- something that holds of each of them and of what is kept of it
+pub record HoldsOfEach {X : Type 0} (P : ℕ → X → Type 0) (named : List ℕ) (kept : List X) : Type 0 where
+  pub long : length kept ≡ length named
+  pub each : (k : ℕ) (d : X) → k < length kept → P (slice_index named k) (slice_index_or kept k d)
+
 -- their names
-pub record AreNames (image : Image) (named : List ℕ) (names : List Text) : Type 0 where
-  pub long : length names ≡ length named
-  pub each : (k : ℕ) (d : Text) → k < length names
-      → IsNameOf image (slice_index named k) (slice_index_or names k d)
+abbrev pub AreNames : Image → List ℕ → List Text → Type 0
+AreNames image = HoldsOfEach (IsNameOf image)
+
+-- their kinds
+abbrev pub AreKinds : Image → List ℕ → List NamedKind → Type 0
+AreKinds image = HoldsOfEach (IsKindOf image)
 
 -- why each of the first so many is refused; none if it is printed
 pub record AreFirstRefusals (image : Image) (named : List ℕ) (count : ℕ) (refusals : List (Option PrintFault))

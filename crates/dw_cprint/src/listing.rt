@@ -5,10 +5,10 @@ ghost use Rattle.std.specs.Prelude.{All, AllPairs, IfOk, OnOk, OnErr, Err, Some}
 ghost use Rattle.std.specs.List.{filter_map, range_with_len};
 ghost use Rattle.dw_image.specs.Images.{entries_in};
 ghost use Rattle.dw_cprint.specs.EntryShapes.{body_in, shape_in, subject_in};
-ghost use Rattle.dw_cprint.specs.Judgements.{AreNames, AreRefusals, IsNameOf, IsPrintedNumber, is_printed};
+ghost use Rattle.dw_cprint.specs.Judgements.{AreKinds, AreNames, AreRefusals, IsKindOf, IsNameOf, IsPrintedNumber, is_printed};
 ghost use Rattle.dw_cprint.specs.Judgements.{refused_number};
 ghost use Rattle.dw_cprint.specs.Kept.{WritesBody, WritesDeclaration};
-ghost use Rattle.dw_cprint.specs.Listings.{AreNamedTypes, IsListing, IsNamedType, declared_line, listing_text};
+ghost use Rattle.dw_cprint.specs.Listings.{AreNamedTypes, IsListing, declared_line, listing_text};
 ghost use Rattle.dw_cprint.specs.Listings.{named_steps, refused_line, refused_line_in};
 ghost use Rattle.dw_cprint.specs.Refusals.{AppendsDeclaration, HasOneReading, IsPrinted, Refuses};
 ghost use Rattle.dw_cprint.specs.Shapes.{view_subject};
@@ -20,11 +20,11 @@ use crate::digits::put_hex;
 use crate::enumerators;
 use crate::fault::PrintFault;
 use crate::levels::numbers_in_order;
-use crate::named::{Named, all_types, named_types};
+use crate::named::{Named, NamedKind, all_types, named_types};
 use crate::reaching::put_declared_types;
 use crate::shape::Subject;
-use crate::shape_reader::{body_at, members_at, subject_of, tag_word};
-use crate::source::{Source, tag_at, type_at};
+use crate::shape_reader::{body_at, members_at, subject_of};
+use crate::source::Source;
 use crate::survey::Survey;
 use crate::text::{put, put_front};
 use crate::words::TagKeyword::OfAggregate;
@@ -87,14 +87,19 @@ fn subject_at<'a>(
     source: &'a Source<'a>,
     id: EntryId,
     name: Text<'a>,
+    kind: &NamedKind,
 ) -> Result<Subject<'a>, AllocError>
-    requires named { IsNamedType source.now.image.now id }
+    requires id { id < length (entries_in source.now.image.now) }
     requires name { IsNameOf source.now.image.now id name }
+    requires kind { IsKindOf source.now.image.now id kind.now }
     ensures { IfOk result (λ subject. view_subject subject ≡ subject_in source.now.image.now id) }
 {
-    match tag_word(tag_at(source.image, id)) {
-        None => Ok(Subject::Typedef(Some(name), type_at(source.image, id))),
-        Some(word) => Ok(Subject::Defined(Some(name), body_at(alloc, source, id, word)?)),
+    match kind {
+        NamedKind::Typedef(at) => Ok(Subject::Typedef(Some(name), *at)),
+        NamedKind::Defined(word) => Ok(Subject::Defined(
+            Some(name),
+            body_at(alloc, source, id, *word)?,
+        )),
     }
 }
 
@@ -107,6 +112,7 @@ fn refusals_of<'a>(
 ) -> Result<Vec<Option<PrintFault>>, AllocError>
     requires named { AreNamedTypes source.now.image.now named.now.ids.items }
     requires names { AreNames source.now.image.now named.now.ids.items named.now.names.items }
+    requires kinds { AreKinds source.now.image.now named.now.ids.items named.now.kinds.items }
     requires survey { IsSurveyOf (shape_in source.now.image.now)
         (named_steps source.now.image.now named.now.ids.items) survey.now }
     ensures { IfOk result (λ refusals. AreRefusals source.now.image.now named.now.ids.items refusals.items) }
@@ -115,7 +121,8 @@ fn refusals_of<'a>(
     for k in 0..named.ids.len() {
         let id = named.ids[k];
         let name = named.names[k];
-        let subject = subject_at(alloc, source, id, name)?;
+        let kind = &named.kinds[k];
+        let subject = subject_at(alloc, source, id, name, kind)?;
         let refusal = survey.refusal(alloc, &subject)?;
         refusals.push(refusal)?;
     }
@@ -183,19 +190,20 @@ fn put_named_type<'a>(
     survey: &Survey<'a>,
     id: EntryId,
     name: Text<'a>,
+    kind: &NamedKind,
 ) -> Result<(), AllocError>
-    requires named { IsNamedType source.now.image.now id }
+    requires id { id < length (entries_in source.now.image.now) }
     requires name { IsNameOf source.now.image.now id name }
+    requires kind { IsKindOf source.now.image.now id kind.now }
     ensures { OnOk result
         (WritesDeclaration survey.now (subject_in source.now.image.now id) out.old.items out.new.items) }
 {
-    match tag_word(tag_at(source.image, id)) {
-        None => {
-            let at = type_at(source.image, id);
-            survey.put_declaration(alloc, out, &Subject::Typedef(Some(name), at))
+    match kind {
+        NamedKind::Typedef(at) => {
+            survey.put_declaration(alloc, out, &Subject::Typedef(Some(name), *at))
         }
-        Some(word) => {
-            put_body_at(alloc, out, source, survey, id, word, name)?;
+        NamedKind::Defined(word) => {
+            put_body_at(alloc, out, source, survey, id, *word, name)?;
             put(out, b";")
         }
     }
@@ -212,6 +220,7 @@ fn put_lines<'a>(
 ) -> Result<(), AllocError>
     requires named { AreNamedTypes source.now.image.now named.now.ids.items }
     requires names { AreNames source.now.image.now named.now.ids.items named.now.names.items }
+    requires kinds { AreKinds source.now.image.now named.now.ids.items named.now.kinds.items }
     requires survey { IsSurveyOf (shape_in source.now.image.now)
         (named_steps source.now.image.now named.now.ids.items) survey.now }
     requires printed { All (IsPrintedNumber source.now.image.now named.now.ids.items) printed.now.keys }
@@ -221,7 +230,8 @@ fn put_lines<'a>(
     for number in printed {
         let id = named.ids[*number as usize];
         let name = named.names[*number as usize];
-        put_named_type(alloc, out, source, survey, id, name)?;
+        let kind = &named.kinds[*number as usize];
+        put_named_type(alloc, out, source, survey, id, name, kind)?;
         out.push(b'\n')?;
     }
     Ok(())
@@ -315,7 +325,7 @@ fn listing_of<'a>(alloc: Global, source: &'a Source<'a>) -> Result<Listing, Allo
 {
     let mut named = named_types(alloc, source)?;
     let numbers = numbers_in_order(alloc, source.image, &named.ids)?;
-    let types = all_types(alloc, source.image, &named.ids)?;
+    let types = all_types(alloc, source.image, &named)?;
     let survey = Survey::new(alloc, source, types)?;
     let refusals = refusals_of(alloc, source, &survey, &named)?;
     let printed = printed_of(alloc, &numbers, &refusals)?;

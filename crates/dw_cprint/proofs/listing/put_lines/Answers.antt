@@ -10,7 +10,7 @@ use Rattle.dw_cprint.specs.Refusals.{IsPrinted}
 use Rattle.dw_cprint.specs.Steps.{first_steps}
 use Rattle.dw_cprint.specs.Summaries.{AreAmong}
 use Rattle.dw_cprint.proofs.JudgementLemmas.{steps-among}
-use Rattle.dw_cprint.proofs.ListingLemmas.{entry-there, name-there}
+use Rattle.dw_cprint.proofs.ListingLemmas.{entry-there, kept-there}
 use Rattle.dw_cprint.proofs.RefusalLemmas.{writes-line}
 use Rattle.dw_cprint.proofs.listing.put_lines.Goals as goal
 
@@ -29,17 +29,27 @@ index-name-requires c =
     let known = printed-next _ _ c.in-Some.ensures.steps c.loop-number.invariant.printed in
     omega (arith, known.0, c.requires.names.long)
 
-pub put_named_type-requires-clause-named : goal.put_named_type-requires-clause-named
-put_named_type-requires-clause-named c =
+pub index-kind-requires : goal.index-kind-requires
+index-kind-requires c =
     let known = printed-next _ _ c.in-Some.ensures.steps c.loop-number.invariant.printed in
-    entry-there _ c.index-id.result.now c.requires.named known.0
-    c.index-id.ensures
+    omega (arith, known.0, c.requires.kinds.long)
+
+pub put_named_type-requires-clause-id : goal.put_named_type-requires-clause-id
+put_named_type-requires-clause-id c =
+    let known = printed-next _ _ c.in-Some.ensures.steps c.loop-number.invariant.printed in
+    (entry-there _ c.index-id.result.now c.requires.named known.0 c.index-id.ensures).0
 
 pub put_named_type-requires-clause-name : goal.put_named_type-requires-clause-name
 put_named_type-requires-clause-name c =
     let known = printed-next _ _ c.in-Some.ensures.steps c.loop-number.invariant.printed in
-    name-there _ c.index-id.result.now
+    kept-there _ c.index-id.result.now
     c.index-name.result.now c.requires.names known.0 c.index-id.ensures c.index-name.ensures
+
+pub put_named_type-requires-clause-kind : goal.put_named_type-requires-clause-kind
+put_named_type-requires-clause-kind c =
+    let known = printed-next _ _ c.in-Some.ensures.steps c.loop-number.invariant.printed in
+    kept-there _ c.index-id.result.now
+    c.index-kind.result.now c.requires.kinds known.0 c.index-id.ensures c.index-kind.ensures
 
 pub loop-number-preserved : goal.loop-number-preserved
 loop-number-preserved c =

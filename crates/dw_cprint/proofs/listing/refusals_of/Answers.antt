@@ -6,7 +6,7 @@ use Rattle.dw_cprint.specs.Shapes.{SubjectOf}
 use Rattle.dw_cprint.specs.Steps.{first_steps}
 use Rattle.dw_cprint.specs.Summaries.{AreAmong, BySurvey}
 use Rattle.dw_cprint.proofs.JudgementLemmas.{no-refusals, refusals-more, steps-among}
-use Rattle.dw_cprint.proofs.ListingLemmas.{entry-there, name-there}
+use Rattle.dw_cprint.proofs.ListingLemmas.{entry-there, kept-there}
 use Rattle.dw_cprint.proofs.listing.refusals_of.Goals as goal
 
 pub loop-k-init : goal.loop-k-init
@@ -15,16 +15,23 @@ loop-k-init c = rw c.in_ok-refusals.ensures.items (no-refusals c.args.source.now
 pub index-name-requires : goal.index-name-requires
 index-name-requires c = omega (arith, c.requires.names.long, c.loop-k-test.true, c.len-k-end.ensures)
 
-pub subject_at-requires-clause-named : goal.subject_at-requires-clause-named
-subject_at-requires-clause-named c =
-    entry-there c.loop-k.k c.index-id.result.now
-    c.requires.named (omega (arith, c.loop-k-test.true, c.len-k-end.ensures)) c.index-id.ensures
+pub index-kind-requires : goal.index-kind-requires
+index-kind-requires c = omega (arith, c.requires.kinds.long, c.loop-k-test.true, c.len-k-end.ensures)
+
+pub subject_at-requires-clause-id : goal.subject_at-requires-clause-id
+subject_at-requires-clause-id c =
+    (entry-there c.loop-k.k c.index-id.result.now
+    c.requires.named (omega (arith, c.loop-k-test.true, c.len-k-end.ensures)) c.index-id.ensures).0
 
 pub subject_at-requires-clause-name : goal.subject_at-requires-clause-name
 subject_at-requires-clause-name c =
-    name-there c.loop-k.k
-    c.index-id.result.now c.index-name.result.now c.requires.names
+    kept-there c.loop-k.k c.index-id.result.now c.index-name.result.now c.requires.names
     (omega (arith, c.loop-k-test.true, c.len-k-end.ensures)) c.index-id.ensures c.index-name.ensures
+
+pub subject_at-requires-clause-kind : goal.subject_at-requires-clause-kind
+subject_at-requires-clause-kind c =
+    kept-there c.loop-k.k c.index-id.result.now c.index-kind.result.now c.requires.kinds
+    (omega (arith, c.loop-k-test.true, c.len-k-end.ensures)) c.index-id.ensures c.index-kind.ensures
 
 pub loop-k-preserved : goal.loop-k-preserved
 loop-k-preserved c =

@@ -4,7 +4,7 @@ use Rattle.dw_cprint.specs.EntryShapes.{subject_in}
 use Rattle.dw_cprint.specs.Steps.{entries_among, first_steps}
 use Rattle.dw_cprint.proofs.named.all_types.Given as goal
 
-abbrev pub invariant-loop-id : goal.invariant-loop-id
-invariant-loop-id l =
+abbrev pub invariant-loop-k : goal.invariant-loop-k
+invariant-loop-k l =
     let f : ℕ → List ℕ = λ id. first_steps (subject_in l.image id) in
-    entries_among l.types.items ++ flat_map f (drop l.id-index l.named) ≡ flat_map f l.named
+    entries_among l.types.items ++ flat_map f (drop l.k l.named.ids.items) ≡ flat_map f l.named.ids.items
