@@ -7,7 +7,7 @@ use Rattle.std.proofs.lemmas.List.{length-append, length-set}
 use Rattle.std.proofs.lemmas.Option.{get_or_from_slice_get, slice_get-get_or, slice_get_within}
 use Rattle.dw_lines.specs.Programs.{program_end}
 use Rattle.dw_addresses.specs.declared.line_index.LineIndex.{LineIndex}
-use Rattle.dw_lines.specs.declared.sections.LineSections.{LineSections}
+use Rattle.dw_lines.specs.declared.program.LineSections.{LineSections}
 use Rattle.dw_addresses.specs.Reading.{HasLast, IsAfter, IsNext, IsRead}
 use Rattle.dw_addresses.specs.declared.lines.FileLines.{FileLines}
 use Rattle.dw_addresses.specs.declared.named.Named.{Named}

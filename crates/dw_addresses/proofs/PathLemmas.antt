@@ -8,7 +8,7 @@ use Rattle.dw_lines.specs.Files.{FileAt, file_view}
 use Rattle.dw_addresses.specs.Paths.{begins_with_slash, compilation_directory, directory_path, ends_with_slash, joined}
 use Rattle.dw_addresses.specs.Paths.{entry_path, slash}
 use Rattle.dw_lines.specs.Programs.{HeaderFields}
-use Rattle.dw_lines.specs.declared.files.FileEntry.{FileEntry}
+use Rattle.dw_lines.specs.declared.program.FileEntry.{FileEntry}
 
 pub last_slash : (bytes : List ℕ) → 0 < length bytes
     → eqb (get_or bytes (length bytes - 1) 0) 47 ≡ ends_with_slash bytes

@@ -12,9 +12,9 @@ use Rattle.dw_entries.specs.declared.entries.Entries.{Entries}
 use Rattle.dw_entries.proofs.Firsts.{same_some}
 use Rattle.dw_entries.specs.Views.{units_of}
 use Rattle.dw_lines.specs.Programs.{program_end}
-use Rattle.dw_lines.specs.declared.fault.LineFault.{LineFault}
+use Rattle.dw_lines.specs.declared.rule.LineFault.{LineFault}
 use Rattle.dw_lines.specs.declared.program.Program.{Program}
-use Rattle.dw_lines.specs.declared.sections.LineSections.{LineSections}
+use Rattle.dw_lines.specs.declared.program.LineSections.{LineSections}
 use Rattle.dw_ranges.specs.EntryRanges.{head_in}
 use Rattle.dw_addresses.specs.LinePrograms.{Fails, Holds, IsApart, IsValid, Names, ProgramsFail, offset_named}
 use Rattle.dw_addresses.specs.Lines.{HasPrograms, IsProgramOf, program_of}

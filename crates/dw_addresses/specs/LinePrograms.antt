@@ -4,10 +4,10 @@ use Rattle.dw_entries.specs.declared.entries.Entries.{Entries}
 use Rattle.dw_entries.specs.Views.{units_of}
 use Rattle.dw_lines.specs.Programs.{program_end, program_from, program_view}
 use Rattle.dw_lines.specs.Rows.{program_run}
-use Rattle.dw_lines.specs.declared.fault.LineFault.{LineFault}
+use Rattle.dw_lines.specs.declared.rule.LineFault.{LineFault}
 use Rattle.dw_lines.specs.declared.program.Program.{Program}
 use Rattle.dw_lines.specs.declared.rule.LineRule.TheVariants.{ProgramsMeet}
-use Rattle.dw_lines.specs.declared.sections.LineSections.{LineSections}
+use Rattle.dw_lines.specs.declared.program.LineSections.{LineSections}
 use Rattle.dw_ranges.specs.EntryRanges.{first_value, head_in, offset_in}
 
 -- the code of the attribute (7.5.4, Table 7.5)

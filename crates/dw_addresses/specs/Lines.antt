@@ -14,11 +14,11 @@ use Rattle.dw_lines.specs.Files.{has_file}
 use Rattle.dw_addresses.specs.Paths.{file_path}
 use Rattle.dw_lines.specs.Programs.{fields_of}
 use Rattle.dw_lines.specs.Rows.{program_run}
-use Rattle.dw_lines.specs.declared.files.Files.{Files}
+use Rattle.dw_lines.specs.declared.program.Files.{Files}
 use Rattle.dw_addresses.specs.declared.line_index.LineIndex.{LineIndex}
 use Rattle.dw_lines.specs.declared.row.Row.{Row}
 use Rattle.dw_lines.specs.declared.rule.LineRule.TheVariants.{NoFile}
-use Rattle.dw_lines.specs.declared.sections.LineSections.{LineSections}
+use Rattle.dw_lines.specs.declared.program.LineSections.{LineSections}
 use Rattle.dw_addresses.specs.LinePrograms.{Holds, Names, ProgramsFail, offset_named}
 use Rattle.dw_addresses.specs.declared.fault.LinesFault.{LinesFault}
 use Rattle.dw_addresses.specs.declared.lines.FileLines.{FileLines}

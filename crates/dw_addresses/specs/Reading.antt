@@ -5,8 +5,8 @@ use Rattle.dw_entries.specs.declared.entries.Entries.{Entries}
 use Rattle.dw_entries.specs.Views.{units_of}
 use Rattle.dw_lines.specs.Programs.{program_end}
 use Rattle.dw_addresses.specs.declared.line_index.LineIndex.{LineIndex}
-use Rattle.dw_lines.specs.declared.sections.LineSections.{LineSections}
-use Rattle.dw_lines.specs.declared.fault.LineFault.{LineFault}
+use Rattle.dw_lines.specs.declared.program.LineSections.{LineSections}
+use Rattle.dw_lines.specs.declared.rule.LineFault.{LineFault}
 use Rattle.dw_lines.specs.declared.rule.LineRule.TheVariants.{ProgramsMeet}
 use Rattle.dw_addresses.specs.LinePrograms.{IsInvalid, IsValid, Names, offset_named}
 use Rattle.dw_addresses.specs.Lines.{program_of}

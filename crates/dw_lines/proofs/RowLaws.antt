@@ -10,9 +10,9 @@ use Rattle.dw_lines.specs.Machine.{start, Turn, last_after}
 use Rattle.dw_lines.specs.Opcodes.{opcode}
 use Rattle.dw_lines.specs.Rows.{Run, with_row, at_end, turn_at, after_turn, run_of, program_run}
 use Rattle.dw_lines.specs.Sequences.{HasFile, Ascend, AllEnd}
-use Rattle.dw_lines.specs.declared.fault.LineFault.{LineFault}
-use Rattle.dw_lines.specs.declared.files.Files.{Files}
-use Rattle.dw_lines.specs.declared.program.Parameters.{Parameters}
+use Rattle.dw_lines.specs.declared.rule.LineFault.{LineFault}
+use Rattle.dw_lines.specs.declared.program.Files.{Files}
+use Rattle.dw_lines.specs.declared.program.LineHeader.{LineHeader}
 use Rattle.dw_lines.specs.declared.program.Program.{Program}
 use Rattle.dw_lines.specs.declared.row.Row.{Row}
 use Rattle.dw_lines.proofs.RunSteps.{all_ok, turn_says, turn_shorter}
@@ -55,36 +55,35 @@ after_good files last go (Err fault) h k = faulty files last fault
 after_good files last go (Ok t) h k =
     with_good files last t.last t.row (go t.registers t.last t.rest) h (k t.registers t.last)
 
-module _ (p : Parameters) (lengths : List ℕ) (files : Files) (end : ℕ) where
+module _ (h : LineHeader) (end : ℕ) where
   turn_at_good : (registers : Row) (last : Option ℕ) (bytes : List ℕ)
-      → IfOk (turn_at p lengths files end registers last bytes) (λ t. GoodTurn files last t.row t.last)
+      → IfOk (turn_at h end registers last bytes) (λ t. GoodTurn h.files last t.row t.last)
   turn_at_good registers last bytes =
-      let P : Turn → Type 0 = λ t. GoodTurn files last t.row t.last in
-      MatchResult-weaker (turn_at p lengths files end registers last bytes)
+      let P : Turn → Type 0 = λ t. GoodTurn h.files last t.row t.last in
+      MatchResult-weaker (turn_at h end registers last bytes)
       (as_other_says _ P (λ e. Unit {0}) _
-      (bind_says ((opcode p lengths).read bytes) _ (λ x. Unit {0}) (λ e. Unit {0}) P (λ e. Unit {0})
-      (all_ok ((opcode p lengths).read bytes))
-      (λ x h. turn_says p files last registers x.0 x.1 P (λ r. refl) (λ r file high. (file, high, refl))) (λ e h. tt)))
+      (bind_says ((opcode h).read bytes) _ (λ x. Unit {0}) (λ e. Unit {0}) P (λ e. Unit {0})
+      (all_ok ((opcode h).read bytes))
+      (λ x ok. turn_says h last registers x.0 x.1 P (λ r. refl) (λ r file high. (file, high, refl))) (λ e h. tt)))
       (λ x h. h) (λ e h. tt)
 
-  end_good : (last : Option ℕ) → GoodRun files last (at_end end last)
-  end_good None = record { have_files = All-nil (HasFile files); ascend = tt; all_end = λ e. refl }
-  end_good (Some l) = faulty files (Some l) _
+  end_good : (last : Option ℕ) → GoodRun h.files last (at_end end last)
+  end_good None = record { have_files = All-nil (HasFile h.files); ascend = tt; all_end = λ e. refl }
+  end_good (Some l) = faulty h.files (Some l) _
 
   pub run_good : (n : ℕ) (registers : Row) (last : Option ℕ) (bytes : List ℕ) → length bytes ≤ n
-      → GoodRun files last (run_of p lengths files end n registers last bytes)
+      → GoodRun h.files last (run_of h end n registers last bytes)
   unfolding run_of
-  run_good n registers last [] h = end_good last
-  run_good zero registers last (b ∷ bytes) h = absurd (omega arith)
-  run_good (suc n) registers last (b ∷ bytes) h =
-      after_good files last (run_of p lengths files end n) (turn_at p lengths files end registers last (b ∷ bytes))
+  run_good n registers last [] few = end_good last
+  run_good zero registers last (b ∷ bytes) few = absurd (omega arith)
+  run_good (suc n) registers last (b ∷ bytes) few =
+      after_good h.files last (run_of h end n) (turn_at h end registers last (b ∷ bytes))
       (turn_at_good registers last (b ∷ bytes))
-      (MatchResult-weaker (turn_at p lengths files end registers last (b ∷ bytes))
-      (turn_shorter p lengths files end registers last (b ∷ bytes))
+      (MatchResult-weaker (turn_at h end registers last (b ∷ bytes))
+      (turn_shorter h end registers last (b ∷ bytes))
       (λ t short r l. run_good n r l t.rest (omega arith)) (λ e h. tt))
 
 pub program_good : (p : Program) → GoodRun p.header.files None (program_run p)
 program_good p =
-    run_good p.header.parameters p.header.standard_opcode_lengths.now p.header.files
-    (p.opcodes_at + length p.opcodes.now) (length p.opcodes.now) (start p.header.parameters.default_is_stmt) None
+    run_good p.header (p.opcodes_at + length p.opcodes.now) (length p.opcodes.now) (start p.header.parameters.default_is_stmt) None
     p.opcodes.now (omega arith)

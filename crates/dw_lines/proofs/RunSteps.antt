@@ -15,9 +15,8 @@ use Rattle.dw_lines.specs.Rows.{Run, failed, with_row, at_end, turn_at, after_tu
 use Rattle.dw_lines.specs.Sequences.{HasFile}
 use Rattle.dw_lines.specs.Turns.{Turns}
 use Rattle.dw_lines.specs.declared.rows.Machine.{Machine}
-use Rattle.dw_lines.specs.declared.fault.LineFault.{LineFault}
-use Rattle.dw_lines.specs.declared.files.Files.{Files}
-use Rattle.dw_lines.specs.declared.program.Parameters.{Parameters}
+use Rattle.dw_lines.specs.declared.rule.LineFault.{LineFault}
+use Rattle.dw_lines.specs.declared.program.LineHeader.{LineHeader}
 use Rattle.dw_lines.specs.declared.row.Row.{Row}
 use Rattle.dw_lines.specs.declared.rule.LineRule.{LineRule}
 
@@ -33,83 +32,84 @@ either_true true b h = inl refl
 either_true false b h = inr h
 
 -- what holds of a turn, if it does without a row and with each that violates no rule
-pub turn_says : (p : Parameters) (files : Files) (last : Option ℕ) (registers : Row) (o : Opcode) (rest : List ℕ)
+pub turn_says : (h : LineHeader) (last : Option ℕ) (registers : Row) (o : Opcode) (rest : List ℕ)
     (P : Turn → Type 0) → ((r : Row) → P (record { row = None; registers = r; last = last; rest = rest }))
-    → ((r : Row) → HasFile files r → unwrap_or last 0 ≤ r.address
-    → P (record { row = Some r; registers = cleared p r; last = last_after r; rest = rest }))
-    → IfOk (turn p files last registers o rest) P
-unfolding turn row_turn
-turn_says p files last registers o rest P none some = go (after p o registers) (appends o)
+    → ((r : Row) → HasFile h.files r → unwrap_or last 0 ≤ r.address
+    → P (record { row = Some r; registers = cleared h.parameters r; last = last_after r; rest = rest }))
+    → IfOk (turn h last registers o rest) P
+turn_says h last registers o rest P none some = go (after h.parameters o registers) (appends o)
   where
     go : (a : Result Row LineRule) (b : Bool)
-        → IfOk (a >>= λ r. if b then row_turn p files last r rest
+        → IfOk (a >>= λ r. if b then row_turn h last r rest
         else Ok (record { row = None; registers = r; last = last; rest = rest })) P
     go (Err rule) b = tt
     go (Ok r) false = none r
     go (Ok r) true =
         cond_says (nat_lt r.address (unwrap_or last 0)) _ _ P _ (λ low. tt) (λ high.
-        cond_says (r.end_sequence || has_file files r.file) _ _ P _
-        (λ file. some r (either_true r.end_sequence (has_file files r.file) file) (ltb-false _ _ high)) (λ none. tt))
+        cond_says (r.end_sequence || has_file h.files r.file) _ _ P _
+        (λ file. some r (either_true r.end_sequence (has_file h.files r.file) file) (ltb-false _ _ high)) (λ none. tt))
 
 same_after : (go to : Row → Option ℕ → List ℕ → Run) (t : Result Turn LineFault)
     → IfOk t (λ t. (r : Row) (l : Option ℕ) → go r l t.rest ≡ to r l t.rest) → after_turn go t ≡ after_turn to t
 same_after go to (Err fault) h = refl
 same_after go to (Ok t) h = ap (with_row t.row) (h t.registers t.last)
 
-module _ (p : Parameters) (lengths : List ℕ) (files : Files) (end : ℕ) where
+module _ (h : LineHeader) (end : ℕ) where
   -- an opcode has a byte or more
-  read_shorter : (bytes : List ℕ) → IfOk ((opcode p lengths).read bytes) (λ x. length x.1 < length bytes)
+  read_shorter : (bytes : List ℕ) → IfOk ((opcode h).read bytes) (λ x. length x.1 < length bytes)
   read_shorter bytes =
-      MatchResult-weaker ((opcode p lengths).read bytes) ((opcode p lengths).is_reader.says bytes)
+      MatchResult-weaker ((opcode h).read bytes) ((opcode h).is_reader.says bytes)
       (λ x t.
       let some = then_some byte_some t.text x.0 t.spelled in
       omega (arith, some, ap length t.parts, length-append t.text x.1))
       (λ e h. tt)
 
   pub turn_shorter : (registers : Row) (last : Option ℕ) (bytes : List ℕ)
-      → IfOk (turn_at p lengths files end registers last bytes) (λ t. length t.rest < length bytes)
+      → IfOk (turn_at h end registers last bytes) (λ t. length t.rest < length bytes)
   turn_shorter registers last bytes =
       let P : Turn → Type 0 = λ t. length t.rest < length bytes in
-      MatchResult-weaker (turn_at p lengths files end registers last bytes)
+      MatchResult-weaker (turn_at h end registers last bytes)
       (as_other_says _ P (λ e. Unit {0}) _
-      (bind_says ((opcode p lengths).read bytes) _ (λ x. length x.1 < length bytes) (λ e. Unit {0}) P (λ e. Unit {0})
+      (bind_says ((opcode h).read bytes) _ (λ x. length x.1 < length bytes) (λ e. Unit {0}) P (λ e. Unit {0})
       (read_shorter bytes)
-      (λ x short. turn_says p files last registers x.0 x.1 P (λ r. short) (λ r file high. short))
+      (λ x short. turn_says h last registers x.0 x.1 P (λ r. short) (λ r file high. short))
       (λ e h. tt)))
       (λ x h. h) (λ e h. tt)
 
   -- it is enough to run as many opcodes as there are bytes
   same_run : (n m : ℕ) (bytes : List ℕ) → length bytes ≤ n → length bytes ≤ m → (registers : Row) (last : Option ℕ)
-      → run_of p lengths files end n registers last bytes ≡ run_of p lengths files end m registers last bytes
+      → run_of h end n registers last bytes ≡ run_of h end m registers last bytes
   unfolding run_of
-  same_run n m [] h k registers last = refl
-  same_run zero m (b ∷ bytes) h k registers last = absurd (omega arith)
-  same_run (suc n) zero (b ∷ bytes) h k registers last = absurd (omega arith)
-  same_run (suc n) (suc m) (b ∷ bytes) h k registers last =
-      same_after (run_of p lengths files end n) (run_of p lengths files end m)
-      (turn_at p lengths files end registers last (b ∷ bytes))
-      (IfOk-weaker _ (λ t. length t.rest < length (b ∷ bytes)) _
+  same_run n m [] few more registers last = refl
+  same_run zero m (b ∷ bytes) few more registers last = absurd (omega arith)
+  same_run (suc n) zero (b ∷ bytes) few more registers last = absurd (omega arith)
+  same_run (suc n) (suc m) (b ∷ bytes) few more registers last =
+      same_after (run_of h end n) (run_of h end m)
+      (turn_at h end registers last (b ∷ bytes))
+      (IfOk-weaker (turn_at h end registers last (b ∷ bytes)) (λ t. length t.rest < length (b ∷ bytes))
+      (λ t. (r : Row) (l : Option ℕ) → run_of h end n r l t.rest ≡ run_of h end m r l t.rest)
       (λ t short. same_run n m t.rest (omega arith) (omega arith))
       (turn_shorter registers last (b ∷ bytes)))
 
   -- the turn of the first opcode, and the run after it
   run_next : (registers : Row) (last : Option ℕ) (code : ℕ) (bytes : List ℕ)
-      → run p lengths files end registers last (code ∷ bytes)
-      ≡ after_turn (run p lengths files end) (turn_at p lengths files end registers last (code ∷ bytes))
+      → run h end registers last (code ∷ bytes)
+      ≡ after_turn (run h end) (turn_at h end registers last (code ∷ bytes))
   unfolding run_of
   run_next registers last code bytes =
       let whole : List ℕ = code ∷ bytes in
       let one : length whole ≡ suc (length bytes) = omega arith in
-      ap (λ (n : ℕ). run_of p lengths files end n registers last (code ∷ bytes)) one
-      ∙ same_after (run_of p lengths files end (length bytes)) (run p lengths files end)
-      (turn_at p lengths files end registers last (code ∷ bytes))
-      (IfOk-weaker _ (λ t. length t.rest < length (code ∷ bytes)) _
+      ap (λ (n : ℕ). run_of h end n registers last (code ∷ bytes)) one
+      ∙ same_after (run_of h end (length bytes)) (run h end)
+      (turn_at h end registers last (code ∷ bytes))
+      (IfOk-weaker (turn_at h end registers last (code ∷ bytes)) (λ t. length t.rest < length (code ∷ bytes))
+      (λ t. (r : Row) (l : Option ℕ) → run_of h end (length bytes) r l t.rest ≡ run h end r l t.rest)
       (λ t short. same_run (length bytes) (length t.rest) t.rest (omega arith) (omega arith))
       (turn_shorter registers last (code ∷ bytes)))
 
   -- no opcode is left
   pub run_done : (registers : Row) (last : Option ℕ) (bytes : List ℕ) (o : Option ℕ) → length bytes ≡ 0 → last ≡ o
-      → run p lengths files end registers last bytes ≡ at_end end o
+      → run h end registers last bytes ≡ at_end end o
   unfolding run_of
   run_done registers last [] o none e = ap (at_end end) e
   run_done registers last (b ∷ bytes) o none e = absurd (omega arith)
@@ -117,9 +117,9 @@ module _ (p : Parameters) (lengths : List ℕ) (files : Files) (end : ℕ) where
   module _ (registers : Row) (last : Option ℕ) (whole : List ℕ) where
     module _ (code : ℕ) (bytes : List ℕ) (parts : whole ≡ code ∷ bytes) where
       pub rest_shorter : (t : Turn)
-          → then_turn (opcode_after p lengths code) p files last registers bytes ≡ Ok t → length t.rest < length whole
+          → then_turn (opcode_after h code) h last registers bytes ≡ Ok t → length t.rest < length whole
       rest_shorter t e =
-          let whole_turn : turn_at p lengths files end registers last (code ∷ bytes) ≡ Ok t = rw e refl in
+          let whole_turn : turn_at h end registers last (code ∷ bytes) ≡ Ok t = rw e refl in
           omega (
             arith,
             ap length parts,
@@ -129,25 +129,25 @@ module _ (p : Parameters) (lengths : List ℕ) (files : Files) (end : ℕ) where
 
       -- an opcode that violates a rule
       pub run_fails : (rule : LineRule)
-          → then_turn (opcode_after p lengths code) p files last registers bytes ≡ Err rule
-          → run p lengths files end registers last whole
+          → then_turn (opcode_after h code) h last registers bytes ≡ Err rule
+          → run h end registers last whole
           ≡ failed (record { rule = rule; at = end - length whole })
       run_fails rule e = rw parts (run_next registers last code bytes ∙ rw e refl)
 
       -- an opcode that violates none
-      pub run_on : (t : Turn) → then_turn (opcode_after p lengths code) p files last registers bytes ≡ Ok t
+      pub run_on : (t : Turn) → then_turn (opcode_after h code) h last registers bytes ≡ Ok t
           → (o : Option Row) → t.row ≡ o
-          → run p lengths files end registers last whole
-          ≡ with_row o (run p lengths files end t.registers t.last t.rest)
+          → run h end registers last whole
+          ≡ with_row o (run h end t.registers t.last t.rest)
       run_on t e o row =
           rw parts (run_next registers last code bytes ∙ rw e refl)
-          ∙ ap (λ (r : Option Row). with_row r (run p lengths files end t.registers t.last t.rest)) row
+          ∙ ap (λ (r : Option Row). with_row r (run h end t.registers t.last t.rest)) row
 
       -- no opcode is added
       pub rest_within : (result : Result Bool LineRule) (old new : Machine) → old.rest.now ≡ whole
-          → Turns p result (then_turn (opcode_after p lengths code) p files last registers bytes) old new
+          → Turns result (then_turn (opcode_after h code) h last registers bytes) old new
           → length new.rest.now ≤ length whole
-      rest_within (Ok true) old new same t = let short = rest_shorter _ t in omega arith
-      rest_within (Ok false) old new same t = let short = rest_shorter _ t in omega arith
+      rest_within (Ok true) old new same t = let short = rest_shorter _ t.0 in omega arith
+      rest_within (Ok false) old new same t = let short = rest_shorter _ t.0 in omega arith
       rest_within (Err rule) old new same t =
           omega (arith, ap (λ (m : Machine). length m.rest.now) t.1, ap length same)

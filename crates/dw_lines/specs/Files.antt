@@ -11,13 +11,13 @@ use Rattle.dw_forms.specs.FormCodes.{form_of}
 use Rattle.dw_forms.specs.Value.{Datum, text, str, line_str, unsigned, wide}
 use Rattle.dw_forms.specs.ValueFormats.{attribute_value}
 use Rattle.dw_lines.specs.declared.tables.Content.{Content}
-use Rattle.dw_lines.specs.declared.files.Files.{Files}
-use Rattle.dw_lines.specs.declared.files.FileEntry.{FileEntry}
-use Rattle.dw_lines.specs.declared.files.LinePath.{LinePath}
-use Rattle.dw_lines.specs.declared.files.LinePath.TheVariants as paths
+use Rattle.dw_lines.specs.declared.program.Files.{Files}
+use Rattle.dw_lines.specs.declared.program.FileEntry.{FileEntry}
+use Rattle.dw_lines.specs.declared.program.LinePath.{LinePath}
+use Rattle.dw_lines.specs.declared.program.LinePath.TheVariants as paths
 use Rattle.dw_lines.specs.declared.rule.LineRule.{LineRule}
 use Rattle.dw_lines.specs.declared.rule.LineRule.TheVariants.{LineCut, LineForm, LineString, LineDirectory, LineNumber}
-use Rattle.dw_lines.specs.declared.sections.LineSections.{LineSections}
+use Rattle.dw_lines.specs.declared.program.LineSections.{LineSections}
 use Rattle.dw_lines.specs.Header.{byte, number, path, length_end}
 use Rattle.dw_lines.specs.Repeats.{times, up_to_end}
 
@@ -59,21 +59,21 @@ in_directory count directory = choose (nat_lt directory count) (nothing director
 -- ---- versions 2 to 4. A table has fewer entries than a program may have bytes
 
 -- a path, or an empty one, which ends a table
-unfoldable pub path_or_end : Format (Option (List ℕ)) LineRule
+abbrev pub path_or_end : Format (Option (List ℕ)) LineRule
 path_or_end = mapped (λ p. if length p == 0 then None else Some p) path
 
 -- a path, its directory, a time and a size; or the end. There are so many directories
-unfoldable pub file_or_end : ℕ → Format (Option FileAt) LineRule
+abbrev pub file_or_end : ℕ → Format (Option FileAt) LineRule
 file_or_end count = and_then path_or_end (λ o. found o (nothing None) (λ p.
-    and_then number (λ n. and_then (in_directory count n) (λ directory. and_then number (λ time.
-    mapped (λ size. Some (record { path = p; directory = directory; md5 = None })) number)))))
+    and_then (number LineCut) (λ n. and_then (in_directory count n) (λ directory. and_then (number LineCut) (λ time.
+    mapped (λ size. Some (record { path = p; directory = directory; md5 = None })) (number LineCut))))))
 
 -- directories from 1 on; an empty path is in place of 0, which is the directory of the compilation
-unfoldable pub directories4 : Format (List (List ℕ)) LineRule
+abbrev pub directories4 : Format (List (List ℕ)) LineRule
 directories4 = mapped (λ paths. [] ∷ paths) (up_to_end length_end LineCut path_or_end)
 
 -- files from 1 on, after so many directories; an entry that is no file is in place of 0
-unfoldable pub files4 : ℕ → Format (List FileAt) LineRule
+abbrev pub files4 : ℕ → Format (List FileAt) LineRule
 files4 count = mapped (λ files. no_file ∷ files)
     (up_to_end length_end LineCut (file_or_end count))
 
@@ -156,18 +156,18 @@ are_contents [] = true
 are_contents (c ∷ others) = may_have c.kind c.form && not (has_kind c.kind others) && are_contents others
 
 -- a content and its form
-unfoldable pub content_format : Format Content LineRule
-content_format = and_then number (λ kind. and_then number (λ code. found (form_of code) (failing LineForm) (λ f.
-    nothing (record { kind = kind; form = f }))))
+abbrev pub content_format : Format Content LineRule
+content_format = and_then (number LineCut) (λ kind. and_then (number LineCut) (λ code.
+    found (form_of code) (failing LineForm) (λ f. nothing (record { kind = kind; form = f }))))
 
 -- the format of the entries of a table
-unfoldable pub entry_format : Format (List Content) LineRule
+abbrev pub entry_format : Format (List Content) LineRule
 entry_format = tested are_contents LineForm (and_then byte (λ count. times count content_format))
 
 -- the format of entries, and how many there are; without a path there is none
-unfoldable pub table_head : Format (List Content × ℕ) LineRule
+abbrev pub table_head : Format (List Content × ℕ) LineRule
 table_head = tested (λ h. has_kind DW_LNCT_path h.0 || h.1 == 0) LineForm (
-    and_then entry_format (λ contents. mapped (λ count. (contents, count)) number))
+    and_then entry_format (λ contents. mapped (λ count. (contents, count)) (number LineCut)))
 
 -- ---- version 5: entries
 
@@ -198,7 +198,7 @@ with_value sections kind e (wide sum) = nothing (if kind == DW_LNCT_MD5 then rec
 with_value sections kind e datum = nothing e
 
 -- an entry with these contents added, one after another. None of their forms has the size of an address
-unfoldable pub entry_from : LineSections → List Content → FileAt → Format FileAt LineRule
+abbrev pub entry_from : LineSections → List Content → FileAt → Format FileAt LineRule
 entry_from sections [] e = nothing e
 entry_from sections (c ∷ others) e = and_then (renamed (λ bytes. value_rule_of) (attribute_value 5 c.form 8)) (λ v.
     and_then (with_value sections c.kind e v) (entry_from sections others))
@@ -208,16 +208,16 @@ abbrev pub entry : LineSections → List Content → Format FileAt LineRule
 entry sections contents = entry_from sections contents no_file
 
 -- a file, after so many directories
-unfoldable pub file_entry : LineSections → List Content → ℕ → Format FileAt LineRule
+abbrev pub file_entry : LineSections → List Content → ℕ → Format FileAt LineRule
 file_entry sections contents count = and_then (entry sections contents) (λ e.
     mapped (λ directory. e) (in_directory count e.directory))
 
 -- the table of directories
-unfoldable pub directories5 : LineSections → Format (List (List ℕ)) LineRule
+abbrev pub directories5 : LineSections → Format (List (List ℕ)) LineRule
 directories5 sections = and_then table_head (λ h. times h.1 (mapped path_of (entry sections h.0)))
 
 -- the table of files, after so many directories
-unfoldable pub files5 : LineSections → ℕ → Format (List FileAt) LineRule
+abbrev pub files5 : LineSections → ℕ → Format (List FileAt) LineRule
 files5 sections count = and_then table_head (λ h. times h.1 (file_entry sections h.0 count))
 
 -- ---- both
@@ -229,7 +229,7 @@ pub record Tables : Type 0 where
   pub first_file : ℕ
 
 -- the tables of versions 2 to 4
-unfoldable pub tables4 : Format Tables LineRule
+abbrev pub tables4 : Format Tables LineRule
 tables4 = and_then directories4 (λ directories. mapped (λ files. record {
   directories = directories;
   files = files;
@@ -237,7 +237,7 @@ tables4 = and_then directories4 (λ directories. mapped (λ files. record {
 }) (files4 (length directories)))
 
 -- the tables of version 5
-unfoldable pub tables5 : LineSections → Format Tables LineRule
+abbrev pub tables5 : LineSections → Format Tables LineRule
 tables5 sections = and_then (directories5 sections) (λ directories. mapped (λ files. record {
   directories = directories;
   files = files;

@@ -8,13 +8,15 @@ use Rattle.dw_forms.specs.declared.leb.NumberFault.{NumberFault}
 use Rattle.dw_forms.specs.declared.leb.NumberFault.TheVariants as faults
 use Rattle.dw_lines.specs.declared.program.Parameters.{Parameters}
 use Rattle.dw_lines.specs.declared.rule.LineRule.{LineRule}
-use Rattle.dw_lines.specs.declared.rule.LineRule.TheVariants.{LineCut, LineNumber, Line64, LineVersion}
+use Rattle.dw_lines.specs.declared.rule.LineRule.TheVariants.{LineCut, LineNumber, Line64, LineVersion, OpcodeNumber}
 use Rattle.dw_lines.specs.declared.rule.LineRule.TheVariants.{LineAddressSize, LineParameter, OpcodeLength}
 
--- the rule that a number in a header violates
-abbrev pub header_rule_of : NumberFault → LineRule
-header_rule_of faults.Cut = LineCut
-header_rule_of faults.BadNumber = LineNumber
+-- the rule that a LEB128 number violates. One that the bytes end in violates the first, which says where numbers are:
+-- in a header or in an opcode
+abbrev pub number_rule : LineRule → NumberFault → LineRule
+number_rule cut faults.Cut = cut
+number_rule LineCut faults.BadNumber = LineNumber
+number_rule cut faults.BadNumber = OpcodeNumber
 
 -- a field of so many bytes, the lowest first
 abbrev pub field : ℕ → Format ℕ LineRule
@@ -25,8 +27,8 @@ abbrev pub byte : Format ℕ LineRule
 byte = any_byte LineCut
 
 -- an unsigned LEB128 number
-abbrev pub number : Format ℕ LineRule
-number = renamed (λ bytes. header_rule_of) uleb
+abbrev pub number : LineRule → Format ℕ LineRule
+number cut = renamed (λ bytes. number_rule cut) uleb
 
 -- a path up to a zero byte
 abbrev pub path : Format (List ℕ) LineRule
@@ -37,17 +39,17 @@ abbrev pub length_end : ℕ
 length_end = 0xfffffff0
 
 -- unit_length, and the bytes of the program that it counts
-unfoldable pub content : Format (List ℕ) LineRule
+abbrev pub content : Format (List ℕ) LineRule
 content = and_then (tested (λ len. nat_lt len length_end) Line64 (field 4)) (λ len. so_many LineCut len)
 
--- the version: 2 to 5
-unfoldable pub version : Format ℕ LineRule
-version = tested (λ v. nat_le 2 v && nat_le v 5) LineVersion (field 2)
+-- after a version from 5 on address_size, which is that of the unit, and segment_selector_size, which is 0
+abbrev pub after_version : ℕ → ℕ → Format ℕ LineRule
+after_version size v = choose (nat_lt v 5) (nothing v) (and_then byte (λ own. and_then byte (λ segment.
+    choose (own == size && segment == 0) (nothing v) (failing LineAddressSize))))
 
--- from version 5 on address_size, which is that of the unit, and segment_selector_size, which is 0
-unfoldable pub address_size : ℕ → ℕ → Format ℕ LineRule
-address_size version size = choose (nat_lt version 5) (nothing size) (and_then byte (λ own. and_then byte (λ segment.
-    choose (own == size && segment == 0) (nothing size) (failing LineAddressSize))))
+-- the version: 2 to 5
+abbrev pub version : ℕ → Format ℕ LineRule
+version size = and_then (tested (λ v. nat_le 2 v && nat_le v 5) LineVersion (field 2)) (after_version size)
 
 -- the fields that say what opcodes mean
 pub record LineParameters : Type 0 where
@@ -72,11 +74,11 @@ numbers_of p = record {
 }
 
 -- maximum_operations_per_instruction, which versions before 4 don't have
-unfoldable pub maximum_operations : ℕ → Format ℕ LineRule
+abbrev pub maximum_operations : ℕ → Format ℕ LineRule
 maximum_operations version = choose (nat_lt version 4) (nothing 1) byte
 
 -- these fields, of which the second and the last two are not 0, and default_is_stmt is 0 or 1
-unfoldable pub parameters : ℕ → ℕ → Format LineParameters LineRule
+abbrev pub parameters : ℕ → ℕ → Format LineParameters LineRule
 parameters version size =
     and_then byte (λ min. and_then (maximum_operations version) (λ max. and_then byte (λ is_stmt.
     and_then byte (λ base. and_then byte (λ range. and_then byte (λ opcodes.
@@ -99,5 +101,5 @@ abbrev pub are_standard : List ℕ → Bool
 are_standard lengths = starts_with (λ a b. a == b) operand_counts (take 12 lengths)
 
 -- standard_opcode_lengths: a count of operands for each opcode below opcode_base
-unfoldable pub standard_opcode_lengths : ℕ → Format (List ℕ) LineRule
+abbrev pub standard_opcode_lengths : ℕ → Format (List ℕ) LineRule
 standard_opcode_lengths opcode_base = tested are_standard OpcodeLength (so_many LineCut (opcode_base - 1))

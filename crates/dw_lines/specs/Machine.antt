@@ -5,7 +5,7 @@ use Rattle.std.specs.Prelude.{Bool, true, false, nat_le, nat_lt, ℤ, pos, negsu
 use Rattle.dw_forms.specs.Formats.{Format}
 use Rattle.dw_forms.specs.Steps.{◌>>=◌, on_option}
 use Rattle.dw_lines.specs.Files.{has_file}
-use Rattle.dw_lines.specs.declared.files.Files.{Files}
+use Rattle.dw_lines.specs.declared.program.LineHeader.{LineHeader}
 use Rattle.dw_lines.specs.declared.program.Parameters.{Parameters}
 use Rattle.dw_lines.specs.declared.row.Row.{Row}
 use Rattle.dw_lines.specs.declared.rule.LineRule.{LineRule}
@@ -36,13 +36,13 @@ is_tombstone address = nat_le (2 ^ 64 - 2) address
 
 -- the address is so many bytes greater, and op_index is this. An address has 64 bits; the registers stay as they are
 -- where a tombstone would have more (this project's choice)
-unfoldable pub moved : ℕ → ℕ → Row → Result Row LineRule
+abbrev pub moved : ℕ → ℕ → Row → Result Row LineRule
 moved bytes op_index r =
     if nat_lt (r.address + bytes) (2 ^ 64) then Ok (record r { address = r.address + bytes; op_index = op_index })
     else if is_tombstone r.address then Ok r else Err RowAddress
 
 -- an operation advance of n (6.2.5.1)
-unfoldable pub advanced : Parameters → ℕ → Row → Result Row LineRule
+abbrev pub advanced : Parameters → ℕ → Row → Result Row LineRule
 advanced p n r =
     moved (p.minimum_instruction_length * ((r.op_index + n) / p.maximum_operations_per_instruction))
     ((r.op_index + n) % p.maximum_operations_per_instruction) r
@@ -53,7 +53,7 @@ bits_32 (pos n) = if nat_lt n (2 ^ 32) then Some n else None
 bits_32 (negsuc n) = None
 
 -- the line is so much greater
-unfoldable pub with_line : ℤ → Row → Result Row LineRule
+abbrev pub with_line : ℤ → Row → Result Row LineRule
 with_line lines r = on_option (bits_32 (pos r.line +ℤ lines)) (Err RowLine) (λ line. Ok (record r { line = line }))
 
 -- the operation advance of a special opcode (6.2.5.1)
@@ -65,7 +65,7 @@ abbrev pub line_increment : Parameters → ℕ → ℤ
 line_increment p adjusted_opcode = p.line_base +ℤ pos (adjusted_opcode % p.line_range)
 
 -- the registers after an opcode, before a row is appended (6.2.5.1 to 6.2.5.3)
-unfoldable pub after : Parameters → Opcode → Row → Result Row LineRule
+abbrev pub after : Parameters → Opcode → Row → Result Row LineRule
 after p (op.Special adjusted) r = advanced p (operation_advance p adjusted) r >>= with_line (line_increment p adjusted)
 after p op.Copy r = Ok r
 after p (op.AdvancePc n) r = advanced p n r
@@ -111,19 +111,19 @@ pub record Turn : Type 0 where
 
 -- the turn of an opcode that appends this row, unless that violates a rule: it has no smaller address than the last row
 -- of its sequence, and unless it ends the sequence (then its file means nothing) its file is one of the program's
-unfoldable pub row_turn : Parameters → Files → Option ℕ → Row → List ℕ → Result Turn LineRule
-row_turn p files last r rest =
+abbrev pub row_turn : LineHeader → Option ℕ → Row → List ℕ → Result Turn LineRule
+row_turn h last r rest =
     if nat_lt r.address (unwrap_or last 0) then Err RowDescends else
-    if r.end_sequence || has_file files r.file
-    then Ok (record { row = Some r; registers = cleared p r; last = last_after r; rest = rest })
+    if r.end_sequence || has_file h.files r.file
+    then Ok (record { row = Some r; registers = cleared h.parameters r; last = last_after r; rest = rest })
     else Err RowFile
 
 -- the turn of an opcode, after which these bytes follow
-unfoldable pub turn : Parameters → Files → Option ℕ → Row → Opcode → List ℕ → Result Turn LineRule
-turn p files last registers opcode rest = after p opcode registers >>= λ r.
-    if appends opcode then row_turn p files last r rest
+abbrev pub turn : LineHeader → Option ℕ → Row → Opcode → List ℕ → Result Turn LineRule
+turn h last registers opcode rest = after h.parameters opcode registers >>= λ r.
+    if appends opcode then row_turn h last r rest
     else Ok (record { row = None; registers = r; last = last; rest = rest })
 
 -- the turn of the opcode that a format reads at the front of the bytes
-abbrev pub then_turn : Format Opcode LineRule → Parameters → Files → Option ℕ → Row → List ℕ → Result Turn LineRule
-then_turn format p files last registers bytes = format.read bytes >>= λ x. turn p files last registers x.0 x.1
+abbrev pub then_turn : Format Opcode LineRule → LineHeader → Option ℕ → Row → List ℕ → Result Turn LineRule
+then_turn format h last registers bytes = format.read bytes >>= λ x. turn h last registers x.0 x.1

@@ -2,14 +2,14 @@
 use Rattle.std.specs.Prelude.{ℕ, ◌+◌, List, length, map, drop, Result, Ok, Err, ◌==◌, if◌then◌else◌}
 use Rattle.dw_forms.specs.Formats.{Format, and_then, mapped, inside, tested, renamed}
 use Rattle.dw_forms.specs.Steps.{◌>>=◌}
-use Rattle.dw_lines.specs.declared.fault.LineFault.{LineFault}
+use Rattle.dw_lines.specs.declared.rule.LineFault.{LineFault}
 use Rattle.dw_lines.specs.declared.program.LineHeader.{LineHeader}
 use Rattle.dw_lines.specs.declared.program.Program.{Program}
 use Rattle.dw_lines.specs.declared.rule.LineRule.{LineRule}
 use Rattle.dw_lines.specs.declared.rule.LineRule.TheVariants.{LineOffset, LineHeaderLength}
-use Rattle.dw_lines.specs.declared.sections.LineSections.{LineSections}
+use Rattle.dw_lines.specs.declared.program.LineSections.{LineSections}
 use Rattle.dw_lines.specs.Files.{Tables, tables, path_view, file_view}
-use Rattle.dw_lines.specs.Header.{LineParameters, numbers_of, field, content, version, address_size, parameters}
+use Rattle.dw_lines.specs.Header.{LineParameters, numbers_of, field, content, version, parameters}
 use Rattle.dw_lines.specs.Header.{standard_opcode_lengths}
 use Rattle.dw_lines.specs.Repeats.{sized}
 
@@ -38,7 +38,7 @@ abbrev pub program_view : Program → HeaderFields × List ℕ
 program_view p = (fields_of p.header, p.opcodes.now)
 
 -- the fields after header_length, where an address of the unit has this size
-unfoldable pub after_length : LineSections → ℕ → ℕ → Format HeaderFields LineRule
+abbrev pub after_length : LineSections → ℕ → ℕ → Format HeaderFields LineRule
 after_length sections size v = and_then (parameters v size) (λ numbers.
     and_then (standard_opcode_lengths numbers.opcode_base) (λ lengths. mapped (λ t. record {
       version = v;
@@ -48,10 +48,9 @@ after_length sections size v = and_then (parameters v size) (λ numbers.
     }) (tables sections v)))
 
 -- a header after unit_length; the fields after header_length have so many bytes
-unfoldable pub header : LineSections → ℕ → Format HeaderFields LineRule
-header sections size = and_then version (λ v. and_then (address_size v size) (λ s.
-    and_then (field 4) (λ header_length. mapped (λ x. x.0)
-    (tested (λ x. x.1 == header_length) LineHeaderLength (sized (after_length sections size v))))))
+abbrev pub header : LineSections → ℕ → Format HeaderFields LineRule
+header sections size = and_then (version size) (λ v. and_then (field 4) (λ header_length. mapped (λ x. x.0)
+    (tested (λ x. x.1 == header_length) LineHeaderLength (sized (after_length sections size v)))))
 
 -- a program; where there are no bytes, there is no program at the offset
 unfoldable pub line_program : LineSections → ℕ → Format (HeaderFields × List ℕ) LineRule

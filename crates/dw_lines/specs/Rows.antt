@@ -3,9 +3,8 @@ use Rattle.std.specs.Prelude.{◌≡◌, ℕ, zero, suc, ◌+◌, ◌-◌, List,
 use Rattle.dw_forms.specs.Formats.{as_other}
 use Rattle.dw_lines.specs.Machine.{start, Turn, then_turn}
 use Rattle.dw_lines.specs.Opcodes.{opcode}
-use Rattle.dw_lines.specs.declared.fault.LineFault.{LineFault}
-use Rattle.dw_lines.specs.declared.files.Files.{Files}
-use Rattle.dw_lines.specs.declared.program.Parameters.{Parameters}
+use Rattle.dw_lines.specs.declared.rule.LineFault.{LineFault}
+use Rattle.dw_lines.specs.declared.program.LineHeader.{LineHeader}
 use Rattle.dw_lines.specs.declared.program.Program.{Program}
 use Rattle.dw_lines.specs.declared.row.Row.{Row}
 use Rattle.dw_lines.specs.declared.rule.LineRule.TheVariants.{NotEnded}
@@ -34,10 +33,10 @@ at_end end (Some last) = failed (record { rule = NotEnded; at = end })
 
 -- the turn of the opcode at the front of the bytes, or the rule that it violates, at its offset. The program's end is
 -- at this offset
-abbrev pub turn_at : Parameters → List ℕ → Files → ℕ → Row → Option ℕ → List ℕ → Result Turn LineFault
-turn_at p lengths files end registers last bytes =
+abbrev pub turn_at : LineHeader → ℕ → Row → Option ℕ → List ℕ → Result Turn LineFault
+turn_at h end registers last bytes =
     as_other (λ rule. record { rule = rule; at = end - length bytes })
-    (then_turn (opcode p lengths) p files last registers bytes)
+    (then_turn (opcode h) h last registers bytes)
 
 -- a row, if there is one, and the run after it
 abbrev pub with_row : Option Row → Run → Run
@@ -50,20 +49,20 @@ after_turn run (Err fault) = failed fault
 after_turn run (Ok t) = with_row t.row (run t.registers t.last t.rest)
 
 -- the run of these opcodes, so many at most, from these registers and the address of the last row of the sequence
-unfoldable pub run_of : Parameters → List ℕ → Files → ℕ → ℕ → Row → Option ℕ → List ℕ → Run
-run_of p lengths files end count registers last [] = at_end end last
-run_of p lengths files end zero registers last (b ∷ bytes) = ended
-run_of p lengths files end (suc count) registers last (b ∷ bytes) =
-    after_turn (run_of p lengths files end count) (turn_at p lengths files end registers last (b ∷ bytes))
+unfoldable pub run_of : LineHeader → ℕ → ℕ → Row → Option ℕ → List ℕ → Run
+run_of h end count registers last [] = at_end end last
+run_of h end zero registers last (b ∷ bytes) = ended
+run_of h end (suc count) registers last (b ∷ bytes) =
+    after_turn (run_of h end count) (turn_at h end registers last (b ∷ bytes))
 
 -- the run of all these opcodes, each of which has a byte or more
-abbrev pub run : Parameters → List ℕ → Files → ℕ → Row → Option ℕ → List ℕ → Run
-run p lengths files end registers last bytes = run_of p lengths files end (length bytes) registers last bytes
+abbrev pub run : LineHeader → ℕ → Row → Option ℕ → List ℕ → Run
+run h end registers last bytes = run_of h end (length bytes) registers last bytes
 
 -- the run of a program from its start
 abbrev pub program_run : Program → Run
-program_run p = run p.header.parameters p.header.standard_opcode_lengths.now p.header.files
-    (p.opcodes_at + length p.opcodes.now) (start p.header.parameters.default_is_stmt) None p.opcodes.now
+program_run p = run p.header (p.opcodes_at + length p.opcodes.now) (start p.header.parameters.default_is_stmt) None
+    p.opcodes.now
 
 -- what is returned is the next row of the first run, and the second run follows it. A run that fails is as it was
 abbrev pub Yields : Result (Option Row) LineFault → Run → Run → Type 0

@@ -2,7 +2,7 @@
 use Rattle.std.specs.Prelude.{◌≡◌, ◌≤◌, ◌⊎◌, ℕ, true, List, [], ◌∷◌, Option, None, unwrap_or}
 use Rattle.dw_lines.specs.Files.{has_file}
 use Rattle.dw_lines.specs.Machine.{last_after}
-use Rattle.dw_lines.specs.declared.files.Files.{Files}
+use Rattle.dw_lines.specs.declared.program.Files.{Files}
 use Rattle.dw_lines.specs.declared.row.Row.{Row}
 
 -- a row's file is one of the program's, unless the row ends its sequence

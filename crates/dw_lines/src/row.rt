@@ -1,14 +1,10 @@
 //! The registers of the machine that a line program runs on, which are a row of the line number table (DWARF 5, 6.2.2),
 //! and what an opcode does to them (6.2.5).
 
-ghost use Rattle.std.specs.Prelude.{◌≡◌, ◌<◌, ◌≤◌, ◌^◌, ◌/◌, ◌%◌, ℕ, Option};
-ghost use Rattle.dw_lines.specs.Machine.{start, moved, advanced, with_line, then_turn};
-ghost use Rattle.dw_lines.specs.Opcodes.{count_in, standard_opcode};
-ghost use Rattle.dw_lines.specs.Turns.{Changes, Passes};
-ghost use Rattle.dw_lines.specs.declared.files.Files.{Files as AnyFiles};
+ghost use Rattle.std.specs.Prelude.{◌≡◌, ◌<◌, ◌^◌, ◌/◌, ◌%◌};
+ghost use Rattle.dw_lines.specs.Machine.{start, moved, advanced, with_line};
+ghost use Rattle.dw_lines.specs.Turns.{Changes};
 
-use crate::header::fixed;
-use crate::opcode::{signed, skip_others, unsigned};
 use crate::program::Parameters;
 use crate::rule::LineRule;
 
@@ -55,8 +51,7 @@ impl Row {
 
     /// Makes the address this many bytes greater. A tombstone stays where that has more than 64 bits.
     #[inline(always)]
-    #[tactic(auto, unfolding(crate::specs::Machine::moved))]
-    fn add_bytes(&mut self, bytes: u128, op_index: u8) -> Result<(), LineRule>
+    pub(crate) fn add_bytes(&mut self, bytes: u128, op_index: u8) -> Result<(), LineRule>
         requires { bytes < 2 ^ 80 }
         ensures { Changes result (moved bytes op_index self.old) self.old self.new }
     {
@@ -73,7 +68,6 @@ impl Row {
 
     /// An operation advance.
     #[inline(always)]
-    #[tactic(auto, unfolding(crate::specs::Machine::advanced))]
     pub(crate) fn advance(&mut self, parameters: &Parameters, advance: u64) -> Result<(), LineRule>
         ensures { Changes result (advanced parameters.now advance self.old) self.old self.new }
     {
@@ -88,7 +82,6 @@ impl Row {
 
     /// Makes the line this much greater.
     #[inline(always)]
-    #[tactic(auto, unfolding(crate::specs::Machine::with_line))]
     pub(crate) fn add_lines(&mut self, lines: i64) -> Result<(), LineRule>
         ensures { Changes result (with_line lines self.old) self.old self.new }
     {
@@ -98,77 +91,5 @@ impl Row {
         }
         self.line = line as u32;
         Ok(())
-    }
-
-    /// Runs a standard opcode other than DW_LNS_copy after its code, which is below the opcode base (DWARF 5, 6.2.5.2).
-    /// Returns the bytes after it.
-    #[inline(always)]
-    #[tactic(auto, unfolding(crate::specs::Opcodes::standard_opcode, crate::specs::Machine::turn, crate::specs::Machine::after))]
-    pub(crate) fn run_standard<'a>(
-        &mut self,
-        parameters: &Parameters,
-        lengths: &[u8],
-        code: u8,
-        bytes: &'a [u8],
-    ) -> Result<&'a [u8], LineRule>
-        requires { 2 ≤ code }
-        ensures { (files : AnyFiles) (last : Option ℕ) → Passes (λ rest. rest.now) last result
-            (then_turn (standard_opcode (count_in lengths.now code) code) parameters.now files last self.old bytes.now)
-            self.old self.new }
-    {
-        match code {
-            // DW_LNS_advance_pc
-            2 => {
-                let (operations, rest) = unsigned(LineRule::OpcodeCut, bytes)?;
-                self.advance(parameters, operations)?;
-                return Ok(rest);
-            }
-            // DW_LNS_advance_line
-            3 => {
-                let (lines, rest) = signed(bytes)?;
-                self.add_lines(lines)?;
-                return Ok(rest);
-            }
-            // DW_LNS_set_file
-            4 => {
-                let (file, rest) = unsigned(LineRule::OpcodeCut, bytes)?;
-                self.file = file;
-                return Ok(rest);
-            }
-            // DW_LNS_set_column
-            5 => {
-                let (column, rest) = unsigned(LineRule::OpcodeCut, bytes)?;
-                self.column = u32::try_from(column).map_err(|_| LineRule::RowLine)?;
-                return Ok(rest);
-            }
-            // DW_LNS_negate_stmt
-            6 => self.is_stmt = !self.is_stmt,
-            // DW_LNS_set_basic_block
-            7 => self.basic_block = true,
-            // DW_LNS_const_add_pc
-            8 => {
-                let adjusted = 255 - parameters.opcode_base;
-                self.advance(parameters, u64::from(adjusted / parameters.line_range))?;
-            }
-            // DW_LNS_fixed_advance_pc
-            9 => {
-                let (advance, rest) = fixed(LineRule::OpcodeCut, 2, bytes)?;
-                self.add_bytes(u128::from(advance), 0)?;
-                return Ok(rest);
-            }
-            // DW_LNS_set_prologue_end
-            10 => self.prologue_end = true,
-            // DW_LNS_set_epilogue_begin
-            11 => self.epilogue_begin = true,
-            // DW_LNS_set_isa
-            12 => {
-                let (isa, rest) = unsigned(LineRule::OpcodeCut, bytes)?;
-                self.isa = isa;
-                return Ok(rest);
-            }
-            // One that the standard does not define does nothing. The header says how many operands it has.
-            _ => return skip_others(lengths, code, bytes),
-        }
-        Ok(bytes)
     }
 }

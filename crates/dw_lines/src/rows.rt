@@ -1,22 +1,78 @@
 //! The rows of a line program, one after another, and the machine that makes them (DWARF 5, 6.2.2).
 
-ghost use Rattle.std.specs.Prelude.{◌≡◌, ◌≤◌, length};
-ghost use Rattle.dw_lines.specs.Machine.{cleared, last_after, row_turn, then_turn, turn};
-ghost use Rattle.dw_lines.specs.Opcodes.{Special, extended_opcode, opcode_after};
+ghost use Rattle.std.specs.Prelude.{◌≡◌, ◌≤◌, length, true, false, All, None, Some};
+ghost use Rattle.dw_forms.specs.Formats.{nothing};
+ghost use Rattle.dw_forms.specs.ValueReading.{Gives};
+ghost use Rattle.dw_lines.specs.Machine.{row_turn};
+ghost use Rattle.dw_lines.specs.Opcodes.{Other, Special, count_in, extended_opcode, opcode_after, opcode_of, operands};
+ghost use Rattle.dw_lines.specs.Opcodes.{standard_opcode};
 ghost use Rattle.dw_lines.specs.Rows.{Yields, program_run};
-ghost use Rattle.dw_lines.specs.Turns.{Turns};
-ghost use Rattle.dw_lines.specs.declared.program.Parameters.{Parameters as AnyParameters};
+ghost use Rattle.dw_lines.specs.Sequences.{HasFile, Ascend, AllEnd};
+ghost use Rattle.dw_lines.specs.Turns.{Runs, Turns, turn_to};
+ghost use Rattle.dw_lines.specs.declared.program.Program.{Program as AnyProgram};
 
-use crate::fault::LineFault;
-use crate::files::Files;
-use crate::opcode::{Extended, read_extended};
-use crate::program::{Parameters, Program};
+use crate::bytes::{block, fixed, signed, unsigned};
+use crate::program::{LineHeader, Program};
 use crate::row::Row;
-use crate::rule::LineRule;
+use crate::rule::{LineFault, LineRule};
+
+/// An extended opcode with its operand (DWARF 5, 6.2.5.3).
+#[derive(Clone, Copy, Debug)]
+pub(crate) enum Extended {
+    EndSequence,
+    SetAddress(u64),
+    SetDiscriminator(u64),
+    /// One that this version of the standard does not define. It does nothing.
+    Other,
+}
+
+/// Skips the operands of an opcode that the standard does not define. Their number is in the header's
+/// `standard_opcode_lengths`.
+#[cold]
+fn skip_others<'a>(lengths: &[u8], code: u8, bytes: &'a [u8]) -> Result<&'a [u8], LineRule>
+    requires { 1 ≤ code }
+    ensures { Gives (λ x. (Other, x.now)) result ((operands (count_in lengths.now code)).read bytes.now) }
+{
+    let mut rest = bytes;
+    let count = lengths.get(usize::from(code) - 1).copied().unwrap_or(0);
+    for _ in 0..count {
+        unsigned(LineRule::OpcodeCut, &mut rest)?;
+    }
+    Ok(rest)
+}
+
+/// An extended opcode after its zero byte.
+#[inline(never)]
+fn read_extended(address_size: u8, bytes: &mut &[u8]) -> Result<Extended, LineRule>
+    requires some { 1 ≤ address_size }
+    requires few { address_size ≤ 8 }
+    ensures { Gives (λ x. (opcode_of x, bytes.new.now)) result ((extended_opcode address_size).read bytes.old.now) }
+{
+    let len = unsigned(LineRule::OpcodeCut, bytes)?;
+    let [code, content @ ..] = block(LineRule::OpcodeCut, len, bytes)? else {
+        return Err(LineRule::ExtendedLength);
+    };
+    let mut left = content;
+    let opcode = match *code {
+        1 => Extended::EndSequence,
+        2 => Extended::SetAddress(fixed(
+            LineRule::ExtendedLength,
+            usize::from(address_size),
+            &mut left,
+        )?),
+        4 => Extended::SetDiscriminator(unsigned(LineRule::ExtendedLength, &mut left)?),
+        _ => return Ok(Extended::Other),
+    };
+    if left.is_empty() {
+        return Ok(opcode);
+    }
+    Err(LineRule::ExtendedLength)
+}
 
 /// What a machine goes on with.
 #[derive(Drop)]
-pub(crate) struct Machine<'a> {
+pub(crate) struct Machine<'p, 'a> {
+    pub(crate) header: &'p LineHeader<'a>,
     /// After an opcode that appends a row they are that row, until it is taken.
     pub(crate) registers: Row,
     /// The address of the last row of the sequence.
@@ -25,18 +81,16 @@ pub(crate) struct Machine<'a> {
     pub(crate) rest: &'a [u8],
 }
 
-impl<'a> Machine<'a> {
+impl<'a> Machine<'_, 'a> {
     /// Appends a row, after which these opcodes are left.
     #[inline(always)]
-    #[tactic(auto, unfolding(crate::specs::Machine::row_turn))]
-    fn append(&mut self, files: &Files<'_>, row: Row, rest: &'a [u8]) -> Result<bool, LineRule>
-        ensures { (p : AnyParameters) → Turns p result (row_turn p files.now self.old.last row rest.now)
-            self.old self.new }
+    fn append(&mut self, row: Row, rest: &'a [u8]) -> Result<bool, LineRule>
+        ensures { Turns result (row_turn self.old.header.now self.old.last row rest.now) self.old self.new }
     {
         if row.address < self.last.unwrap_or(0) {
             return Err(LineRule::RowDescends);
         }
-        if row.end_sequence || files.has(row.file) {
+        if row.end_sequence || self.header.files.has(row.file) {
             self.registers = row;
             self.rest = rest;
             return Ok(true);
@@ -46,15 +100,13 @@ impl<'a> Machine<'a> {
 
     /// Takes the row that was appended, and clears the registers.
     #[inline(always)]
-    fn take_row(&mut self, parameters: &Parameters) -> Row
-        ensures row { result ≡ self.old.registers }
-        ensures registers { self.new.registers ≡ cleared parameters.now self.old.registers }
-        ensures last { self.new.last ≡ last_after self.old.registers }
-        ensures rest { self.new.rest.now ≡ self.old.rest.now }
+    fn take_row(&mut self) -> Row
+        ensures row { turn_to true self.old ≡ record (turn_to false self.new) { row = Some result } }
+        ensures header { self.new.header ≡ self.old.header }
     {
         let row = self.registers;
         if row.end_sequence {
-            self.registers = Row::start(parameters.default_is_stmt);
+            self.registers = Row::start(self.header.parameters.default_is_stmt);
             self.last = None;
             return row;
         }
@@ -68,43 +120,28 @@ impl<'a> Machine<'a> {
 
     /// Runs a special opcode, whose code is this much above the opcode base.
     #[inline(always)]
-    #[tactic(auto, unfolding(crate::specs::Machine::turn, crate::specs::Machine::after))]
-    fn run_special(
-        &mut self,
-        parameters: &Parameters,
-        files: &Files<'_>,
-        adjusted: u8,
-        rest: &'a [u8],
-    ) -> Result<bool, LineRule>
-        ensures { Turns parameters.now result
-            (turn parameters.now files.now self.old.last self.old.registers (Special adjusted) rest.now)
-            self.old self.new }
+    fn run_special(&mut self, adjusted: u8, rest: &'a [u8]) -> Result<bool, LineRule>
+        ensures { Runs (nothing (Special adjusted)) rest.now result self.old self.new }
     {
-        let range = parameters.line_range;
+        let parameters = &self.header.parameters;
         let mut row = self.registers;
-        row.advance(parameters, u64::from(adjusted / range))?;
-        row.add_lines(i64::from(parameters.line_base) + i64::from(adjusted % range))?;
-        self.append(files, row, rest)
+        row.advance(parameters, u64::from(adjusted / parameters.line_range))?;
+        let lines = adjusted % parameters.line_range;
+        row.add_lines(i64::from(parameters.line_base) + i64::from(lines))?;
+        self.append(row, rest)
     }
 
     /// Runs an extended opcode after its zero byte.
     #[inline(always)]
-    #[tactic(auto, unfolding(crate::specs::Machine::turn, crate::specs::Machine::after))]
-    fn run_extended(
-        &mut self,
-        parameters: &Parameters,
-        files: &Files<'_>,
-        bytes: &'a [u8],
-    ) -> Result<bool, LineRule>
-        ensures { Turns parameters.now result (then_turn (extended_opcode parameters.now.address_size)
-            parameters.now files.now self.old.last self.old.registers bytes.now) self.old self.new }
+    fn run_extended(&mut self, bytes: &'a [u8]) -> Result<bool, LineRule>
+        ensures { Runs (extended_opcode self.old.header.now.parameters.address_size) bytes.now result self.old self.new }
     {
-        let (opcode, rest) = read_extended(parameters.address_size, bytes)?;
-        match opcode {
+        let mut rest = bytes;
+        match read_extended(self.header.parameters.address_size, &mut rest)? {
             Extended::EndSequence => {
                 let mut row = self.registers;
                 row.end_sequence = true;
-                return self.append(files, row, rest);
+                return self.append(row, rest);
             }
             Extended::SetAddress(address) => {
                 self.registers.address = address;
@@ -119,33 +156,69 @@ impl<'a> Machine<'a> {
         Ok(false)
     }
 
+    /// Runs a standard opcode other than DW_LNS_copy after its code, which is below the opcode base (DWARF 5, 6.2.5.2).
+    #[inline(always)]
+    fn run_standard(&mut self, code: u8, bytes: &'a [u8]) -> Result<bool, LineRule>
+        requires { 2 ≤ code }
+        ensures { Runs (standard_opcode (count_in self.old.header.now.standard_opcode_lengths.now code) code) bytes.now result self.old self.new }
+    {
+        let parameters = &self.header.parameters;
+        let mut rest = bytes;
+        match code {
+            // DW_LNS_advance_pc
+            2 => self
+                .registers
+                .advance(parameters, unsigned(LineRule::OpcodeCut, &mut rest)?)?,
+            // DW_LNS_advance_line
+            3 => self.registers.add_lines(signed(&mut rest)?)?,
+            // DW_LNS_set_file
+            4 => self.registers.file = unsigned(LineRule::OpcodeCut, &mut rest)?,
+            // DW_LNS_set_column
+            5 => {
+                let column = unsigned(LineRule::OpcodeCut, &mut rest)?;
+                self.registers.column = u32::try_from(column).map_err(|_| LineRule::RowLine)?;
+            }
+            // DW_LNS_negate_stmt
+            6 => self.registers.is_stmt = !self.registers.is_stmt,
+            // DW_LNS_set_basic_block
+            7 => self.registers.basic_block = true,
+            // DW_LNS_const_add_pc
+            8 => {
+                let adjusted = 255 - parameters.opcode_base;
+                self.registers
+                    .advance(parameters, u64::from(adjusted / parameters.line_range))?;
+            }
+            // DW_LNS_fixed_advance_pc
+            9 => {
+                let advance = fixed(LineRule::OpcodeCut, 2, &mut rest)?;
+                self.registers.add_bytes(u128::from(advance), 0)?;
+            }
+            // DW_LNS_set_prologue_end
+            10 => self.registers.prologue_end = true,
+            // DW_LNS_set_epilogue_begin
+            11 => self.registers.epilogue_begin = true,
+            // DW_LNS_set_isa
+            12 => self.registers.isa = unsigned(LineRule::OpcodeCut, &mut rest)?,
+            // One that the standard does not define does nothing.
+            _ => rest = skip_others(self.header.standard_opcode_lengths, code, rest)?,
+        }
+        self.rest = rest;
+        Ok(false)
+    }
+
     /// Runs the opcode with this first byte, after which these bytes follow. Returns whether it appends a row.
     #[inline(always)]
-    #[tactic(auto, unfolding(crate::specs::Opcodes::opcode_after, crate::specs::Opcodes::standard_opcode, crate::specs::Machine::turn, crate::specs::Machine::after))]
-    fn run_next(
-        &mut self,
-        parameters: &Parameters,
-        lengths: &[u8],
-        files: &Files<'_>,
-        code: u8,
-        bytes: &'a [u8],
-    ) -> Result<bool, LineRule>
-        ensures { Turns parameters.now result (then_turn (opcode_after parameters.now lengths.now code)
-            parameters.now files.now self.old.last self.old.registers bytes.now) self.old self.new }
+    fn run_next(&mut self, code: u8, bytes: &'a [u8]) -> Result<bool, LineRule>
+        ensures { Runs (opcode_after self.old.header.now code) bytes.now result self.old self.new }
     {
-        let base = parameters.opcode_base;
+        let base = self.header.parameters.opcode_base;
         if base <= code {
-            return self.run_special(parameters, files, code - base, bytes);
+            return self.run_special(code - base, bytes);
         }
         match code {
-            0 => self.run_extended(parameters, files, bytes),
-            1 => self.append(files, self.registers, bytes),
-            _ => {
-                self.rest = self
-                    .registers
-                    .run_standard(parameters, lengths, code, bytes)?;
-                Ok(false)
-            }
+            0 => self.run_extended(bytes),
+            1 => self.append(self.registers, bytes),
+            _ => self.run_standard(code, bytes),
         }
     }
 }
@@ -153,13 +226,9 @@ impl<'a> Machine<'a> {
 /// The rows of a line program that are left. It runs the program opcode by opcode and allocates nothing.
 #[derive(Drop)]
 pub struct Rows<'p, 'a> {
-    pub(crate) parameters: Parameters,
-    /// The header's `standard_opcode_lengths`.
-    pub(crate) lengths: &'a [u8],
-    pub(crate) files: &'p Files<'a>,
+    pub(crate) machine: Machine<'p, 'a>,
     /// The offset of the program's end in `.debug_line`.
     pub(crate) end: usize,
-    pub(crate) machine: Machine<'a>,
     ghost within: { length machine.rest.now ≤ end },
 }
 
@@ -173,12 +242,9 @@ impl Rows<'_, '_> {
         ensures { Yields result (run_left self.old) (run_left self.new) }
     {
         while let Some((code, bytes)) = self.machine.rest.split_first() {
-            match self
-                .machine
-                .run_next(&self.parameters, self.lengths, self.files, *code, bytes)
-            {
+            match self.machine.run_next(*code, bytes) {
                 Ok(false) => {}
-                Ok(true) => return Ok(Some(self.machine.take_row(&self.parameters))),
+                Ok(true) => return Ok(Some(self.machine.take_row())),
                 Err(rule) => {
                     let at = self.end - self.machine.rest.len();
                     return Err(LineFault { rule, at });
@@ -202,17 +268,22 @@ impl<'a> Program<'a> {
     pub fn rows(&self) -> Rows<'_, 'a>
         ensures { run_left result ≡ program_run self.now }
     {
-        let parameters = self.header.parameters;
         Rows {
-            parameters,
-            lengths: self.header.standard_opcode_lengths,
-            files: &self.header.files,
-            end: self.opcodes_at + self.opcodes.len(),
             machine: Machine {
-                registers: Row::start(parameters.default_is_stmt),
+                header: &self.header,
+                registers: Row::start(self.header.parameters.default_is_stmt),
                 last: None,
                 rest: self.opcodes,
             },
+            end: self.opcodes_at + self.opcodes.len(),
         }
     }
 }
+
+/// The rows of a program up to its first fault: the file of each is one of the program's, addresses ascend within a
+/// sequence, and without a fault each sequence has an end.
+pub fn rows_obey_the_rules()
+    ensures files { (p : AnyProgram) → All (HasFile p.header.files) (program_run p).rows }
+    ensures ascend { (p : AnyProgram) → Ascend None (program_run p).rows }
+    ensures ended { (p : AnyProgram) → (program_run p).fault ≡ None → AllEnd None (program_run p).rows }
+{}

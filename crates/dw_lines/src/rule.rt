@@ -1,8 +1,12 @@
-//! The rules on line programs, each with its code and its name.
+//! The rules on line programs, each with its code and its name, and why a line program is not read.
 //! Its variants, and the arms of its table, are made by docs/make-rules.py from docs/rules.tsv.
 
 ghost use Rattle.std.specs.Prelude.{◌≡◌};
+ghost use Rattle.dw_forms.specs.declared.fault.Stop.TheVariants.{Fault};
+ghost use Rattle.dw_lines.specs.Files.{value_rule_of};
 ghost use Rattle.dw_lines.specs.LineRules.{code_text, name_text};
+
+use dw_forms::{Stop, ValueFault};
 
 /// A rule on a line program.
 #[derive(Clone, Copy, Debug, PartialEq, Eq)]
@@ -100,3 +104,35 @@ impl LineRule {
         self.texts().1
     }
 }
+
+/// The first rule that a line program violates, and where.
+#[derive(Clone, Copy, Debug, PartialEq, Eq)]
+pub struct LineFault {
+    pub rule: LineRule,
+    /// The offset in `.debug_line` of the program's first byte for the rules L, of the opcode's for the rules M, and in
+    /// `.debug_info` of the entry for the rule F1.
+    pub at: usize,
+}
+
+impl From<ValueFault> for LineRule {
+    ghost from_gives = { λ f e. e ≡ value_rule_of f };
+
+    fn from(fault: ValueFault) -> LineRule {
+        match fault {
+            ValueFault::Cut => LineRule::LineCut,
+            ValueFault::BadNumber => LineRule::LineNumber,
+            ValueFault::BadIndirect => LineRule::LineForm,
+        }
+    }
+}
+
+impl From<LineRule> for Stop<LineRule> {
+    ghost from_gives = { λ rule e. e ≡ Fault rule };
+
+    fn from(rule: LineRule) -> Stop<LineRule> {
+        Stop::Fault(rule)
+    }
+}
+
+/// What reading gives: a value, or the rule that is violated, or no memory.
+pub(crate) type Reading<T> = Result<T, Stop<LineRule>>;

@@ -10,83 +10,93 @@ ghost use Rattle.dw_lines.specs.Files.{are_contents, content_format, path_view, 
 ghost use Rattle.dw_lines.specs.Header.{length_end};
 ghost use Rattle.dw_lines.specs.Repeats.{times};
 
-use crate::files::{FileEntry, Files, LinePath, NO_FILE, in_directory};
-use crate::header::{byte, number, path};
-use crate::rule::LineRule;
-use crate::sections::LineSections;
+use crate::bytes::{byte, unsigned};
+use crate::program::{FileEntry, Files, LinePath, LineSections};
+use crate::rule::{LineRule, Reading};
 use dw_forms::{Form, Stop, Value, read_value};
+use memchr::memchr;
 use std::alloc::Global;
 
-/// A path in versions 2 to 4, or none where an empty one ends a table; and the bytes after it.
-#[tactic(auto, unfolding(crate::specs::Files::path_or_end))]
-fn path_or_end(bytes: &[u8]) -> Result<(Option<LinePath<'_>>, &[u8]), LineRule>
-    ensures exact { Gives (λ x. (option_map path_view x.0, x.1.now)) result (spec.path_or_end.read bytes.now) }
-    ensures shorter { IfOk result (λ x. length x.1.now < length bytes.now) }
+/// An entry that is no file.
+const NO_FILE: FileEntry<'static> = FileEntry {
+    path: LinePath::Header(&[]),
+    directory: 0,
+    md5: None,
+};
+
+/// The number of a directory, where there are so many.
+fn in_directory(count: usize, directory: u64) -> Result<usize, LineRule>
+    ensures { (bytes : List ℕ) → Gives (λ n. (n, bytes)) result ((spec.in_directory count directory).read bytes) }
 {
-    let (path, rest) = path(bytes)?;
-    if path.is_empty() {
-        return Ok((None, rest));
+    if directory < count as u64 {
+        return Ok(directory as usize);
     }
-    Ok((Some(LinePath::Header(path)), rest))
+    Err(LineRule::LineDirectory)
 }
 
-/// A file after so many directories, or none at the table's end; and the bytes after it.
-#[tactic(auto, unfolding(crate::specs::Files::file_or_end))]
-fn file_or_end(count: usize, bytes: &[u8]) -> Result<(Option<FileEntry<'_>>, &[u8]), LineRule>
-    ensures exact { Gives (λ x. (option_map file_view x.0, x.1.now)) result ((spec.file_or_end count).read bytes.now) }
-    ensures shorter { IfOk result (λ x. length x.1.now < length bytes.now) }
+/// A path in versions 2 to 4, or none where an empty one ends a table.
+fn path_or_end<'a>(bytes: &mut &'a [u8]) -> Result<Option<LinePath<'a>>, LineRule>
+    ensures exact { Gives (λ x. (option_map path_view x, bytes.new.now)) result (spec.path_or_end.read bytes.old.now) }
+    ensures shorter { IfOk result (λ _. length bytes.new.now < length bytes.old.now) }
 {
-    let (path, rest) = path_or_end(bytes)?;
-    let Some(path) = path else {
-        return Ok((None, rest));
+    let Some(len) = memchr(0, bytes) else {
+        return Err(LineRule::LineCut);
     };
-    let (directory, rest) = number(rest)?;
-    let mut file = FileEntry { path, ..NO_FILE };
-    file.directory = in_directory(count, directory)?;
-    let (_time, rest) = number(rest)?;
-    let (_size, rest) = number(rest)?;
-    Ok((Some(file), rest))
+    let path = &bytes[..len];
+    *bytes = &bytes[len + 1..];
+    if path.is_empty() {
+        return Ok(None);
+    }
+    Ok(Some(LinePath::Header(path)))
 }
 
-/// The directories of versions 2 to 4, and the bytes after their table.
-fn directories4(alloc: Global, bytes: &[u8]) -> Result<(Vec<LinePath<'_>>, &[u8]), Stop<LineRule>>
-    requires { length bytes.now < length_end }
-    ensures exact { GivesOrMemory (λ x. (map path_view x.0.items, x.1.now)) result (spec.directories4.read bytes.now) }
-    ensures within { IfOk result (λ x. length x.1.now ≤ length bytes.now) }
+/// A file after so many directories, or none at the table's end.
+fn file_or_end<'a>(count: usize, bytes: &mut &'a [u8]) -> Result<Option<FileEntry<'a>>, LineRule>
+    ensures exact { Gives (λ x. (option_map file_view x, bytes.new.now)) result
+        ((spec.file_or_end count).read bytes.old.now) }
+    ensures shorter { IfOk result (λ _. length bytes.new.now < length bytes.old.now) }
+{
+    let Some(path) = path_or_end(bytes)? else {
+        return Ok(None);
+    };
+    let directory = in_directory(count, unsigned(LineRule::LineCut, bytes)?)?;
+    let _time = unsigned(LineRule::LineCut, bytes)?;
+    let _size = unsigned(LineRule::LineCut, bytes)?;
+    let md5 = None;
+    Ok(Some(FileEntry {
+        path,
+        directory,
+        md5,
+    }))
+}
+
+/// The directories of versions 2 to 4.
+fn directories4<'a>(alloc: Global, bytes: &mut &'a [u8]) -> Reading<Vec<LinePath<'a>>>
+    requires { length bytes.old.now < length_end }
+    ensures exact { GivesOrMemory (λ x. (map path_view x.items, bytes.new.now)) result
+        (spec.directories4.read bytes.old.now) }
+    ensures within { IfOk result (λ _. length bytes.new.now ≤ length bytes.old.now) }
 {
     let mut paths = Vec::new(alloc);
     paths.push(LinePath::Header(&[]))?;
-    let mut rest = bytes;
-    loop {
-        let (next, after) = path_or_end(rest)?;
-        let Some(path) = next else {
-            return Ok((paths, after));
-        };
+    while let Some(path) = path_or_end(bytes)? {
         paths.push(path)?;
-        rest = after;
     }
+    Ok(paths)
 }
 
-/// The files of versions 2 to 4 after so many directories, and the bytes after their table.
-fn files4<'a>(
-    alloc: Global,
-    count: usize,
-    bytes: &'a [u8],
-) -> Result<(Vec<FileEntry<'a>>, &'a [u8]), Stop<LineRule>>
-    requires { length bytes.now < length_end }
-    ensures { GivesOrMemory (λ x. (map file_view x.0.items, x.1.now)) result ((spec.files4 count).read bytes.now) }
+/// The files of versions 2 to 4 after so many directories.
+fn files4<'a>(alloc: Global, count: usize, bytes: &mut &'a [u8]) -> Reading<Vec<FileEntry<'a>>>
+    requires { length bytes.old.now < length_end }
+    ensures { GivesOrMemory (λ x. (map file_view x.items, bytes.new.now)) result
+        ((spec.files4 count).read bytes.old.now) }
 {
     let mut files = Vec::new(alloc);
     files.push(NO_FILE)?;
-    let mut rest = bytes;
-    loop {
-        let (next, after) = file_or_end(count, rest)?;
-        let Some(file) = next else {
-            return Ok((files, after));
-        };
+    while let Some(file) = file_or_end(count, bytes)? {
         files.push(file)?;
-        rest = after;
     }
+    Ok(files)
 }
 
 /// The codes of contents (DWARF 5, 7.22).
@@ -139,57 +149,44 @@ fn has_kind(contents: &[Content], kind: u64) -> bool
 fn are_valid(contents: &[Content]) -> bool
     ensures { result ≡ are_contents contents.now }
 {
-    let mut left = contents;
-    while let [content, others @ ..] = left {
-        if !may_have(content.kind, content.form) || has_kind(others, content.kind) {
-            return false;
-        }
-        left = others;
-    }
-    true
+    let [content, others @ ..] = contents else {
+        return true;
+    };
+    may_have(content.kind, content.form) && !has_kind(others, content.kind) && are_valid(others)
 }
 
-/// A content of version 5 and its form, and the bytes after them.
-#[tactic(auto, unfolding(crate::specs::Files::content_format))]
-fn read_content(bytes: &[u8]) -> Result<(Content, &[u8]), LineRule>
-    ensures { Gives (λ x. (x.0, x.1.now)) result (content_format.read bytes.now) }
+/// A content of version 5 and its form.
+fn read_content(bytes: &mut &[u8]) -> Result<Content, LineRule>
+    ensures { Gives (λ x. (x, bytes.new.now)) result (content_format.read bytes.old.now) }
 {
-    let (kind, rest) = number(bytes)?;
-    let (code, rest) = number(rest)?;
-    match Form::from_code(code) {
-        Some(form) => Ok((Content { kind, form }, rest)),
-        None => Err(LineRule::LineForm),
-    }
+    let kind = unsigned(LineRule::LineCut, bytes)?;
+    let form = Form::from_code(unsigned(LineRule::LineCut, bytes)?).ok_or(LineRule::LineForm)?;
+    Ok(Content { kind, form })
 }
 
-/// So many contents and their forms, and the bytes after them.
-fn contents(alloc: Global, count: u8, bytes: &[u8]) -> Result<(Vec<Content>, &[u8]), Stop<LineRule>>
-    ensures { GivesOrMemory (λ x. (x.0.items, x.1.now)) result ((times count content_format).read bytes.now) }
+/// So many contents and their forms.
+fn contents(alloc: Global, count: u8, bytes: &mut &[u8]) -> Reading<Vec<Content>>
+    ensures { GivesOrMemory (λ x. (x.items, bytes.new.now)) result ((times count content_format).read bytes.old.now) }
 {
     let mut contents = Vec::new(alloc);
-    let mut rest = bytes;
     for _ in 0..count {
-        let (content, after) = read_content(rest)?;
-        contents.push(content)?;
-        rest = after;
+        contents.push(read_content(bytes)?)?;
     }
-    Ok((contents, rest))
+    Ok(contents)
 }
 
-/// The format of the entries of a table, how many there are, and the bytes after both. Entries have a path, which takes
-/// a byte at least.
-#[tactic(auto, unfolding(crate::specs::Files::table_head, crate::specs::Files::entry_format))]
-fn table_head(alloc: Global, bytes: &[u8]) -> Result<(Vec<Content>, u64, &[u8]), Stop<LineRule>>
-    ensures { GivesOrMemory (λ x. ((x.0.items, x.1), x.2.now)) result (spec.table_head.read bytes.now) }
+/// The format of the entries of a table, and how many there are. Entries have a path, which takes a byte at least.
+fn table_head(alloc: Global, bytes: &mut &[u8]) -> Reading<(Vec<Content>, u64)>
+    ensures { GivesOrMemory (λ x. ((x.0.items, x.1), bytes.new.now)) result (spec.table_head.read bytes.old.now) }
 {
-    let (count, rest) = byte(bytes)?;
-    let (contents, rest) = contents(alloc, count, rest)?;
+    let count = byte(bytes)?;
+    let contents = contents(alloc, count, bytes)?;
     if !are_valid(&contents) {
         return Err(Stop::Fault(LineRule::LineForm));
     }
-    let (count, rest) = number(rest)?;
+    let count = unsigned(LineRule::LineCut, bytes)?;
     if has_kind(&contents, DW_LNCT_path) || count == 0 {
-        return Ok((contents, count, rest));
+        return Ok((contents, count));
     }
     Err(Stop::Fault(LineRule::LineForm))
 }
@@ -207,126 +204,105 @@ fn string_at(section: &[u8], end: usize, offset: u32) -> Result<LinePath<'_>, Li
     Err(LineRule::LineString)
 }
 
-/// The entry that has a content of this kind more, with this value.
-fn with_value<'a>(
-    sections: &LineSections<'a>,
-    kind: u64,
-    entry: FileEntry<'a>,
-    value: Value<'a>,
-) -> Result<FileEntry<'a>, LineRule>
-    ensures { (bytes : List ℕ) → Gives (λ e. (file_view e, bytes)) result
-        ((spec.with_value sections.now kind (file_view entry.entry) (view value.entry)).read bytes) }
-{
-    let path = match value {
-        Value::Text(string) => LinePath::Header(string),
-        Value::Str(offset) => string_at(sections.str, sections.str_end, offset)?,
-        Value::LineStr(offset) => string_at(sections.line_str, sections.line_str_end, offset)?,
-        Value::Unsigned(number) if kind == DW_LNCT_directory_index => {
-            let directory = number as usize;
-            return Ok(FileEntry { directory, ..entry });
+/// Directories and files.
+type Tables<'a> = (Vec<LinePath<'a>>, Files<'a>);
+
+impl<'a> LineSections<'a> {
+    /// Adds a content of this kind, which has this value, to an entry.
+    fn add(&self, kind: u64, value: Value<'a>, entry: &mut FileEntry<'a>) -> Result<(), LineRule>
+        ensures { (bytes : List ℕ) → Gives (λ _. (file_view entry.new, bytes)) result
+            ((spec.with_value self.now kind (file_view entry.old) (view value.entry)).read bytes) }
+    {
+        let path = match value {
+            Value::Text(string) => LinePath::Header(string),
+            Value::Str(offset) => string_at(self.str, self.str_end, offset)?,
+            Value::LineStr(offset) => string_at(self.line_str, self.line_str_end, offset)?,
+            _ => entry.path,
+        };
+        match value {
+            Value::Unsigned(number) if kind == DW_LNCT_directory_index => {
+                entry.directory = number as usize;
+            }
+            Value::Wide(sum) if kind == DW_LNCT_MD5 => entry.md5 = Some(sum),
+            _ if kind == DW_LNCT_path => entry.path = path,
+            _ => {}
         }
-        Value::Wide(sum) if kind == DW_LNCT_MD5 => {
-            let md5 = Some(sum);
-            return Ok(FileEntry { md5, ..entry });
+        Ok(())
+    }
+
+    /// An entry with these contents. It has directory 0 where none is given.
+    fn entry(&self, contents: &[Content], bytes: &mut &'a [u8]) -> Result<FileEntry<'a>, LineRule>
+        ensures { Gives (λ x. (file_view x, bytes.new.now)) result
+            ((spec.entry self.now contents.now).read bytes.old.now) }
+    {
+        let mut entry = NO_FILE;
+        let mut left = contents;
+        while let [content, others @ ..] = left {
+            let (value, len) = read_value(5, content.form, 8, bytes)?;
+            *bytes = &bytes[len..];
+            self.add(content.kind, value, &mut entry)?;
+            left = others;
         }
-        _ => return Ok(entry),
-    };
-    if kind == DW_LNCT_path {
-        return Ok(FileEntry { path, ..entry });
+        Ok(entry)
     }
-    Ok(entry)
-}
 
-/// An entry with these contents, and the bytes after it. It has directory 0 where none is given.
-#[tactic(auto, unfolding(crate::specs::Files::entry_from))]
-fn entry<'a>(
-    sections: &LineSections<'a>,
-    contents: &[Content],
-    bytes: &'a [u8],
-) -> Result<(FileEntry<'a>, &'a [u8]), LineRule>
-    ensures { Gives (λ x. (file_view x.0, x.1.now)) result
-        ((spec.entry sections.now contents.now).read bytes.now) }
-{
-    let mut entry = NO_FILE;
-    let mut rest = bytes;
-    let mut left = contents;
-    while let [content, others @ ..] = left {
-        let (value, len) = read_value(5, content.form, 8, rest)?;
-        entry = with_value(sections, content.kind, entry, value)?;
-        rest = &rest[len..];
-        left = others;
+    /// The directories of version 5.
+    fn directories5(&self, alloc: Global, bytes: &mut &'a [u8]) -> Reading<Vec<LinePath<'a>>>
+        ensures { GivesOrMemory (λ x. (map path_view x.items, bytes.new.now)) result
+            ((spec.directories5 self.now).read bytes.old.now) }
+    {
+        let (contents, count) = table_head(alloc, bytes)?;
+        let mut paths = Vec::new(alloc);
+        for _ in 0..count {
+            paths.push(self.entry(&contents, bytes)?.path)?;
+        }
+        Ok(paths)
     }
-    Ok((entry, rest))
-}
 
-/// The directories of version 5, and the bytes after their table.
-#[tactic(auto, unfolding(crate::specs::Files::directories5))]
-fn directories5<'a>(
-    alloc: Global,
-    sections: &LineSections<'a>,
-    bytes: &'a [u8],
-) -> Result<(Vec<LinePath<'a>>, &'a [u8]), Stop<LineRule>>
-    ensures { GivesOrMemory (λ x. (map path_view x.0.items, x.1.now)) result
-        ((spec.directories5 sections.now).read bytes.now) }
-{
-    let (contents, count, rest) = table_head(alloc, bytes)?;
-    let mut paths = Vec::new(alloc);
-    let mut rest = rest;
-    for _ in 0..count {
-        let (entry, after) = entry(sections, &contents, rest)?;
-        paths.push(entry.path)?;
-        rest = after;
+    /// The files of version 5 after so many directories.
+    fn files5(
+        &self,
+        alloc: Global,
+        directories: usize,
+        bytes: &mut &'a [u8],
+    ) -> Reading<Vec<FileEntry<'a>>>
+        ensures { GivesOrMemory (λ x. (map file_view x.items, bytes.new.now)) result
+            ((spec.files5 self.now directories).read bytes.old.now) }
+    {
+        let (contents, count) = table_head(alloc, bytes)?;
+        let mut files = Vec::new(alloc);
+        for _ in 0..count {
+            let file = self.entry(&contents, bytes)?;
+            in_directory(directories, file.directory as u64)?;
+            files.push(file)?;
+        }
+        Ok(files)
     }
-    Ok((paths, rest))
-}
 
-/// The files of version 5 after so many directories, and the bytes after their table.
-#[tactic(auto, unfolding(crate::specs::Files::files5, crate::specs::Files::file_entry))]
-fn files5<'a>(
-    alloc: Global,
-    sections: &LineSections<'a>,
-    directories: usize,
-    bytes: &'a [u8],
-) -> Result<(Vec<FileEntry<'a>>, &'a [u8]), Stop<LineRule>>
-    ensures { GivesOrMemory (λ x. (map file_view x.0.items, x.1.now)) result
-        ((spec.files5 sections.now directories).read bytes.now) }
-{
-    let (contents, count, rest) = table_head(alloc, bytes)?;
-    let mut files = Vec::new(alloc);
-    let mut rest = rest;
-    for _ in 0..count {
-        let (file, after) = entry(sections, &contents, rest)?;
-        in_directory(directories, file.directory as u64)?;
-        files.push(file)?;
-        rest = after;
+    /// The tables of directories and files.
+    pub(crate) fn tables(
+        &self,
+        alloc: Global,
+        version: u16,
+        bytes: &mut &'a [u8],
+    ) -> Reading<Tables<'a>>
+        requires { length bytes.old.now < length_end }
+        ensures { GivesOrMemory (λ x. (
+          record {
+            directories = map path_view x.0.items;
+            files = map file_view x.1.entries.items;
+            first_file = x.1.first;
+          },
+          bytes.new.now,
+        )) result ((spec.tables self.now version).read bytes.old.now) }
+    {
+        if version < 5 {
+            let directories = directories4(alloc, bytes)?;
+            let entries = files4(alloc, directories.len(), bytes)?;
+            return Ok((directories, Files { entries, first: 1 }));
+        }
+        let directories = self.directories5(alloc, bytes)?;
+        let entries = self.files5(alloc, directories.len(), bytes)?;
+        Ok((directories, Files { entries, first: 0 }))
     }
-    Ok((files, rest))
-}
-
-/// The tables of directories and files, and the bytes after them.
-#[tactic(auto, unfolding(crate::specs::Files::tables4, crate::specs::Files::tables5))]
-pub(crate) fn tables<'a>(
-    alloc: Global,
-    sections: &LineSections<'a>,
-    version: u16,
-    bytes: &'a [u8],
-) -> Result<(Vec<LinePath<'a>>, Files<'a>, &'a [u8]), Stop<LineRule>>
-    requires { length bytes.now < length_end }
-    ensures { GivesOrMemory (λ x. (
-      record {
-        directories = map path_view x.0.items;
-        files = map file_view x.1.entries.items;
-        first_file = x.1.first;
-      },
-      x.2.now,
-    )) result ((spec.tables sections.now version).read bytes.now) }
-{
-    if version < 5 {
-        let (directories, rest) = directories4(alloc, bytes)?;
-        let (entries, rest) = files4(alloc, directories.len(), rest)?;
-        return Ok((directories, Files { entries, first: 1 }, rest));
-    }
-    let (directories, rest) = directories5(alloc, sections, bytes)?;
-    let (entries, rest) = files5(alloc, sections, directories.len(), rest)?;
-    Ok((directories, Files { entries, first: 0 }, rest))
 }

@@ -6,5 +6,5 @@ use Rattle.dw_lines.proofs.tables.contents.Given as goal
 
 abbrev pub invariant-loop : goal.invariant-loop
 invariant-loop l =
-    ReadsTimes content_format (l.count - l.counter) l.contents.items l.rest
-    ((times l.count content_format).read l.bytes)
+    ReadsTimes content_format (l.count - l.counter) l.contents.items l.bytes.now
+    ((times l.count content_format).read l.initial.bytes.now)

@@ -8,25 +8,24 @@ use Rattle.dw_lines.proofs.RepeatLaws.{goes_to_end, goes_further, goes_wrong}
 use Rattle.dw_lines.proofs.tables.directories4.Goals as goal
 
 pub loop-paths-init : goal.loop-paths-init
-unfolding directories4
 loop-paths-init c = record {
   within = omega arith;
   goes_on = (length_end, c.requires, rw (c.in_ok-push.ensures.items, c.new-paths.ensures.items) refl);
 }
 
-pub returns-in_err-next-clause-exact : goal.returns-in_err-next-clause-exact
-returns-in_err-next-clause-exact c =
-    let e = err_from_is_err_and c.from_residual-in_err-next.result c.from_residual-in_err-next.ensures.1 in
-    rw (e.1, e.2) (goes_wrong _ _ (stops.Fault _) _ _ _ c.loop-paths.invariant.goes_on c.in_err-next.ensures.exact)
+pub returns-in_err-path-clause-exact : goal.returns-in_err-path-clause-exact
+returns-in_err-path-clause-exact c =
+    let e = err_from_is_err_and c.from_residual-in_err-path.result c.from_residual-in_err-path.ensures.1 in
+    rw (e.1, e.2) (goes_wrong _ _ (stops.Fault _) _ _ _ c.loop-paths.invariant.goes_on c.in_err-path.ensures.exact)
 
-pub returns-in_default-clause-exact : goal.returns-in_default-clause-exact
-returns-in_default-clause-exact c =
-    goes_to_end _ _ _ _ _ _ c.loop-paths.invariant.goes_on (rw c.in_default.is at c.in_ok-next.ensures.exact)
+pub returns-clause-exact : goal.returns-clause-exact
+returns-clause-exact c =
+    goes_to_end _ _ _ _ _ _ c.loop-paths.invariant.goes_on (rw c.in_default.is at c.in_ok-path.ensures.exact)
 
 pub loop-paths-preserved : goal.loop-paths-preserved
 loop-paths-preserved c = record {
-  within = omega (arith, c.in_ok-next.ensures.shorter);
+  within = omega (arith, c.in_ok-path.ensures.shorter);
   goes_on = rw (c.in_ok-push-2.ensures.items, map-append)
       (goes_further _ _ _ _ _ (path_view c.in-Some.path) _ c.loop-paths.invariant.goes_on
-      (rw c.in-Some.is at c.in_ok-next.ensures.exact) c.in_ok-next.ensures.shorter);
+      (rw c.in-Some.is at c.in_ok-path.ensures.exact) c.in_ok-path.ensures.shorter);
 }

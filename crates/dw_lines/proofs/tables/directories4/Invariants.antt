@@ -6,9 +6,10 @@ use Rattle.dw_lines.proofs.tables.directories4.Given as goal
 
 abbrev pub invariant-loop-paths : goal.invariant-loop-paths
 invariant-loop-paths l = record {
-  within : length l.rest ≤ length l.bytes;
-  goes_on : ReadsOn LineCut path_or_end (map path_view l.paths.items) l.rest (directories4.read l.bytes);
+  within : length l.bytes.now ≤ length l.initial.bytes.now;
+  goes_on : ReadsOn LineCut path_or_end (map path_view l.paths.items) l.bytes.now
+      (directories4.read l.initial.bytes.now);
 }
 
 abbrev pub decreases-loop-paths : goal.decreases-loop-paths
-decreases-loop-paths l = length l.rest
+decreases-loop-paths l = length l.bytes.now

@@ -8,20 +8,19 @@ use Rattle.dw_lines.proofs.RepeatLaws.{goes_to_end, goes_further, goes_wrong}
 use Rattle.dw_lines.proofs.tables.files4.Goals as goal
 
 pub loop-files-init : goal.loop-files-init
-unfolding files4
 loop-files-init c = (length_end, c.requires, rw (c.in_ok-push.ensures.items, c.new-files.ensures.items) refl)
 
-pub returns-in_err-next : goal.returns-in_err-next
-returns-in_err-next c =
-    let e = err_from_is_err_and c.from_residual-in_err-next.result c.from_residual-in_err-next.ensures.1 in
-    rw (e.1, e.2) (goes_wrong _ _ (stops.Fault _) _ _ _ c.loop-files.invariant c.in_err-next.ensures.exact)
+pub returns-in_err-file : goal.returns-in_err-file
+returns-in_err-file c =
+    let e = err_from_is_err_and c.from_residual-in_err-file.result c.from_residual-in_err-file.ensures.1 in
+    rw (e.1, e.2) (goes_wrong _ _ (stops.Fault _) _ _ _ c.loop-files.invariant c.in_err-file.ensures.exact)
 
-pub returns-in_default : goal.returns-in_default
-returns-in_default c =
-    goes_to_end _ _ _ _ _ _ c.loop-files.invariant (rw c.in_default.is at c.in_ok-next.ensures.exact)
+pub returns : goal.returns
+returns c =
+    goes_to_end _ _ _ _ _ _ c.loop-files.invariant (rw c.in_default.is at c.in_ok-file.ensures.exact)
 
 pub loop-files-preserved : goal.loop-files-preserved
 loop-files-preserved c =
     rw (c.in_ok-push-2.ensures.items, map-append)
     (goes_further _ _ _ _ _ (file_view c.in-Some.file) _ c.loop-files.invariant
-    (rw c.in-Some.is at c.in_ok-next.ensures.exact) c.in_ok-next.ensures.shorter)
+    (rw c.in-Some.is at c.in_ok-file.ensures.exact) c.in_ok-file.ensures.shorter)
