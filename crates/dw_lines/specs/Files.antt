@@ -1,6 +1,6 @@
 -- Chapter: the directories and files of a line program (DWARF 5, 6.2.4 and 6.2.4.1; DWARF 4, 6.2.4).
 use Rattle.std.specs.Prelude.{ℕ, Bool, true, false, List, [], ◌∷◌, length, drop, Option, None, Some, nat_le, nat_lt}
-use Rattle.std.specs.Prelude.{◌==◌, ◌&&◌, ◌||◌, not, if◌then◌else◌, option_map}
+use Rattle.std.specs.Prelude.{map, ◌==◌, ◌&&◌, ◌||◌, not, if◌then◌else◌, option_map}
 use Rattle.std.specs.List.{list_any, before_first}
 use Rattle.dw_forms.specs.declared.form.Form.{Form}
 use Rattle.dw_forms.specs.declared.form.Form.TheVariants as form
@@ -227,6 +227,14 @@ pub record Tables : Type 0 where
   pub directories : List (List ℕ)
   pub files : List FileAt
   pub first_file : ℕ
+
+-- the same of tables that were read
+abbrev pub tables_of : List LinePath → Files → Tables
+tables_of directories files = record {
+  directories = map path_view directories;
+  files = map file_view files.entries.items;
+  first_file = files.first;
+}
 
 -- the tables of versions 2 to 4
 abbrev pub tables4 : Format Tables LineRule

@@ -2,8 +2,6 @@
 use Rattle.std.specs.Prelude.{ℕ, zero, suc, List, [], ◌∷◌, length, ◌==◌, nat_le, slice_get, unwrap_or, ◌-◌, ℤ}
 use Rattle.dw_forms.specs.BaseFormats.{byte, so_many, fixed_number, uleb, sleb}
 use Rattle.dw_forms.specs.Formats.{Format, and_then, nothing, failing, mapped, inside, choose, tested, renamed}
-use Rattle.dw_lines.specs.declared.rows.Extended.{Extended}
-use Rattle.dw_lines.specs.declared.rows.Extended.TheVariants as kinds
 use Rattle.dw_lines.specs.declared.program.LineHeader.{LineHeader}
 use Rattle.dw_lines.specs.declared.rule.LineRule.{LineRule}
 use Rattle.dw_lines.specs.declared.rule.LineRule.TheVariants.{OpcodeCut, ExtendedLength}
@@ -29,13 +27,6 @@ pub data Opcode : Type 0 where
   SetAddress : ℕ → Opcode
   SetDiscriminator : ℕ → Opcode
   Other : Opcode
-
--- an extended opcode
-abbrev pub opcode_of : Extended → Opcode
-opcode_of kinds.EndSequence = EndSequence
-opcode_of (kinds.SetAddress address) = SetAddress address
-opcode_of (kinds.SetDiscriminator discriminator) = SetDiscriminator discriminator
-opcode_of kinds.Other = Other
 
 -- an unsigned operand
 abbrev pub operand : Format ℕ LineRule
@@ -63,9 +54,13 @@ extended_of address_size (code ∷ bytes) =
     choose (code == 2) (whole bytes (mapped SetAddress (fixed_number ExtendedLength address_size))) (
     choose (code == 4) (whole bytes (mapped SetDiscriminator (number ExtendedLength))) (nothing Other)))
 
--- an extended opcode after its zero byte: a length, and so many bytes
+-- a length, and so many bytes
+abbrev pub counted_bytes : Format (List ℕ) LineRule
+counted_bytes = and_then operand (so_many OpcodeCut)
+
+-- an extended opcode after its zero byte
 abbrev pub extended_opcode : ℕ → Format Opcode LineRule
-extended_opcode address_size = and_then operand (λ len. and_then (so_many OpcodeCut len) (extended_of address_size))
+extended_opcode address_size = and_then counted_bytes (extended_of address_size)
 
 -- a standard opcode after its code (6.2.5.2). One that the standard does not define has so many operands, which the
 -- header says

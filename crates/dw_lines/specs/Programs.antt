@@ -1,5 +1,5 @@
 -- Chapter: line programs: a header, and the bytes of the opcodes (DWARF 5, 6.2.4; DWARF 4, 6.2.4).
-use Rattle.std.specs.Prelude.{ℕ, ◌+◌, List, length, map, drop, Result, Ok, Err, ◌==◌, if◌then◌else◌}
+use Rattle.std.specs.Prelude.{ℕ, ◌+◌, List, length, drop, Result, Ok, Err, ◌==◌, if◌then◌else◌}
 use Rattle.dw_forms.specs.Formats.{Format, and_then, mapped, inside, tested, renamed}
 use Rattle.dw_forms.specs.Steps.{◌>>=◌}
 use Rattle.dw_lines.specs.declared.rule.LineFault.{LineFault}
@@ -8,7 +8,7 @@ use Rattle.dw_lines.specs.declared.program.Program.{Program}
 use Rattle.dw_lines.specs.declared.rule.LineRule.{LineRule}
 use Rattle.dw_lines.specs.declared.rule.LineRule.TheVariants.{LineOffset, LineHeaderLength}
 use Rattle.dw_lines.specs.declared.program.LineSections.{LineSections}
-use Rattle.dw_lines.specs.Files.{Tables, tables, path_view, file_view}
+use Rattle.dw_lines.specs.Files.{Tables, tables, tables_of}
 use Rattle.dw_lines.specs.Header.{LineParameters, numbers_of, field, content, version, parameters}
 use Rattle.dw_lines.specs.Header.{standard_opcode_lengths}
 use Rattle.dw_lines.specs.Repeats.{sized}
@@ -26,11 +26,7 @@ fields_of h = record {
   version = h.version;
   parameters = numbers_of h.parameters;
   standard_opcode_lengths = h.standard_opcode_lengths.now;
-  tables = record {
-    directories = map path_view h.directories.items;
-    files = map file_view h.files.entries.items;
-    first_file = h.files.first;
-  };
+  tables = tables_of h.directories.items h.files;
 }
 
 -- a header and the bytes of the opcodes

@@ -28,12 +28,13 @@ pub(crate) fn block<'a>(cut: LineRule, len: u64, bytes: &mut &'a [u8]) -> Result
 /// A number of so many bytes, the lowest first.
 #[inline(always)]
 #[tactic(auto, unfolding(dw_forms::specs::BaseFormats::taken_at))]
-pub(crate) fn fixed(cut: LineRule, size: usize, bytes: &mut &[u8]) -> Result<u64, LineRule>
+pub(crate) fn fixed(cut: LineRule, size: u8, bytes: &mut &[u8]) -> Result<u64, LineRule>
     requires some { 1 ≤ size }
     requires few { size ≤ 8 }
     ensures { Gives (λ x. (x, bytes.new.now)) result ((fixed_number cut size).read bytes.old.now) }
 {
-    Ok(LittleEndian::read_uint(block(cut, size as u64, bytes)?, size))
+    let front = block(cut, u64::from(size), bytes)?;
+    Ok(LittleEndian::read_uint(front, usize::from(size)))
 }
 
 /// A byte of a header.

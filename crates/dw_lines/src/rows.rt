@@ -4,8 +4,8 @@ ghost use Rattle.std.specs.Prelude.{◌≡◌, ◌≤◌, length, true, false, A
 ghost use Rattle.dw_forms.specs.Formats.{nothing};
 ghost use Rattle.dw_forms.specs.ValueReading.{Gives};
 ghost use Rattle.dw_lines.specs.Machine.{row_turn};
-ghost use Rattle.dw_lines.specs.Opcodes.{Other, Special, count_in, extended_opcode, opcode_after, opcode_of, operands};
-ghost use Rattle.dw_lines.specs.Opcodes.{standard_opcode};
+ghost use Rattle.dw_lines.specs.Opcodes.{Other, Special, count_in, counted_bytes, extended_opcode, opcode_after};
+ghost use Rattle.dw_lines.specs.Opcodes.{operands, standard_opcode};
 ghost use Rattle.dw_lines.specs.Rows.{Yields, program_run};
 ghost use Rattle.dw_lines.specs.Sequences.{HasFile, Ascend, AllEnd};
 ghost use Rattle.dw_lines.specs.Turns.{Runs, Turns, turn_to};
@@ -16,19 +16,9 @@ use crate::program::{LineHeader, Program};
 use crate::row::Row;
 use crate::rule::{LineFault, LineRule};
 
-/// An extended opcode with its operand (DWARF 5, 6.2.5.3).
-#[derive(Clone, Copy, Debug)]
-pub(crate) enum Extended {
-    EndSequence,
-    SetAddress(u64),
-    SetDiscriminator(u64),
-    /// One that this version of the standard does not define. It does nothing.
-    Other,
-}
-
 /// Skips the operands of an opcode that the standard does not define. Their number is in the header's
 /// `standard_opcode_lengths`.
-#[cold]
+#[inline(always)]
 fn skip_others<'a>(lengths: &[u8], code: u8, bytes: &'a [u8]) -> Result<&'a [u8], LineRule>
     requires { 1 ≤ code }
     ensures { Gives (λ x. (Other, x.now)) result ((operands (count_in lengths.now code)).read bytes.now) }
@@ -41,32 +31,15 @@ fn skip_others<'a>(lengths: &[u8], code: u8, bytes: &'a [u8]) -> Result<&'a [u8]
     Ok(rest)
 }
 
-/// An extended opcode after its zero byte.
+/// The bytes of an extended opcode after its zero byte and its length, and the bytes after it.
 #[inline(never)]
-fn read_extended(address_size: u8, bytes: &mut &[u8]) -> Result<Extended, LineRule>
-    requires some { 1 ≤ address_size }
-    requires few { address_size ≤ 8 }
-    ensures { Gives (λ x. (opcode_of x, bytes.new.now)) result ((extended_opcode address_size).read bytes.old.now) }
+fn counted(bytes: &[u8]) -> Result<(&[u8], &[u8]), LineRule>
+    ensures { Gives (λ x. (x.0.now, x.1.now)) result (counted_bytes.read bytes.now) }
 {
-    let len = unsigned(LineRule::OpcodeCut, bytes)?;
-    let [code, content @ ..] = block(LineRule::OpcodeCut, len, bytes)? else {
-        return Err(LineRule::ExtendedLength);
-    };
-    let mut left = content;
-    let opcode = match *code {
-        1 => Extended::EndSequence,
-        2 => Extended::SetAddress(fixed(
-            LineRule::ExtendedLength,
-            usize::from(address_size),
-            &mut left,
-        )?),
-        4 => Extended::SetDiscriminator(unsigned(LineRule::ExtendedLength, &mut left)?),
-        _ => return Ok(Extended::Other),
-    };
-    if left.is_empty() {
-        return Ok(opcode);
-    }
-    Err(LineRule::ExtendedLength)
+    let mut rest = bytes;
+    let len = unsigned(LineRule::OpcodeCut, &mut rest)?;
+    let content = block(LineRule::OpcodeCut, len, &mut rest)?;
+    Ok((content, rest))
 }
 
 /// What a machine goes on with.
@@ -131,27 +104,37 @@ impl<'a> Machine<'_, 'a> {
         self.append(row, rest)
     }
 
-    /// Runs an extended opcode after its zero byte.
+    /// Runs an extended opcode after its zero byte (DWARF 5, 6.2.5.3). One that the standard does not define does nothing.
     #[inline(always)]
     fn run_extended(&mut self, bytes: &'a [u8]) -> Result<bool, LineRule>
         ensures { Runs (extended_opcode self.old.header.now.parameters.address_size) bytes.now result self.old self.new }
     {
-        let mut rest = bytes;
-        match read_extended(self.header.parameters.address_size, &mut rest)? {
-            Extended::EndSequence => {
-                let mut row = self.registers;
-                row.end_sequence = true;
-                return self.append(row, rest);
+        let (content, rest) = counted(bytes)?;
+        let [code, operands @ ..] = content else {
+            return Err(LineRule::ExtendedLength);
+        };
+        let mut left = operands;
+        let mut row = self.registers;
+        match *code {
+            // DW_LNE_end_sequence
+            1 => row.end_sequence = true,
+            // DW_LNE_set_address
+            2 => {
+                let size = self.header.parameters.address_size;
+                row.address = fixed(LineRule::ExtendedLength, size, &mut left)?;
+                row.op_index = 0;
             }
-            Extended::SetAddress(address) => {
-                self.registers.address = address;
-                self.registers.op_index = 0;
-            }
-            Extended::SetDiscriminator(discriminator) => {
-                self.registers.discriminator = discriminator;
-            }
-            Extended::Other => {}
+            // DW_LNE_set_discriminator
+            4 => row.discriminator = unsigned(LineRule::ExtendedLength, &mut left)?,
+            _ => left = &[],
         }
+        if !left.is_empty() {
+            return Err(LineRule::ExtendedLength);
+        }
+        if *code == 1 {
+            return self.append(row, rest);
+        }
+        self.registers = row;
         self.rest = rest;
         Ok(false)
     }

@@ -6,7 +6,7 @@ ghost use Rattle.dw_forms.specs.Stops.{GivesOrMemory};
 ghost use Rattle.dw_forms.specs.Value.{view};
 ghost use Rattle.dw_forms.specs.ValueReading.{Gives};
 ghost use Rattle.dw_lines.specs.Files as spec;
-ghost use Rattle.dw_lines.specs.Files.{are_contents, content_format, path_view, file_view};
+ghost use Rattle.dw_lines.specs.Files.{are_contents, content_format, path_view, file_view, tables_of};
 ghost use Rattle.dw_lines.specs.Header.{length_end};
 ghost use Rattle.dw_lines.specs.Repeats.{times};
 
@@ -59,15 +59,11 @@ fn file_or_end<'a>(count: usize, bytes: &mut &'a [u8]) -> Result<Option<FileEntr
     let Some(path) = path_or_end(bytes)? else {
         return Ok(None);
     };
-    let directory = in_directory(count, unsigned(LineRule::LineCut, bytes)?)?;
+    let mut file = FileEntry { path, ..NO_FILE };
+    file.directory = in_directory(count, unsigned(LineRule::LineCut, bytes)?)?;
     let _time = unsigned(LineRule::LineCut, bytes)?;
     let _size = unsigned(LineRule::LineCut, bytes)?;
-    let md5 = None;
-    Ok(Some(FileEntry {
-        path,
-        directory,
-        md5,
-    }))
+    Ok(Some(file))
 }
 
 /// The directories of versions 2 to 4.
@@ -122,18 +118,16 @@ fn may_have(kind: u64, form: Form) -> bool
     ensures { result ≡ spec.may_have kind form }
 {
     // Of a content that the standard does not name, the form alone says how long it is.
-    let is_named = kind >= DW_LNCT_path && kind <= DW_LNCT_MD5;
+    let other = kind < DW_LNCT_path || kind > DW_LNCT_MD5;
+    let time = kind == DW_LNCT_timestamp || other;
+    let size = kind == DW_LNCT_size || other;
     match form {
-        Form::Text | Form::Strp | Form::LineStrp => kind == DW_LNCT_path || !is_named,
-        Form::Data1 | Form::Data2 => {
-            kind == DW_LNCT_directory_index || kind == DW_LNCT_size || !is_named
-        }
-        Form::Data4 | Form::Data8 => {
-            kind == DW_LNCT_timestamp || kind == DW_LNCT_size || !is_named
-        }
+        Form::Text | Form::Strp | Form::LineStrp => kind == DW_LNCT_path || other,
+        Form::Data1 | Form::Data2 => kind == DW_LNCT_directory_index || size,
+        Form::Data4 | Form::Data8 => time || size,
         Form::Udata => kind != DW_LNCT_path && kind != DW_LNCT_MD5,
-        Form::Block => kind == DW_LNCT_timestamp || !is_named,
-        Form::Data16 => kind == DW_LNCT_MD5 || !is_named,
+        Form::Block => time,
+        Form::Data16 => kind == DW_LNCT_MD5 || other,
         _ => false,
     }
 }
@@ -287,14 +281,8 @@ impl<'a> LineSections<'a> {
         bytes: &mut &'a [u8],
     ) -> Reading<Tables<'a>>
         requires { length bytes.old.now < length_end }
-        ensures { GivesOrMemory (λ x. (
-          record {
-            directories = map path_view x.0.items;
-            files = map file_view x.1.entries.items;
-            first_file = x.1.first;
-          },
-          bytes.new.now,
-        )) result ((spec.tables self.now version).read bytes.old.now) }
+        ensures { GivesOrMemory (λ x. (tables_of x.0.items x.1, bytes.new.now)) result
+            ((spec.tables self.now version).read bytes.old.now) }
     {
         if version < 5 {
             let directories = directories4(alloc, bytes)?;
