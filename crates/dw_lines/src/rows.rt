@@ -16,6 +16,18 @@ use crate::program::{LineHeader, Program};
 use crate::row::Row;
 use crate::rule::{LineFault, LineRule};
 
+/// Skips this many operands. Returns the bytes after them.
+#[cold]
+fn skip_operands(count: u8, bytes: &[u8]) -> Result<&[u8], LineRule>
+    ensures { Gives (λ x. (Other, x.now)) result ((operands count).read bytes.now) }
+{
+    let mut rest = bytes;
+    for _ in 0..count {
+        unsigned(LineRule::OpcodeCut, &mut rest)?;
+    }
+    Ok(rest)
+}
+
 /// Skips the operands of an opcode that the standard does not define. Their number is in the header's
 /// `standard_opcode_lengths`.
 #[inline(always)]
@@ -23,12 +35,8 @@ fn skip_others<'a>(lengths: &[u8], code: u8, bytes: &'a [u8]) -> Result<&'a [u8]
     requires { 1 ≤ code }
     ensures { Gives (λ x. (Other, x.now)) result ((operands (count_in lengths.now code)).read bytes.now) }
 {
-    let mut rest = bytes;
     let count = lengths.get(usize::from(code) - 1).copied().unwrap_or(0);
-    for _ in 0..count {
-        unsigned(LineRule::OpcodeCut, &mut rest)?;
-    }
-    Ok(rest)
+    skip_operands(count, bytes)
 }
 
 /// The bytes of an extended opcode after its zero byte and its length, and the bytes after it.

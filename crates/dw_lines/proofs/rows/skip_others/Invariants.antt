@@ -1,7 +1,0 @@
-use Rattle.std.proofs.Common.{◌≡◌, ◌-◌}
-use Rattle.dw_lines.specs.Opcodes.{count_in, operands}
-use Rattle.dw_lines.proofs.rows.skip_others.Given as goal
-
-abbrev pub invariant-loop : goal.invariant-loop
-invariant-loop l =
-    (operands (count_in l.lengths l.code)).read l.bytes ≡ (operands (l.count - l.counter)).read l.rest
