@@ -1,6 +1,6 @@
 -- Chapter: the opcodes of a line program (DWARF 5, 6.2.5 and 7.22): which bytes spell which opcode.
 use Rattle.std.specs.Prelude.{ℕ, zero, suc, List, [], ◌∷◌, length, ◌==◌, nat_le, slice_get, unwrap_or, ◌-◌, ℤ}
-use Rattle.dw_forms.specs.BaseFormats.{byte, so_many, fixed_number, uleb, sleb}
+use Rattle.dw_forms.specs.BaseFormats.{byte, so_many, fixed_number, sleb}
 use Rattle.dw_forms.specs.Formats.{Format, and_then, nothing, failing, mapped, inside, choose, tested, renamed}
 use Rattle.dw_lines.specs.declared.program.LineHeader.{LineHeader}
 use Rattle.dw_lines.specs.declared.rule.LineRule.{LineRule}

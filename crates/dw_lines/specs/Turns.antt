@@ -1,5 +1,5 @@
 -- State: the registers and the machine after an opcode.
-use Rattle.std.specs.Prelude.{◌≡◌, Bool, true, false, List, ℕ, Option, Some, None, Result, Ok, Err}
+use Rattle.std.specs.Prelude.{◌≡◌, Bool, true, false, List, ℕ, Some, None, Result, Ok, Err}
 use Rattle.dw_forms.specs.Formats.{Format}
 use Rattle.dw_lines.specs.Machine.{Turn, cleared, last_after, then_turn}
 use Rattle.dw_lines.specs.Opcodes.{Opcode}

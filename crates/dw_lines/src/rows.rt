@@ -154,42 +154,40 @@ impl<'a> Machine<'_, 'a> {
         ensures { Runs (standard_opcode (count_in self.old.header.now.standard_opcode_lengths.now code) code) bytes.now result self.old self.new }
     {
         let parameters = &self.header.parameters;
+        let row = &mut self.registers;
         let mut rest = bytes;
         match code {
             // DW_LNS_advance_pc
-            2 => self
-                .registers
-                .advance(parameters, unsigned(LineRule::OpcodeCut, &mut rest)?)?,
+            2 => row.advance(parameters, unsigned(LineRule::OpcodeCut, &mut rest)?)?,
             // DW_LNS_advance_line
-            3 => self.registers.add_lines(signed(&mut rest)?)?,
+            3 => row.add_lines(signed(&mut rest)?)?,
             // DW_LNS_set_file
-            4 => self.registers.file = unsigned(LineRule::OpcodeCut, &mut rest)?,
+            4 => row.file = unsigned(LineRule::OpcodeCut, &mut rest)?,
             // DW_LNS_set_column
             5 => {
                 let column = unsigned(LineRule::OpcodeCut, &mut rest)?;
-                self.registers.column = u32::try_from(column).map_err(|_| LineRule::RowLine)?;
+                row.column = u32::try_from(column).map_err(|_| LineRule::RowLine)?;
             }
             // DW_LNS_negate_stmt
-            6 => self.registers.is_stmt = !self.registers.is_stmt,
+            6 => row.is_stmt = !row.is_stmt,
             // DW_LNS_set_basic_block
-            7 => self.registers.basic_block = true,
+            7 => row.basic_block = true,
             // DW_LNS_const_add_pc
             8 => {
                 let adjusted = 255 - parameters.opcode_base;
-                self.registers
-                    .advance(parameters, u64::from(adjusted / parameters.line_range))?;
+                row.advance(parameters, u64::from(adjusted / parameters.line_range))?;
             }
             // DW_LNS_fixed_advance_pc
             9 => {
                 let advance = fixed(LineRule::OpcodeCut, 2, &mut rest)?;
-                self.registers.add_bytes(u128::from(advance), 0)?;
+                row.add_bytes(u128::from(advance), 0)?;
             }
             // DW_LNS_set_prologue_end
-            10 => self.registers.prologue_end = true,
+            10 => row.prologue_end = true,
             // DW_LNS_set_epilogue_begin
-            11 => self.registers.epilogue_begin = true,
+            11 => row.epilogue_begin = true,
             // DW_LNS_set_isa
-            12 => self.registers.isa = unsigned(LineRule::OpcodeCut, &mut rest)?,
+            12 => row.isa = unsigned(LineRule::OpcodeCut, &mut rest)?,
             // One that the standard does not define does nothing.
             _ => rest = skip_others(self.header.standard_opcode_lengths, code, rest)?,
         }

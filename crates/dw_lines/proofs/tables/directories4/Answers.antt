@@ -2,7 +2,7 @@ use Rattle.std.proofs.Common.{arith, refl}
 use Rattle.std.proofs.lemmas.List.{map-append}
 use Rattle.std.proofs.lemmas.Result.{err_from_is_err_and}
 use Rattle.dw_forms.specs.declared.fault.Stop.TheVariants as stops
-use Rattle.dw_lines.specs.Files.{path_view, directories4}
+use Rattle.dw_lines.specs.Files.{path_view}
 use Rattle.dw_lines.specs.Header.{length_end}
 use Rattle.dw_lines.proofs.RepeatLaws.{goes_to_end, goes_further, goes_wrong}
 use Rattle.dw_lines.proofs.tables.directories4.Goals as goal

@@ -2,7 +2,6 @@ use Rattle.std.proofs.Common.{arith, refl}
 use Rattle.std.proofs.lemmas.List.{map-append}
 use Rattle.std.proofs.lemmas.Result.{err_from_is_err_and}
 use Rattle.dw_forms.specs.declared.fault.Stop.TheVariants as stops
-use Rattle.dw_lines.specs.Files.{file_entry, files5}
 use Rattle.dw_lines.proofs.RepeatLaws.{times_begin, times_all, times_more, times_fault}
 use Rattle.dw_lines.proofs.program.LineSections.files5.Goals as goal
 

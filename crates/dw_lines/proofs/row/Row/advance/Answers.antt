@@ -1,5 +1,4 @@
 use Rattle.std.proofs.Common.{rules, ◌≡◌, ℕ, ◌/◌, ◌%◌, arith}
-use Rattle.dw_lines.specs.Machine.{advanced}
 use Rattle.dw_lines.proofs.row.Row.advance.Goals as goal
 
 by_one : (n most : ℕ) → most ≡ 1 → n / most ≡ n
