@@ -85,5 +85,6 @@ module _ (h : LineHeader) (end : ℕ) where
 
 pub program_good : (p : Program) → GoodRun p.header.files None (program_run p)
 program_good p =
-    run_good p.header (p.opcodes_at + length p.opcodes.now) (length p.opcodes.now) (start p.header.parameters.default_is_stmt) None
+    run_good p.header (p.opcodes_at + length p.opcodes.now) (length p.opcodes.now)
+    (start p.header.parameters.default_is_stmt) None
     p.opcodes.now (omega arith)

@@ -5,20 +5,24 @@ use Rattle.dw_lines.proofs.rows.Rows.next.Goals as goal
 
 pub invariant_of-self : goal.invariant_of-self
 invariant_of-self c =
-    let short = rest_within c.loop-code.self.machine.header.now 0 c.loop-code.self.machine.registers c.loop-code.self.machine.last c.loop-code.self.machine.rest.now c.in-Some.code.now c.in-Some.bytes.now (search rules) _ _ _ refl
-    c.run_next.ensures in
+    let m = c.loop-code.self.machine in
+    let short = rest_within m.header.now 0 m.registers m.last m.rest.now c.in-Some.code.now c.in-Some.bytes.now
+    (search rules) _ _ _ refl c.run_next.ensures in
     record { within = omega (arith, short, ap (λ (t : Turn). length t.rest) c.take_row.ensures.row) }
 
 pub invariant_of-self-else-run_next : goal.invariant_of-self-else-run_next
 invariant_of-self-else-run_next c =
-    let short = rest_within c.loop-code.self.machine.header.now 0 c.loop-code.self.machine.registers c.loop-code.self.machine.last c.loop-code.self.machine.rest.now c.in-Some.code.now c.in-Some.bytes.now (search rules) _ _ _ refl
-    c.run_next.ensures in
+    let m = c.loop-code.self.machine in
+    let short = rest_within m.header.now 0 m.registers m.last m.rest.now c.in-Some.code.now c.in-Some.bytes.now
+    (search rules) _ _ _ refl c.run_next.ensures in
     record { within = omega (arith, short) }
 
 pub loop-code-smaller : goal.loop-code-smaller
 loop-code-smaller c =
     let turn = rw c.in-Ok-false.field-0-test at c.in-Ok-false.ensures in
-    let short = rest_shorter c.loop-code.self.machine.header.now 0 c.loop-code.self.machine.registers c.loop-code.self.machine.last c.loop-code.self.machine.rest.now c.in-Some.code.now c.in-Some.bytes.now (search rules) _ turn.0 in
+    let m = c.loop-code.self.machine in
+    let short = rest_shorter m.header.now 0 m.registers m.last m.rest.now c.in-Some.code.now c.in-Some.bytes.now
+    (search rules) _ turn.0 in
     omega (arith, short)
 
 pub loop-code-preserved : goal.loop-code-preserved
