@@ -17,7 +17,8 @@ use crate::rule::{LineFault, LineRule, Reading};
 use dw_forms::Stop;
 use std::alloc::Global;
 
-/// The version. The address size, which only headers of version 5 have, is that of the unit.
+/// The version. After it, only headers of version 5 have address_size, which is that of the unit, and
+/// segment_selector_size, which is 0.
 fn version(size: u8, bytes: &mut &[u8]) -> Result<u16, LineRule>
     ensures { Gives (λ x. (x, bytes.new.now)) result ((spec.version size).read bytes.old.now) }
 {

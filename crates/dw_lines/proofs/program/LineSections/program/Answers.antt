@@ -33,6 +33,6 @@ returns-clause-place c =
 pub returns-clause-end : goal.returns-clause-end
 returns-clause-end c =
     let len = rw take_rest at c.in_ok-len.ensures in
-    rw (content_end _ _ _ _ _ c.args.offset len c.if-len-ge4294967280.false
+    rw (content_end _ _ _ _ _ c.args.offset len (omega arith)
     c.in_ok-content.ensures.exact)
     (omega (arith, leaves (header c.args.self.now c.args.size) _ _ _ c.in_ok-header.ensures))
