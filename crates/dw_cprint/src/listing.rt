@@ -5,8 +5,8 @@ ghost use Rattle.std.specs.Prelude.{All, AllPairs, IfOk, OnOk, OnErr, Err, Some}
 ghost use Rattle.std.specs.List.{filter_map, range_with_len};
 ghost use Rattle.dw_image.specs.Images.{entries_in};
 ghost use Rattle.dw_cprint.specs.EntryShapes.{body_in, shape_in, subject_in};
-ghost use Rattle.dw_cprint.specs.Judgements.{AreKinds, AreNames, AreRefusals, IsKindOf, IsNameOf, IsPrintedNumber, is_printed};
-ghost use Rattle.dw_cprint.specs.Judgements.{refused_number};
+ghost use Rattle.dw_cprint.specs.Judgements.{AreKinds, AreNames, AreRefusals, IsKindOf, IsNameOf, IsPrintedNumber};
+ghost use Rattle.dw_cprint.specs.Judgements.{is_printed, refused_number};
 ghost use Rattle.dw_cprint.specs.Kept.{WritesBody, WritesDeclaration};
 ghost use Rattle.dw_cprint.specs.Listings.{AreNamedTypes, IsListing, declared_line, listing_text};
 ghost use Rattle.dw_cprint.specs.Listings.{named_steps, refused_line, refused_line_in};

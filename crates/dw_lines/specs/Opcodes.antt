@@ -87,7 +87,8 @@ count_in lengths code = unwrap_or (slice_get lengths (code - 1)) 0
 abbrev pub opcode_after : LineHeader → ℕ → Format Opcode LineRule
 opcode_after h code =
     choose (nat_le h.parameters.opcode_base code) (nothing (Special (code - h.parameters.opcode_base))) (
-    choose (code == 0) (extended_opcode h.parameters.address_size) (standard_opcode (count_in h.standard_opcode_lengths.now code) code))
+    choose (code == 0) (extended_opcode h.parameters.address_size)
+    (standard_opcode (count_in h.standard_opcode_lengths.now code) code))
 
 -- an opcode of a program with this header (6.2.5)
 abbrev pub opcode : LineHeader → Format Opcode LineRule

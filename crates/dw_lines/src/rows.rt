@@ -112,10 +112,12 @@ impl<'a> Machine<'_, 'a> {
         self.append(row, rest)
     }
 
-    /// Runs an extended opcode after its zero byte (DWARF 5, 6.2.5.3). One that the standard does not define does nothing.
+    /// Runs an extended opcode after its zero byte (DWARF 5, 6.2.5.3). One that the standard does not define does
+    /// nothing.
     #[inline(always)]
     fn run_extended(&mut self, bytes: &'a [u8]) -> Result<bool, LineRule>
-        ensures { Runs (extended_opcode self.old.header.now.parameters.address_size) bytes.now result self.old self.new }
+        ensures { Runs (extended_opcode self.old.header.now.parameters.address_size) bytes.now result
+            self.old self.new }
     {
         let (content, rest) = counted(bytes)?;
         let [code, operands @ ..] = content else {
@@ -151,7 +153,8 @@ impl<'a> Machine<'_, 'a> {
     #[inline(always)]
     fn run_standard(&mut self, code: u8, bytes: &'a [u8]) -> Result<bool, LineRule>
         requires { 2 ≤ code }
-        ensures { Runs (standard_opcode (count_in self.old.header.now.standard_opcode_lengths.now code) code) bytes.now result self.old self.new }
+        ensures { Runs (standard_opcode (count_in self.old.header.now.standard_opcode_lengths.now code) code)
+            bytes.now result self.old self.new }
     {
         let parameters = &self.header.parameters;
         let row = &mut self.registers;
