@@ -15,7 +15,7 @@ ghost use Rattle.dw_cprint.specs.EntryShapes.{bits_of};
 use crate::words::{Name, Text};
 use dw_entries::constants::*;
 use dw_entries::{Attribute, OptionalId, Tag, Value};
-use dw_image::{EntryId, Image, StringSpan, Strings, TextPlace};
+use dw_image::{EntryId, Image, StringSpan, StringValue, Strings, TextPlace};
 use std::alloc::{AllocError, Global};
 
 /// The string at an offset, by what is known of it. Its bytes are not read.
@@ -46,8 +46,8 @@ impl<'a> Source<'a> {
         Ok(Source { image, strings })
     }
 
-    /// The text at a place. One in .debug_info is read to its end.
-    pub fn text(&self, place: TextPlace) -> Text<'a>
+    /// The text at a place.
+    fn text_at(&self, place: TextPlace) -> Text<'a>
         requires { IsTextPlace (sections_in self.now.image.now) place }
         ensures { result.bytes.now ≡ text_there (sections_in self.now.image.now) place }
     {
@@ -60,15 +60,15 @@ impl<'a> Source<'a> {
         }
     }
 
-    /// The name of an entry.
+    /// The name of an entry. One that its value has itself is read.
     #[tactic(auto, unfolding(crate::specs::LookUps::name_at))]
     pub fn name(&self, id: EntryId) -> Name<'a>
         requires { id < length (entries_in self.now.image.now) }
         ensures { view_name result ≡ name_at self.now.image.now id }
     {
-        match self.image.name_place(id) {
-            Some(place) => Some(self.text(place)),
-            None => None,
+        match self.image.name_string(id)? {
+            StringValue::Own(bytes) => Some(Text::new(bytes, StringSpan::of(bytes).words)),
+            StringValue::Shared(place) => Some(self.text_at(place)),
         }
     }
 }

@@ -1,5 +1,5 @@
 -- Values that are passed together, and the value after them.
-use Rattle.std.proofs.Common.{rules, ◌≡◌, ◌≢◌, ℕ, zero, suc, ◌+◌, ◌-◌, Bool, true, false, List, [], ◌∷◌, ◌++◌, length, take, drop, map, Option, Some, None, Result, Ok, Err, refl, sym, ap, ◌∙◌, append_assoc, length-append, length-drop, arith, ◌&&◌, slice_index_or, option_map, flat_map, slice_range}
+use Rattle.std.proofs.Common.{rules, ◌≡◌, ◌≢◌, ℕ, zero, suc, ◌+◌, ◌-◌, Bool, true, false, List, [], ◌∷◌, ◌++◌, length, take, drop, map, Option, Some, None, Result, Ok, Err, refl, sym, ap, ◌∙◌, append_assoc, arith, ◌&&◌, slice_index_or, option_map, flat_map, slice_range}
 use Rattle.std.proofs.lemmas.Bool.{ne_eqb, eq-eqb}
 use Rattle.dw_forms.specs.declared.form.Form.TheVariants.{Flag}
 use Rattle.dw_forms.specs.declared.value.Value.{Value}
@@ -10,8 +10,6 @@ use Rattle.dw_forms.specs.FirstPlaces.{StandsFirst, value_behind, ReadsFirst, An
 use Rattle.dw_entries.specs.ItemFormats.{bytes_after, attributes}
 use Rattle.dw_forms.specs.WithBytes.{bind_ok}
 use Rattle.dw_entries.specs.Lookups.{value_in}
-use Rattle.dw_entries.specs.OwnBytes.{IsRest}
-use Rattle.dw_entries.specs.ValuePlaces.{placed_values_from}
 use Rattle.dw_entries.proofs.ReadingSteps.{attributes_turn, attribute_ends, value_again, ValueFault}
 use Rattle.dw_entries.proofs.ValueSteps.{value_of_none, value_of, Left, left_unique, Datum, AttributeSpec, Context, Attribute, IsAttribute, AreAttributes, attribute_bytes, is_allowed}
 use Rattle.dw_entries.proofs.LeftLaws.{declares_none}
@@ -49,16 +47,11 @@ pub record Passed (x : Context) (front back : List AttributeSpec) (bs : List Att
     pub are : AreAttributes x back others
     pub spelled : behind ≡ flat_map attribute_bytes others ++ rest
     pub values : map value_of others ≡ drop (length front) (map value_of bs)
-    pub placed : (at : ℕ) → placed_values_from (at + length before) others
-        ≡ drop (length front) (placed_values_from at bs)
 
 pub one_end : (x : Context) (s : AttributeSpec) (b : Attribute) (rest : List ℕ) → IsAttribute x s b
     → rest_at x.version s.form x.address_size (b.bytes ++ rest) ≡ Ok rest
 unfolding rest_at
 one_end x s b rest p = rw (value_again x s b rest p) refl
-
-longer : (at : ℕ) (a b : List ℕ) → at + length (a ++ b) ≡ (at + length a) + length b
-longer at a b = search (rules, length-append)
 
 pub passed : (x : Context) (front back : List AttributeSpec) (bs : List Attribute) (rest bytes : List ℕ)
     → AreAttributes x (front ++ back) bs → bytes ≡ flat_map attribute_bytes bs ++ rest
@@ -74,7 +67,6 @@ passed x [] back bs rest bytes are spelled =
       are = are;
       spelled = spelled;
       values = refl;
-      placed = λ at. ap (λ (n : ℕ). placed_values_from n bs) (omega arith);
     }
 passed x (s ∷ front) back [] rest bytes are spelled = absurd are
 passed x (s ∷ front) back (b ∷ bs) rest bytes are spelled =
@@ -91,14 +83,7 @@ passed x (s ∷ front) back (b ∷ bs) rest bytes are spelled =
       are = p.are;
       spelled = p.spelled;
       values = p.values;
-      placed =
-          λ at. search (rules, longer, p.placed);
     }
-
--- where bytes start that follow others at the end of a section
-start_of : (section bytes before rest : List ℕ) → IsRest section bytes → bytes ≡ before ++ rest
-    → length section - length rest ≡ (length section - length bytes) + length before
-start_of section bytes before rest is parts = search (rules, length-drop, length-append)
 
 module _ (x : Context) (specs front back : List AttributeSpec) (parts : specs ≡ front ++ back) (bytes : List ℕ)
     (l : Left x specs bytes) where
@@ -129,27 +114,6 @@ module _ (x : Context) (specs front back : List AttributeSpec) (parts : specs �
       → map value_of n.0.0 ≡ drop k (map value_of l.0.0)
   left_rest k k_is rest e n =
       let m = left_on rest e in let one = left_unique x back rest n m.0 in search rules
-
-  -- with their places
-  placed_on : (rest : List ℕ) → values_end x.version x.address_size front bytes ≡ Ok rest
-      → (m : Left x back rest) × ((at : ℕ) → placed_values_from (at + length those.before) m.0.0
-      ≡ drop (length front) (placed_values_from at l.0.0))
-  placed_on rest e = (
-    ((those.others, l.0.1), record { are = those.are; spelled = sym (behind_is rest e) ∙ those.spelled }),
-    those.placed,
-  )
-
-  -- in a section that ends with these bytes
-  pub placed_rest : (k : ℕ) → k ≡ length front → (rest : List ℕ)
-      → values_end x.version x.address_size front bytes ≡ Ok rest → (section : List ℕ) → IsRest section bytes
-      → (n : Left x back rest) → placed_values_from (length section - length rest) n.0.0
-      ≡ drop k (placed_values_from (length section - length bytes) l.0.0)
-  placed_rest k k_is rest e section is n =
-      let m = placed_on rest e in
-      let one = left_unique x back rest n m.0 in
-      let start = start_of section bytes those.before rest is (passed_parts rest e) in
-      let those_placed = m.1 (length section - length bytes) in
-      search rules
 
 -- ---- the value of the first attribute with a code
 

@@ -1,6 +1,6 @@
 -- Chapter: where the values of an entry are in .debug_info: their bytes follow its code, in the order of its
 -- attributes (DWARF 5, 2.2 and 7.5.2).
-use Rattle.std.specs.Prelude.{◌≡◌, ℕ, ◌+◌, ◌==◌, List, [], ◌∷◌, ◌++◌, length, Option, find, option_map, flat_map}
+use Rattle.std.specs.Prelude.{◌≡◌, ℕ, ◌+◌, ◌==◌, List, [], ◌∷◌, ◌++◌, length, Option, find, flat_map}
 use Rattle.dw_entries.specs.Grammar.{Datum, Attribute, attribute_bytes}
 use Rattle.dw_entries.specs.Entries.{Entry}
 
@@ -31,10 +31,6 @@ placed_value_in values attribute = find (λ (p : PlacedValue). p.attribute == at
 -- an attribute of an entry, if the entry has it
 abbrev pub placed_value_at : Entry → ℕ → Option PlacedValue
 placed_value_at e attribute = placed_value_in (placed_values e) attribute
-
--- where the bytes of an attribute of an entry end, if the entry has it
-abbrev pub end_of : Entry → ℕ → Option ℕ
-end_of e attribute = option_map (λ (p : PlacedValue). p.end) (placed_value_at e attribute)
 
 -- a section ends with these bytes, which follow the code of an entry and begin with those of its values
 pub record FollowCode (section : List ℕ) (e : Entry) (bytes : List ℕ) : Type 0 where

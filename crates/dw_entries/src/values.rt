@@ -22,7 +22,6 @@ use crate::header::UnitHeader;
 use crate::id::EntryId;
 use crate::item::read_code;
 use crate::records::Record;
-use crate::units::unit_number;
 use dw_forms::{
     Attribute, Attributes, Form, Step, Value, ValueFault, read_offset, read_value, skip_value,
 };
@@ -73,7 +72,7 @@ pub struct Values<'e, 'a> {
 impl<'e, 'a> Values<'e, 'a> {
     ghost use Rattle.dw_forms.specs.Value.{view};
     ghost use Rattle.dw_forms.specs.Classes.{is_open};
-    ghost use Rattle.dw_entries.specs.ValuePlaces.{placed_value, placed_value_in};
+    ghost use Rattle.dw_entries.specs.ValuePlaces.{placed_value};
     ghost use Rattle.dw_entries.specs.ValuesLeft.{Takes, info_of, placed_left, specs_left, values_left, viewed};
     ghost use Rattle.dw_entries.specs.Leading.{BeginsWithForm, BeginsWithLead, DoesNotLead, PassesOver, ReadsFirst};
     ghost use Rattle.dw_entries.specs.Leading.{StepsTo, form_of_lead};
@@ -86,9 +85,6 @@ impl<'e, 'a> Values<'e, 'a> {
         requires { (before : List (Numbered SpecData)) × Ends self.old.attributes to before }
         ensures left { (before : List (Numbered SpecData)) → Ends self.old.attributes to.entry before
             → values_left self.new ≡ drop (length before) (values_left self.old) }
-        ensures placed { (before : List (Numbered SpecData)) → Ends self.old.attributes to.entry before
-            → placed_left self.new ≡ drop (length before) (placed_left self.old) }
-        ensures info { info_of self.new ≡ info_of self.old }
         ensures attributes { self.new.attributes ≡ to.entry }
     {
         match self
@@ -101,16 +97,6 @@ impl<'e, 'a> Values<'e, 'a> {
             }
             Err(_) => unreachable!(),
         }
-    }
-
-    /// Passes the attributes before the one with this code, or all.
-    fn pass_to(&mut self, attribute: Attribute)
-        ensures same { placed_value_in (placed_left self.new) attribute
-            ≡ placed_value_in (placed_left self.old) attribute }
-        ensures info { info_of self.new ≡ info_of self.old }
-    {
-        let to = self.attributes.find(attribute);
-        self.pass(to);
     }
 
     /// Passes the attributes before the one that a step goes to.
@@ -307,12 +293,9 @@ impl<'e, 'a> Iterator for Values<'e, 'a> {
 
 impl<'a> Entries<'a> {
     ghost use Rattle.std.specs.Prelude.{Some, slice_get};
-    ghost use Rattle.dw_forms.specs.Value.{Datum};
     ghost use Rattle.dw_entries.specs.ByNumber.{entry_of, unit_of};
     ghost use Rattle.dw_entries.specs.EntryRules.{values_of};
-    ghost use Rattle.dw_entries.specs.Lookups.{value_at_entry};
-    ghost use Rattle.dw_entries.specs.OwnBytes.{EndsAt};
-    ghost use Rattle.dw_entries.specs.ValuePlaces.{FollowCode, end_of, placed_values};
+    ghost use Rattle.dw_entries.specs.ValuePlaces.{FollowCode, placed_values};
     ghost use Rattle.dw_entries.specs.ValuesLeft.{info_of, placed_left, values_left};
     ghost use Rattle.dw_entries.specs.Views.{all_entries, sections_of, units_of};
 
@@ -366,24 +349,5 @@ impl<'a> Entries<'a> {
         let kept = self.record(id);
         let attributes = self.decls.decl(kept.decl).attributes();
         self.values_with(id, kept, self.units[unit].header, attributes)
-    }
-
-    /// The offset in .debug_info of the byte after those that spell the value of an entry's attribute, if the entry
-    /// has it.
-    pub fn end_of(&self, id: EntryId, attribute: Attribute) -> Option<usize>
-        requires { id < length (all_entries self.now) }
-        ensures end { result ≡ end_of (entry_of (all_entries self.now) id) attribute }
-        ensures place { IfSome result (λ end. (value : Datum)
-            → value_at_entry (entry_of (all_entries self.now) id) attribute ≡ Some value
-            → EndsAt (sections_of self.now).info.now value end) }
-    {
-        let mut left = self.placed(id, unit_number(self, id));
-        left.pass_to(attribute);
-        while let Some((code, _, end)) = left.next_placed() {
-            if code == attribute {
-                return Some(end);
-            }
-        }
-        None
     }
 }

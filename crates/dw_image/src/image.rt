@@ -14,15 +14,15 @@ ghost use Rattle.dw_image.specs.StepsAndSizes.{AreMeasures, AreSteps};
 ghost use Rattle.dw_forms.specs.Value.{view};
 ghost use Rattle.dw_entries.specs.Lookups.{nth_of, full_head, value_at_entry};
 ghost use Rattle.dw_entries.specs.Entries.{placed};
-ghost use Rattle.dw_links.specs.Slots.{IsTextPlace, BeginsString};
+ghost use Rattle.dw_links.specs.Slots.{BeginsShared, IsPlacedAt, IsWithin};
 ghost use Rattle.dw_links.specs.Targets.{target_of};
-ghost use Rattle.dw_links.specs.ValueTexts.{text_there};
+ghost use Rattle.dw_links.specs.ValueTexts.{text_of_string};
 ghost use Rattle.dw_types.specs.Children.{children_of};
 
 use dw_elf::Sections;
 use dw_entries::constants::DW_AT_name;
 use dw_entries::{Attribute, Entries, EntryId, Head, Tag, Value};
-use dw_links::{LinkTables, TextPlace};
+use dw_links::{LinkTables, StringValue};
 use dw_types::{ByValue, Children, Order, SizeTable};
 
 /// The image of valid sections. Only `verify` and `verify_scanned` make one.
@@ -168,17 +168,17 @@ impl<'a> Image<'a> {
         self.tables.target(&self.entries, id, attribute)
     }
 
-    /// Where the text of an entry's DW_AT_name is. None if the entry has no name.
+    /// The string that an entry's DW_AT_name has. None if the entry has no name.
     #[inline(always)]
-    pub fn name_place(&self, id: EntryId) -> Option<TextPlace>
+    pub fn name_string(&self, id: EntryId) -> Option<StringValue<'a>>
         requires { id < length (entries_in self.now) }
-        ensures text { option_map (text_there (sections_in self.now)) result
+        ensures text { option_map (text_of_string (sections_in self.now)) result
             ≡ name_in self.now (entry_of (entries_in self.now) id) }
-        ensures place { result ≡ name_place_in self.now (entry_of (entries_in self.now) id) }
-        ensures within { IfSome result (IsTextPlace (sections_in self.now)) }
-        ensures begins { IfSome result (BeginsString (sections_in self.now)) }
+        ensures place { IfSome result (IsPlacedAt (name_place_in self.now (entry_of (entries_in self.now) id))) }
+        ensures within { IfSome result (IsWithin (sections_in self.now)) }
+        ensures begins { IfSome result (BeginsShared (sections_in self.now)) }
     {
-        self.tables.text_place(&self.entries, id, DW_AT_name)
+        self.tables.string(&self.entries, id, DW_AT_name)
     }
 
     /// The text of an entry's DW_AT_name, without its closing zero byte. None if the entry has no name.

@@ -1,6 +1,6 @@
 -- Where a string begins, and where the text of an attribute is. Where no rule on strings and addresses fails, each string
 -- and each address is there.
-use Rattle.std.proofs.Common.{rules, ◌≡◌, ◌≢◌, ℕ, suc, ◌<◌, ◌==◌, Bool, true, false, List, [], ◌∷◌, Some, refl, sym, ap, ◌∙◌, Option, None, IfSome, arith, inl, inr, get_or, drop, ◌+◌, ◌-◌, ◌≤◌, length, length-append, length-drop, ◌⊎◌, eq-eqb, zero, ◌++◌, All, append_assoc, drop_at, slice_get, slice_index, option_map, get_or-drop, option_and_then}
+use Rattle.std.proofs.Common.{rules, ◌≡◌, ◌≢◌, ℕ, suc, ◌<◌, ◌==◌, Bool, true, false, List, [], ◌∷◌, Some, refl, sym, ap, ◌∙◌, Option, None, IfSome, arith, inl, inr, get_or, drop, ◌+◌, ◌-◌, ◌≤◌, length, length-drop, ◌⊎◌, eq-eqb, slice_get, slice_index, option_map, get_or-drop, option_and_then}
 use Rattle.std.proofs.lemmas.Option.{option_and_then_some}
 use Rattle.std.proofs.lemmas.Bool.Decides.{nat_tests}
 use Rattle.dw_forms.specs.Codes.{DW_AT_str_offsets_base, DW_AT_addr_base}
@@ -11,43 +11,20 @@ use Rattle.dw_entries.specs.Entries.{Entry, PlacedUnit, entries_of, placed, Debu
 pub use Rattle.dw_entries.specs.Lookups.{entry_head, value_in, value_at_entry}
 use Rattle.dw_entries.proofs.EntryFacts.{first_entry}
 use Rattle.dw_entries.proofs.Firsts.{same_some, HasNone, Rule, values_of, HasAttribute, at_attribute}
-use Rattle.dw_links.specs.Contributions.{IsContribution, slot_count, slot_at, HasZeroFrom, string_at}
+use Rattle.dw_links.specs.Contributions.{IsContribution, slot_count, slot_at, HasZeroFrom}
 use Rattle.dw_links.specs.Bases.{section_offset_in, base_in}
 use Rattle.dw_links.specs.Strings.{BaseFails, StringFailsIn, StringFailures, IsStringContribution, IsAddressContribution, StringIndexFails, AddressIndexFails, Sections}
 use Rattle.dw_forms.specs.declared.rule.Rule.TheVariants.{BadStrBase, StrIndex, StringEnd, BadAddrBase, AddrIndex}
-use Rattle.dw_links.specs.Slots.{TextLies, IsTextPlace, BeginsString}
+use Rattle.dw_links.specs.Slots.{BeginsShared, IsPlacedAt, IsWithin, TextLies}
 use Rattle.dw_links.specs.LinkLaws.{HasStringAt, HasAddressAt, HasItsText, HasTexts}
-use Rattle.std.specs.List.{position_or_len, before_first}
-use Rattle.std.proofs.lemmas.Bool.{cases_lt, eqb-true, ne_eqb}
+use Rattle.std.specs.List.{position_or_len}
+use Rattle.std.proofs.lemmas.Bool.{cases_lt, eqb-true}
 use Rattle.std.proofs.lemmas.List.Sums.{passes_at_first, fails_before_first}
-use Rattle.std.proofs.Math.Seq.{get_or-append_seam}
-use Rattle.dw_entries.specs.OwnBytes.{EndsAt}
+use Rattle.dw_links.specs.declared.texts.StringValue.TheVariants.{Own, Shared}
 use Rattle.dw_links.specs.declared.texts.TextPlace.TheVariants.{Info, Str, LineStr}
-use Rattle.std.proofs.lemmas.List.Elements.{All-head, All-tail}
-use Rattle.dw_entries.proofs.ValuePlaceLaws.{value_placed, PlacedValue, end_of, placed_value_at}
+use Rattle.dw_entries.proofs.ValuePlaceLaws.{value_placed, PlacedValue, placed_value_at}
 use Rattle.dw_links.specs.AttributeTexts.{text_place_at}
-use Rattle.dw_links.specs.ValueTexts.{text_place_of, TextPlace}
-
-before_zero : (t rest : List ℕ) → All (λ byte. 0 < byte) t → before_first (λ byte. byte == 0) (t ++ 0 ∷ rest) ≡ t
-before_zero [] rest none = refl
-before_zero (zero ∷ t) rest none = absurd (omega (arith, All-head (λ byte. 0 < byte) zero t none))
-before_zero (suc b ∷ t) rest none =
-    let other : (suc b == 0) ≡ false = ne_eqb (suc b) 0 (λ same. omega (arith, same)) in
-    let m : ℕ = position_or_len (λ byte. byte == 0) (t ++ 0 ∷ rest) in
-    let next : 1 + m ≡ suc m = omega arith in
-    rw (other, next) (ap (λ (l : List ℕ). suc b ∷ l) (before_zero t rest (All-tail (λ byte. 0 < byte) (suc b) t none)))
-
--- a text whose bytes end at an offset
-module _ (section : List ℕ) (end : ℕ) (t : List ℕ) (is : EndsAt section (text t) end) where
-  pub text_before : length t + 1 ≤ end
-  text_before = omega (arith, is.end_is, length-append t (0 ∷ []))
-
-  -- it starts there, and its zero byte follows
-  pub text_parts : drop (end - (length t + 1)) section ≡ t ++ 0 ∷ is.rest
-  text_parts = search (rules, drop_at, length-append, append_assoc)
-
-  pub text_is : string_at section (end - (length t + 1)) ≡ t
-  text_is = ap (before_first (λ byte. byte == 0)) text_parts ∙ before_zero t is.rest is.no_zero
+use Rattle.dw_links.specs.ValueTexts.{text_place_of, StringValue}
 
 -- a fact holds, or it does not
 abbrev pub Decided : Type 0 → Type 0
@@ -96,61 +73,31 @@ sure d not_not = elim d [ inl p ↦ p | inr against ↦ absurd (not_not against)
 below_end : (section : List ℕ) (offset : ℕ) → HasZeroFrom section offset → offset ≤ length section
 below_end section offset e = let p = e.behind in let q = e.within in omega (arith, p, q)
 
-pub begins_within : (s : Sections) (place : Option TextPlace) → IfSome place (BeginsString s)
-    → IfSome place (IsTextPlace s)
+pub begins_within : (s : Sections) (string : Option StringValue) → IfSome string (BeginsShared s)
+    → IfSome string (IsWithin s)
 begins_within s None begins = tt
-begins_within s (Some (Info offset)) begins = below_end s.info.now offset begins
-begins_within s (Some (Str offset)) begins = below_end s.str.now offset begins
-begins_within s (Some (LineStr offset)) begins = below_end s.line_str.now offset begins
+begins_within s (Some (Own bytes)) begins = tt
+begins_within s (Some (Shared (Info offset))) begins = below_end s.info.now offset begins
+begins_within s (Some (Shared (Str offset))) begins = below_end s.str.now offset begins
+begins_within s (Some (Shared (LineStr offset))) begins = below_end s.line_str.now offset begins
 
--- a text of a value is a string
-pub text_begins : (section : List ℕ) (end : ℕ) (t : List ℕ) → EndsAt section (text t) end
-    → HasZeroFrom section (end - (length t + 1))
-text_begins section end t is =
-    let n : ℕ = end - (length t + 1) in
-    let parts = text_parts section end t is in
-    record {
-      last = n + length t;
-      behind = omega arith;
-      within = omega (arith, ap length parts, length-append t (0 ∷ is.rest), length-drop n section);
-      is_zero =
-          sym (get_or-drop n section (length t) 0) ∙ ap (λ (xs : List ℕ). get_or xs (length t) 0) parts
-          ∙ get_or-append_seam t 0 is.rest 0;
-    }
-
--- of an attribute that the entry has
+-- the place of a string is that of the attribute, wherever its bytes end
 pub place_told : (s : Sections) (entries : List Entry) (units : List PlacedUnit) (e : Entry) (p : PlacedUnit)
-    (attribute : ℕ) (v : Datum) (base : Option ℕ) (result : Option TextPlace) → slice_get units e.unit ≡ Some p
+    (attribute : ℕ) (v : Datum) (base : Option ℕ) (string : Option StringValue) → slice_get units e.unit ≡ Some p
     → Some v ≡ value_at_entry e attribute → base ≡ base_in entries p DW_AT_str_offsets_base
-    → ((end : ℕ) → end_of e attribute ≡ Some end → result ≡ text_place_of s base v end)
-    → result ≡ text_place_at s entries units e attribute
+    → ((end : ℕ) → IfSome string (IsPlacedAt (text_place_of s base v end)))
+    → IfSome string (IsPlacedAt (text_place_at s entries units e attribute))
 unfolding text_place_at
-place_told s entries units e p attribute v base result is_p value is_base told =
-    rw (is_p, ← is_base) (go (placed_value_at e attribute) (value ∙ value_placed e attribute) told)
+place_told s entries units e p attribute v base string is_p value is_base told =
+    rw (is_p, ← is_base) (go (placed_value_at e attribute) (value ∙ value_placed e attribute))
   where
     go : (found : Option PlacedValue) → Some v ≡ option_map (λ (w : PlacedValue). w.value) found
-        → ((end : ℕ) → option_map (λ (w : PlacedValue). w.end) found ≡ Some end → result ≡ text_place_of s base v end)
-        → result ≡ option_and_then (λ (w : PlacedValue). text_place_of s base w.value w.end) found
-    go None some at = absurd cc
-    go (Some w) some at =
+        → IfSome string (IsPlacedAt (option_and_then (λ (w : PlacedValue). text_place_of s base w.value w.end) found))
+    go None some = absurd cc
+    go (Some w) some =
         let both : Some v ≡ Some w.value = some in
         let same : v ≡ w.value = cc in
-        rw (← same) (at w.end refl)
-
--- of an attribute that it lacks
-pub place_none : (s : Sections) (entries : List Entry) (units : List PlacedUnit) (e : Entry) (attribute : ℕ)
-    → None ≡ value_at_entry e attribute → None ≡ text_place_at s entries units e attribute
-unfolding text_place_at
-place_none s entries units e attribute none =
-    go (placed_value_at e attribute) (none ∙ value_placed e attribute) (slice_get units e.unit)
-  where
-    go : (found : Option PlacedValue) → None ≡ option_map (λ (w : PlacedValue). w.value) found
-        → (unit : Option PlacedUnit) → ◌≡◌ {A = Option TextPlace} None (option_and_then (λ (p : PlacedUnit).
-        option_and_then (λ (v : PlacedValue).
-        text_place_of s (base_in entries p DW_AT_str_offsets_base) v.value v.end) found) unit)
-    go None is None = refl
-    go None is (Some p) = refl
-    go (Some w) is unit = absurd cc
+        rw (← same) (told w.end)
 
 -- ---- the attribute that a value is found at
 

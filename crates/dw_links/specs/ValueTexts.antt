@@ -5,6 +5,8 @@ use Rattle.dw_forms.specs.Value.{Datum, address, text, str, line_str, str_index,
 use Rattle.dw_entries.specs.declared.header.UnitHeader.{UnitHeader}
 pub use Rattle.dw_links.specs.declared.texts.TextPlace.{TextPlace}
 use Rattle.dw_links.specs.declared.texts.TextPlace.TheVariants.{Info, Str, LineStr}
+pub use Rattle.dw_links.specs.declared.texts.StringValue.{StringValue}
+use Rattle.dw_links.specs.declared.texts.StringValue.TheVariants.{Own, Shared}
 use Rattle.dw_links.specs.Contributions.{slot_at, string_at}
 
 -- the text of a value of class string, in a unit that has this base; the slot of an index has the text's offset
@@ -31,6 +33,11 @@ abbrev pub text_there : Sections → TextPlace → List ℕ
 text_there sections (Info offset) = string_at sections.info.now offset
 text_there sections (Str offset) = string_at sections.str.now offset
 text_there sections (LineStr offset) = string_at sections.line_str.now offset
+
+-- the text of a value of class string, in itself or at a place
+abbrev pub text_of_string : Sections → StringValue → List ℕ
+text_of_string sections (Own bytes) = bytes.now
+text_of_string sections (Shared place) = text_there sections place
 
 -- the address of a value of class address; that of an index is the number in its slot
 abbrev pub address_of : Sections → UnitHeader → (base : Option ℕ) → Datum → Option ℕ

@@ -24,4 +24,4 @@ pub use links::{Links, link};
 pub use string_spans::{StringSpan, Strings};
 pub use strings::check_strings;
 pub use tables::LinkTables;
-pub use texts::{TextPlace, string_from};
+pub use texts::{StringValue, TextPlace, string_from};

@@ -35,13 +35,15 @@ fn are_words(bytes: &[u8]) -> bool
     words
 }
 
-/// What a string is that is read to its end.
-fn span_of(text: &[u8]) -> StringSpan
-    ensures { IsSpan text.now result }
-{
-    StringSpan {
-        len: text.len(),
-        words: are_words(text),
+impl StringSpan {
+    /// What is known of a text, which is read.
+    pub fn of(text: &[u8]) -> StringSpan
+        ensures { IsSpan text.now result }
+    {
+        StringSpan {
+            len: text.len(),
+            words: are_words(text),
+        }
     }
 }
 
@@ -52,7 +54,7 @@ fn span_by(bytes: &[u8], offset: usize, next: StringSpan) -> StringSpan
     ensures { IsSpan (string_at bytes.now 0) result }
 {
     let (before, _) = bytes.split_at(offset);
-    let front = span_of(string_from(before, 0));
+    let front = StringSpan::of(string_from(before, 0));
     if front.len < offset {
         return front;
     }
@@ -133,7 +135,7 @@ impl<'a> Strings<'a> {
         ensures { IsSpan (text_there self.now.sections place) result }
     {
         match place {
-            TextPlace::Info(offset) => span_of(string_from(self.sections.info, offset)),
+            TextPlace::Info(offset) => StringSpan::of(string_from(self.sections.info, offset)),
             TextPlace::Str(offset) => self.str.span(offset),
             TextPlace::LineStr(offset) => self.line_str.span(offset),
         }

@@ -5,15 +5,13 @@ ghost use Rattle.std.specs.Prelude.{option_copied, option_map};
 ghost use Rattle.dw_forms.specs.Codes.{DW_AT_str_offsets_base, DW_AT_addr_base};
 ghost use Rattle.dw_forms.specs.Value.{view, str_index, addr_index};
 ghost use Rattle.dw_entries.specs.ByNumber.{entry_of};
-ghost use Rattle.dw_entries.specs.Lookups.{value_at_entry};
-ghost use Rattle.dw_entries.specs.ValuePlaces.{end_of};
 ghost use Rattle.dw_entries.specs.Views.{sections_of, all_entries, all_units, units_of};
 ghost use Rattle.dw_entries.specs.Failures.{HasNone};
 ghost use Rattle.dw_links.specs.Bases.{kept_base};
 ghost use Rattle.dw_links.specs.Contributions.{string_at, slot_at};
 ghost use Rattle.dw_links.specs.LinkLaws.{HasStringAt, HasAddressAt};
-ghost use Rattle.dw_links.specs.Slots.{IsTextPlace, IsStringOf, BeginsString, TextLies};
-ghost use Rattle.dw_links.specs.ValueTexts.{text_there, text_of_value, text_place_of, address_of};
+ghost use Rattle.dw_links.specs.Slots.{BeginsShared, IsPlacedAt, IsStringOf, IsTextPlace, IsWithin, TextLies};
+ghost use Rattle.dw_links.specs.ValueTexts.{address_of, text_of_string, text_of_value, text_place_of, text_there};
 ghost use Rattle.dw_links.specs.Strings.{StringFailures};
 ghost use Rattle.dw_links.specs.Tables.{AreTables, base_at, header_at};
 ghost use Rattle.dw_links.specs.AttributeTexts.{text_at, text_place_at, address_at};
@@ -34,6 +32,15 @@ pub enum TextPlace {
     Str(usize),
     /// At this offset of .debug_line_str.
     LineStr(usize),
+}
+
+/// The value of an attribute of class string.
+#[derive(Clone, Copy, Debug)]
+pub enum StringValue<'a> {
+    /// The value has the text itself: these bytes, without the zero byte after them.
+    Own(&'a [u8]),
+    /// The text is at this place, in a section that entries share.
+    Shared(TextPlace),
 }
 
 /// The bytes before the first zero byte from an offset on.
@@ -80,65 +87,59 @@ fn base_of(bases: &[Option<u32>], unit: usize) -> Option<u32>
     *bases.get(unit)?
 }
 
-/// Where the text of the value of an entry's attribute is, if that is a string. The base of the entry's unit, among
-/// those of all units, is looked up only for an index.
+/// The value of an entry's attribute as a string, if it is one. The base of the entry's unit, among those of all units,
+/// is looked up only for an index.
 #[inline(always)]
 #[tactic(auto, using(crate::proofs::SlotLemmas::slot_within))]
-fn place_of_value(
+fn string_of_value<'a>(
     entries: &Entries<'_>,
     id: EntryId,
-    attribute: Attribute,
     bases: &[Option<u32>],
-    value: Value<'_>,
-) -> Option<TextPlace>
+    value: Value<'a>,
+) -> Option<StringValue<'a>>
     requires id { id < length (all_entries entries.now) }
-    requires value { value_at_entry (entry_of (all_entries entries.now) id) attribute ≡ Some (view value) }
     requires lies { TextLies (sections_of entries.now)
         (kept_base bases.now (entry_of (all_entries entries.now) id).unit) (view value) }
-    ensures text { option_map (text_there (sections_of entries.now)) result ≡ text_of_value (sections_of entries.now)
-        (kept_base bases.now (entry_of (all_entries entries.now) id).unit) (view value.entry) }
-    ensures place { (end : ℕ) → end_of (entry_of (all_entries entries.now) id) attribute ≡ Some end
-        → result ≡ text_place_of (sections_of entries.now)
-        (kept_base bases.now (entry_of (all_entries entries.now) id).unit) (view value.entry) end }
-    ensures begins { IfSome result (BeginsString (sections_of entries.now)) }
+    ensures text { option_map (text_of_string (sections_of entries.now)) result ≡ text_of_value
+        (sections_of entries.now) (kept_base bases.now (entry_of (all_entries entries.now) id).unit) (view value.entry) }
+    ensures place { (end : ℕ) → IfSome result (IsPlacedAt (text_place_of (sections_of entries.now)
+        (kept_base bases.now (entry_of (all_entries entries.now) id).unit) (view value.entry) end)) }
+    ensures begins { IfSome result (BeginsShared (sections_of entries.now)) }
 {
     match value {
-        Value::Text(bytes) => {
-            let end = entries.end_of(id, attribute)?;
-            Some(TextPlace::Info(end - (bytes.len() + 1)))
-        }
-        Value::Str(offset) => Some(TextPlace::Str(offset as usize)),
-        Value::LineStr(offset) => Some(TextPlace::LineStr(offset as usize)),
+        Value::Text(bytes) => Some(StringValue::Own(bytes)),
+        Value::Str(offset) => Some(StringValue::Shared(TextPlace::Str(offset as usize))),
+        Value::LineStr(offset) => Some(StringValue::Shared(TextPlace::LineStr(offset as usize))),
         Value::StrIndex(index) => {
             let base = base_of(bases, entries.unit_of(id))?;
             let offset = slot(entries.sections().str_offsets, 4, base, index);
-            Some(TextPlace::Str(offset as usize))
+            Some(StringValue::Shared(TextPlace::Str(offset as usize)))
         }
         _ => None,
     }
 }
 
 impl LinkTables {
-    /// Where the text of an entry's attribute is. None if the attribute is absent or no string.
+    /// The string that an entry's attribute has. None if the attribute is absent or no string.
     #[inline(always)]
-    pub fn text_place(
+    pub fn string<'a>(
         &self,
-        entries: &Entries<'_>,
+        entries: &Entries<'a>,
         id: EntryId,
         attribute: Attribute,
-    ) -> Option<TextPlace>
+    ) -> Option<StringValue<'a>>
         requires id { id < length (all_entries entries.now) }
         requires tables { AreTables entries.now self.now }
         requires strings { HasNone (StringFailures (sections_of entries.now) (units_of entries.now)) }
-        ensures text { option_map (text_there (sections_of entries.now)) result ≡ text_at (sections_of entries.now)
+        ensures text { option_map (text_of_string (sections_of entries.now)) result ≡ text_at (sections_of entries.now)
             (all_entries entries.now) (all_units entries.now) (entry_of (all_entries entries.now) id) attribute }
-        ensures place { result ≡ text_place_at (sections_of entries.now) (all_entries entries.now)
-            (all_units entries.now) (entry_of (all_entries entries.now) id) attribute }
-        ensures within { IfSome result (IsTextPlace (sections_of entries.now)) }
-        ensures begins { IfSome result (BeginsString (sections_of entries.now)) }
+        ensures place { IfSome result (IsPlacedAt (text_place_at (sections_of entries.now) (all_entries entries.now)
+            (all_units entries.now) (entry_of (all_entries entries.now) id) attribute)) }
+        ensures within { IfSome result (IsWithin (sections_of entries.now)) }
+        ensures begins { IfSome result (BeginsShared (sections_of entries.now)) }
     {
         let value = entries.value(id, attribute)?;
-        place_of_value(entries, id, attribute, self.str_bases.as_slice(), value)
+        string_of_value(entries, id, self.str_bases.as_slice(), value)
     }
 
     /// The text of an entry's attribute. None if the attribute is absent or no string.
@@ -154,8 +155,10 @@ impl LinkTables {
         ensures { option_copied result ≡ text_at (sections_of entries.now) (all_entries entries.now)
             (all_units entries.now) (entry_of (all_entries entries.now) id) attribute }
     {
-        let place = self.text_place(entries, id, attribute)?;
-        Some(place.text(entries.sections()))
+        match self.string(entries, id, attribute)? {
+            StringValue::Own(bytes) => Some(bytes),
+            StringValue::Shared(place) => Some(place.text(entries.sections())),
+        }
     }
 
     /// Where the string of an index is, in a unit.

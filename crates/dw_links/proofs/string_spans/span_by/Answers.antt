@@ -7,10 +7,10 @@ returns-then-front-offset c = search (rules, span-front)
 
 pub returns-then-front : goal.returns-then-front
 returns-then-front c =
-    span-joined _ _ _ _ _ c.requires.within c.split_at.ensures.front c.string_from.ensures c.span_of-front.ensures
+    span-joined _ _ _ _ _ c.requires.within c.split_at.ensures.front c.string_from.ensures c.of-front.ensures
     c.args.next _ c.requires.next c.if-front-offset.false (rw c.if-front.true refl)
 
 pub returns-else-front : goal.returns-else-front
 returns-else-front c =
-    span-joined _ _ _ _ _ c.requires.within c.split_at.ensures.front c.string_from.ensures c.span_of-front.ensures
+    span-joined _ _ _ _ _ c.requires.within c.split_at.ensures.front c.string_from.ensures c.of-front.ensures
     c.args.next _ c.requires.next c.if-front-offset.false (rw c.if-front.false refl)

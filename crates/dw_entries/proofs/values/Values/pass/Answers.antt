@@ -2,7 +2,7 @@ use Rattle.std.proofs.Common.{rules, ◌≡◌, length}
 use Rattle.std.proofs.lemmas.List.{length-map}
 use Rattle.dw_forms.specs.Chains.{items_of}
 use Rattle.dw_forms.proofs.SuffixLaws.{specs_ends}
-use Rattle.dw_entries.proofs.PassLaws.{left_on, left_rest, never_cut, passed_parts, placed_rest}
+use Rattle.dw_entries.proofs.PassLaws.{left_on, left_rest, never_cut, passed_parts}
 use Rattle.dw_entries.proofs.PlacedLaws.{rest_on}
 use Rattle.dw_entries.proofs.values.Values.pass.Goals as goal
 
@@ -32,10 +32,3 @@ returns-clause-left c before ends =
     let long : length before ≡ length (items_of before) = search (rules, length-map) in
     search (left_rest _ _ _ _ (specs_ends v.attributes _ before ends) v.bytes.now v.left (length before) long
     _ (c.in-Ok.ensures before ends))
-
-pub returns-clause-placed : goal.returns-clause-placed
-returns-clause-placed c before ends =
-    let v = c.args.self.now in
-    let long : length before ≡ length (items_of before) = search (rules, length-map) in
-    search (placed_rest _ _ _ _ (specs_ends v.attributes _ before ends) v.bytes.now v.left (length before) long
-    _ (c.in-Ok.ensures before ends) v.info.now v.rest)

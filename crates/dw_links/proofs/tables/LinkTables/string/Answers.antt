@@ -4,11 +4,11 @@ use Rattle.dw_forms.specs.Codes.{DW_AT_str_offsets_base}
 use Rattle.dw_entries.specs.Views.{sections_of, all_entries, units_of, all_units}
 use Rattle.dw_links.specs.AttributeTexts.{text_at}
 use Rattle.dw_links.proofs.TableLemmas.{entry_unit, kept_at, no_entry, entry_of, view}
-use Rattle.dw_links.proofs.HeldTexts.{place_none, place_told, begins_within, text_lies}
-use Rattle.dw_links.proofs.tables.LinkTables.text_place.Goals as goal
+use Rattle.dw_links.proofs.HeldTexts.{place_told, begins_within, text_lies}
+use Rattle.dw_links.proofs.tables.LinkTables.string.Goals as goal
 
-pub place_of_value-requires-clause-lies : goal.place_of_value-requires-clause-lies
-place_of_value-requires-clause-lies c =
+pub string_of_value-requires-clause-lies : goal.string_of_value-requires-clause-lies
+string_of_value-requires-clause-lies c =
     let entries = c.args.entries.now in
     rw (kept_at entries c.args.id DW_AT_str_offsets_base c.as_slice.result.now c.requires.id
     (c.as_slice.ensures.value ∙ c.requires.tables.str_bases))
@@ -32,10 +32,7 @@ pub returns-clause-place : goal.returns-clause-place
 returns-clause-place c =
     let entries = c.args.entries.now in
     place_told (sections_of entries) (all_entries entries) (all_units entries)
-    (entry_of (all_entries entries) c.args.id) _ c.args.attribute (view c.in_ok-value.value) _ c.place_of_value.result
+    (entry_of (all_entries entries) c.args.id) _ c.args.attribute (view c.in_ok-value.value) _ c.string_of_value.result
     (entry_unit entries c.args.id c.requires.id) c.in_ok-value.ensures
     (kept_at entries c.args.id DW_AT_str_offsets_base c.as_slice.result.now c.requires.id
-    (c.as_slice.ensures.value ∙ c.requires.tables.str_bases)) c.place_of_value.ensures.place
-
-pub returns-in_err-value-clause-place : goal.returns-in_err-value-clause-place
-returns-in_err-value-clause-place c = search (rules, place_none)
+    (c.as_slice.ensures.value ∙ c.requires.tables.str_bases)) c.string_of_value.ensures.place
