@@ -47,30 +47,32 @@ BEFORE = re.compile(r"(?:\((?:str|line_str|flag|offset|index|indirect|alt)[^)]*\
 Entry = collections.namedtuple("Entry", "depth at tag attributes")
 
 
+def build_at(place, words, folder):
+    """Proves and builds what belongs at a place, if it is not there. That takes minutes, so it says so."""
+    if not place.exists():
+        print(f"proving and building {place}, which takes minutes", file=sys.stderr, flush=True)
+        subprocess.run(words, cwd=folder, check=True, stdout=subprocess.DEVNULL)
+
+
 def build():
     """Proves and builds the program, if there is none."""
-    if not DWV.exists():
-        subprocess.run(["rt", "run", "--", "check", "data/X1"], cwd=CRATE, check=True)
+    build_at(DWV, ["rt", "run", "--", "check", "data/X1"], CRATE)
 
 
 def build_line_rows():
     """Proves and builds the program that prints the rows of line programs, if there is none."""
-    if not LINE_ROWS.exists():
-        subprocess.run(["rt", "run", "--", "data/X1"], cwd=TOP / "crates/line_rows", check=True,
-                       stdout=subprocess.DEVNULL)
+    build_at(LINE_ROWS, ["rt", "run", "--", "data/X1"], TOP / "crates/line_rows")
 
 
 def build_addr():
     """Proves and builds the program that looks addresses up, if there is none."""
-    if not DWV_ADDR.exists():
-        subprocess.run(["rt", "run", "--", "check", "data/four"], cwd=TOP / "crates/dwv_addr", check=True,
-                       stdout=subprocess.DEVNULL)
+    build_at(DWV_ADDR, ["rt", "run", "--", "check", "data/four"], TOP / "crates/dwv_addr")
 
 
 def build_library():
     """Proves and builds the C library, if there is none."""
-    if "DWV_LIBRARY" not in os.environ and not LIBRARY.exists():
-        subprocess.run(["make", "--no-print-directory", "lib"], cwd=TOP, check=True, stdout=subprocess.DEVNULL)
+    if "DWV_LIBRARY" not in os.environ:
+        build_at(LIBRARY, ["make", "--no-print-directory", "lib"], TOP)
 
 
 def has(tool):
