@@ -14,7 +14,7 @@ ghost use Rattle.dw_image.specs.StepsAndSizes.{AreMeasures, AreSteps};
 ghost use Rattle.dw_forms.specs.Value.{view};
 ghost use Rattle.dw_entries.specs.Lookups.{nth_of, full_head, value_at_entry};
 ghost use Rattle.dw_entries.specs.Entries.{placed};
-ghost use Rattle.dw_links.specs.Slots.{BeginsShared, IsPlacedAt, IsWithin};
+ghost use Rattle.dw_links.specs.Slots.{BeginsString, IfShared, IsTextPlace};
 ghost use Rattle.dw_links.specs.Targets.{target_of};
 ghost use Rattle.dw_links.specs.ValueTexts.{text_of_string};
 ghost use Rattle.dw_types.specs.Children.{children_of};
@@ -174,9 +174,10 @@ impl<'a> Image<'a> {
         requires { id < length (entries_in self.now) }
         ensures text { option_map (text_of_string (sections_in self.now)) result
             ≡ name_in self.now (entry_of (entries_in self.now) id) }
-        ensures place { IfSome result (IsPlacedAt (name_place_in self.now (entry_of (entries_in self.now) id))) }
-        ensures within { IfSome result (IsWithin (sections_in self.now)) }
-        ensures begins { IfSome result (BeginsShared (sections_in self.now)) }
+        ensures place { IfSome result (IfShared (λ place.
+            name_place_in self.now (entry_of (entries_in self.now) id) ≡ Some place)) }
+        ensures within { IfSome result (IfShared (IsTextPlace (sections_in self.now))) }
+        ensures begins { IfSome result (IfShared (BeginsString (sections_in self.now))) }
     {
         self.tables.string(&self.entries, id, DW_AT_name)
     }

@@ -1,10 +1,10 @@
 -- Where a string begins, and where the text of an attribute is. Where no rule on strings and addresses fails, each string
 -- and each address is there.
-use Rattle.std.proofs.Common.{rules, ◌≡◌, ◌≢◌, ℕ, suc, ◌<◌, ◌==◌, Bool, true, false, List, [], ◌∷◌, Some, refl, sym, ap, ◌∙◌, Option, None, IfSome, arith, inl, inr, get_or, drop, ◌+◌, ◌-◌, ◌≤◌, length, length-drop, ◌⊎◌, eq-eqb, slice_get, slice_index, option_map, get_or-drop, option_and_then}
+use Rattle.std.proofs.Common.{rules, ◌≡◌, ◌≢◌, ℕ, suc, ◌<◌, ◌==◌, Bool, true, false, List, [], ◌∷◌, Some, refl, sym, ap, ◌∙◌, Option, None, IfSome, arith, inl, inr, get_or, drop, ◌+◌, ◌-◌, ◌≤◌, length, length-drop, ◌⊎◌, eq-eqb, slice_get, slice_index, get_or-drop}
 use Rattle.std.proofs.lemmas.Option.{option_and_then_some}
 use Rattle.std.proofs.lemmas.Bool.Decides.{nat_tests}
 use Rattle.dw_forms.specs.Codes.{DW_AT_str_offsets_base, DW_AT_addr_base}
-use Rattle.dw_forms.specs.Value.{Datum, sec_offset, str, line_str, str_index, addr_index, text}
+use Rattle.dw_forms.specs.Value.{Datum, sec_offset, str, line_str, str_index, addr_index}
 use Rattle.dw_entries.specs.declared.header.UnitHeader.{UnitHeader}
 use Rattle.dw_entries.specs.Header.{version_of}
 use Rattle.dw_entries.specs.Entries.{Entry, PlacedUnit, entries_of, placed, DebugUnit}
@@ -15,16 +15,13 @@ use Rattle.dw_links.specs.Contributions.{IsContribution, slot_count, slot_at, Ha
 use Rattle.dw_links.specs.Bases.{section_offset_in, base_in}
 use Rattle.dw_links.specs.Strings.{BaseFails, StringFailsIn, StringFailures, IsStringContribution, IsAddressContribution, StringIndexFails, AddressIndexFails, Sections}
 use Rattle.dw_forms.specs.declared.rule.Rule.TheVariants.{BadStrBase, StrIndex, StringEnd, BadAddrBase, AddrIndex}
-use Rattle.dw_links.specs.Slots.{BeginsShared, IsPlacedAt, IsWithin, TextLies}
+use Rattle.dw_links.specs.ValueTexts.{TextPlace}
+use Rattle.dw_links.specs.declared.texts.TextPlace.TheVariants.{Info, Str, LineStr}
+use Rattle.dw_links.specs.Slots.{BeginsString, IsTextPlace}
 use Rattle.dw_links.specs.LinkLaws.{HasStringAt, HasAddressAt, HasItsText, HasTexts}
 use Rattle.std.specs.List.{position_or_len}
 use Rattle.std.proofs.lemmas.Bool.{cases_lt, eqb-true}
 use Rattle.std.proofs.lemmas.List.Sums.{passes_at_first, fails_before_first}
-use Rattle.dw_links.specs.declared.texts.StringValue.TheVariants.{Own, Shared}
-use Rattle.dw_links.specs.declared.texts.TextPlace.TheVariants.{Info, Str, LineStr}
-use Rattle.dw_entries.proofs.ValuePlaceLaws.{value_placed, PlacedValue, placed_value_at}
-use Rattle.dw_links.specs.AttributeTexts.{text_place_at}
-use Rattle.dw_links.specs.ValueTexts.{text_place_of, StringValue}
 
 -- a fact holds, or it does not
 abbrev pub Decided : Type 0 → Type 0
@@ -69,35 +66,14 @@ ends_or_not section offset =
 pub sure : {P : Type 0} → Decided P → ((P → ⊥) → ⊥) → P
 sure d not_not = elim d [ inl p ↦ p | inr against ↦ absurd (not_not against) ]
 
--- a string begins within its section
 below_end : (section : List ℕ) (offset : ℕ) → HasZeroFrom section offset → offset ≤ length section
 below_end section offset e = let p = e.behind in let q = e.within in omega (arith, p, q)
 
-pub begins_within : (s : Sections) (string : Option StringValue) → IfSome string (BeginsShared s)
-    → IfSome string (IsWithin s)
-begins_within s None begins = tt
-begins_within s (Some (Own bytes)) begins = tt
-begins_within s (Some (Shared (Info offset))) begins = below_end s.info.now offset begins
-begins_within s (Some (Shared (Str offset))) begins = below_end s.str.now offset begins
-begins_within s (Some (Shared (LineStr offset))) begins = below_end s.line_str.now offset begins
-
--- the place of a string is that of the attribute, wherever its bytes end
-pub place_told : (s : Sections) (entries : List Entry) (units : List PlacedUnit) (e : Entry) (p : PlacedUnit)
-    (attribute : ℕ) (v : Datum) (base : Option ℕ) (string : Option StringValue) → slice_get units e.unit ≡ Some p
-    → Some v ≡ value_at_entry e attribute → base ≡ base_in entries p DW_AT_str_offsets_base
-    → ((end : ℕ) → IfSome string (IsPlacedAt (text_place_of s base v end)))
-    → IfSome string (IsPlacedAt (text_place_at s entries units e attribute))
-unfolding text_place_at
-place_told s entries units e p attribute v base string is_p value is_base told =
-    rw (is_p, ← is_base) (go (placed_value_at e attribute) (value ∙ value_placed e attribute))
-  where
-    go : (found : Option PlacedValue) → Some v ≡ option_map (λ (w : PlacedValue). w.value) found
-        → IfSome string (IsPlacedAt (option_and_then (λ (w : PlacedValue). text_place_of s base w.value w.end) found))
-    go None some = absurd cc
-    go (Some w) some =
-        let both : Some v ≡ Some w.value = some in
-        let same : v ≡ w.value = cc in
-        rw (← same) (told w.end)
+-- a string begins within its section
+pub begins_within : (s : Sections) (place : TextPlace) → BeginsString s place → IsTextPlace s place
+begins_within s (Info offset) begins = below_end s.info.now offset begins
+begins_within s (Str offset) begins = below_end s.str.now offset begins
+begins_within s (LineStr offset) begins = below_end s.line_str.now offset begins
 
 -- ---- the attribute that a value is found at
 
@@ -232,14 +208,6 @@ module _ (s : Sections) (us : List DebugUnit) (none : HasNone (StringFailures s 
     pub its_text : (attribute : ℕ) (v : Datum) → value_at_entry e attribute ≡ Some v → HasItsText s (entries_of us) p v
     its_text attribute v value =
         let (position, here) = found_value (values_of e.head) attribute v value in held position attribute v here
-
-    -- a text of an entry
-    pub text_lies : (attribute : ℕ) (v : Datum) → value_at_entry e attribute ≡ Some v
-        → TextLies s (base_in (entries_of us) p DW_AT_str_offsets_base) v
-    text_lies attribute (str offset) value = its_text attribute (str offset) value
-    text_lies attribute (line_str offset) value = its_text attribute (line_str offset) value
-    text_lies attribute (str_index index) value = its_text attribute (str_index index) value
-    text_lies attribute _ value = tt
 
 pub texts_of : (s : Sections) (units : List DebugUnit) → HasNone (StringFailures s units) → HasTexts s units
 texts_of s units none id e is position attribute v has unit in_unit =

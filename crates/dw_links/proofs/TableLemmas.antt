@@ -1,5 +1,5 @@
 -- What is read of units, one after the other, and the targets of types, which are kept of each entry.
-use Rattle.std.proofs.Common.{rules, ◌≡◌, ℕ, ◌<◌, List, length, map, get_or, Option, Some, option_map, ap, ◌∙◌, ◌+◌, ◌≤◌, [], ◌∷◌, ◌++◌, take, refl, arith, sym, subst, inl, inr, slice_get, option_and_then}
+use Rattle.std.proofs.Common.{rules, ◌≡◌, ℕ, ◌<◌, List, length, map, get_or, Option, None, Some, option_map, ap, ◌∙◌, ◌+◌, ◌≤◌, [], ◌∷◌, ◌++◌, take, refl, arith, sym, subst, inl, inr, slice_get, option_and_then}
 use Rattle.std.proofs.lemmas.Option.{slice_get_within, slice_get-get_or, slice_get-map, get_or_from_slice_get, option_and_then_some}
 use Rattle.std.proofs.lemmas.List.{map_more, take_all}
 use Rattle.std.proofs.lemmas.Bool.{ne_eqb}
@@ -18,8 +18,14 @@ use Rattle.dw_entries.proofs.Firsts.{same_some}
 use Rattle.dw_entries.proofs.HeadLaws.{all_get, unit_sized, DebugUnit, Spells}
 use Rattle.dw_entries.specs.Grammar.{Head}
 use Rattle.dw_forms.specs.Codes.{DW_AT_addr_base, DW_AT_language}
-use Rattle.dw_links.specs.AttributeTexts.{address_at}
-use Rattle.dw_links.specs.ValueTexts.{address_of}
+use Rattle.dw_entries.specs.Failures.{HasNone}
+use Rattle.dw_entries.proofs.ValuePlaceLaws.{value_placed, PlacedValue, placed_value_at}
+use Rattle.dw_forms.specs.Codes.{DW_AT_str_offsets_base}
+use Rattle.dw_links.specs.AttributeTexts.{address_at, text_at, text_place_at}
+use Rattle.dw_links.specs.LinkLaws.{HasItsText}
+use Rattle.dw_links.specs.Strings.{StringFailures}
+use Rattle.dw_links.specs.ValueTexts.{TextPlace, address_of, text_of_value, text_place_of}
+use Rattle.dw_links.proofs.HeldTexts.{its_text}
 pub use Rattle.dw_links.specs.Bases.{kept_base, section_offset_in, base_in, bases_in}
 pub use Rattle.dw_links.specs.Constants.{constant_of, language_of, Constant}
 pub use Rattle.dw_links.specs.Tables.{target_of_type, AreTables, LinkTables, base_at, header_at}
@@ -82,14 +88,6 @@ entry_unit entries id below =
     (in_units _ _ (units_of entries) id e entries.scanned.1.spells
     (slice_get-get_or (all_entries entries) id no_entry below))
 
--- the base that is kept of an entry's unit
-pub kept_at : (entries : Entries) (id attribute : ℕ) (bases : List (Option ℕ)) → id < length (all_entries entries)
-    → bases ≡ bases_in (all_entries entries) (all_units entries) attribute
-    → kept_base bases (entry_of (all_entries entries) id).unit
-    ≡ base_in (all_entries entries) (placed_of (all_units entries) (entry_of (all_entries entries) id).unit) attribute
-kept_at entries id attribute bases below all =
-    kept_is (all_entries entries) (all_units entries) attribute bases _ _ all (entry_unit entries id below)
-
 -- the size of an address in a unit
 pub sized : («abbrev» info : List ℕ) (us : List DebugUnit) (number : ℕ) (p : PlacedUnit) → Spells «abbrev» us info
     → number < length us → slice_get (placed us) number ≡ Some p → IsSize p.unit.header.address_size
@@ -114,15 +112,46 @@ based entries unit attribute bases found below all told =
     sym (told ∙ kept_is (all_entries entries) (all_units entries) attribute bases _ _ all
     (unit_there (units_of entries) unit below))
 
--- the address of an entry's attribute, by its value
-pub address_is : (entries : Entries) (id attribute : ℕ) (v : Datum) → id < length (all_entries entries)
-    → Some v ≡ value_at_entry (entry_of (all_entries entries) id) attribute
-    → address_of (sections_of entries) (header_at entries (entry_of (all_entries entries) id).unit)
-    (base_at entries (entry_of (all_entries entries) id).unit DW_AT_addr_base) v
-    ≡ address_at (sections_of entries) (all_entries entries) (all_units entries) (entry_of (all_entries entries) id)
-    attribute
-unfolding address_at
-address_is entries id attribute v below value = rw (entry_unit entries id below, ← value) refl
+-- the value of an entry's attribute
+module _ (entries : Entries) (id attribute : ℕ) (v : Datum) (below : id < length (all_entries entries))
+    (value : Some v ≡ value_at_entry (entry_of (all_entries entries) id) attribute) where
+  abbrev e : Entry
+  e = entry_of (all_entries entries) id
+
+  -- it has its string or its address
+  pub held : HasNone (StringFailures (sections_of entries) (units_of entries))
+      → HasItsText (sections_of entries) (all_entries entries) (placed_of (all_units entries) e.unit) v
+  held strings =
+      its_text (sections_of entries) (units_of entries) strings id e _
+      (slice_get-get_or (all_entries entries) id no_entry below) (entry_unit entries id below) attribute v (sym value)
+
+  pub address_is : address_of (sections_of entries) (header_at entries e.unit) (base_at entries e.unit DW_AT_addr_base)
+      v
+      ≡ address_at (sections_of entries) (all_entries entries) (all_units entries) e attribute
+  unfolding address_at
+  address_is = rw (entry_unit entries id below, ← value) refl
+
+  pub text_is : text_of_value (sections_of entries) (base_at entries e.unit DW_AT_str_offsets_base) v
+      ≡ text_at (sections_of entries) (all_entries entries) (all_units entries) e attribute
+  unfolding text_at
+  text_is = rw (entry_unit entries id below, ← value) refl
+
+  -- the place of a text, wherever the bytes of the value end
+  pub place_is : (place : TextPlace) → ((end : ℕ) → text_place_of (sections_of entries)
+      (base_at entries e.unit DW_AT_str_offsets_base) v end ≡ Some place)
+      → text_place_at (sections_of entries) (all_entries entries) (all_units entries) e attribute ≡ Some place
+  unfolding text_place_at
+  place_is place told =
+      rw (entry_unit entries id below) (go (placed_value_at e attribute) (value ∙ value_placed e attribute))
+    where
+      go : (found : Option PlacedValue) → Some v ≡ option_map (λ (w : PlacedValue). w.value) found
+          → option_and_then (λ (w : PlacedValue). text_place_of (sections_of entries)
+          (base_at entries e.unit DW_AT_str_offsets_base) w.value w.end) found ≡ Some place
+      go None some = absurd cc
+      go (Some w) some =
+          let both : Some v ≡ Some w.value = some in
+          let same : v ≡ w.value = cc in
+          rw (← same) (told w.end)
 
 pub size_above : (size : ℕ) → IsSize size → 0 < size
 size_above size is = elim is [ inl four ↦ omega (arith, four) | inr eight ↦ omega (arith, eight) ]

@@ -1,17 +1,17 @@
 //! The texts and addresses of attributes (DWARF 5, sections 7.26 and 7.27), and where a text is.
 
-ghost use Rattle.std.specs.Prelude.{◌≡◌, ℕ, ◌+◌, ◌*◌, ◌<◌, ◌≤◌, length, Some, IfSome};
+ghost use Rattle.std.specs.Prelude.{◌≡◌, ◌+◌, ◌*◌, ◌<◌, ◌≤◌, length, Some, IfSome};
 ghost use Rattle.std.specs.Prelude.{option_copied, option_map};
 ghost use Rattle.dw_forms.specs.Codes.{DW_AT_str_offsets_base, DW_AT_addr_base};
-ghost use Rattle.dw_forms.specs.Value.{view, str_index, addr_index};
+ghost use Rattle.dw_forms.specs.Value.{str_index, addr_index};
 ghost use Rattle.dw_entries.specs.ByNumber.{entry_of};
 ghost use Rattle.dw_entries.specs.Views.{sections_of, all_entries, all_units, units_of};
 ghost use Rattle.dw_entries.specs.Failures.{HasNone};
 ghost use Rattle.dw_links.specs.Bases.{kept_base};
 ghost use Rattle.dw_links.specs.Contributions.{string_at, slot_at};
 ghost use Rattle.dw_links.specs.LinkLaws.{HasStringAt, HasAddressAt};
-ghost use Rattle.dw_links.specs.Slots.{BeginsShared, IsPlacedAt, IsStringOf, IsTextPlace, IsWithin, TextLies};
-ghost use Rattle.dw_links.specs.ValueTexts.{address_of, text_of_string, text_of_value, text_place_of, text_there};
+ghost use Rattle.dw_links.specs.Slots.{BeginsString, IfShared, IsStringOf, IsTextPlace};
+ghost use Rattle.dw_links.specs.ValueTexts.{address_of, text_of_string, text_there};
 ghost use Rattle.dw_links.specs.Strings.{StringFailures};
 ghost use Rattle.dw_links.specs.Tables.{AreTables, base_at, header_at};
 ghost use Rattle.dw_links.specs.AttributeTexts.{text_at, text_place_at, address_at};
@@ -87,40 +87,9 @@ fn base_of(bases: &[Option<u32>], unit: usize) -> Option<u32>
     *bases.get(unit)?
 }
 
-/// The value of an entry's attribute as a string, if it is one. The base of the entry's unit, among those of all units,
-/// is looked up only for an index.
-#[inline(always)]
-#[tactic(auto, using(crate::proofs::SlotLemmas::slot_within))]
-fn string_of_value<'a>(
-    entries: &Entries<'_>,
-    id: EntryId,
-    bases: &[Option<u32>],
-    value: Value<'a>,
-) -> Option<StringValue<'a>>
-    requires id { id < length (all_entries entries.now) }
-    requires lies { TextLies (sections_of entries.now)
-        (kept_base bases.now (entry_of (all_entries entries.now) id).unit) (view value) }
-    ensures text { option_map (text_of_string (sections_of entries.now)) result ≡ text_of_value
-        (sections_of entries.now) (kept_base bases.now (entry_of (all_entries entries.now) id).unit) (view value.entry) }
-    ensures place { (end : ℕ) → IfSome result (IsPlacedAt (text_place_of (sections_of entries.now)
-        (kept_base bases.now (entry_of (all_entries entries.now) id).unit) (view value.entry) end)) }
-    ensures begins { IfSome result (BeginsShared (sections_of entries.now)) }
-{
-    match value {
-        Value::Text(bytes) => Some(StringValue::Own(bytes)),
-        Value::Str(offset) => Some(StringValue::Shared(TextPlace::Str(offset as usize))),
-        Value::LineStr(offset) => Some(StringValue::Shared(TextPlace::LineStr(offset as usize))),
-        Value::StrIndex(index) => {
-            let base = base_of(bases, entries.unit_of(id))?;
-            let offset = slot(entries.sections().str_offsets, 4, base, index);
-            Some(StringValue::Shared(TextPlace::Str(offset as usize)))
-        }
-        _ => None,
-    }
-}
-
 impl LinkTables {
-    /// The string that an entry's attribute has. None if the attribute is absent or no string.
+    /// The string that an entry's attribute has. None if the attribute is absent or no string. The entry's unit is
+    /// looked up only for an index.
     #[inline(always)]
     pub fn string<'a>(
         &self,
@@ -133,13 +102,25 @@ impl LinkTables {
         requires strings { HasNone (StringFailures (sections_of entries.now) (units_of entries.now)) }
         ensures text { option_map (text_of_string (sections_of entries.now)) result ≡ text_at (sections_of entries.now)
             (all_entries entries.now) (all_units entries.now) (entry_of (all_entries entries.now) id) attribute }
-        ensures place { IfSome result (IsPlacedAt (text_place_at (sections_of entries.now) (all_entries entries.now)
-            (all_units entries.now) (entry_of (all_entries entries.now) id) attribute)) }
-        ensures within { IfSome result (IsWithin (sections_of entries.now)) }
-        ensures begins { IfSome result (BeginsShared (sections_of entries.now)) }
+        ensures place { IfSome result (IfShared (λ place. text_place_at (sections_of entries.now)
+            (all_entries entries.now) (all_units entries.now) (entry_of (all_entries entries.now) id) attribute
+            ≡ Some place)) }
+        ensures within { IfSome result (IfShared (IsTextPlace (sections_of entries.now))) }
+        ensures begins { IfSome result (IfShared (BeginsString (sections_of entries.now))) }
     {
         let value = entries.value(id, attribute)?;
-        string_of_value(entries, id, self.str_bases.as_slice(), value)
+        match value {
+            Value::Text(bytes) => Some(StringValue::Own(bytes)),
+            Value::Str(offset) => Some(StringValue::Shared(TextPlace::Str(offset as usize))),
+            Value::LineStr(offset) => {
+                Some(StringValue::Shared(TextPlace::LineStr(offset as usize)))
+            }
+            Value::StrIndex(index) => {
+                let place = self.place_of_index(entries, entries.unit_of(id), index);
+                Some(StringValue::Shared(place))
+            }
+            _ => None,
+        }
     }
 
     /// The text of an entry's attribute. None if the attribute is absent or no string.

@@ -1,9 +1,7 @@
 use Rattle.std.proofs.Common.{rules, ◌∙◌, sym}
-use Rattle.std.proofs.lemmas.Option.{slice_get-get_or}
 use Rattle.dw_links.specs.AttributeTexts.{address_at}
-use Rattle.dw_links.proofs.TableLemmas.{address_is, entry_unit, no_entry, view}
-use Rattle.dw_links.proofs.UnitToAll.{unit_below, sections_of, all_entries, units_of}
-use Rattle.dw_links.proofs.HeldTexts.{its_text}
+use Rattle.dw_links.proofs.TableLemmas.{address_is, entry_unit, held}
+use Rattle.dw_links.proofs.UnitToAll.{unit_below}
 use Rattle.dw_links.proofs.tables.LinkTables.address.Goals as goal
 
 pub address_of_index-requires-clause-unit : goal.address_of_index-requires-clause-unit
@@ -11,12 +9,8 @@ address_of_index-requires-clause-unit c = search (rules, unit_below)
 
 pub address_of_index-requires-clause-lies : goal.address_of_index-requires-clause-lies
 address_of_index-requires-clause-lies c =
-    let entries = c.args.entries.now in
-    let lies = its_text (sections_of entries) (units_of entries) c.requires.strings c.args.id _ _
-    (slice_get-get_or (all_entries entries) c.args.id no_entry c.requires.id)
-    (entry_unit entries c.args.id c.requires.id) c.args.attribute (view c.in_ok-value.value)
-    (sym c.in_ok-value.ensures) in
-    rw c.unit_of.ensures (rw c.in-AddrIndex.is at lies)
+    rw c.unit_of.ensures (rw c.in-AddrIndex.is at
+    (held c.args.entries.now c.args.id c.args.attribute _ c.requires.id c.in_ok-value.ensures c.requires.strings))
 
 pub returns-in-Addr : goal.returns-in-Addr
 returns-in-Addr c =
