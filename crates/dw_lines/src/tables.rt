@@ -6,9 +6,8 @@ ghost use Rattle.dw_forms.specs.Stops.{GivesOrMemory};
 ghost use Rattle.dw_forms.specs.Value.{view};
 ghost use Rattle.dw_forms.specs.ValueReading.{Gives};
 ghost use Rattle.dw_lines.specs.Files as spec;
-ghost use Rattle.dw_lines.specs.Files.{are_contents, content_format, path_view, file_view, tables_of};
+ghost use Rattle.dw_lines.specs.Files.{are_contents, path_view, file_view, tables_of};
 ghost use Rattle.dw_lines.specs.Header.{length_end};
-ghost use Rattle.dw_lines.specs.Repeats.{times};
 
 use crate::bytes::{byte, unsigned};
 use crate::program::{FileEntry, Files, LinePath, LineSections};
@@ -39,15 +38,10 @@ fn path_or_end<'a>(bytes: &mut &'a [u8]) -> Result<Option<LinePath<'a>>, LineRul
     ensures exact { Gives (λ x. (option_map path_view x, bytes.new.now)) result (spec.path_or_end.read bytes.old.now) }
     ensures shorter { IfOk result (λ _. length bytes.new.now < length bytes.old.now) }
 {
-    let Some(len) = memchr(0, bytes) else {
-        return Err(LineRule::LineCut);
-    };
-    let path = &bytes[..len];
+    let len = memchr(0, bytes).ok_or(LineRule::LineCut)?;
+    let path = LinePath::Header(&bytes[..len]);
     *bytes = &bytes[len + 1..];
-    if path.is_empty() {
-        return Ok(None);
-    }
-    Ok(Some(LinePath::Header(path)))
+    Ok((len > 0).then_some(path))
 }
 
 /// A file after so many directories, or none at the table's end.
@@ -119,15 +113,14 @@ fn may_have(kind: u64, form: Form) -> bool
 {
     // Of a content that the standard does not name, the form alone says how long it is.
     let other = kind < DW_LNCT_path || kind > DW_LNCT_MD5;
-    let time = kind == DW_LNCT_timestamp || other;
-    let size = kind == DW_LNCT_size || other;
     match form {
-        Form::Text | Form::Strp | Form::LineStrp => kind == DW_LNCT_path || other,
-        Form::Data1 | Form::Data2 => kind == DW_LNCT_directory_index || size,
-        Form::Data4 | Form::Data8 => time || size,
+        Form::Text | Form::Strp | Form::LineStrp => other || kind == DW_LNCT_path,
+        Form::Data1 | Form::Data2 => other
+            || matches!(kind, DW_LNCT_directory_index | DW_LNCT_size),
+        Form::Data4 | Form::Data8 => other || matches!(kind, DW_LNCT_timestamp | DW_LNCT_size),
         Form::Udata => kind != DW_LNCT_path && kind != DW_LNCT_MD5,
-        Form::Block => time,
-        Form::Data16 => kind == DW_LNCT_MD5 || other,
+        Form::Block => other || kind == DW_LNCT_timestamp,
+        Form::Data16 => other || kind == DW_LNCT_MD5,
         _ => false,
     }
 }
@@ -149,32 +142,16 @@ fn are_valid(contents: &[Content]) -> bool
     may_have(content.kind, content.form) && !has_kind(others, content.kind) && are_valid(others)
 }
 
-/// A content of version 5 and its form.
-fn read_content(bytes: &mut &[u8]) -> Result<Content, LineRule>
-    ensures { Gives (λ x. (x, bytes.new.now)) result (content_format.read bytes.old.now) }
-{
-    let kind = unsigned(LineRule::LineCut, bytes)?;
-    let form = Form::from_code(unsigned(LineRule::LineCut, bytes)?).ok_or(LineRule::LineForm)?;
-    Ok(Content { kind, form })
-}
-
-/// So many contents and their forms.
-fn contents(alloc: Global, count: u8, bytes: &mut &[u8]) -> Reading<Vec<Content>>
-    ensures { GivesOrMemory (λ x. (x.items, bytes.new.now)) result ((times count content_format).read bytes.old.now) }
-{
-    let mut contents = Vec::new(alloc);
-    for _ in 0..count {
-        contents.push(read_content(bytes)?)?;
-    }
-    Ok(contents)
-}
-
 /// The format of the entries of a table, and how many there are. Entries have a path, which takes a byte at least.
 fn table_head(alloc: Global, bytes: &mut &[u8]) -> Reading<(Vec<Content>, u64)>
     ensures { GivesOrMemory (λ x. ((x.0.items, x.1), bytes.new.now)) result (spec.table_head.read bytes.old.now) }
 {
-    let count = byte(bytes)?;
-    let contents = contents(alloc, count, bytes)?;
+    let mut contents = Vec::new(alloc);
+    for _ in 0..byte(bytes)? {
+        let kind = unsigned(LineRule::LineCut, bytes)?;
+        let form = Form::from_code(unsigned(LineRule::LineCut, bytes)?).ok_or(LineRule::LineForm)?;
+        contents.push(Content { kind, form })?;
+    }
     if !are_valid(&contents) {
         return Err(Stop::Fault(LineRule::LineForm));
     }
@@ -198,9 +175,6 @@ fn string_at(section: &[u8], end: usize, offset: u32) -> Result<LinePath<'_>, Li
     Err(LineRule::LineString)
 }
 
-/// Directories and files.
-type Tables<'a> = (Vec<LinePath<'a>>, Files<'a>);
-
 impl<'a> LineSections<'a> {
     /// Adds a content of this kind, which has this value, to an entry.
     fn add(&self, kind: u64, value: Value<'a>, entry: &mut FileEntry<'a>) -> Result<(), LineRule>
@@ -213,12 +187,10 @@ impl<'a> LineSections<'a> {
             Value::LineStr(offset) => string_at(self.line_str, self.line_str_end, offset)?,
             _ => entry.path,
         };
-        match value {
-            Value::Unsigned(number) if kind == DW_LNCT_directory_index => {
-                entry.directory = number as usize;
-            }
-            Value::Wide(sum) if kind == DW_LNCT_MD5 => entry.md5 = Some(sum),
-            _ if kind == DW_LNCT_path => entry.path = path,
+        match (kind, value) {
+            (DW_LNCT_path, _) => entry.path = path,
+            (DW_LNCT_directory_index, Value::Unsigned(number)) => entry.directory = number as usize,
+            (DW_LNCT_MD5, Value::Wide(sum)) => entry.md5 = Some(sum),
             _ => {}
         }
         Ok(())
@@ -279,7 +251,7 @@ impl<'a> LineSections<'a> {
         alloc: Global,
         version: u16,
         bytes: &mut &'a [u8],
-    ) -> Reading<Tables<'a>>
+    ) -> Reading<(Vec<LinePath<'a>>, Files<'a>)>
         requires { length bytes.old.now < length_end }
         ensures { GivesOrMemory (λ x. (tables_of x.0.items x.1, bytes.new.now)) result
             ((spec.tables self.now version).read bytes.old.now) }
