@@ -1,6 +1,6 @@
 -- Chapter: the directories and files of a line program (DWARF 5, 6.2.4 and 6.2.4.1; DWARF 4, 6.2.4).
 use Rattle.std.specs.Prelude.{ℕ, Bool, true, false, List, [], ◌∷◌, length, drop, Option, None, Some, nat_le, nat_lt}
-use Rattle.std.specs.Prelude.{map, ◌==◌, ◌&&◌, ◌||◌, not, if◌then◌else◌, option_map}
+use Rattle.std.specs.Prelude.{map, ◌==◌, ◌&&◌, ◌||◌, not, if◌then◌else◌, option_map, ◌^◌}
 use Rattle.std.specs.List.{list_any, before_first}
 use Rattle.dw_forms.specs.declared.form.Form.{Form}
 use Rattle.dw_forms.specs.declared.form.Form.TheVariants as form
@@ -18,7 +18,7 @@ use Rattle.dw_lines.specs.declared.program.LinePath.TheVariants as paths
 use Rattle.dw_lines.specs.declared.rule.LineRule.{LineRule}
 use Rattle.dw_lines.specs.declared.rule.LineRule.TheVariants.{LineCut, LineForm, LineString, LineDirectory, LineNumber}
 use Rattle.dw_lines.specs.declared.program.LineSections.{LineSections}
-use Rattle.dw_lines.specs.Header.{byte, number, path, length_end}
+use Rattle.dw_lines.specs.Header.{byte, number, path}
 use Rattle.dw_lines.specs.Repeats.{times, up_to_end}
 
 -- whether a number is that of a file
@@ -56,7 +56,7 @@ path_of file = file.path
 abbrev pub in_directory : ℕ → ℕ → Format ℕ LineRule
 in_directory count directory = choose (nat_lt directory count) (nothing directory) (failing LineDirectory)
 
--- ---- versions 2 to 4. A table has fewer entries than a program may have bytes
+-- ---- versions 2 to 4. A table has fewer than 2^64 entries, because bytes in memory are fewer
 
 -- a path, or an empty one, which ends a table
 abbrev pub path_or_end : Format (Option (List ℕ)) LineRule
@@ -70,12 +70,11 @@ file_or_end count = and_then path_or_end (λ o. found o (nothing None) (λ p.
 
 -- directories from 1 on; an empty path is in place of 0, which is the directory of the compilation
 abbrev pub directories4 : Format (List (List ℕ)) LineRule
-directories4 = mapped (λ paths. [] ∷ paths) (up_to_end length_end LineCut path_or_end)
+directories4 = mapped (λ paths. [] ∷ paths) (up_to_end (2 ^ 64) LineCut path_or_end)
 
 -- files from 1 on, after so many directories; an entry that is no file is in place of 0
 abbrev pub files4 : ℕ → Format (List FileAt) LineRule
-files4 count = mapped (λ files. no_file ∷ files)
-    (up_to_end length_end LineCut (file_or_end count))
+files4 count = mapped (λ files. no_file ∷ files) (up_to_end (2 ^ 64) LineCut (file_or_end count))
 
 -- ---- version 5: the formats of entries (6.2.4.1, 7.22)
 

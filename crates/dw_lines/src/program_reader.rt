@@ -5,7 +5,7 @@ ghost use Rattle.dw_forms.specs.Front.{BeginsWith, BeginsWithNone};
 ghost use Rattle.dw_forms.specs.Stops.{IfFault, GivesOrMemory};
 ghost use Rattle.dw_forms.specs.ValueReading.{Gives};
 ghost use Rattle.dw_lines.specs.Header as spec;
-ghost use Rattle.dw_lines.specs.Header.{length_end, numbers_of};
+ghost use Rattle.dw_lines.specs.Header.{numbers_of};
 ghost use Rattle.dw_lines.specs.Programs.{fields_of, header as header_format, program_alone as alone, program_view};
 ghost use Rattle.dw_lines.specs.Programs.{HeaderFields, program_from, program_end, SpellsProgram, ProgramFails};
 ghost use Rattle.dw_lines.specs.declared.program.LineSections.{LineSections as AnyLineSections};
@@ -64,8 +64,7 @@ const OPERAND_COUNTS: [u8; 12] = [0, 1, 1, 1, 1, 0, 0, 0, 1, 0, 0, 1];
 impl<'a> LineSections<'a> {
     /// The header of a program that has these bytes after its length.
     fn header(&self, alloc: Global, size: u8, bytes: &mut &'a [u8]) -> Reading<LineHeader<'a>>
-        requires size { (size ≡ 4) ⊎ (size ≡ 8) }
-        requires short { length bytes.old.now < length_end }
+        requires { (size ≡ 4) ⊎ (size ≡ 8) }
         ensures { GivesOrMemory (λ x. (fields_of x, bytes.new.now)) result
             ((header_format self.now size).read bytes.old.now) }
     {

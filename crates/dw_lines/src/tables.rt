@@ -1,13 +1,12 @@
 //! The tables of directories and files (DWARF 5, 6.2.4 and 6.2.4.1; DWARF 4, 6.2.4).
 
-ghost use Rattle.std.specs.Prelude.{◌≡◌, ◌≤◌, ◌<◌, ℕ, List, length, map, option_map, IfOk};
+ghost use Rattle.std.specs.Prelude.{◌≡◌, ◌<◌, ℕ, List, length, map, option_map, IfOk};
 ghost use Rattle.dw_elf.specs.Elf.{IsAfterLastZero};
 ghost use Rattle.dw_forms.specs.Stops.{GivesOrMemory};
 ghost use Rattle.dw_forms.specs.Value.{view};
 ghost use Rattle.dw_forms.specs.ValueReading.{Gives};
 ghost use Rattle.dw_lines.specs.Files as spec;
 ghost use Rattle.dw_lines.specs.Files.{are_contents, path_view, file_view, tables_of};
-ghost use Rattle.dw_lines.specs.Header.{length_end};
 
 use crate::bytes::{byte, unsigned};
 use crate::program::{FileEntry, Files, LinePath, LineSections};
@@ -44,28 +43,10 @@ fn path_or_end<'a>(bytes: &mut &'a [u8]) -> Result<Option<LinePath<'a>>, LineRul
     Ok((len > 0).then_some(path))
 }
 
-/// A file after so many directories, or none at the table's end.
-fn file_or_end<'a>(count: usize, bytes: &mut &'a [u8]) -> Result<Option<FileEntry<'a>>, LineRule>
-    ensures exact { Gives (λ x. (option_map file_view x, bytes.new.now)) result
-        ((spec.file_or_end count).read bytes.old.now) }
-    ensures shorter { IfOk result (λ _. length bytes.new.now < length bytes.old.now) }
-{
-    let Some(path) = path_or_end(bytes)? else {
-        return Ok(None);
-    };
-    let mut file = FileEntry { path, ..NO_FILE };
-    file.directory = in_directory(count, unsigned(LineRule::LineCut, bytes)?)?;
-    let _time = unsigned(LineRule::LineCut, bytes)?;
-    let _size = unsigned(LineRule::LineCut, bytes)?;
-    Ok(Some(file))
-}
-
 /// The directories of versions 2 to 4.
 fn directories4<'a>(alloc: Global, bytes: &mut &'a [u8]) -> Reading<Vec<LinePath<'a>>>
-    requires { length bytes.old.now < length_end }
-    ensures exact { GivesOrMemory (λ x. (map path_view x.items, bytes.new.now)) result
+    ensures { GivesOrMemory (λ x. (map path_view x.items, bytes.new.now)) result
         (spec.directories4.read bytes.old.now) }
-    ensures within { IfOk result (λ _. length bytes.new.now ≤ length bytes.old.now) }
 {
     let mut paths = Vec::new(alloc);
     paths.push(LinePath::Header(&[]))?;
@@ -77,13 +58,16 @@ fn directories4<'a>(alloc: Global, bytes: &mut &'a [u8]) -> Reading<Vec<LinePath
 
 /// The files of versions 2 to 4 after so many directories.
 fn files4<'a>(alloc: Global, count: usize, bytes: &mut &'a [u8]) -> Reading<Vec<FileEntry<'a>>>
-    requires { length bytes.old.now < length_end }
     ensures { GivesOrMemory (λ x. (map file_view x.items, bytes.new.now)) result
         ((spec.files4 count).read bytes.old.now) }
 {
     let mut files = Vec::new(alloc);
     files.push(NO_FILE)?;
-    while let Some(file) = file_or_end(count, bytes)? {
+    while let Some(path) = path_or_end(bytes)? {
+        let mut file = FileEntry { path, ..NO_FILE };
+        file.directory = in_directory(count, unsigned(LineRule::LineCut, bytes)?)?;
+        let _time = unsigned(LineRule::LineCut, bytes)?;
+        let _size = unsigned(LineRule::LineCut, bytes)?;
         files.push(file)?;
     }
     Ok(files)
@@ -252,7 +236,6 @@ impl<'a> LineSections<'a> {
         version: u16,
         bytes: &mut &'a [u8],
     ) -> Reading<(Vec<LinePath<'a>>, Files<'a>)>
-        requires { length bytes.old.now < length_end }
         ensures { GivesOrMemory (λ x. (tables_of x.0.items x.1, bytes.new.now)) result
             ((spec.tables self.now version).read bytes.old.now) }
     {

@@ -19,8 +19,12 @@ returns-in_err-len-clause-exact c =
     let e = err_from_is_err_and c.from_residual.result c.from_residual.ensures.1 in
     let none = rw c.in_err-len.ensures.ok_part at c.memchr.ensures in
     let cut = rw c.in_err-len.ensures.ok_part at c.in_err-len.ensures.value in
-    rw (e.1, e.2, text_none LineCut c.args.bytes.now.now
-    (λ j lt zero_there. none j (omega arith) lt (eq-eqb _ _ zero_there)))
+    rw (
+      e.1,
+      e.2,
+      text_none LineCut c.args.bytes.now.now
+          (λ j lt zero_there. none j (omega arith) lt (eq-eqb _ _ zero_there)),
+    )
     cc
 
 -- no path where it is empty
@@ -38,6 +42,10 @@ returns-clause-exact c =
     let first = rw c.in_ok-len.ensures.ok_part at c.memchr.ensures in
     let found : null_terminated_at LineCut bytes ≡ Ok (take len bytes, drop (suc len) bytes) =
     search (rules, text_found, eq-eqb, eqb-true) in
-    rw (take_rest bytes (len + 1), add-one, found,
-    some_path (take len bytes) _ len c.then_some.result c.then_some.ensures refl
-    (length-take-le len bytes (omega (arith, first.0.high)))) refl
+    rw (
+      take_rest bytes (len + 1),
+      add-one,
+      found,
+      some_path (take len bytes) _ len c.then_some.result c.then_some.ensures refl
+          (length-take-le len bytes (omega (arith, first.0.high))),
+    ) refl

@@ -1,19 +1,10 @@
 use Rattle.std.proofs.Common.{arith}
 use Rattle.dw_forms.specs.BaseFormats.{so_many}
 use Rattle.dw_lines.specs.Files.{tables}
-use Rattle.dw_lines.specs.Header.{version, field, parameters}
+use Rattle.dw_lines.specs.Header.{parameters}
 use Rattle.dw_lines.specs.declared.rule.LineRule.TheVariants.{LineCut}
 use Rattle.dw_lines.proofs.FormatLaws.{leaves}
 use Rattle.dw_lines.proofs.program.LineSections.header.Goals as goal
-
-pub tables-requires : goal.tables-requires
-tables-requires c = omega (
-  arith,
-  leaves (version c.args.size) _ _ _ c.in_ok-version.ensures,
-  leaves (field 4) _ _ _ c.in_ok-header_length.ensures,
-  leaves (parameters c.in_ok-version.version c.args.size) _ _ _ c.in_ok-parameters.ensures,
-  leaves (so_many LineCut _) _ _ _ c.in_ok-lengths.ensures.exact,
-)
 
 pub overflow_sub-fields : goal.overflow_sub-fields
 overflow_sub-fields c = omega (
