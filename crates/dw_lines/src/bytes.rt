@@ -17,12 +17,7 @@ pub(crate) fn block<'a>(cut: LineRule, len: u64, bytes: &mut &'a [u8]) -> Result
     ensures exact { Gives (λ x. (x.now, bytes.new.now)) result ((so_many cut len).read bytes.old.now) }
     ensures long { IfOk result (λ x. length x.now ≡ len) }
 {
-    if (bytes.len() as u64) < len {
-        return Err(cut);
-    }
-    let (front, rest) = bytes.split_at(len as usize);
-    *bytes = rest;
-    Ok(front)
+    bytes.split_off(..len as usize).ok_or(cut)
 }
 
 /// A number of so many bytes, the lowest first.
@@ -41,11 +36,7 @@ pub(crate) fn fixed(cut: LineRule, size: u8, bytes: &mut &[u8]) -> Result<u64, L
 pub(crate) fn byte(bytes: &mut &[u8]) -> Result<u8, LineRule>
     ensures { Gives (λ x. (x, bytes.new.now)) result (byte_format.read bytes.old.now) }
 {
-    let [byte, rest @ ..] = *bytes else {
-        return Err(LineRule::LineCut);
-    };
-    *bytes = rest;
-    Ok(*byte)
+    bytes.split_off_first().copied().ok_or(LineRule::LineCut)
 }
 
 /// The rule that a LEB128 number violates. By `cut` it is in a header or in an opcode.

@@ -59,10 +59,7 @@ impl<'a> LinePath<'a> {
     {
         match self {
             LinePath::Header(path) => path,
-            LinePath::Section(rest) => match memchr(0, rest) {
-                Some(len) => &rest[..len],
-                None => rest,
-            },
+            LinePath::Section(rest) => &rest[..memchr(0, rest).unwrap_or(rest.len())],
         }
     }
 }

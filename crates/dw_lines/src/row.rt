@@ -55,15 +55,13 @@ impl Row {
         requires { bytes < 2 ^ 80 }
         ensures { Changes result (moved bytes op_index self.old) self.old self.new }
     {
-        match u64::try_from(u128::from(self.address) + bytes) {
-            Ok(address) => {
-                self.address = address;
-                self.op_index = op_index;
-                Ok(())
-            }
-            Err(_) if self.address >= u64::MAX - 1 => Ok(()),
-            Err(_) => Err(LineRule::RowAddress),
+        if let Ok(address) = u64::try_from(u128::from(self.address) + bytes) {
+            self.address = address;
+            self.op_index = op_index;
+        } else if self.address < u64::MAX - 1 {
+            return Err(LineRule::RowAddress);
         }
+        Ok(())
     }
 
     /// An operation advance.
@@ -86,10 +84,7 @@ impl Row {
         ensures { Changes result (with_line lines self.old) self.old self.new }
     {
         let line = i128::from(self.line) + i128::from(lines);
-        if line < 0 || line > 0xffff_ffff {
-            return Err(LineRule::RowLine);
-        }
-        self.line = line as u32;
+        self.line = u32::try_from(line).map_err(|_| LineRule::RowLine)?;
         Ok(())
     }
 }

@@ -5,7 +5,7 @@ ghost use Rattle.dw_forms.specs.Formats.{nothing};
 ghost use Rattle.dw_forms.specs.ValueReading.{Gives};
 ghost use Rattle.dw_lines.specs.Machine.{row_turn};
 ghost use Rattle.dw_lines.specs.Opcodes.{Other, Special, count_in, counted_bytes, extended_opcode, opcode_after};
-ghost use Rattle.dw_lines.specs.Opcodes.{operands, standard_opcode};
+ghost use Rattle.dw_lines.specs.Opcodes.{operands};
 ghost use Rattle.dw_lines.specs.Rows.{Yields, program_run};
 ghost use Rattle.dw_lines.specs.Sequences.{HasFile, Ascend, AllEnd};
 ghost use Rattle.dw_lines.specs.Turns.{Runs, Turns, turn_to};
@@ -16,27 +16,19 @@ use crate::program::{LineHeader, Program};
 use crate::row::Row;
 use crate::rule::{LineFault, LineRule};
 
-/// Skips this many operands. Returns the bytes after them.
-#[cold]
-fn skip_operands(count: u8, bytes: &[u8]) -> Result<&[u8], LineRule>
-    ensures { Gives (λ x. (Other, x.now)) result ((operands count).read bytes.now) }
-{
-    let mut rest = bytes;
-    for _ in 0..count {
-        unsigned(LineRule::OpcodeCut, &mut rest)?;
-    }
-    Ok(rest)
-}
-
 /// Skips the operands of an opcode that the standard does not define. Their number is in the header's
 /// `standard_opcode_lengths`.
-#[inline(always)]
+#[cold]
 fn skip_others<'a>(lengths: &[u8], code: u8, bytes: &'a [u8]) -> Result<&'a [u8], LineRule>
     requires { 1 ≤ code }
     ensures { Gives (λ x. (Other, x.now)) result ((operands (count_in lengths.now code)).read bytes.now) }
 {
     let count = lengths.get(usize::from(code) - 1).copied().unwrap_or(0);
-    skip_operands(count, bytes)
+    let mut rest = bytes;
+    for _ in 0..count {
+        unsigned(LineRule::OpcodeCut, &mut rest)?;
+    }
+    Ok(rest)
 }
 
 /// The bytes of an extended opcode after its zero byte and its length, and the bytes after it.
@@ -149,17 +141,22 @@ impl<'a> Machine<'_, 'a> {
         Ok(false)
     }
 
-    /// Runs a standard opcode other than DW_LNS_copy after its code, which is below the opcode base (DWARF 5, 6.2.5.2).
+    /// Runs the opcode with this first byte, after which these bytes follow (DWARF 5, 6.2.5). Returns whether it appends
+    /// a row.
     #[inline(always)]
-    fn run_standard(&mut self, code: u8, bytes: &'a [u8]) -> Result<bool, LineRule>
-        requires { 2 ≤ code }
-        ensures { Runs (standard_opcode (count_in self.old.header.now.standard_opcode_lengths.now code) code)
-            bytes.now result self.old self.new }
+    fn run_next(&mut self, code: u8, bytes: &'a [u8]) -> Result<bool, LineRule>
+        ensures { Runs (opcode_after self.old.header.now code) bytes.now result self.old self.new }
     {
         let parameters = &self.header.parameters;
+        if parameters.opcode_base <= code {
+            return self.run_special(code - parameters.opcode_base, bytes);
+        }
         let row = &mut self.registers;
         let mut rest = bytes;
         match code {
+            0 => return self.run_extended(bytes),
+            // DW_LNS_copy
+            1 => return self.append(self.registers, bytes),
             // DW_LNS_advance_pc
             2 => row.advance(parameters, unsigned(LineRule::OpcodeCut, &mut rest)?)?,
             // DW_LNS_advance_line
@@ -181,10 +178,7 @@ impl<'a> Machine<'_, 'a> {
                 row.advance(parameters, u64::from(adjusted / parameters.line_range))?;
             }
             // DW_LNS_fixed_advance_pc
-            9 => {
-                let advance = fixed(LineRule::OpcodeCut, 2, &mut rest)?;
-                row.add_bytes(u128::from(advance), 0)?;
-            }
+            9 => row.add_bytes(u128::from(fixed(LineRule::OpcodeCut, 2, &mut rest)?), 0)?,
             // DW_LNS_set_prologue_end
             10 => row.prologue_end = true,
             // DW_LNS_set_epilogue_begin
@@ -196,22 +190,6 @@ impl<'a> Machine<'_, 'a> {
         }
         self.rest = rest;
         Ok(false)
-    }
-
-    /// Runs the opcode with this first byte, after which these bytes follow. Returns whether it appends a row.
-    #[inline(always)]
-    fn run_next(&mut self, code: u8, bytes: &'a [u8]) -> Result<bool, LineRule>
-        ensures { Runs (opcode_after self.old.header.now code) bytes.now result self.old self.new }
-    {
-        let base = self.header.parameters.opcode_base;
-        if base <= code {
-            return self.run_special(code - base, bytes);
-        }
-        match code {
-            0 => self.run_extended(bytes),
-            1 => self.append(self.registers, bytes),
-            _ => self.run_standard(code, bytes),
-        }
     }
 }
 

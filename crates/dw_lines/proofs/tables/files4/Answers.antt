@@ -2,7 +2,6 @@ use Rattle.std.proofs.Common.{◌^◌, arith, refl}
 use Rattle.std.proofs.lemmas.List.{map-append}
 use Rattle.std.proofs.lemmas.Result.{err_from_is_err_and}
 use Rattle.dw_forms.specs.declared.fault.Stop.TheVariants as stops
-use Rattle.dw_lines.specs.Files.{file_view}
 use Rattle.dw_lines.proofs.RepeatLaws.{goes_to_end, goes_further, goes_wrong}
 use Rattle.dw_lines.proofs.tables.files4.Goals as goal
 
@@ -30,15 +29,24 @@ pub returns-in_err-_time : goal.returns-in_err-_time
 returns-in_err-_time c =
     let e = err_from_is_err_and c.from_residual-in_err-_time.result c.from_residual-in_err-_time.ensures.1 in
     rw (e.1, e.2) (goes_wrong _ _ (stops.Fault _) _ _ _ c.loop-files.invariant
-    (rw (rw c.in-Some.is at c.in_ok-path.ensures.exact, c.in_ok-unsigned.ensures.exact, c.in_ok-file.ensures c.unsigned.new.bytes.now,
-    c.in_err-_time.ensures.exact) refl))
+    (rw (
+      rw c.in-Some.is at c.in_ok-path.ensures.exact,
+      c.in_ok-unsigned.ensures.exact,
+      c.in_ok-file.ensures c.unsigned.new.bytes.now,
+      c.in_err-_time.ensures.exact,
+    ) refl))
 
 pub returns-in_err-_size : goal.returns-in_err-_size
 returns-in_err-_size c =
     let e = err_from_is_err_and c.from_residual-in_err-_size.result c.from_residual-in_err-_size.ensures.1 in
     rw (e.1, e.2) (goes_wrong _ _ (stops.Fault _) _ _ _ c.loop-files.invariant
-    (rw (rw c.in-Some.is at c.in_ok-path.ensures.exact, c.in_ok-unsigned.ensures.exact, c.in_ok-file.ensures c.unsigned.new.bytes.now,
-    c.in_ok-_time.ensures.exact, c.in_err-_size.ensures.exact) refl))
+    (rw (
+      rw c.in-Some.is at c.in_ok-path.ensures.exact,
+      c.in_ok-unsigned.ensures.exact,
+      c.in_ok-file.ensures c.unsigned.new.bytes.now,
+      c.in_ok-_time.ensures.exact,
+      c.in_err-_size.ensures.exact,
+    ) refl))
 
 pub returns : goal.returns
 returns c = goes_to_end _ _ _ _ _ _ c.loop-files.invariant (rw (c.in_ok-path.ensures.exact, c.in_default.is) refl)
@@ -46,7 +54,17 @@ returns c = goes_to_end _ _ _ _ _ _ c.loop-files.invariant (rw (c.in_ok-path.ens
 pub loop-files-preserved : goal.loop-files-preserved
 loop-files-preserved c =
     rw (c.in_ok-push-2.ensures.items, map-append) (goes_further _ _ _ _ _ _ _ c.loop-files.invariant
-    (rw (rw c.in-Some.is at c.in_ok-path.ensures.exact, c.in_ok-unsigned.ensures.exact, c.in_ok-file.ensures c.unsigned.new.bytes.now,
-    c.in_ok-_time.ensures.exact, c.in_ok-_size.ensures.exact) refl)
-    (omega (arith, c.in_ok-path.ensures.shorter, c.in_ok-unsigned.ensures.within, c.in_ok-_time.ensures.within,
-    c.in_ok-_size.ensures.within)))
+    (rw (
+      rw c.in-Some.is at c.in_ok-path.ensures.exact,
+      c.in_ok-unsigned.ensures.exact,
+      c.in_ok-file.ensures c.unsigned.new.bytes.now,
+      c.in_ok-_time.ensures.exact,
+      c.in_ok-_size.ensures.exact,
+    ) refl)
+    (omega (
+      arith,
+      c.in_ok-path.ensures.shorter,
+      c.in_ok-unsigned.ensures.within,
+      c.in_ok-_time.ensures.within,
+      c.in_ok-_size.ensures.within,
+    )))

@@ -1,6 +1,6 @@
 use Rattle.std.proofs.Common.{◌≡◌, ◌-◌}
 use Rattle.dw_lines.specs.Opcodes.{operands}
-use Rattle.dw_lines.proofs.rows.skip_operands.Given as goal
+use Rattle.dw_lines.proofs.rows.skip_others.Given as goal
 
 abbrev pub invariant-loop : goal.invariant-loop
 invariant-loop l = (operands l.count).read l.bytes ≡ (operands (l.count - l.counter)).read l.rest
