@@ -1,6 +1,6 @@
 //! The bytes, numbers and blocks that line programs are made of. Each reader moves past what it reads.
 
-ghost use Rattle.std.specs.Prelude.{◌≡◌, ◌≤◌, length, IfOk};
+ghost use Rattle.std.specs.Prelude.{◌≡◌, ◌≤◌, length};
 ghost use Rattle.dw_forms.specs.BaseFormats.{fixed_number, so_many};
 ghost use Rattle.dw_forms.specs.ValueReading.{Gives};
 ghost use Rattle.dw_lines.specs.Header.{byte as byte_format, number_rule, number};
@@ -14,8 +14,7 @@ use dw_forms::{NumberFault, read_sleb, read_uleb};
 #[inline(always)]
 #[tactic(auto, unfolding(dw_forms::specs::BaseFormats::taken_at))]
 pub(crate) fn block<'a>(cut: LineRule, len: u64, bytes: &mut &'a [u8]) -> Result<&'a [u8], LineRule>
-    ensures exact { Gives (λ x. (x.now, bytes.new.now)) result ((so_many cut len).read bytes.old.now) }
-    ensures long { IfOk result (λ x. length x.now ≡ len) }
+    ensures { Gives (λ x. (x.now, bytes.new.now)) result ((so_many cut len).read bytes.old.now) }
 {
     bytes.split_off(..len as usize).ok_or(cut)
 }

@@ -4,8 +4,7 @@ ghost use Rattle.std.specs.Prelude.{◌≡◌, ◌≤◌, length, true, false, A
 ghost use Rattle.dw_forms.specs.Formats.{nothing};
 ghost use Rattle.dw_forms.specs.ValueReading.{Gives};
 ghost use Rattle.dw_lines.specs.Machine.{row_turn};
-ghost use Rattle.dw_lines.specs.Opcodes.{Other, Special, count_in, counted_bytes, extended_opcode, opcode_after};
-ghost use Rattle.dw_lines.specs.Opcodes.{operands};
+ghost use Rattle.dw_lines.specs.Opcodes.{Other, Special, count_in, extended_opcode, opcode_after, operands};
 ghost use Rattle.dw_lines.specs.Rows.{Yields, program_run};
 ghost use Rattle.dw_lines.specs.Sequences.{HasFile, Ascend, AllEnd};
 ghost use Rattle.dw_lines.specs.Turns.{Runs, Turns, turn_to};
@@ -29,17 +28,6 @@ fn skip_others<'a>(lengths: &[u8], code: u8, bytes: &'a [u8]) -> Result<&'a [u8]
         unsigned(LineRule::OpcodeCut, &mut rest)?;
     }
     Ok(rest)
-}
-
-/// The bytes of an extended opcode after its zero byte and its length, and the bytes after it.
-#[inline(never)]
-fn counted(bytes: &[u8]) -> Result<(&[u8], &[u8]), LineRule>
-    ensures { Gives (λ x. (x.0.now, x.1.now)) result (counted_bytes.read bytes.now) }
-{
-    let mut rest = bytes;
-    let len = unsigned(LineRule::OpcodeCut, &mut rest)?;
-    let content = block(LineRule::OpcodeCut, len, &mut rest)?;
-    Ok((content, rest))
 }
 
 /// What a machine goes on with.
@@ -111,7 +99,9 @@ impl<'a> Machine<'_, 'a> {
         ensures { Runs (extended_opcode self.old.header.now.parameters.address_size) bytes.now result
             self.old self.new }
     {
-        let (content, rest) = counted(bytes)?;
+        let mut rest = bytes;
+        let len = unsigned(LineRule::OpcodeCut, &mut rest)?;
+        let content = block(LineRule::OpcodeCut, len, &mut rest)?;
         let [code, operands @ ..] = content else {
             return Err(LineRule::ExtendedLength);
         };

@@ -10,6 +10,6 @@ pub overflow_sub-fields : goal.overflow_sub-fields
 overflow_sub-fields c = omega (
   arith,
   leaves (parameters c.in_ok-version.version c.args.size) _ _ _ c.in_ok-parameters.ensures,
-  leaves (so_many LineCut _) _ _ _ c.in_ok-lengths.ensures.exact,
+  leaves (so_many LineCut _) _ _ _ c.in_ok-lengths.ensures,
   leaves (tables c.args.self.now c.in_ok-version.version) _ _ _ c.in_ok-directories.ensures,
 )
