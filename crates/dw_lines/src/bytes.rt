@@ -1,6 +1,6 @@
 //! The bytes, numbers and blocks that line programs are made of. Each reader moves past what it reads.
 
-ghost use Rattle.std.specs.Prelude.{◌≡◌, ◌≤◌, length};
+ghost use Rattle.std.specs.Prelude.{◌≡◌, ◌≤◌};
 ghost use Rattle.dw_forms.specs.BaseFormats.{fixed_number, so_many};
 ghost use Rattle.dw_forms.specs.ValueReading.{Gives};
 ghost use Rattle.dw_lines.specs.Header.{byte as byte_format, number_rule, number};
@@ -52,8 +52,7 @@ fn number_fault(cut: LineRule, fault: NumberFault) -> LineRule
 /// An unsigned LEB128 number.
 #[inline(always)]
 pub(crate) fn unsigned(cut: LineRule, bytes: &mut &[u8]) -> Result<u64, LineRule>
-    ensures exact { Gives (λ x. (x, bytes.new.now)) result ((number cut).read bytes.old.now) }
-    ensures within { length bytes.new.now ≤ length bytes.old.now }
+    ensures { Gives (λ x. (x, bytes.new.now)) result ((number cut).read bytes.old.now) }
 {
     let (number, len) = read_uleb(bytes).map_err(|fault| number_fault(cut, fault))?;
     *bytes = &bytes[len..];

@@ -84,10 +84,7 @@ impl Row {
         ensures { Changes result (with_line lines self.old) self.old self.new }
     {
         let line = i128::from(self.line) + i128::from(lines);
-        if line < 0 || line > 0xffff_ffff {
-            return Err(LineRule::RowLine);
-        }
-        self.line = line as u32;
+        self.line = u32::try_from(line).map_err(|_| LineRule::RowLine)?;
         Ok(())
     }
 }

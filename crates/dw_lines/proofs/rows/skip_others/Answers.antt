@@ -24,7 +24,7 @@ returns-in_err-unsigned c =
 pub loop-preserved : goal.loop-preserved
 loop-preserved c =
     let left = c.unwrap_or-count.result - (c.loop.counter + 1) in
-    c.loop.invariant ∙ more_operands _ left c.loop.rest.now (omega arith) ∙ rw c.in_ok-unsigned.ensures.exact refl
+    c.loop.invariant ∙ more_operands _ left c.loop.rest.now (omega arith) ∙ rw c.in_ok-unsigned.ensures refl
 
 pub returns : goal.returns
 unfolding operands

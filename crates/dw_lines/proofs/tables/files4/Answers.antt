@@ -2,6 +2,9 @@ use Rattle.std.proofs.Common.{◌^◌, arith, refl}
 use Rattle.std.proofs.lemmas.List.{map-append}
 use Rattle.std.proofs.lemmas.Result.{err_from_is_err_and}
 use Rattle.dw_forms.specs.declared.fault.Stop.TheVariants as stops
+use Rattle.dw_lines.specs.declared.rule.LineRule.TheVariants.{LineCut}
+use Rattle.dw_lines.specs.Header.{number}
+use Rattle.dw_lines.proofs.FormatLaws.{leaves}
 use Rattle.dw_lines.proofs.RepeatLaws.{goes_to_end, goes_further, goes_wrong}
 use Rattle.dw_lines.proofs.tables.files4.Goals as goal
 
@@ -17,13 +20,18 @@ pub returns-in_err-unsigned : goal.returns-in_err-unsigned
 returns-in_err-unsigned c =
     let e = err_from_is_err_and c.from_residual-in_err-unsigned.result c.from_residual-in_err-unsigned.ensures.1 in
     rw (e.1, e.2) (goes_wrong _ _ (stops.Fault _) _ _ _ c.loop-files.invariant
-    (rw (rw c.in-Some.is at c.in_ok-path.ensures.exact, c.in_err-unsigned.ensures.exact) refl))
+    (rw (rw c.in-Some.is at c.in_ok-path.ensures.exact, c.in_err-unsigned.ensures) refl))
 
 pub returns-in_err-file : goal.returns-in_err-file
 returns-in_err-file c =
     let e = err_from_is_err_and c.from_residual-in_err-file.result c.from_residual-in_err-file.ensures.1 in
     rw (e.1, e.2) (goes_wrong _ _ (stops.Fault _) _ _ _ c.loop-files.invariant
-    (rw (rw c.in-Some.is at c.in_ok-path.ensures.exact, c.in_ok-unsigned.ensures.exact, c.in_err-file.ensures c.unsigned.new.bytes.now) refl))
+    (rw (
+      rw c.in-Some.is at c.in_ok-path.ensures.exact,
+      c.in_ok-unsigned.ensures,
+      c.in_err-file.ensures
+          c.unsigned.new.bytes.now,
+    ) refl))
 
 pub returns-in_err-_time : goal.returns-in_err-_time
 returns-in_err-_time c =
@@ -31,9 +39,9 @@ returns-in_err-_time c =
     rw (e.1, e.2) (goes_wrong _ _ (stops.Fault _) _ _ _ c.loop-files.invariant
     (rw (
       rw c.in-Some.is at c.in_ok-path.ensures.exact,
-      c.in_ok-unsigned.ensures.exact,
+      c.in_ok-unsigned.ensures,
       c.in_ok-file.ensures c.unsigned.new.bytes.now,
-      c.in_err-_time.ensures.exact,
+      c.in_err-_time.ensures,
     ) refl))
 
 pub returns-in_err-_size : goal.returns-in_err-_size
@@ -42,10 +50,10 @@ returns-in_err-_size c =
     rw (e.1, e.2) (goes_wrong _ _ (stops.Fault _) _ _ _ c.loop-files.invariant
     (rw (
       rw c.in-Some.is at c.in_ok-path.ensures.exact,
-      c.in_ok-unsigned.ensures.exact,
+      c.in_ok-unsigned.ensures,
       c.in_ok-file.ensures c.unsigned.new.bytes.now,
-      c.in_ok-_time.ensures.exact,
-      c.in_err-_size.ensures.exact,
+      c.in_ok-_time.ensures,
+      c.in_err-_size.ensures,
     ) refl))
 
 pub returns : goal.returns
@@ -56,15 +64,15 @@ loop-files-preserved c =
     rw (c.in_ok-push-2.ensures.items, map-append) (goes_further _ _ _ _ _ _ _ c.loop-files.invariant
     (rw (
       rw c.in-Some.is at c.in_ok-path.ensures.exact,
-      c.in_ok-unsigned.ensures.exact,
+      c.in_ok-unsigned.ensures,
       c.in_ok-file.ensures c.unsigned.new.bytes.now,
-      c.in_ok-_time.ensures.exact,
-      c.in_ok-_size.ensures.exact,
+      c.in_ok-_time.ensures,
+      c.in_ok-_size.ensures,
     ) refl)
     (omega (
       arith,
       c.in_ok-path.ensures.shorter,
-      c.in_ok-unsigned.ensures.within,
-      c.in_ok-_time.ensures.within,
-      c.in_ok-_size.ensures.within,
+      leaves (number LineCut) _ _ _ c.in_ok-unsigned.ensures,
+      leaves (number LineCut) _ _ _ c.in_ok-_time.ensures,
+      leaves (number LineCut) _ _ _ c.in_ok-_size.ensures,
     )))

@@ -23,14 +23,14 @@ pub returns-in_err-kind : goal.returns-in_err-kind
 returns-in_err-kind c =
     let e = err_from_is_err_and c.from_residual-in_err-kind.result c.from_residual-in_err-kind.ensures.1 in
     let failed = times_fault content_format (stops.Fault _) _ _ _ _ (omega arith) c.loop.invariant
-    (rw c.in_err-kind.ensures.exact refl) in
+    (rw c.in_err-kind.ensures refl) in
     rw (e.1, e.2, c.in_ok-end.ensures, failed) refl
 
 pub returns-in_err-unsigned : goal.returns-in_err-unsigned
 returns-in_err-unsigned c =
     let e = err_from_is_err_and c.from_residual-in_err-unsigned.result c.from_residual-in_err-unsigned.ensures.1 in
     let failed = times_fault content_format (stops.Fault _) _ _ _ _ (omega arith) c.loop.invariant
-    (rw (c.in_ok-kind.ensures.exact, c.in_err-unsigned.ensures.exact) refl) in
+    (rw (c.in_ok-kind.ensures, c.in_err-unsigned.ensures) refl) in
     rw (e.1, e.2, c.in_ok-end.ensures, failed) refl
 
 pub returns-in_err-form : goal.returns-in_err-form
@@ -41,7 +41,7 @@ returns-in_err-form c =
     let fault = rw c.in_err-form.ensures.ok_part at c.in_err-form.ensures.value in
     let same : LineForm ≡ c.in_err-form.field-0.0 = cc in
     let failed = times_fault content_format (stops.Fault _) _ _ _ _ (omega arith) c.loop.invariant
-    (rw (c.in_ok-kind.ensures.exact, c.in_ok-unsigned.ensures.exact)
+    (rw (c.in_ok-kind.ensures, c.in_ok-unsigned.ensures)
     (of_code _ _ None _ none ∙ rw same refl)) in
     rw (e.1, e.2, c.in_ok-end.ensures, failed) refl
 
@@ -51,7 +51,7 @@ loop-preserved c =
     sym (rw c.in_ok-form.ensures.ok_part at c.from_code.ensures) in
     rw c.in_ok-push.ensures.items
     (times_more _ _ _ _ _ _ _ _ (omega arith) c.loop.invariant
-    (rw (c.in_ok-kind.ensures.exact, c.in_ok-unsigned.ensures.exact)
+    (rw (c.in_ok-kind.ensures, c.in_ok-unsigned.ensures)
     (of_code _ _ (Some c.in_ok-form.form) _ some)))
 
 pub returns-then-not-are_valid : goal.returns-then-not-are_valid
