@@ -186,12 +186,10 @@ impl<'a> LineSections<'a> {
             ((spec.entry self.now contents.now).read bytes.old.now) }
     {
         let mut entry = NO_FILE;
-        let mut left = contents;
-        while let [content, others @ ..] = left {
+        for content in contents {
             let (value, len) = read_value(5, content.form, 8, bytes)?;
             *bytes = &bytes[len..];
             self.add(content.kind, value, &mut entry)?;
-            left = others;
         }
         Ok(entry)
     }
