@@ -131,8 +131,8 @@ impl<'a> Machine<'_, 'a> {
         Ok(false)
     }
 
-    /// Runs the opcode with this first byte, after which these bytes follow (DWARF 5, 6.2.5). Returns whether it appends
-    /// a row.
+    /// Runs the opcode with this first byte, after which these bytes follow (DWARF 5, 6.2.5). Returns whether it
+    /// appends a row.
     #[inline(always)]
     fn run_next(&mut self, code: u8, bytes: &'a [u8]) -> Result<bool, LineRule>
         ensures { Runs (opcode_after self.old.header.now code) bytes.now result self.old self.new }
