@@ -6,9 +6,10 @@ use Rattle.std.proofs.Common.{drop_at, take-append-drop, length-take, length-app
 use Rattle.byteorder.specs.Endian.{little_number}
 use Rattle.std.proofs.lemmas.Bool.{lt-ltb, le-ltb, cases_lt}
 use Rattle.std.proofs.lemmas.List.Elements.{All-nil, All-cons, All-head, All-tail}
-use Rattle.dw_forms.specs.Formats.{Format, format_of, mapped}
+use Rattle.dw_forms.specs.Formats.{Format, format_of, mapped, renamed}
 use Rattle.dw_forms.specs.Front.{Takes}
 use Rattle.dw_forms.specs.LebLaws.{leb, unsigned, signed, NumberFault}
+use Rattle.dw_forms.specs.declared.leb.NumberFault.TheVariants as faults
 use Rattle.dw_forms.specs.Readers.{HasFront}
 use Rattle.dw_forms.specs.Steps.{◌>>=◌}
 
@@ -169,3 +170,16 @@ uleb = leb unsigned
 -- a signed LEB128 number
 abbrev pub sleb : Format ℤ NumberFault
 sleb = leb signed
+
+-- the fault of a number that the bytes end in, or that has more than 10 bytes or more than 64 bits
+abbrev pub number_fault : {E : Type 0} → E → E → NumberFault → E
+number_fault cut long faults.Cut = cut
+number_fault cut long faults.BadNumber = long
+
+-- an unsigned LEB128 number, or one of these faults
+abbrev pub uleb_or : {E : Type 0} → E → E → Format ℕ E
+uleb_or cut long = renamed (λ bytes. number_fault cut long) uleb
+
+-- a signed LEB128 number, or one of these faults
+abbrev pub sleb_or : {E : Type 0} → E → E → Format ℤ E
+sleb_or cut long = renamed (λ bytes. number_fault cut long) sleb

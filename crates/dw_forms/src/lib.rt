@@ -24,6 +24,7 @@ mod leading_steps;
 mod leb;
 mod list_reader;
 mod offsets;
+mod reader;
 mod rule;
 mod shared_ends;
 mod value;
@@ -47,6 +48,7 @@ pub use laws::{
 pub use layout_reader::read_offset;
 pub use leading_steps::{Lead, Step};
 pub use leb::{NumberFault, read_sleb, read_uleb};
+pub use reader::{take_byte, take_bytes, take_number, take_offset, take_sleb, take_uleb};
 pub use rule::Rule;
 pub use value::{Value, ValueFault};
 pub use value_reader::{read_value, skip_value};
