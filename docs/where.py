@@ -56,15 +56,16 @@ def about(function):
 
 
 def of_rule(rule):
-    """What is known of a rule. The functions are those that name it."""
+    """What is known of a rule. The functions are those that name it, by itself where it is imported."""
     yield f"{rule.code} {rule.name}: {rule.sentence}"
     enum = next(enum for enum, (_, letters, _) in RULES["ENUMS"].items() if rule.letter in letters.split())
     yield "definition:"
     yield from (f"  {line}" for line in lines_with(rule.name, "crates/*/specs/*.antt"))
     yield "check:"
+    named = re.compile(rf"(?:(?<!\w){enum}::|(?<![\w:.])){rule.name}(?!\w)")
     for crate in crates():
         for function in crate.functions:
-            if f"{enum}::{rule.name}" in function.text and not function.place.startswith(tuple(TEXTS)):
+            if named.search(function.text) and not function.place.startswith(tuple(TEXTS)):
                 yield from (f"  {line}" for line in about(function))
     yield "rows:"
     yield from (f"  {row}" for row in rows(rule))

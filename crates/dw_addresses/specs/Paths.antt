@@ -28,7 +28,7 @@ joined directory part =
 
 -- the path of a directory by its number, which is empty where there is no such directory
 abbrev pub directory_path : Tables → ℕ → List ℕ
-directory_path tables number = slice_index_or tables.directories number []
+directory_path tables number = (slice_index_or tables.directories number no_file).path
 
 -- the directory of the compilation: from version 5 on directory 0, before it the one that the unit names
 abbrev pub compilation_directory : HeaderFields → List ℕ → List ℕ

@@ -51,7 +51,7 @@ fn directory<'h>(header: &'h LineHeader<'_>, number: usize) -> &'h [u8]
     ensures { result.now ≡ directory_path (fields_of header.now).tables number }
 {
     match header.directories.get(number) {
-        Some(path) => path.bytes(),
+        Some(entry) => entry.path.bytes(),
         None => &[],
     }
 }

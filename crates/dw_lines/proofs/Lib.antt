@@ -1,5 +1,6 @@
 pub mod RepeatLaws
 pub mod FormatLaws
+mod HeaderSteps
 pub mod StringLaws
 mod OpcodeSteps
 mod RunSteps

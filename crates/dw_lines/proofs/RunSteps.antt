@@ -14,7 +14,7 @@ use Rattle.dw_lines.specs.Opcodes.{Opcode, opcode, opcode_after}
 use Rattle.dw_lines.specs.Rows.{Run, failed, with_row, at_end, turn_at, after_turn, run_of, run}
 use Rattle.dw_lines.specs.Sequences.{HasFile}
 use Rattle.dw_lines.specs.Turns.{Turns}
-use Rattle.dw_lines.specs.declared.rows.Machine.{Machine}
+use Rattle.dw_lines.specs.declared.rows.Rows.{Rows}
 use Rattle.dw_lines.specs.declared.rule.LineFault.{LineFault}
 use Rattle.dw_lines.specs.declared.program.LineHeader.{LineHeader}
 use Rattle.dw_lines.specs.declared.row.Row.{Row}
@@ -142,12 +142,3 @@ module _ (h : LineHeader) (end : ℕ) where
       run_on t e o row =
           rw parts (run_next registers last code bytes ∙ rw e refl)
           ∙ ap (λ (r : Option Row). with_row r (run h end t.registers t.last t.rest)) row
-
-      -- no opcode is added
-      pub rest_within : (result : Result Bool LineRule) (old new : Machine) → old.rest.now ≡ whole
-          → Turns result (then_turn (opcode_after h code) h last registers bytes) old new
-          → length new.rest.now ≤ length whole
-      rest_within (Ok true) old new same t = let short = rest_shorter _ t.0 in omega arith
-      rest_within (Ok false) old new same t = let short = rest_shorter _ t.0 in omega arith
-      rest_within (Err rule) old new same t =
-          omega (arith, ap (λ (m : Machine). length m.rest.now) t.1, ap length same)

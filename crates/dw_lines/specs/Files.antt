@@ -48,10 +48,6 @@ file_view file = record {
   md5 = option_map (λ sum. sum.now) file.md5;
 }
 
--- the path of an entry
-abbrev pub path_of : FileAt → List ℕ
-path_of file = file.path
-
 -- a directory that is one of so many
 abbrev pub in_directory : ℕ → ℕ → Format ℕ LineRule
 in_directory count directory = choose (nat_lt directory count) (nothing directory) (failing LineDirectory)
@@ -62,19 +58,18 @@ in_directory count directory = choose (nat_lt directory count) (nothing director
 abbrev pub path_or_end : Format (Option (List ℕ)) LineRule
 path_or_end = mapped (λ p. if length p == 0 then None else Some p) path
 
--- a path, its directory, a time and a size; or the end. There are so many directories
-abbrev pub file_or_end : ℕ → Format (Option FileAt) LineRule
-file_or_end count = and_then path_or_end (λ o. found o (nothing None) (λ p.
-    and_then (number LineCut) (λ n. and_then (in_directory count n) (λ directory. and_then (number LineCut) (λ time.
-    mapped (λ size. Some (record { path = p; directory = directory; md5 = None })) (number LineCut))))))
+-- an entry, or the end. A file has a directory, which is one of so many, a time and a size after its path; in the table
+-- of directories there is a path alone
+abbrev pub entry_or_end : Option ℕ → Format (Option FileAt) LineRule
+entry_or_end directories = and_then path_or_end (λ o. found o (nothing None) (λ p.
+    found directories (nothing (Some (record no_file { path = p }))) (λ count.
+    and_then number (λ n. and_then (in_directory count n) (λ directory. and_then number (λ time.
+    mapped (λ size. Some (record no_file { path = p; directory = directory })) number))))))
 
--- directories from 1 on; an empty path is in place of 0, which is the directory of the compilation
-abbrev pub directories4 : Format (List (List ℕ)) LineRule
-directories4 = mapped (λ paths. [] ∷ paths) (up_to_end (2 ^ 64) LineCut path_or_end)
-
--- files from 1 on, after so many directories; an entry that is no file is in place of 0
-abbrev pub files4 : ℕ → Format (List FileAt) LineRule
-files4 count = mapped (λ files. no_file ∷ files) (up_to_end (2 ^ 64) LineCut (file_or_end count))
+-- the entries of a table from 1 on; an entry that is no file is in place of 0, which for directories is that of the
+-- compilation
+abbrev pub entries4 : Option ℕ → Format (List FileAt) LineRule
+entries4 directories = mapped (λ entries. no_file ∷ entries) (up_to_end (2 ^ 64) LineCut (entry_or_end directories))
 
 -- ---- version 5: the formats of entries (6.2.4.1, 7.22)
 
@@ -156,7 +151,7 @@ are_contents (c ∷ others) = may_have c.kind c.form && not (has_kind c.kind oth
 
 -- a content and its form
 abbrev pub content_format : Format Content LineRule
-content_format = and_then (number LineCut) (λ kind. and_then (number LineCut) (λ code.
+content_format = and_then (number) (λ kind. and_then (number) (λ code.
     found (form_of code) (failing LineForm) (λ f. nothing (record { kind = kind; form = f }))))
 
 -- the format of the entries of a table
@@ -166,7 +161,7 @@ entry_format = tested are_contents LineForm (and_then byte (λ count. times coun
 -- the format of entries, and how many there are; without a path there is none
 abbrev pub table_head : Format (List Content × ℕ) LineRule
 table_head = tested (λ h. has_kind DW_LNCT_path h.0 || h.1 == 0) LineForm (
-    and_then entry_format (λ contents. mapped (λ count. (contents, count)) (number LineCut)))
+    and_then entry_format (λ contents. mapped (λ count. (contents, count)) (number)))
 
 -- ---- version 5: entries
 
@@ -206,51 +201,40 @@ entry_from sections (c ∷ others) e = and_then (renamed (λ bytes. value_rule_o
 abbrev pub entry : LineSections → List Content → Format FileAt LineRule
 entry sections contents = entry_from sections contents no_file
 
--- a file, after so many directories
-abbrev pub file_entry : LineSections → List Content → ℕ → Format FileAt LineRule
-file_entry sections contents count = and_then (entry sections contents) (λ e.
-    mapped (λ directory. e) (in_directory count e.directory))
+-- an entry of a table: that of a file is in one of so many directories
+abbrev pub table_entry : LineSections → List Content → Option ℕ → Format FileAt LineRule
+table_entry sections contents directories = and_then (entry sections contents) (λ e.
+    found directories (nothing e) (λ count. mapped (λ directory. e) (in_directory count e.directory)))
 
--- the table of directories
-abbrev pub directories5 : LineSections → Format (List (List ℕ)) LineRule
-directories5 sections = and_then table_head (λ h. times h.1 (mapped path_of (entry sections h.0)))
-
--- the table of files, after so many directories
-abbrev pub files5 : LineSections → ℕ → Format (List FileAt) LineRule
-files5 sections count = and_then table_head (λ h. times h.1 (file_entry sections h.0 count))
+-- the entries of a table from 0 on
+abbrev pub entries5 : LineSections → Option ℕ → Format (List FileAt) LineRule
+entries5 sections directories = and_then table_head (λ h. times h.1 (table_entry sections h.0 directories))
 
 -- ---- both
 
+-- the entries of a table of a version: of directories, or of files after so many directories
+abbrev pub entries : LineSections → ℕ → Option ℕ → Format (List FileAt) LineRule
+entries sections version directories =
+    choose (nat_lt version 5) (entries4 directories) (entries5 sections directories)
+
 -- directories and files, and the least number of a file: 1 before version 5, 0 from there on
 pub record Tables : Type 0 where
-  pub directories : List (List ℕ)
+  pub directories : List FileAt
   pub files : List FileAt
   pub first_file : ℕ
 
 -- the same of tables that were read
-abbrev pub tables_of : List LinePath → Files → Tables
+abbrev pub tables_of : List FileEntry → Files → Tables
 tables_of directories files = record {
-  directories = map path_view directories;
+  directories = map file_view directories;
   files = map file_view files.entries.items;
   first_file = files.first;
 }
 
--- the tables of versions 2 to 4
-abbrev pub tables4 : Format Tables LineRule
-tables4 = and_then directories4 (λ directories. mapped (λ files. record {
-  directories = directories;
-  files = files;
-  first_file = 1;
-}) (files4 (length directories)))
-
--- the tables of version 5
-abbrev pub tables5 : LineSections → Format Tables LineRule
-tables5 sections = and_then (directories5 sections) (λ directories. mapped (λ files. record {
-  directories = directories;
-  files = files;
-  first_file = 0;
-}) (files5 sections (length directories)))
-
 -- the tables of a version
 abbrev pub tables : LineSections → ℕ → Format Tables LineRule
-tables sections version = choose (nat_lt version 5) tables4 (tables5 sections)
+tables sections version = and_then (entries sections version None) (λ directories. mapped (λ files. record {
+  directories = directories;
+  files = files;
+  first_file = if nat_lt version 5 then 1 else 0;
+}) (entries sections version (Some (length directories))))

@@ -2,21 +2,12 @@
 use Rattle.std.specs.Prelude.{ℕ, ◌-◌, Bool, ℤ, List, [], ◌∷◌, nat_lt, nat_le, ◌==◌, ◌&&◌, ◌||◌, take}
 use Rattle.std.specs.Int.{cast_signed, w8}
 use Rattle.std.specs.List.{starts_with}
-use Rattle.dw_forms.specs.BaseFormats.{byte as any_byte, so_many, fixed_number, uleb, zero_ended}
-use Rattle.dw_forms.specs.Formats.{Format, and_then, nothing, failing, choose, tested, renamed}
-use Rattle.dw_forms.specs.declared.leb.NumberFault.{NumberFault}
-use Rattle.dw_forms.specs.declared.leb.NumberFault.TheVariants as faults
+use Rattle.dw_forms.specs.BaseFormats.{byte as any_byte, so_many, fixed_number, uleb_or, zero_ended}
+use Rattle.dw_forms.specs.Formats.{Format, and_then, nothing, failing, choose, tested}
 use Rattle.dw_lines.specs.declared.program.Parameters.{Parameters}
 use Rattle.dw_lines.specs.declared.rule.LineRule.{LineRule}
-use Rattle.dw_lines.specs.declared.rule.LineRule.TheVariants.{LineCut, LineNumber, Line64, LineVersion, OpcodeNumber}
+use Rattle.dw_lines.specs.declared.rule.LineRule.TheVariants.{LineCut, LineNumber, Line64, LineVersion}
 use Rattle.dw_lines.specs.declared.rule.LineRule.TheVariants.{LineAddressSize, LineParameter, OpcodeLength}
-
--- the rule that a LEB128 number violates. One that the bytes end in violates the first, which says where numbers are:
--- in a header or in an opcode
-abbrev pub number_rule : LineRule → NumberFault → LineRule
-number_rule cut faults.Cut = cut
-number_rule LineCut faults.BadNumber = LineNumber
-number_rule cut faults.BadNumber = OpcodeNumber
 
 -- a field of so many bytes, the lowest first
 abbrev pub field : ℕ → Format ℕ LineRule
@@ -27,8 +18,8 @@ abbrev pub byte : Format ℕ LineRule
 byte = any_byte LineCut
 
 -- an unsigned LEB128 number
-abbrev pub number : LineRule → Format ℕ LineRule
-number cut = renamed (λ bytes. number_rule cut) uleb
+abbrev pub number : Format ℕ LineRule
+number = uleb_or LineCut LineNumber
 
 -- a path up to a zero byte
 abbrev pub path : Format (List ℕ) LineRule

@@ -1,11 +1,10 @@
 -- Chapter: the opcodes of a line program (DWARF 5, 6.2.5 and 7.22): which bytes spell which opcode.
 use Rattle.std.specs.Prelude.{ℕ, zero, suc, List, [], ◌∷◌, length, ◌==◌, nat_le, slice_get, unwrap_or, ◌-◌, ℤ}
-use Rattle.dw_forms.specs.BaseFormats.{byte, so_many, fixed_number, sleb}
-use Rattle.dw_forms.specs.Formats.{Format, and_then, nothing, failing, mapped, inside, choose, tested, renamed}
+use Rattle.dw_forms.specs.BaseFormats.{byte, so_many, fixed_number, sleb_or, uleb_or}
+use Rattle.dw_forms.specs.Formats.{Format, and_then, nothing, failing, mapped, inside, choose, tested}
 use Rattle.dw_lines.specs.declared.program.LineHeader.{LineHeader}
 use Rattle.dw_lines.specs.declared.rule.LineRule.{LineRule}
-use Rattle.dw_lines.specs.declared.rule.LineRule.TheVariants.{OpcodeCut, ExtendedLength}
-use Rattle.dw_lines.specs.Header.{number, number_rule}
+use Rattle.dw_lines.specs.declared.rule.LineRule.TheVariants.{OpcodeCut, OpcodeNumber, ExtendedLength}
 
 -- an opcode with its operands: a special one by its code less the opcode base (6.2.5.1), the standard ones (6.2.5.2),
 -- the extended ones (6.2.5.3), and one that this version of the standard does not define, which does nothing
@@ -30,11 +29,11 @@ pub data Opcode : Type 0 where
 
 -- an unsigned operand
 abbrev pub operand : Format ℕ LineRule
-operand = number OpcodeCut
+operand = uleb_or OpcodeCut OpcodeNumber
 
 -- a signed operand
 abbrev pub signed_operand : Format ℤ LineRule
-signed_operand = renamed (λ bytes. number_rule OpcodeCut) sleb
+signed_operand = sleb_or OpcodeCut OpcodeNumber
 
 -- an opcode that does nothing, with so many operands
 unfoldable pub operands : ℕ → Format Opcode LineRule
@@ -52,7 +51,7 @@ extended_of address_size [] = failing ExtendedLength
 extended_of address_size (code ∷ bytes) =
     choose (code == 1) (whole bytes (nothing EndSequence)) (
     choose (code == 2) (whole bytes (mapped SetAddress (fixed_number ExtendedLength address_size))) (
-    choose (code == 4) (whole bytes (mapped SetDiscriminator (number ExtendedLength))) (nothing Other)))
+    choose (code == 4) (whole bytes (mapped SetDiscriminator (uleb_or ExtendedLength OpcodeNumber))) (nothing Other)))
 
 -- a length, and so many bytes
 abbrev pub counted_bytes : Format (List ℕ) LineRule

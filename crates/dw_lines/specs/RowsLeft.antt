@@ -4,4 +4,4 @@ use Rattle.dw_lines.specs.declared.rows.Rows.{Rows}
 
 -- the run of a program from its next opcode
 abbrev pub run_left : Rows → Run
-run_left r = run r.machine.header.now r.end r.machine.registers r.machine.last r.machine.rest.now
+run_left r = run r.header.now r.end r.registers r.last r.rest.now

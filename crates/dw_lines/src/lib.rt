@@ -1,7 +1,6 @@
 //! Line programs (DWARF 5, 6.2; DWARF 4, 6.2): their headers, the files that they name, and the rows that they make.
 #![tactic(auto)]
 
-mod bytes;
 mod program;
 mod program_reader;
 mod row;

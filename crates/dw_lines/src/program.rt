@@ -64,7 +64,7 @@ impl<'a> LinePath<'a> {
     }
 }
 
-/// A file: its path, the number of its directory, and its MD5 sum.
+/// A file or a directory: its path, the number of a file's directory, and its MD5 sum.
 #[derive(Clone, Copy, Debug)]
 pub struct FileEntry<'a> {
     pub path: LinePath<'a>,
@@ -121,9 +121,9 @@ pub struct LineHeader<'a> {
     pub parameters: Parameters,
     /// How many operands each opcode below opcode_base has, from 1 on.
     pub standard_opcode_lengths: &'a [u8],
-    /// The paths of the directories by number. Number 0 is the directory of the compilation: before version 5 the unit
-    /// names it, and its path is empty here.
-    pub directories: Vec<LinePath<'a>>,
+    /// The directories by number. Number 0 is the directory of the compilation: before version 5 the unit names it, and
+    /// its path is empty here.
+    pub directories: Vec<FileEntry<'a>>,
     pub files: Files<'a>,
 }
 

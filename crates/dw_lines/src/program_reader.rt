@@ -5,16 +5,15 @@ ghost use Rattle.dw_forms.specs.Front.{BeginsWith, BeginsWithNone};
 ghost use Rattle.dw_forms.specs.Stops.{IfFault, GivesOrMemory};
 ghost use Rattle.dw_forms.specs.ValueReading.{Gives};
 ghost use Rattle.dw_lines.specs.Header as spec;
-ghost use Rattle.dw_lines.specs.Header.{numbers_of};
 ghost use Rattle.dw_lines.specs.Programs.{fields_of, header as header_format, program_alone as alone, program_view};
 ghost use Rattle.dw_lines.specs.Programs.{HeaderFields, program_from, program_end, SpellsProgram, ProgramFails};
 ghost use Rattle.dw_lines.specs.declared.program.LineSections.{LineSections as AnyLineSections};
 ghost use Rattle.dw_lines.specs.declared.rule.LineFault.{LineFault as AnyLineFault};
 
-use crate::bytes::{block, byte, fixed};
-use crate::program::{LineHeader, LineSections, Parameters, Program};
+use crate::program::{Files, LineHeader, LineSections, Parameters, Program};
+use crate::rule::LineRule::LineCut;
 use crate::rule::{LineFault, LineRule, Reading};
-use dw_forms::Stop;
+use dw_forms::{Stop, take_byte, take_bytes, take_number};
 use std::alloc::Global;
 
 /// The version. After it, only headers of version 5 have address_size, which is that of the unit, and
@@ -22,11 +21,11 @@ use std::alloc::Global;
 fn version(size: u8, bytes: &mut &[u8]) -> Result<u16, LineRule>
     ensures { Gives (λ x. (x, bytes.new.now)) result ((spec.version size).read bytes.old.now) }
 {
-    let version = fixed(LineRule::LineCut, 2, bytes)?;
+    let version = take_number(LineCut, 2, bytes)?;
     if version < 2 || version > 5 {
         return Err(LineRule::LineVersion);
     }
-    if version == 5 && (byte(bytes)?, byte(bytes)?) != (size, 0) {
+    if version == 5 && (take_byte(LineCut, bytes)?, take_byte(LineCut, bytes)?) != (size, 0) {
         return Err(LineRule::LineAddressSize);
     }
     Ok(version as u16)
@@ -35,14 +34,17 @@ fn version(size: u8, bytes: &mut &[u8]) -> Result<u16, LineRule>
 /// The fields that say what opcodes mean.
 fn parameters(version: u16, size: u8, bytes: &mut &[u8]) -> Result<Parameters, LineRule>
     requires { (size ≡ 4) ⊎ (size ≡ 8) }
-    ensures { Gives (λ x. (numbers_of x, bytes.new.now)) result ((spec.parameters version size).read bytes.old.now) }
+    ensures { Gives (λ x. (spec.numbers_of x, bytes.new.now)) result ((spec.parameters version size).read bytes.old.now) }
 {
-    let minimum_instruction_length = byte(bytes)?;
-    let maximum_operations_per_instruction = if version < 4 { 1 } else { byte(bytes)? };
-    let default_is_stmt = byte(bytes)?;
-    let line_base = byte(bytes)?.cast_signed();
-    let line_range = byte(bytes)?;
-    let opcode_base = byte(bytes)?;
+    let minimum_instruction_length = take_byte(LineCut, bytes)?;
+    let maximum_operations_per_instruction = match version {
+        0..4 => 1,
+        _ => take_byte(LineCut, bytes)?,
+    };
+    let default_is_stmt = take_byte(LineCut, bytes)?;
+    let line_base = take_byte(LineCut, bytes)?.cast_signed();
+    let line_range = take_byte(LineCut, bytes)?;
+    let opcode_base = take_byte(LineCut, bytes)?;
     let zero = maximum_operations_per_instruction == 0 || line_range == 0 || opcode_base == 0;
     if zero || 1 < default_is_stmt {
         return Err(LineRule::LineParameter);
@@ -69,15 +71,17 @@ impl<'a> LineSections<'a> {
             ((header_format self.now size).read bytes.old.now) }
     {
         let version = version(size, bytes)?;
-        let header_length = fixed(LineRule::LineCut, 4, bytes)?;
+        let header_length = take_number(LineCut, 4, bytes)?;
         let fields = *bytes;
         let parameters = parameters(version, size, bytes)?;
         let count = parameters.opcode_base - 1;
-        let lengths = block(LineRule::LineCut, u64::from(count), bytes)?;
+        let lengths = take_bytes(LineCut, u64::from(count), bytes)?;
         if !OPERAND_COUNTS.starts_with(&lengths[..12_usize.min(lengths.len())]) {
             return Err(Stop::Fault(LineRule::OpcodeLength));
         }
-        let (directories, files) = self.tables(alloc, version, bytes)?;
+        let directories = self.entries(alloc, version, None, bytes)?;
+        let entries = self.entries(alloc, version, Some(directories.len()), bytes)?;
+        let first = u8::from(version < 5);
         if (fields.len() - bytes.len()) as u64 != header_length {
             return Err(Stop::Fault(LineRule::LineHeaderLength));
         }
@@ -86,7 +90,7 @@ impl<'a> LineSections<'a> {
             parameters,
             standard_opcode_lengths: lengths,
             directories,
-            files,
+            files: Files { entries, first },
         })
     }
 
@@ -103,11 +107,11 @@ impl<'a> LineSections<'a> {
             return Err(Stop::Fault(LineRule::LineOffset));
         }
         let mut bytes = &self.line[offset..];
-        let len = fixed(LineRule::LineCut, 4, &mut bytes)?;
+        let len = take_number(LineCut, 4, &mut bytes)?;
         if len >= 0xfffffff0 {
             return Err(Stop::Fault(LineRule::Line64));
         }
-        let content = block(LineRule::LineCut, len, &mut bytes)?;
+        let content = take_bytes(LineCut, len, &mut bytes)?;
         let mut opcodes = content;
         let header = self.header(alloc, size, &mut opcodes)?;
         let opcodes_at = offset + 4 + (content.len() - opcodes.len());

@@ -1,19 +1,19 @@
 //! The rows of a line program, one after another, and the machine that makes them (DWARF 5, 6.2.2).
 
-ghost use Rattle.std.specs.Prelude.{◌≡◌, ◌≤◌, length, true, false, All, None, Some};
+ghost use Rattle.std.specs.Prelude.{◌≡◌, ◌≤◌, true, false, All, None, Some};
 ghost use Rattle.dw_forms.specs.Formats.{nothing};
 ghost use Rattle.dw_forms.specs.ValueReading.{Gives};
 ghost use Rattle.dw_lines.specs.Machine.{row_turn};
 ghost use Rattle.dw_lines.specs.Opcodes.{Other, Special, count_in, extended_opcode, opcode_after, operands};
 ghost use Rattle.dw_lines.specs.Rows.{Yields, program_run};
 ghost use Rattle.dw_lines.specs.Sequences.{HasFile, Ascend, AllEnd};
-ghost use Rattle.dw_lines.specs.Turns.{Runs, Turns, turn_to};
 ghost use Rattle.dw_lines.specs.declared.program.Program.{Program as AnyProgram};
 
-use crate::bytes::{block, fixed, signed, unsigned};
 use crate::program::{LineHeader, Program};
 use crate::row::Row;
+use crate::rule::LineRule::{ExtendedLength, OpcodeCut, OpcodeNumber};
 use crate::rule::{LineFault, LineRule};
+use dw_forms::{take_bytes, take_number, take_sleb, take_uleb};
 
 /// Skips the operands of an opcode that the standard does not define. Their number is in the header's
 /// `standard_opcode_lengths`.
@@ -22,17 +22,16 @@ fn skip_others<'a>(lengths: &[u8], code: u8, bytes: &'a [u8]) -> Result<&'a [u8]
     requires { 1 ≤ code }
     ensures { Gives (λ x. (Other, x.now)) result ((operands (count_in lengths.now code)).read bytes.now) }
 {
-    let count = lengths.get(usize::from(code) - 1).copied().unwrap_or(0);
     let mut rest = bytes;
-    for _ in 0..count {
-        unsigned(LineRule::OpcodeCut, &mut rest)?;
+    for _ in 0..lengths.get(usize::from(code) - 1).copied().unwrap_or(0) {
+        take_uleb(OpcodeCut, OpcodeNumber, &mut rest)?;
     }
     Ok(rest)
 }
 
-/// What a machine goes on with.
+/// The rows of a line program that are left. It runs the program opcode by opcode and allocates nothing.
 #[derive(Drop)]
-pub(crate) struct Machine<'p, 'a> {
+pub struct Rows<'p, 'a> {
     pub(crate) header: &'p LineHeader<'a>,
     /// After an opcode that appends a row they are that row, until it is taken.
     pub(crate) registers: Row,
@@ -40,9 +39,14 @@ pub(crate) struct Machine<'p, 'a> {
     pub(crate) last: Option<u64>,
     /// The opcodes that are left.
     pub(crate) rest: &'a [u8],
+    /// The offset of the program's end in `.debug_line`.
+    pub(crate) end: usize,
 }
 
-impl<'a> Machine<'_, 'a> {
+impl<'a> Rows<'_, 'a> {
+    ghost use Rattle.dw_lines.specs.RowsLeft.{run_left};
+    ghost use Rattle.dw_lines.specs.Turns.{Runs, Turns, turn_to};
+
     /// Appends a row, after which these opcodes are left.
     #[inline(always)]
     fn append(&mut self, row: Row, rest: &'a [u8]) -> Result<bool, LineRule>
@@ -64,6 +68,7 @@ impl<'a> Machine<'_, 'a> {
     fn take_row(&mut self) -> Row
         ensures row { turn_to true self.old ≡ record (turn_to false self.new) { row = Some result } }
         ensures header { self.new.header ≡ self.old.header }
+        ensures end { self.new.end ≡ self.old.end }
     {
         let row = self.registers;
         if row.end_sequence {
@@ -100,10 +105,10 @@ impl<'a> Machine<'_, 'a> {
             self.old self.new }
     {
         let mut rest = bytes;
-        let len = unsigned(LineRule::OpcodeCut, &mut rest)?;
-        let content = block(LineRule::OpcodeCut, len, &mut rest)?;
+        let len = take_uleb(OpcodeCut, OpcodeNumber, &mut rest)?;
+        let content = take_bytes(OpcodeCut, len, &mut rest)?;
         let [code, operands @ ..] = content else {
-            return Err(LineRule::ExtendedLength);
+            return Err(ExtendedLength);
         };
         let mut left = operands;
         let mut row = self.registers;
@@ -113,15 +118,15 @@ impl<'a> Machine<'_, 'a> {
             // DW_LNE_set_address
             2 => {
                 let size = self.header.parameters.address_size;
-                row.address = fixed(LineRule::ExtendedLength, size, &mut left)?;
+                row.address = take_number(ExtendedLength, size, &mut left)?;
                 row.op_index = 0;
             }
             // DW_LNE_set_discriminator
-            4 => row.discriminator = unsigned(LineRule::ExtendedLength, &mut left)?,
+            4 => row.discriminator = take_uleb(ExtendedLength, OpcodeNumber, &mut left)?,
             _ => left = &[],
         }
         if !left.is_empty() {
-            return Err(LineRule::ExtendedLength);
+            return Err(ExtendedLength);
         }
         if *code == 1 {
             return self.append(row, rest);
@@ -148,14 +153,14 @@ impl<'a> Machine<'_, 'a> {
             // DW_LNS_copy
             1 => return self.append(self.registers, bytes),
             // DW_LNS_advance_pc
-            2 => row.advance(parameters, unsigned(LineRule::OpcodeCut, &mut rest)?)?,
+            2 => row.advance(parameters, take_uleb(OpcodeCut, OpcodeNumber, &mut rest)?)?,
             // DW_LNS_advance_line
-            3 => row.add_lines(signed(&mut rest)?)?,
+            3 => row.add_lines(take_sleb(OpcodeCut, OpcodeNumber, &mut rest)?)?,
             // DW_LNS_set_file
-            4 => row.file = unsigned(LineRule::OpcodeCut, &mut rest)?,
+            4 => row.file = take_uleb(OpcodeCut, OpcodeNumber, &mut rest)?,
             // DW_LNS_set_column
             5 => {
-                let column = unsigned(LineRule::OpcodeCut, &mut rest)?;
+                let column = take_uleb(OpcodeCut, OpcodeNumber, &mut rest)?;
                 row.column = u32::try_from(column).map_err(|_| LineRule::RowLine)?;
             }
             // DW_LNS_negate_stmt
@@ -168,32 +173,19 @@ impl<'a> Machine<'_, 'a> {
                 row.advance(parameters, u64::from(adjusted / parameters.line_range))?;
             }
             // DW_LNS_fixed_advance_pc
-            9 => row.add_bytes(u128::from(fixed(LineRule::OpcodeCut, 2, &mut rest)?), 0)?,
+            9 => row.add_bytes(u128::from(take_number(OpcodeCut, 2, &mut rest)?), 0)?,
             // DW_LNS_set_prologue_end
             10 => row.prologue_end = true,
             // DW_LNS_set_epilogue_begin
             11 => row.epilogue_begin = true,
             // DW_LNS_set_isa
-            12 => row.isa = unsigned(LineRule::OpcodeCut, &mut rest)?,
+            12 => row.isa = take_uleb(OpcodeCut, OpcodeNumber, &mut rest)?,
             // One that the standard does not define does nothing.
             _ => rest = skip_others(self.header.standard_opcode_lengths, code, rest)?,
         }
         self.rest = rest;
         Ok(false)
     }
-}
-
-/// The rows of a line program that are left. It runs the program opcode by opcode and allocates nothing.
-#[derive(Drop)]
-pub struct Rows<'p, 'a> {
-    pub(crate) machine: Machine<'p, 'a>,
-    /// The offset of the program's end in `.debug_line`.
-    pub(crate) end: usize,
-    ghost within: { length machine.rest.now ≤ end },
-}
-
-impl Rows<'_, '_> {
-    ghost use Rattle.dw_lines.specs.RowsLeft.{run_left};
 
     /// The next row, or none after the last. Returns the first rule that the program violates, at its place; the rows
     /// before that place are returned first.
@@ -201,23 +193,21 @@ impl Rows<'_, '_> {
     pub fn next(&mut self) -> Result<Option<Row>, LineFault>
         ensures { Yields result (run_left self.old) (run_left self.new) }
     {
-        while let Some((code, bytes)) = self.machine.rest.split_first() {
-            match self.machine.run_next(*code, bytes) {
+        while let Some((code, bytes)) = self.rest.split_first() {
+            match self.run_next(*code, bytes) {
                 Ok(false) => {}
-                Ok(true) => return Ok(Some(self.machine.take_row())),
+                Ok(true) => return Ok(Some(self.take_row())),
                 Err(rule) => {
-                    let at = self.end - self.machine.rest.len();
+                    let at = self.end.saturating_sub(self.rest.len());
                     return Err(LineFault { rule, at });
                 }
             }
         }
-        match self.machine.last {
-            None => Ok(None),
-            Some(_) => Err(LineFault {
-                rule: LineRule::NotEnded,
-                at: self.end,
-            }),
-        }
+        let Some(_last) = self.last else {
+            return Ok(None);
+        };
+        let (rule, at) = (LineRule::NotEnded, self.end);
+        Err(LineFault { rule, at })
     }
 }
 
@@ -229,12 +219,10 @@ impl<'a> Program<'a> {
         ensures { run_left result ≡ program_run self.now }
     {
         Rows {
-            machine: Machine {
-                header: &self.header,
-                registers: Row::start(self.header.parameters.default_is_stmt),
-                last: None,
-                rest: self.opcodes,
-            },
+            header: &self.header,
+            registers: Row::start(self.header.parameters.default_is_stmt),
+            last: None,
+            rest: self.opcodes,
             end: self.opcodes_at + self.opcodes.len(),
         }
     }

@@ -6,12 +6,12 @@ ghost use Rattle.dw_forms.specs.Stops.{GivesOrMemory};
 ghost use Rattle.dw_forms.specs.Value.{view};
 ghost use Rattle.dw_forms.specs.ValueReading.{Gives};
 ghost use Rattle.dw_lines.specs.Files as spec;
-ghost use Rattle.dw_lines.specs.Files.{are_contents, path_view, file_view, tables_of};
+ghost use Rattle.dw_lines.specs.Files.{path_view, file_view};
 
-use crate::bytes::{byte, unsigned};
-use crate::program::{FileEntry, Files, LinePath, LineSections};
+use crate::program::{FileEntry, LinePath, LineSections};
+use crate::rule::LineRule::{LineCut, LineForm, LineNumber};
 use crate::rule::{LineRule, Reading};
-use dw_forms::{Form, Stop, Value, read_value};
+use dw_forms::{Form, Stop, Value, read_value, take_byte, take_uleb};
 use memchr::memchr;
 use std::alloc::Global;
 
@@ -37,40 +37,34 @@ fn path_or_end<'a>(bytes: &mut &'a [u8]) -> Result<Option<LinePath<'a>>, LineRul
     ensures exact { Gives (λ x. (option_map path_view x, bytes.new.now)) result (spec.path_or_end.read bytes.old.now) }
     ensures shorter { IfOk result (λ _. length bytes.new.now < length bytes.old.now) }
 {
-    let len = memchr(0, bytes).ok_or(LineRule::LineCut)?;
+    let len = memchr(0, bytes).ok_or(LineCut)?;
     let path = LinePath::Header(&bytes[..len]);
     *bytes = &bytes[len + 1..];
     Ok((len > 0).then_some(path))
 }
 
-/// The directories of versions 2 to 4.
-fn directories4<'a>(alloc: Global, bytes: &mut &'a [u8]) -> Reading<Vec<LinePath<'a>>>
-    ensures { GivesOrMemory (λ x. (map path_view x.items, bytes.new.now)) result
-        (spec.directories4.read bytes.old.now) }
-{
-    let mut paths = Vec::new(alloc);
-    paths.push(LinePath::Header(&[]))?;
-    while let Some(path) = path_or_end(bytes)? {
-        paths.push(path)?;
-    }
-    Ok(paths)
-}
-
-/// The files of versions 2 to 4 after so many directories.
-fn files4<'a>(alloc: Global, count: usize, bytes: &mut &'a [u8]) -> Reading<Vec<FileEntry<'a>>>
+/// The entries of a table of versions 2 to 4. Only files have more than a path, and each is in one of so many
+/// directories.
+fn entries4<'a>(
+    alloc: Global,
+    directories: Option<usize>,
+    bytes: &mut &'a [u8],
+) -> Reading<Vec<FileEntry<'a>>>
     ensures { GivesOrMemory (λ x. (map file_view x.items, bytes.new.now)) result
-        ((spec.files4 count).read bytes.old.now) }
+        ((spec.entries4 directories).read bytes.old.now) }
 {
-    let mut files = Vec::new(alloc);
-    files.push(NO_FILE)?;
+    let mut entries = Vec::new(alloc);
+    entries.push(NO_FILE)?;
     while let Some(path) = path_or_end(bytes)? {
-        let mut file = FileEntry { path, ..NO_FILE };
-        file.directory = in_directory(count, unsigned(LineRule::LineCut, bytes)?)?;
-        let _time = unsigned(LineRule::LineCut, bytes)?;
-        let _size = unsigned(LineRule::LineCut, bytes)?;
-        files.push(file)?;
+        let mut entry = FileEntry { path, ..NO_FILE };
+        if let Some(count) = directories {
+            entry.directory = in_directory(count, take_uleb(LineCut, LineNumber, bytes)?)?;
+            let _time = take_uleb(LineCut, LineNumber, bytes)?;
+            let _size = take_uleb(LineCut, LineNumber, bytes)?;
+        }
+        entries.push(entry)?;
     }
-    Ok(files)
+    Ok(entries)
 }
 
 /// The codes of contents (DWARF 5, 7.22).
@@ -118,7 +112,7 @@ fn has_kind(contents: &[Content], kind: u64) -> bool
 
 /// Whether each content has a form that it may have, and none is there twice.
 fn are_valid(contents: &[Content]) -> bool
-    ensures { result ≡ are_contents contents.now }
+    ensures { result ≡ spec.are_contents contents.now }
 {
     let [content, others @ ..] = contents else {
         return true;
@@ -131,19 +125,19 @@ fn table_head(alloc: Global, bytes: &mut &[u8]) -> Reading<(Vec<Content>, u64)>
     ensures { GivesOrMemory (λ x. ((x.0.items, x.1), bytes.new.now)) result (spec.table_head.read bytes.old.now) }
 {
     let mut contents = Vec::new(alloc);
-    for _ in 0..byte(bytes)? {
-        let kind = unsigned(LineRule::LineCut, bytes)?;
-        let form = Form::from_code(unsigned(LineRule::LineCut, bytes)?).ok_or(LineRule::LineForm)?;
+    for _ in 0..take_byte(LineCut, bytes)? {
+        let kind = take_uleb(LineCut, LineNumber, bytes)?;
+        let form = Form::from_code(take_uleb(LineCut, LineNumber, bytes)?).ok_or(LineForm)?;
         contents.push(Content { kind, form })?;
     }
     if !are_valid(&contents) {
-        return Err(Stop::Fault(LineRule::LineForm));
+        return Err(Stop::Fault(LineForm));
     }
-    let count = unsigned(LineRule::LineCut, bytes)?;
+    let count = take_uleb(LineCut, LineNumber, bytes)?;
     if has_kind(&contents, DW_LNCT_path) || count == 0 {
         return Ok((contents, count));
     }
-    Err(Stop::Fault(LineRule::LineForm))
+    Err(Stop::Fault(LineForm))
 }
 
 /// The string at an offset of a section, whose last zero byte is just before `end`. Where the string ends is not looked
@@ -180,10 +174,15 @@ impl<'a> LineSections<'a> {
         Ok(())
     }
 
-    /// An entry with these contents. It has directory 0 where none is given.
-    fn entry(&self, contents: &[Content], bytes: &mut &'a [u8]) -> Result<FileEntry<'a>, LineRule>
+    /// An entry with these contents. It has directory 0 where none is given, and a file is in one of so many.
+    fn entry(
+        &self,
+        contents: &[Content],
+        directories: Option<usize>,
+        bytes: &mut &'a [u8],
+    ) -> Result<FileEntry<'a>, LineRule>
         ensures { Gives (λ x. (file_view x, bytes.new.now)) result
-            ((spec.entry self.now contents.now).read bytes.old.now) }
+            ((spec.table_entry self.now contents.now directories).read bytes.old.now) }
     {
         let mut entry = NO_FILE;
         for content in contents {
@@ -191,59 +190,31 @@ impl<'a> LineSections<'a> {
             *bytes = &bytes[len..];
             self.add(content.kind, value, &mut entry)?;
         }
+        if let Some(count) = directories {
+            in_directory(count, entry.directory as u64)?;
+        }
         Ok(entry)
     }
 
-    /// The directories of version 5.
-    fn directories5(&self, alloc: Global, bytes: &mut &'a [u8]) -> Reading<Vec<LinePath<'a>>>
-        ensures { GivesOrMemory (λ x. (map path_view x.items, bytes.new.now)) result
-            ((spec.directories5 self.now).read bytes.old.now) }
-    {
-        let (contents, count) = table_head(alloc, bytes)?;
-        let mut paths = Vec::new(alloc);
-        for _ in 0..count {
-            paths.push(self.entry(&contents, bytes)?.path)?;
-        }
-        Ok(paths)
-    }
-
-    /// The files of version 5 after so many directories.
-    fn files5(
-        &self,
-        alloc: Global,
-        directories: usize,
-        bytes: &mut &'a [u8],
-    ) -> Reading<Vec<FileEntry<'a>>>
-        ensures { GivesOrMemory (λ x. (map file_view x.items, bytes.new.now)) result
-            ((spec.files5 self.now directories).read bytes.old.now) }
-    {
-        let (contents, count) = table_head(alloc, bytes)?;
-        let mut files = Vec::new(alloc);
-        for _ in 0..count {
-            let file = self.entry(&contents, bytes)?;
-            in_directory(directories, file.directory as u64)?;
-            files.push(file)?;
-        }
-        Ok(files)
-    }
-
-    /// The tables of directories and files.
-    pub(crate) fn tables(
+    /// The entries of a table: of directories, or of files, each of which is in one of so many directories.
+    pub(crate) fn entries(
         &self,
         alloc: Global,
         version: u16,
+        directories: Option<usize>,
         bytes: &mut &'a [u8],
-    ) -> Reading<(Vec<LinePath<'a>>, Files<'a>)>
-        ensures { GivesOrMemory (λ x. (tables_of x.0.items x.1, bytes.new.now)) result
-            ((spec.tables self.now version).read bytes.old.now) }
+    ) -> Reading<Vec<FileEntry<'a>>>
+        ensures { GivesOrMemory (λ x. (map file_view x.items, bytes.new.now)) result
+            ((spec.entries self.now version directories).read bytes.old.now) }
     {
         if version < 5 {
-            let directories = directories4(alloc, bytes)?;
-            let entries = files4(alloc, directories.len(), bytes)?;
-            return Ok((directories, Files { entries, first: 1 }));
+            return entries4(alloc, directories, bytes);
         }
-        let directories = self.directories5(alloc, bytes)?;
-        let entries = self.files5(alloc, directories.len(), bytes)?;
-        Ok((directories, Files { entries, first: 0 }))
+        let (contents, count) = table_head(alloc, bytes)?;
+        let mut entries = Vec::new(alloc);
+        for _ in 0..count {
+            entries.push(self.entry(&contents, directories, bytes)?)?;
+        }
+        Ok(entries)
     }
 }

@@ -79,7 +79,7 @@ fn headers(rt: HostRuntime) -> Result<(), Fail> {
         let Some(folder) = header.directories.get(directory) else {
             return Err("no directory".into());
         };
-        assert_eq!(rt; folder.bytes(), b"d".as_slice());
+        assert_eq!(rt; folder.path.bytes(), b"d".as_slice());
         assert_eq!(rt; program.header.parameters.line_base, -5);
         assert_eq!(rt; program.opcodes_at, opcodes_at);
         assert_eq!(rt; program.opcodes, [1].as_slice());

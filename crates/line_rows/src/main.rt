@@ -122,9 +122,9 @@ fn print_sum<R: Print + AllocGlobal>(rt: &R, md5: Option<&[u8]>) -> io::Result<(
 /// The lines of a program's directories and files, by number: before version 5 from 1 on.
 fn print_tables<R: Print + AllocGlobal>(rt: &R, program: &Program<'_>) -> io::Result<()> {
     let first = usize::from(program.header.files.first);
-    for (number, path) in program.header.directories.iter().enumerate().skip(first) {
+    for (number, directory) in program.header.directories.iter().enumerate().skip(first) {
         print!(rt; "directory {number} ")?;
-        print_path(rt, *path)?;
+        print_path(rt, directory.path)?;
         println!(rt)?;
     }
     for (number, file) in program.header.files.entries.iter().enumerate().skip(first) {

@@ -13,24 +13,24 @@ count_at : (lengths : List ℕ) (k : ℕ) (o : Option (Bor ℕ))
 count_at lengths k None past = rw (slice_get_past lengths k past) refl
 count_at lengths k (Some x) here = unwrap_or-slice_get lengths k 0 ∙ sym (here.1 0)
 
-pub returns-in_err-unsigned : goal.returns-in_err-unsigned
-returns-in_err-unsigned c =
-    let count : count_in c.args.lengths.now c.args.code ≡ c.unwrap_or-count.result =
-    rw (c.unwrap_or-count.ensures, c.copied.ensures)
+pub returns-in_err-take_uleb : goal.returns-in_err-take_uleb
+returns-in_err-take_uleb c =
+    let count : count_in c.args.lengths.now c.args.code ≡ c.unwrap_or-end.result =
+    rw (c.unwrap_or-end.ensures, c.copied.ensures)
     (count_at c.args.lengths.now (c.args.code - 1) c.get.result (rw c.from.ensures at c.get.ensures.lookup.3)) in
-    let left = c.unwrap_or-count.result - (c.loop.counter + 1) in
+    let left = c.unwrap_or-end.result - (c.loop.counter + 1) in
     rw (count, c.loop.invariant ∙ more_operands _ left c.loop.rest.now (omega arith)) (search rules)
 
 pub loop-preserved : goal.loop-preserved
 loop-preserved c =
-    let left = c.unwrap_or-count.result - (c.loop.counter + 1) in
-    c.loop.invariant ∙ more_operands _ left c.loop.rest.now (omega arith) ∙ rw c.in_ok-unsigned.ensures refl
+    let left = c.unwrap_or-end.result - (c.loop.counter + 1) in
+    c.loop.invariant ∙ more_operands _ left c.loop.rest.now (omega arith) ∙ rw c.in_ok-take_uleb.ensures.exact refl
 
 pub returns : goal.returns
 unfolding operands
 returns c =
-    let count : count_in c.args.lengths.now c.args.code ≡ c.unwrap_or-count.result =
-    rw (c.unwrap_or-count.ensures, c.copied.ensures)
+    let count : count_in c.args.lengths.now c.args.code ≡ c.unwrap_or-end.result =
+    rw (c.unwrap_or-end.ensures, c.copied.ensures)
     (count_at c.args.lengths.now (c.args.code - 1) c.get.result (rw c.from.ensures at c.get.ensures.lookup.3)) in
-    let none : c.unwrap_or-count.result - c.loop.counter ≡ 0 = omega arith in
+    let none : c.unwrap_or-end.result - c.loop.counter ≡ 0 = omega arith in
     rw count (c.loop.invariant ∙ rw none refl)

@@ -23,54 +23,54 @@ pub returns-in_err-kind : goal.returns-in_err-kind
 returns-in_err-kind c =
     let e = err_from_is_err_and c.from_residual-in_err-kind.result c.from_residual-in_err-kind.ensures.1 in
     let failed = times_fault content_format (stops.Fault _) _ _ _ _ (omega arith) c.loop.invariant
-    (rw c.in_err-kind.ensures refl) in
-    rw (e.1, e.2, c.in_ok-end.ensures, failed) refl
+    (rw c.in_err-kind.ensures.exact refl) in
+    rw (e.1, e.2, c.in_ok-end.ensures.exact, failed) refl
 
-pub returns-in_err-unsigned : goal.returns-in_err-unsigned
-returns-in_err-unsigned c =
-    let e = err_from_is_err_and c.from_residual-in_err-unsigned.result c.from_residual-in_err-unsigned.ensures.1 in
+pub returns-in_err-take_uleb : goal.returns-in_err-take_uleb
+returns-in_err-take_uleb c =
+    let e = err_from_is_err_and c.from_residual-in_err-take_uleb.result c.from_residual-in_err-take_uleb.ensures.1 in
     let failed = times_fault content_format (stops.Fault _) _ _ _ _ (omega arith) c.loop.invariant
-    (rw (c.in_ok-kind.ensures, c.in_err-unsigned.ensures) refl) in
-    rw (e.1, e.2, c.in_ok-end.ensures, failed) refl
+    (rw (c.in_ok-kind.ensures.exact, c.in_err-take_uleb.ensures.exact) refl) in
+    rw (e.1, e.2, c.in_ok-end.ensures.exact, failed) refl
 
 pub returns-in_err-form : goal.returns-in_err-form
 returns-in_err-form c =
     let e = err_from_is_err_and c.from_residual-in_err-form.result c.from_residual-in_err-form.ensures.1 in
-    let none : form_of c.in_ok-unsigned.field-0 ≡ None =
+    let none : form_of c.in_ok-take_uleb.field-0 ≡ None =
     sym (rw c.in_err-form.ensures.ok_part at c.from_code.ensures) in
     let fault = rw c.in_err-form.ensures.ok_part at c.in_err-form.ensures.value in
     let same : LineForm ≡ c.in_err-form.field-0.0 = cc in
     let failed = times_fault content_format (stops.Fault _) _ _ _ _ (omega arith) c.loop.invariant
-    (rw (c.in_ok-kind.ensures, c.in_ok-unsigned.ensures)
+    (rw (c.in_ok-kind.ensures.exact, c.in_ok-take_uleb.ensures.exact)
     (of_code _ _ None _ none ∙ rw same refl)) in
-    rw (e.1, e.2, c.in_ok-end.ensures, failed) refl
+    rw (e.1, e.2, c.in_ok-end.ensures.exact, failed) refl
 
 pub loop-preserved : goal.loop-preserved
 loop-preserved c =
-    let some : form_of c.in_ok-unsigned.field-0 ≡ Some c.in_ok-form.form =
+    let some : form_of c.in_ok-take_uleb.field-0 ≡ Some c.in_ok-form.form =
     sym (rw c.in_ok-form.ensures.ok_part at c.from_code.ensures) in
     rw c.in_ok-push.ensures.items
     (times_more _ _ _ _ _ _ _ _ (omega arith) c.loop.invariant
-    (rw (c.in_ok-kind.ensures, c.in_ok-unsigned.ensures)
+    (rw (c.in_ok-kind.ensures.exact, c.in_ok-take_uleb.ensures.exact)
     (of_code _ _ (Some c.in_ok-form.form) _ some)))
 
 pub returns-then-not-are_valid : goal.returns-then-not-are_valid
 returns-then-not-are_valid c =
     let done = times_all content_format _ _ _ _ (omega arith) c.loop.invariant in
-    rw (c.in_ok-end.ensures, done) (search rules)
+    rw (c.in_ok-end.ensures.exact, done) (search rules)
 
 pub returns-in_err-count : goal.returns-in_err-count
 returns-in_err-count c =
     let done = times_all content_format _ _ _ _ (omega arith) c.loop.invariant in
     let e = err_from_is_err_and c.from_residual-in_err-count.result c.from_residual-in_err-count.ensures.1 in
-    rw (e.1, e.2, c.in_ok-end.ensures, done) (search rules)
+    rw (e.1, e.2, c.in_ok-end.ensures.exact, done) (search rules)
 
 pub returns-then-has_kind : goal.returns-then-has_kind
 returns-then-has_kind c =
     let done = times_all content_format _ _ _ _ (omega arith) c.loop.invariant in
-    rw (c.in_ok-end.ensures, done) (search rules)
+    rw (c.in_ok-end.ensures.exact, done) (search rules)
 
 pub returns : goal.returns
 returns c =
     let done = times_all content_format _ _ _ _ (omega arith) c.loop.invariant in
-    rw (c.in_ok-end.ensures, done) (search rules)
+    rw (c.in_ok-end.ensures.exact, done) (search rules)

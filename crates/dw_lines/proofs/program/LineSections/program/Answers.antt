@@ -15,7 +15,7 @@ overflow_sub-opcodes_at c = leaves (header c.args.self.now c.args.size) _ _ _ c.
 
 pub invariant_of-result : goal.invariant_of-result
 invariant_of-result c =
-    let at = rw take_rest at (content_at _ _ _ _ _ c.in_ok-len.ensures c.in_ok-content.ensures) in
+    let at = rw take_rest at (content_at _ _ _ _ _ c.in_ok-len.ensures.exact c.in_ok-content.ensures) in
     record {
       fits = omega (
         arith,
@@ -27,17 +27,17 @@ invariant_of-result c =
 
 pub returns-clause-place : goal.returns-clause-place
 returns-clause-place c =
-    let at = rw take_rest at (content_at _ _ _ _ _ c.in_ok-len.ensures c.in_ok-content.ensures) in
+    let at = rw take_rest at (content_at _ _ _ _ _ c.in_ok-len.ensures.exact c.in_ok-content.ensures) in
     left_at (header c.args.self.now c.args.size) _ _ _ _ _ c.in_ok-header.ensures at.1
 
 pub returns-clause-end : goal.returns-clause-end
 returns-clause-end c =
-    let len = rw take_rest at c.in_ok-len.ensures in
+    let len = rw take_rest at c.in_ok-len.ensures.exact in
     rw (content_end _ _ _ _ _ c.args.offset len (omega arith)
     c.in_ok-content.ensures)
     (omega (arith, leaves (header c.args.self.now c.args.size) _ _ _ c.in_ok-header.ensures))
 
 pub overflow_add-opcodes_at-2 : goal.overflow_add-opcodes_at-2
 overflow_add-opcodes_at-2 c =
-    let at = rw take_rest at (content_at _ _ _ _ _ c.in_ok-len.ensures c.in_ok-content.ensures) in
+    let at = rw take_rest at (content_at _ _ _ _ _ c.in_ok-len.ensures.exact c.in_ok-content.ensures) in
     omega (arith, at.0, length-drop c.args.offset c.args.self.now.line.now)

@@ -6,4 +6,4 @@ abbrev pub invariant-loop-code : goal.invariant-loop-code
 invariant-loop-code l = run_left l.initial.self ≡ run_left l.self
 
 abbrev pub decreases-loop-code : goal.decreases-loop-code
-decreases-loop-code l = length l.self.machine.rest.now
+decreases-loop-code l = length l.self.rest.now
