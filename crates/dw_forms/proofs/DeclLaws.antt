@@ -4,8 +4,10 @@ use Rattle.std.specs.List.{list_any}
 use Rattle.dw_forms.specs.declared.form.Form.{Form}
 use Rattle.dw_forms.specs.Steps.{◌>>=◌}
 use Rattle.dw_forms.specs.Abbrev.{table_view, views, declaration, code_or_end, Decl, Declaration, IsCode16, AreAttributeSpecs, IsDeclaration, AreDeclarations, Decls, is_code16, number, pair, attributes, specifications, tag_and_children, declarations}
-use Rattle.dw_forms.specs.AbbrevReading.{unsigned_at, form_at, begun_at, pair_at, has_code, decl_at, DeclFault, tagged_at, AttributeSpec}
+use Rattle.dw_forms.specs.AbbrevReading.{unsigned_at, has_code, decl_at, DeclFault, tagged_at, AttributeSpec}
 use Rattle.dw_forms.specs.Elements.{next_at, SpellsElement}
+use Rattle.dw_forms.specs.Faults.{error_at, fault_at}
+use Rattle.dw_forms.specs.Formats.{as_other}
 use Rattle.dw_forms.specs.Stops.{FailsOrMemory, Stop}
 use Rattle.std.proofs.lemmas.Bool.{eqb-false, or_parts, not-true}
 use Rattle.std.proofs.lemmas.List.Elements.{All-nil, All-cons}
@@ -39,28 +41,11 @@ pub then_fails : {A B E : Type 0} (error : Stop E) (r : Result A E) (f : A → B
 then_fails stops.Memory r f e = tt
 then_fails (stops.Fault fault) r f e = rw e refl
 
--- ---- a pair, by what it begins with
-
--- none
-pub pair_none : (bytes rest : List ℕ) → begun_at bytes ≡ Ok (None, rest) → pair_at [] bytes ≡ Ok (None, rest)
-unfolding next_at
-pair_none bytes rest e = rw e refl
-
--- an attribute, its form and the number of a constant
-pub pair_some : (bytes rest after : List ℕ) (attribute : ℕ) (form own : Form)
-    → begun_at bytes ≡ Ok (Some (attribute, form), rest) → form_at form rest ≡ Ok (own, after)
-    → pair_at [] bytes ≡ Ok (Some (record { attribute = attribute; form = own }), after)
-unfolding next_at
-pair_some bytes rest after attribute form own e f = rw (e, f) refl
-
-pub pair_fails : (bytes : List ℕ) (fault : DeclFault) → begun_at bytes ≡ Err fault → pair_at [] bytes ≡ Err fault
-unfolding next_at
-pair_fails bytes fault e = rw e refl
-
-pub form_fails : (bytes rest : List ℕ) (attribute : ℕ) (form : Form) (fault : DeclFault)
-    → begun_at bytes ≡ Ok (Some (attribute, form), rest) → form_at form rest ≡ Err fault → pair_at [] bytes ≡ Err fault
-unfolding next_at
-form_fails bytes rest attribute form fault e f = rw (e, f) refl
+-- and where it is told with its place
+pub fails_at : {A : Type 0} (place : ℕ) (error : Stop DeclFault) (r : Result A DeclFault) → FailsOrMemory error r
+    → FailsOrMemory (error_at place error) (as_other (fault_at place) r)
+fails_at place stops.Memory r e = tt
+fails_at place (stops.Fault fault) r e = rw e refl
 
 -- ---- a declaration, by its code, its tag and its attributes
 

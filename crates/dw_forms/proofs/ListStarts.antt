@@ -287,6 +287,16 @@ pub pair_rest : (section : List ℕ) (offset : ℕ) (o : Option AttributeSpec) (
     → pair_at [] (drop offset section) ≡ Ok (o, after) → after ≡ drop (length section - length after) section
 pair_rest section offset o after e = search (rules, taken, reads_attributes, rest_of)
 
+-- a pair at the front of bytes that end a section is between two of its offsets
+pub pair_read : (section bytes after : List ℕ) (o : Option AttributeSpec)
+    → bytes ≡ drop (length section - length bytes) section → pair_at [] bytes ≡ Ok (o, after)
+    → (pair_at [] (drop (length section - length bytes) section)
+    ≡ Ok (o, drop (length section - length after) section)) × (after ≡ drop (length section - length after) section)
+pair_read section bytes after o rest e =
+    let read = sym (ap (pair_at []) rest) ∙ e in
+    let is = pair_rest section (length section - length bytes) o after read in
+    (read ∙ (λ i. Ok (o, is i)), is)
+
 -- at the pair 0, 0 begins the list without attributes
 pub end_list : (section : List ℕ) (nodes : List Node) (at after : ℕ)
     → pair_at [] (drop at section) ≡ Ok (None, drop after section) → at < after → after ≤ length section

@@ -1,11 +1,11 @@
 -- Chapter: an abbreviation table read from left to right, or the first fault.
-use Rattle.std.specs.Prelude.{ℕ, List, length, drop, Option, Bool, Result, Ok, ◌==◌, ◌-◌, ℤ}
+use Rattle.std.specs.Prelude.{ℕ, List, length, drop, Option, Bool, Result, Ok, ◌==◌, ◌-◌}
 use Rattle.std.specs.List.{list_any}
 use Rattle.dw_forms.specs.Steps.{◌>>=◌}
 use Rattle.dw_forms.specs.declared.form.Form.{Form}
 pub use Rattle.dw_forms.specs.declared.abbrev.AttributeSpec.{AttributeSpec}
 pub use Rattle.dw_forms.specs.declared.fault.DeclFault.{DeclFault}
-use Rattle.dw_forms.specs.Abbrev.{Declaration, number, signed_number, pair, constant, specifications, attributes}
+use Rattle.dw_forms.specs.Abbrev.{Declaration, number, pair, constant, specifications, attributes}
 use Rattle.dw_forms.specs.Abbrev.{children, tag_and_children, declarations, table}
 use Rattle.dw_forms.specs.Elements.{next_at}
 use Rattle.dw_forms.specs.Formats.{as_other}
@@ -14,10 +14,6 @@ use Rattle.dw_forms.specs.Faults.{fault_at, AbbrevFault}
 -- an unsigned number, and the bytes after it; so for all below
 abbrev pub unsigned_at : List ℕ → Result (ℕ × List ℕ) DeclFault
 unsigned_at = number.read
-
--- a signed number
-abbrev pub signed_at : List ℕ → Result (ℤ × List ℕ) DeclFault
-signed_at = signed_number.read
 
 -- after form implicit_const its number is in the table
 abbrev pub form_at : Form → List ℕ → Result (Form × List ℕ) DeclFault

@@ -14,7 +14,7 @@ ghost use Rattle.dw_forms.specs.AbbrevTables.{tables_in, AreSearchable, AreTable
 ghost use Rattle.dw_forms.specs.Chains.{chain_in};
 ghost use Rattle.dw_forms.specs.Stops.{IfFault, FailsOrMemory};
 
-use crate::abbrev_reader::{code_of, read_table, tag_and_children};
+use crate::abbrev_reader::{read_table, tag_and_children, take_code};
 use crate::attribute_lists::AttributeLists;
 use crate::attributes::Attributes;
 use crate::chains::Chains;
@@ -39,18 +39,13 @@ fn next_at(
     ensures next { IfOk result (λ x. IsNextAt section.now lists.new.lists.nodes.items offset x.0 x.1) }
     ensures fault { IfErr result (IfFault (λ _. IfNoDecl section.now offset)) }
 {
-    let (code, rest) = code_of(&section[offset..])?;
+    let mut bytes = &section[offset..];
+    let code = take_code(&mut bytes)?;
     if code == 0 {
-        return Ok((None, section.len() - rest.len()));
+        return Ok((None, section.len() - bytes.len()));
     }
-    let (tag, has_children, rest) = match tag_and_children(rest) {
-        Ok(found) => found,
-        Err(fault) => return Err(Stop::Fault(fault)),
-    };
-    let (first, end) = match lists.read(section, section.len() - rest.len()) {
-        Ok(list) => list,
-        Err(error) => return Err(error),
-    };
+    let (tag, has_children) = tag_and_children(&mut bytes)?;
+    let (first, end) = lists.read(section, section.len() - bytes.len())?;
     let attributes = Attributes::new(&lists.lists, first);
     let decl = KeptDecl {
         code,
@@ -86,24 +81,18 @@ fn read_front(
     ensures fault { IfErr result (IfFault (λ _. NoTable section.now offset)) }
 {
     let mut decls = Vec::new(alloc);
-    let mut end = offset;
+    let mut at = offset;
     loop {
-        let rest = starts.find(end);
+        let rest = starts.find(at);
         if rest != 0 {
             return Ok((decls, rest));
         }
-        let (next, after) = match next_at(lists, section, end) {
-            Ok(found) => found,
-            Err(error) => return Err(error),
-        };
-        let Some(decl) = next else {
+        let (next, after) = next_at(lists, section, at)?;
+        let Some(item) = next else {
             return Ok((decls, 0));
         };
-        decls.push(Placed {
-            at: end,
-            item: decl,
-        })?;
-        end = after;
+        decls.push(Placed { at, item })?;
+        at = after;
     }
 }
 
@@ -133,7 +122,7 @@ fn push(
     places: &mut Vec<KnownPlace>,
     lists: &AttributeLists,
     rest: u32,
-    decl: KeptDecl,
+    mut decl: KeptDecl,
 ) -> Result<Option<u32>, AllocError>
     requires rest { rest ≤ length kept.old.items }
     requires few { length kept.old.items < 0xffffffff }
@@ -150,21 +139,10 @@ fn push(
     let Some(number) = codes.push(rest, label)? else {
         return Ok(None);
     };
-    let first_place = places.len();
+    decl.rest = rest;
+    decl.first_place = places.len();
     Attributes::new(lists, decl.first).push_places(decl.bits, places)?;
-    kept.push_reserved(KeptDecl {
-        code: decl.code,
-        tag: decl.tag,
-        has_children: decl.has_children,
-        is_type: decl.is_type,
-        declared: decl.declared,
-        whole: decl.whole,
-        step: decl.step,
-        first: decl.first,
-        rest,
-        bits: decl.bits,
-        first_place,
-    });
+    kept.push_reserved(decl);
     Ok(Some(number))
 }
 
@@ -257,13 +235,8 @@ impl AbbrevTables {
         ensures exact { IfErr result (λ e. FailsOrMemory e (table_at section.now offset)) }
     {
         self.starts.enter_from(offset)?;
-        let (decls, rest) = match read_front(
-            alloc,
-            &self.starts,
-            &mut self.lists,
-            section,
-            offset,
-        ) {
+        let front = read_front(alloc, &self.starts, &mut self.lists, section, offset);
+        let (decls, rest) = match front {
             Ok(front) => front,
             Err(Stop::Memory) => return Err(Stop::Memory),
             Err(Stop::Fault(_)) => return Err(fault_of_table(alloc, section, offset)),

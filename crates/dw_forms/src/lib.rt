@@ -31,7 +31,7 @@ mod value;
 mod value_reader;
 
 pub use abbrev::{AbbrevTable, AttributeSpec, Decl};
-pub use abbrev_reader::{code_of, form_with_number, pair_of, read_table, tag_and_children};
+pub use abbrev_reader::{form_with_number, pair_of, read_table, tag_and_children, take_code};
 pub use abbrev_tables::AbbrevTables;
 pub use attribute_class::{is_allowed_in, is_open};
 pub use attribute_lists::{AttributeLists, Node};

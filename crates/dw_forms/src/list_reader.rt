@@ -1,6 +1,6 @@
 //! Reading the lists of attributes of a section that were not read before (DWARF 5, 7.5.3).
 
-ghost use Rattle.std.specs.Prelude.{◌≡◌, ◌<◌, ◌≤◌, ℕ, List, [], length, drop, IfOk, IfErr, OnOk};
+ghost use Rattle.std.specs.Prelude.{◌≡◌, ◌<◌, ◌≤◌, ℕ, List, [], length, IfOk, IfErr, OnOk};
 ghost use Rattle.dw_forms.specs.AbbrevReading.{pair_at};
 ghost use Rattle.dw_forms.specs.ListOffsets.{IsListAt, ArePlaced, AreListsOf, MoreLists, NoListAt, LeadsToList};
 ghost use Rattle.dw_forms.specs.Offsets.{AreKnownFrom, IsOffset};
@@ -29,23 +29,19 @@ pub struct KeptLists {
     pairs: Vec<Placed<AttributeSpec>>,
 }
 
-/// The attribute at an offset, and the offset after it; or none at the pair 0, 0. An attribute may be there twice.
-fn next_pair(section: &[u8], offset: usize) -> Result<(Option<AttributeSpec>, usize), DeclFault>
-    requires { offset ≤ length section.now }
-    ensures exact { Gives (λ x. (x.0, drop x.1 section.now)) result (pair_at [] (drop offset section.now)) }
-    ensures rises { IfOk result (λ x. offset < x.1) }
-    ensures within { IfOk result (λ x. x.1 ≤ length section.now) }
+/// The next attribute, or none at the pair 0, 0. An attribute may be there twice.
+#[tactic(auto, unfolding(crate::specs::Elements::next_at))]
+fn next_pair(bytes: &mut &[u8]) -> Result<Option<AttributeSpec>, DeclFault>
+    ensures exact { Gives (λ x. (x, bytes.new.now)) result (pair_at [] bytes.old.now) }
+    ensures shorter { IfOk result (λ _. length bytes.new.now < length bytes.old.now) }
 {
-    let (pair, rest) = pair_of(&section[offset..])?;
-    let Some((attribute, form)) = pair else {
-        return Ok((None, section.len() - rest.len()));
+    let Some((attribute, form)) = pair_of(bytes)? else {
+        return Ok(None);
     };
-    let (form, rest) = form_with_number(form, rest)?;
-    let spec = AttributeSpec {
+    Ok(Some(AttributeSpec {
         attribute: Attribute(attribute),
-        form,
-    };
-    Ok((Some(spec), section.len() - rest.len()))
+        form: form_with_number(form, bytes)?,
+    }))
 }
 
 /// The fault of a list that has an attribute twice.
@@ -73,22 +69,18 @@ fn read_pairs(
         LeadsToList section.now lists.now.nodes.items starts.now.starts.items pairs.new.items offset x.0 x.1) }
     ensures fault { IfErr result (IfFault (λ _. NoListAt section.now offset)) }
 {
-    let mut at = offset;
+    let mut bytes = &section[offset..];
     loop {
+        let at = section.len() - bytes.len();
         let first = starts.find(at);
         if first != 0 {
             let end = ends[ends_up_to(ends, first - 1) - 1].end as usize;
             return Ok((first, end));
         }
-        let (next, after) = match next_pair(section, at) {
-            Ok(found) => found,
-            Err(fault) => return Err(Stop::Fault(fault)),
+        let Some(item) = next_pair(&mut bytes)? else {
+            return Ok((0, section.len() - bytes.len()));
         };
-        let Some(spec) = next else {
-            return Ok((0, after));
-        };
-        pairs.push(Placed { at, item: spec })?;
-        at = after;
+        pairs.push(Placed { at, item })?;
     }
 }
 
@@ -158,17 +150,14 @@ impl KeptLists {
     {
         self.starts.enter_from(offset)?;
         self.pairs.clear();
-        let (rest, end) = match read_pairs(
+        let (rest, end) = read_pairs(
             &mut self.pairs,
             &self.lists,
             &self.starts,
             &self.ends,
             section,
             offset,
-        ) {
-            Ok(found) => found,
-            Err(error) => return Err(error),
-        };
+        )?;
         let first = self.keep_pairs(section, offset, rest, end)?;
         Ok((first, end))
     }

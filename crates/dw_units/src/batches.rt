@@ -11,7 +11,7 @@ ghost use Rattle.dw_units.specs.BatchSections.{AreSizes, IsAllowed, Refer};
 use byteorder::{ByteOrder, LittleEndian};
 use dw_elf::Sections;
 use dw_entries::{Entries, HeaderKind, read_header};
-use dw_forms::{Form, code_of, form_with_number, pair_of, tag_and_children};
+use dw_forms::{Form, form_with_number, pair_of, tag_and_children, take_code};
 use std::alloc::{AllocError, Global};
 
 /// The unit at the front of some bytes.
@@ -115,27 +115,17 @@ fn is_allowed(found: Elsewhere, most: Elsewhere) -> bool
     )
 }
 
-/// The bytes after a declaration's attributes. None if they are malformed, or a form lets a value refer out of the
-/// batch.
-fn after_attributes(bytes: &[u8], most: Elsewhere) -> Option<&[u8]>
-    ensures { IfSome result (λ after. length after.now < length bytes.now) }
+/// Moves past a declaration's attributes. None if they are malformed, or a form lets a value refer out of the batch.
+fn pass_attributes(bytes: &mut &[u8], most: Elsewhere) -> Option<()>
+    ensures { IfSome result (λ _. length bytes.new.now < length bytes.old.now) }
 {
-    let mut rest = bytes;
-    loop {
-        let Ok((pair, after)) = pair_of(rest) else {
-            return None;
-        };
-        let Some((_, form)) = pair else {
-            return Some(after);
-        };
+    while let Some((_, form)) = pair_of(bytes).ok()? {
         if !is_allowed(leaves_by(form), most) {
             return None;
         }
-        let Ok((_, after)) = form_with_number(form, after) else {
-            return None;
-        };
-        rest = after;
+        form_with_number(form, bytes).ok()?;
     }
+    Some(())
 }
 
 /// The size of the abbreviation table at the front. None if it is malformed, or a form lets a value refer out of the
@@ -144,18 +134,11 @@ fn table_size(bytes: &[u8], most: Elsewhere) -> Option<usize>
     ensures { IfSome result (λ size. size ≤ length bytes.now) }
 {
     let mut rest = bytes;
-    loop {
-        let Ok((code, after)) = code_of(rest) else {
-            return None;
-        };
-        if code == 0 {
-            return Some(bytes.len() - after.len());
-        }
-        let Ok((_, _, after)) = tag_and_children(after) else {
-            return None;
-        };
-        rest = after_attributes(after, most)?;
+    while take_code(&mut rest).ok()? != 0 {
+        tag_and_children(&mut rest).ok()?;
+        pass_attributes(&mut rest, most)?;
     }
+    Some(bytes.len() - rest.len())
 }
 
 /// Whether the strings end where their section does, so that no search for the last zero byte is long.

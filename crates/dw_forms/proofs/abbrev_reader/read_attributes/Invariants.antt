@@ -6,12 +6,12 @@ use Rattle.dw_forms.specs.AbbrevReading.{pair_at, attributes_of}
 use Rattle.dw_forms.proofs.SpelledLists.{ReadsOn}
 use Rattle.dw_forms.proofs.abbrev_reader.read_attributes.Given as goal
 
-abbrev pub invariant-loop-found : goal.invariant-loop-found
-invariant-loop-found l = record {
-  within : length l.rest ≤ length l.bytes;
+abbrev pub invariant-loop-seen : goal.invariant-loop-seen
+invariant-loop-seen l = record {
+  within : length l.bytes.now ≤ length l.initial.bytes.now;
   seen : AreSeen l.attributes.items l.seen;
-  goes_on : ReadsOn pair_at (broken AbbrevCut 0) l.attributes.items l.rest (attributes_of l.bytes);
+  goes_on : ReadsOn pair_at (broken AbbrevCut 0) l.attributes.items l.bytes.now (attributes_of l.initial.bytes.now);
 }
 
-abbrev pub decreases-loop-found : goal.decreases-loop-found
-decreases-loop-found l = length l.rest
+abbrev pub decreases-loop-seen : goal.decreases-loop-seen
+decreases-loop-seen l = length l.bytes.now

@@ -1,29 +1,32 @@
-use Rattle.std.proofs.Common.{[], ◌∷◌, arith, refl, length-append}
+use Rattle.std.proofs.Common.{[], ◌∷◌, arith, refl, ap, length-append}
 use Rattle.dw_forms.specs.Abbrev.{table_view}
-use Rattle.dw_forms.proofs.DeclLaws.{then_fails}
+use Rattle.dw_forms.specs.Faults.{fault_at}
+use Rattle.dw_forms.specs.Formats.{as_other}
+use Rattle.dw_forms.proofs.DeclLaws.{then_fails, fails_at}
 use Rattle.dw_forms.proofs.SpelledLists.{goes_to_end, goes_further, goes_wrong}
 use Rattle.dw_forms.proofs.abbrev_reader.table.Goals as goal
 
 pub returns-in-Err-clause-exact : goal.returns-in-Err-clause-exact
 returns-in-Err-clause-exact c =
-    then_fails c.in-Err.fault _ (λ x. x.0)
-    (goes_wrong _ _ c.in-Err.fault _ _ _ c.loop-found.invariant.goes_on c.in-Err.ensures.exact)
+    rw c.at.ensures (then_fails _ _ (λ x. x.0)
+    (goes_wrong _ _ _ _ _ _ c.loop-decl.invariant.goes_on (fails_at _ c.in-Err.error _ c.in-Err.ensures.exact)))
 
-pub returns-in_default-clause-exact : goal.returns-in_default-clause-exact
-returns-in_default-clause-exact c =
-    rw (goes_to_end _ _ _ _ _ _ c.loop-found.invariant.goes_on (rw c.in_default.is at c.in-Ok.ensures.exact)) refl
+pub returns-in-Ok-None-clause-exact : goal.returns-in-Ok-None-clause-exact
+returns-in-Ok-None-clause-exact c =
+    rw (goes_to_end _ _ _ _ _ _ c.loop-decl.invariant.goes_on (ap (as_other (fault_at _))
+    (rw c.in-Ok-None.field-0-is at c.in-Ok-None.ensures.exact))) refl
 
-pub loop-found-preserved : goal.loop-found-preserved
-loop-found-preserved c = record {
-  within = omega (arith, c.in-Ok.ensures.shorter);
+pub loop-decl-preserved : goal.loop-decl-preserved
+loop-decl-preserved c = record {
   fewer =
-      rw c.in_ok-push.ensures (omega (
+      rw c.in_ok-push-in-Ok-Some.ensures (omega (
         arith,
-        length-append c.loop-found.table (table_view c.in-Some.decl ∷ []),
-        c.in-Ok.ensures.shorter,
-        c.loop-found.invariant.fewer,
+        length-append c.loop-decl.table (table_view c.in-Ok-Some.decl ∷ []),
+        c.in-Ok-Some.ensures.shorter,
+        c.loop-decl.invariant.fewer,
       ));
-  goes_on = rw c.in_ok-push.ensures
-      (goes_further _ _ _ _ _ (table_view c.in-Some.decl) _ c.loop-found.invariant.goes_on
-      (rw c.in-Some.is at c.in-Ok.ensures.exact) c.in-Ok.ensures.shorter);
+  goes_on = rw c.in_ok-push-in-Ok-Some.ensures
+      (goes_further _ _ _ _ _ (table_view c.in-Ok-Some.decl) _ c.loop-decl.invariant.goes_on
+      (ap (as_other (fault_at _)) (rw c.in-Ok-Some.field-0-is at c.in-Ok-Some.ensures.exact))
+      c.in-Ok-Some.ensures.shorter);
 }

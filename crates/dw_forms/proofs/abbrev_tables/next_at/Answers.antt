@@ -13,30 +13,29 @@ returns-in_err-code-clause-fault c =
 pub returns-then-code-eq0-clause-next : goal.returns-then-code-eq0-clause-next
 returns-then-code-eq0-clause-next c = search (rules, bytes_from, next_none)
 
-pub returns-in-Err-clause-fault : goal.returns-in-Err-clause-fault
-returns-in-Err-clause-fault c =
+pub returns-in_err-tag-clause-fault : goal.returns-in_err-tag-clause-fault
+returns-in_err-tag-clause-fault c =
+    let e = err_from_is_err_and c.from_residual-in_err-tag.result c.from_residual-in_err-tag.ensures.1 in
     let code = sym (ap unsigned_at (bytes_from c.args.section.now c.args.offset)) ∙ c.in_ok-code.ensures.exact in
-    tag_breaks c.args.section.now c.args.offset c.in_ok-code.code c.in_ok-code.rest.now code c.if-code-eq0.false
-    c.in-Err.fault c.in-Err.ensures.exact
+    rw (e.1, e.2) (tag_breaks c.args.section.now c.args.offset _ _ code c.if-code-eq0.false _
+    c.in_err-tag.ensures.exact)
 
-pub returns-in-Err-read-clause-fault : goal.returns-in-Err-read-clause-fault
-returns-in-Err-read-clause-fault c =
+pub returns-in_err-first-clause-fault : goal.returns-in_err-first-clause-fault
+returns-in_err-first-clause-fault c =
+    let e = err_from_is_err_and c.from_residual-in_err-first.result c.from_residual-in_err-first.ensures.1 in
     let code = sym (ap unsigned_at (bytes_from c.args.section.now c.args.offset)) ∙ c.in_ok-code.ensures.exact in
-    list_breaks c.args.section.now c.args.offset c.in_ok-code.code c.in_ok-code.rest.now code c.if-code-eq0.false
-    (c.in-Ok.found.0, c.in-Ok.found.1) c.in-Ok.found.2.now c.in-Ok.ensures.exact c.in-Err-read.error
-    c.in-Err-read.ensures.fault
+    rw (e.1, e.2) (list_breaks c.args.section.now c.args.offset _ _ code c.if-code-eq0.false _ _
+    c.in_ok-tag.ensures.exact _ c.in_err-first.ensures.fault)
 
 pub returns-clause-next : goal.returns-clause-next
 returns-clause-next c =
-    let bits : AreBitsOf (list_in c.read.new.self.lists.nodes.items c.in-Ok-read.list.0)
+    let bits : AreBitsOf (list_in c.read.new.self.lists.nodes.items c.in_ok-first.first)
     c.bits.result = rw (c.new-attributes.ensures.lists, c.new-attributes.ensures.first) at c.bits.ensures in
     let code = sym (ap unsigned_at (bytes_from c.args.section.now c.args.offset)) ∙ c.in_ok-code.ensures.exact in
     record {
       is =
-          next_some c.args.section.now c.args.offset c.in_ok-code.code c.in_ok-code.rest.now code
-          c.if-code-eq0.false (c.in-Ok.found.0, c.in-Ok.found.1) c.in-Ok.found.2.now c.in-Ok.ensures.exact
-          c.read.new.self.lists.nodes.items c.in-Ok-read.list.0 c.in-Ok-read.list.1
-          c.in-Ok-read.ensures.list;
+          next_some c.args.section.now c.args.offset _ _ code c.if-code-eq0.false _ _ c.in_ok-tag.ensures.exact
+          c.read.new.self.lists.nodes.items c.in_ok-first.first c.in_ok-first.end c.in_ok-first.ensures.list;
       kept =
           record {
             within = search rules;

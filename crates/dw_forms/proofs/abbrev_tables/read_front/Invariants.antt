@@ -6,12 +6,12 @@ use Rattle.dw_forms.proofs.abbrev_tables.read_front.Given as goal
 
 abbrev pub invariant-loop-decls : goal.invariant-loop-decls
 invariant-loop-decls l = record {
-  from : l.offset ≤ l.end;
-  within : l.end ≤ length l.section;
+  from : l.offset ≤ l.at;
+  within : l.at ≤ length l.section;
   more : MoreLists l.section l.fn.lists l.lists;
-  along : AreAlong (IsDeclAt l.section l.lists.lists.nodes.items) l.decls.items l.offset l.end;
+  along : AreAlong (IsDeclAt l.section l.lists.lists.nodes.items) l.decls.items l.offset l.at;
   new : AreNew l.starts.starts.items l.decls.items;
 }
 
 abbrev pub decreases-loop-decls : goal.decreases-loop-decls
-decreases-loop-decls l = length l.section - l.end
+decreases-loop-decls l = length l.section - l.at

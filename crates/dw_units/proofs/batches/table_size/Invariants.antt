@@ -1,8 +1,8 @@
 use Rattle.std.proofs.Common.{length, ◌≤◌}
 use Rattle.dw_units.proofs.batches.table_size.Given as goal
 
-abbrev pub invariant-loop-code : goal.invariant-loop-code
-invariant-loop-code l = length l.rest ≤ length l.bytes
+abbrev pub invariant-loop-rest : goal.invariant-loop-rest
+invariant-loop-rest l = length l.rest ≤ length l.bytes
 
-abbrev pub decreases-loop-code : goal.decreases-loop-code
-decreases-loop-code l = length l.rest
+abbrev pub decreases-loop-rest : goal.decreases-loop-rest
+decreases-loop-rest l = length l.rest

@@ -11,7 +11,7 @@ use Rattle.dw_forms.proofs.abbrev_tables.AbbrevTables.read.Goals as goal
 pub keep-requires-clause-tables : goal.keep-requires-clause-tables
 keep-requires-clause-tables c =
     let a = c.args.self.now in
-    let new = c.read_front.new.lists.lists.nodes.items in
+    let new = c.read_front-front.new.lists.lists.nodes.items in
     let same = tables_same a.lists.lists.nodes.items new a.kept.items c.in-Ok.ensures.more.stay
     c.requires.tables.searchable.within in
     record {
@@ -35,7 +35,7 @@ keep-requires-clause-tables c =
 pub returns-in-Some-clause-stay : goal.returns-in-Some-clause-stay
 returns-in-Some-clause-stay c =
     let a = c.args.self.now in
-    let same = tables_same a.lists.lists.nodes.items c.read_front.new.lists.lists.nodes.items a.kept.items
+    let same = tables_same a.lists.lists.nodes.items c.read_front-front.new.lists.lists.nodes.items a.kept.items
     c.in-Ok.ensures.more.stay c.requires.tables.searchable.within in
     subst (λ (tables : Tables). Stay tables (tables_in c.keep.new.self)) same c.in_ok-table.ensures.stay
 
