@@ -1,15 +1,14 @@
 //! Unit headers (DWARF 5, section 7.5.1; DWARF 4, section 7.5.1.1).
 
-ghost use Rattle.std.specs.Prelude.{◌≡◌, ◌≤◌, length, ◌⊎◌, ◌<◌, IfOk};
+ghost use Rattle.std.specs.Prelude.{◌≡◌};
 ghost use Rattle.dw_forms.specs.ValueReading.{Gives};
-ghost use Rattle.dw_entries.specs.Header.{version_of, type_of, code_of_type, fits_tag, unit_header_size, IsSize};
-ghost use Rattle.dw_entries.specs.Header.{field as field_format, address_size as size_format, kind_fields};
+ghost use Rattle.dw_entries.specs.Header.{version_of, type_of, code_of_type, fits_tag, unit_header_size};
+ghost use Rattle.dw_entries.specs.Header.{address_size as size_format, kind_fields};
 ghost use Rattle.dw_entries.specs.Header.{abbrev_offset as offset_format, version4 as format4, version5 as format5};
-ghost use Rattle.dw_entries.specs.Header.{header_fields, unit_at, header_at};
+ghost use Rattle.dw_entries.specs.Header.{header_fields, header_at};
 
-use byteorder::{ByteOrder, LittleEndian};
 use dw_forms::constants::{DW_TAG_compile_unit, DW_TAG_partial_unit, DW_TAG_type_unit};
-use dw_forms::{Rule, Tag};
+use dw_forms::{Rule, Tag, take_bytes, take_number, take_offset};
 
 /// The types of units (DWARF 5, section 7.5.1, Table 7.2).
 #[derive(Clone, Copy, Debug, PartialEq, Eq)]
@@ -106,151 +105,101 @@ impl HeaderKind {
     }
 }
 
-/// A field of so many bytes.
-#[tactic(auto, unfolding(dw_forms::specs::BaseFormats::taken_at))]
-fn field(bytes: &[u8], size: usize) -> Result<(u64, &[u8]), Rule>
-    requires some { 1 ≤ size }
-    requires few { size ≤ 8 }
-    ensures { Gives (λ x. (x.0, x.1.now)) result ((field_format size).read bytes.now) }
-{
-    if bytes.len() < size {
-        return Err(Rule::UnitCut);
-    }
-    let (front, rest) = bytes.split_at(size);
-    Ok((LittleEndian::read_uint(front, size), rest))
-}
-
-/// A field of 4 bytes.
-#[tactic(auto, unfolding(dw_forms::specs::BaseFormats::taken_at))]
-fn word(bytes: &[u8]) -> Result<(u32, &[u8]), Rule>
-    ensures { Gives (λ x. (x.0, x.1.now)) result ((field_format 4).read bytes.now) }
-{
-    if bytes.len() < 4 {
-        return Err(Rule::UnitCut);
-    }
-    let (front, rest) = bytes.split_at(4);
-    Ok((LittleEndian::read_u32(front), rest))
-}
-
 /// The size of an address.
 #[tactic(auto, unfolding(crate::specs::Header::address_size))]
-fn address_size(bytes: &[u8]) -> Result<(u8, &[u8]), Rule>
-    ensures { Gives (λ x. (x.0, x.1.now)) result (size_format.read bytes.now) }
+fn address_size(bytes: &mut &[u8]) -> Result<u8, Rule>
+    ensures { Gives (λ x. (x, bytes.new.now)) result (size_format.read bytes.old.now) }
 {
-    let (size, rest) = field(bytes, 1)?;
-    if size == 4 || size == 8 {
-        Ok((size as u8, rest))
-    } else {
-        Err(Rule::BadAddressSize)
+    let size = take_number(Rule::UnitCut, 1, bytes)?;
+    if size != 4 && size != 8 {
+        return Err(Rule::BadAddressSize);
     }
+    Ok(size as u8)
 }
 
 /// The offset of the unit's table, where .debug_abbrev has so many bytes.
 #[tactic(auto, unfolding(crate::specs::Header::abbrev_offset))]
-fn abbrev_offset(abbrev_size: usize, bytes: &[u8]) -> Result<(u32, &[u8]), Rule>
-    ensures { Gives (λ x. (x.0, x.1.now)) result ((offset_format abbrev_size).read bytes.now) }
+fn abbrev_offset(abbrev_size: usize, bytes: &mut &[u8]) -> Result<u32, Rule>
+    ensures { Gives (λ x. (x, bytes.new.now)) result ((offset_format abbrev_size).read bytes.old.now) }
 {
-    let (offset, rest) = word(bytes)?;
-    if (offset as usize) < abbrev_size {
-        Ok((offset, rest))
-    } else {
-        Err(Rule::BadAbbrevOffset)
+    let offset = take_offset(Rule::UnitCut, bytes)?;
+    if abbrev_size <= offset as usize {
+        return Err(Rule::BadAbbrevOffset);
     }
+    Ok(offset)
 }
 
 /// The fields after a version of 4 (DWARF 4, 7.5.1.1).
 #[tactic(auto, unfolding(crate::specs::Header::version4))]
-fn version4(abbrev_size: usize, unit_length: u32, bytes: &[u8]) -> Result<(UnitHeader, &[u8]), Rule>
-    ensures { Gives (λ x. (x.0, x.1.now)) result ((format4 abbrev_size unit_length).read bytes.now) }
+fn version4(abbrev_size: usize, unit_length: u32, bytes: &mut &[u8]) -> Result<UnitHeader, Rule>
+    ensures { Gives (λ x. (x, bytes.new.now)) result ((format4 abbrev_size unit_length).read bytes.old.now) }
 {
-    let (abbrev_offset, rest) = abbrev_offset(abbrev_size, bytes)?;
-    let (address_size, rest) = address_size(rest)?;
-    let header = UnitHeader {
+    let abbrev_offset = abbrev_offset(abbrev_size, bytes)?;
+    Ok(UnitHeader {
         unit_length,
         kind: HeaderKind::Version4,
-        address_size,
+        address_size: address_size(bytes)?,
         abbrev_offset,
-    };
-    Ok((header, rest))
+    })
 }
 
 /// The fields that a type unit has after those of all units.
 #[tactic(auto, unfolding(crate::specs::Header::kind_fields))]
-fn kind(code: u64, bytes: &[u8]) -> Result<(HeaderKind, &[u8]), Rule>
-    ensures { Gives (λ x. (x.0, x.1.now)) result ((kind_fields code).read bytes.now) }
+fn kind(code: u64, bytes: &mut &[u8]) -> Result<HeaderKind, Rule>
+    ensures { Gives (λ x. (x, bytes.new.now)) result ((kind_fields code).read bytes.old.now) }
 {
-    if code == 1 {
-        return Ok((HeaderKind::CompileUnit, bytes));
-    }
-    if code == 3 {
-        return Ok((HeaderKind::PartialUnit, bytes));
-    }
-    let (signature, rest) = field(bytes, 8)?;
-    let (type_offset, rest) = word(rest)?;
-    let kind = HeaderKind::TypeUnit {
-        signature,
-        type_offset,
-    };
-    Ok((kind, rest))
+    Ok(match code {
+        1 => HeaderKind::CompileUnit,
+        3 => HeaderKind::PartialUnit,
+        _ => HeaderKind::TypeUnit {
+            signature: take_number(Rule::UnitCut, 8, bytes)?,
+            type_offset: take_offset(Rule::UnitCut, bytes)?,
+        },
+    })
 }
 
 /// The fields after a version of 5 (DWARF 5, 7.5.1).
 #[tactic(auto, unfolding(crate::specs::Header::version5))]
-fn version5(abbrev_size: usize, unit_length: u32, bytes: &[u8]) -> Result<(UnitHeader, &[u8]), Rule>
-    ensures { Gives (λ x. (x.0, x.1.now)) result ((format5 abbrev_size unit_length).read bytes.now) }
+fn version5(abbrev_size: usize, unit_length: u32, bytes: &mut &[u8]) -> Result<UnitHeader, Rule>
+    ensures { Gives (λ x. (x, bytes.new.now)) result ((format5 abbrev_size unit_length).read bytes.old.now) }
 {
-    let (code, rest) = field(bytes, 1)?;
-    if code == 1 || code == 2 || code == 3 {
-        let (address_size, rest) = address_size(rest)?;
-        let (abbrev_offset, rest) = abbrev_offset(abbrev_size, rest)?;
-        let (kind, rest) = kind(code, rest)?;
-        let header = UnitHeader {
-            unit_length,
-            kind,
-            address_size,
-            abbrev_offset,
-        };
-        Ok((header, rest))
-    } else {
-        Err(Rule::BadUnitType)
+    let code = take_number(Rule::UnitCut, 1, bytes)?;
+    if code < 1 || 3 < code {
+        return Err(Rule::BadUnitType);
     }
+    let address_size = address_size(bytes)?;
+    let abbrev_offset = abbrev_offset(abbrev_size, bytes)?;
+    Ok(UnitHeader {
+        unit_length,
+        kind: kind(code, bytes)?,
+        address_size,
+        abbrev_offset,
+    })
 }
 
 /// The fields after unit_length.
 #[tactic(auto, unfolding(crate::specs::Header::header_fields))]
-fn fields(abbrev_size: usize, unit_length: u32, bytes: &[u8]) -> Result<(UnitHeader, &[u8]), Rule>
-    ensures { Gives (λ x. (x.0, x.1.now)) result ((header_fields abbrev_size unit_length).read bytes.now) }
+fn fields(abbrev_size: usize, unit_length: u32, bytes: &mut &[u8]) -> Result<UnitHeader, Rule>
+    ensures { Gives (λ x. (x, bytes.new.now)) result ((header_fields abbrev_size unit_length).read bytes.old.now) }
 {
-    let (version, rest) = field(bytes, 2)?;
-    if version == 4 {
-        return version4(abbrev_size, unit_length, rest);
+    match take_number(Rule::UnitCut, 2, bytes)? {
+        4 => version4(abbrev_size, unit_length, bytes),
+        5 => version5(abbrev_size, unit_length, bytes),
+        _ => Err(Rule::BadVersion),
     }
-    if version == 5 {
-        return version5(abbrev_size, unit_length, rest);
-    }
-    Err(Rule::BadVersion)
-}
-
-/// The bytes after unit_length, up to the unit's end.
-#[tactic(auto, unfolding(crate::specs::Header::unit_at, dw_forms::specs::BaseFormats::taken_at))]
-fn unit_bytes(bytes: &[u8]) -> Result<(u32, &[u8]), Rule>
-    ensures { Gives (λ x. (x.0, x.1.now)) result (unit_at bytes.now) }
-{
-    let (len, rest) = word(bytes)?;
-    if len < 0xfffffff0 {
-        if rest.len() < len as usize {
-            return Err(Rule::UnitCut);
-        }
-        return Ok((len, &rest[..len as usize]));
-    }
-    Err(Rule::Not32Bit)
 }
 
 /// The header at the front, and the bytes after it to the unit's end.
-#[tactic(auto, unfolding(crate::specs::Header::header_at))]
+#[tactic(auto, unfolding(crate::specs::Header::header_at, crate::specs::Header::unit_at))]
 pub fn read_header(abbrev_size: usize, bytes: &[u8]) -> Result<(UnitHeader, &[u8]), Rule>
     ensures { Gives (λ x. (x.0, x.1.now)) result (header_at abbrev_size bytes.now) }
 {
-    let (unit_length, rest) = unit_bytes(bytes)?;
-    fields(abbrev_size, unit_length, rest)
+    let mut rest = bytes;
+    let unit_length = take_offset(Rule::UnitCut, &mut rest)?;
+    if unit_length >= 0xfffffff0 {
+        return Err(Rule::Not32Bit);
+    }
+    let mut unit = take_bytes(Rule::UnitCut, u64::from(unit_length), &mut rest)?;
+    let header = fields(abbrev_size, unit_length, &mut unit)?;
+    Ok((header, unit))
 }
