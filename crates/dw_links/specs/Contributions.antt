@@ -41,8 +41,3 @@ pub record HasZeroFrom (section : List ℕ) (offset : ℕ) : Type 0 where
   pub behind : offset ≤ last
   pub within : last < length section
   pub is_zero : slice_index section last ≡ 0
-
--- strings begin below this offset and nowhere else
-pub record IsEndOfStrings (section : List ℕ) (end : ℕ) : Type 0 where
-  pub below : (offset : ℕ) → offset < end → HasZeroFrom section offset
-  pub above : (offset : ℕ) → end ≤ offset → HasZeroFrom section offset → ⊥

@@ -1,5 +1,6 @@
 -- State: what is read once of a unit to check the rules on its strings and addresses.
 use Rattle.std.specs.Prelude.{◌≡◌, ◌<◌, length, IfSome}
+use Rattle.dw_elf.specs.Elf.{IsAfterLastZero}
 use Rattle.dw_forms.specs.Codes.{DW_AT_str_offsets_base, DW_AT_addr_base}
 use Rattle.dw_entries.specs.declared.entries.Entries.{Entries}
 use Rattle.dw_entries.specs.Header.{IsSize}
@@ -8,7 +9,7 @@ use Rattle.dw_entries.specs.Lookups.{unit_head}
 use Rattle.dw_entries.specs.Views.{sections_of, all_entries, all_units, units_of}
 use Rattle.dw_links.specs.declared.strings.UnitContributions.{UnitContributions}
 use Rattle.dw_links.specs.RulesOfAttributes.{Rules}
-use Rattle.dw_links.specs.Contributions.{IsCount, IsEndOfStrings}
+use Rattle.dw_links.specs.Contributions.{IsCount}
 use Rattle.dw_links.specs.Strings.{StringFailsIn, base_in}
 
 -- what was read of a unit is right: the size of its addresses, its contributions, and where strings end
@@ -17,8 +18,8 @@ pub record IsReady (texts : UnitContributions) : Type 0 where
   pub strings : IfSome texts.str_base (λ base. IsCount texts.sections.str_offsets.now 4 0 base texts.strings)
   pub addresses : IfSome texts.addr_base (λ base. IsCount texts.sections.addr.now
       texts.head.header.address_size texts.head.header.address_size base texts.addresses)
-  pub str_end : IsEndOfStrings texts.sections.str.now texts.str_end
-  pub line_str_end : IsEndOfStrings texts.sections.line_str.now texts.line_str_end
+  pub str_end : IsAfterLastZero texts.sections.str.now texts.str_end
+  pub line_str_end : IsAfterLastZero texts.sections.line_str.now texts.line_str_end
 
 -- the rules on strings and addresses, by what was read of the unit
 abbrev pub FailsByTexts : UnitContributions → Rules

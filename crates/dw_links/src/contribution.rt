@@ -5,12 +5,11 @@ ghost use Rattle.dw_elf.specs.Elf.{number_at};
 ghost use Rattle.dw_entries.specs.ByNumber.{placed_of};
 ghost use Rattle.dw_entries.specs.Views.{all_entries, all_units, units_of};
 ghost use Rattle.dw_links.specs.Bases.{base_in};
-ghost use Rattle.dw_links.specs.Contributions.{IsCount, IsEndOfStrings};
+ghost use Rattle.dw_links.specs.Contributions.{IsCount};
 
 use byteorder::{ByteOrder, LittleEndian};
 use dw_entries::Entries;
 use dw_forms::{Attribute, Value};
-use memchr::memrchr;
 
 /// The base that a unit's first entry gives to its contribution: the offset of the first slot in its section.
 pub fn base_in_unit(entries: &Entries<'_>, number: usize, attribute: Attribute) -> Option<u32>
@@ -71,14 +70,4 @@ pub fn count_named(section: &[u8], slot: u8, mark: u8, base: Option<u32>) -> Opt
     ensures { IfSome base (λ base. IsCount section.now slot mark base result) }
 {
     count_slots(section, slot, mark, base?)
-}
-
-/// The offset after the section's last zero byte, below which all strings begin.
-pub fn end_of_strings(section: &[u8]) -> usize
-    ensures { IsEndOfStrings section.now result }
-{
-    match memrchr(0, section) {
-        Some(last) => last + 1,
-        None => 0,
-    }
 }

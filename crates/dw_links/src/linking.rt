@@ -14,10 +14,10 @@ ghost use Rattle.dw_links.specs.References.{HeaderFailures, ReferenceFailures};
 ghost use Rattle.dw_links.specs.SignedTypes.{HasSignedTypes};
 
 use crate::constant::language_in_unit;
-use crate::contribution::end_of_strings;
 use crate::references::UnitLinks;
 use crate::strings::check_strings;
 use crate::tables::LinkTables;
+use dw_elf::end_of_texts;
 use dw_entries::constants::*;
 use dw_entries::{Entries, EntryId, Fault, OptionalId, PlainFault, Stop, UnitHeader};
 use dw_forms::Attribute;
@@ -116,10 +116,7 @@ pub(crate) fn link_entries(
     ensures fault { IfErr result (IfPlainFault (IsFirstOfTargets (sections_of entries.now) (units_of entries.now))) }
 {
     let sections = entries.sections();
-    let ends = (
-        end_of_strings(sections.str),
-        end_of_strings(sections.line_str),
-    );
+    let ends = (end_of_texts(sections.str), end_of_texts(sections.line_str));
     let mut str_bases = Vec::with_capacity(alloc, entries.unit_count())?;
     let mut addr_bases = Vec::with_capacity(alloc, entries.unit_count())?;
     let mut languages = Vec::with_capacity(alloc, entries.unit_count())?;

@@ -2,9 +2,9 @@
 
 ghost use Rattle.std.specs.Prelude.{true, ◌≡◌, None, Some, IfSome, ◌+◌, ◌<◌, ◌≤◌, length, IfNone, IfOk};
 ghost use Rattle.std.specs.Prelude.{OnOk, IfErr};
+ghost use Rattle.dw_elf.specs.Elf.{IsAfterLastZero};
 ghost use Rattle.dw_forms.specs.Value.{view};
 ghost use Rattle.dw_entries.specs.Failures.{IsLeast, HasNone, IsFirst};
-ghost use Rattle.dw_links.specs.Contributions.{IsEndOfStrings};
 ghost use Rattle.dw_links.specs.DeclaredEntries.{KeepsDeclared};
 ghost use Rattle.dw_links.specs.UnitAtHand.{entries_followed, entry_with, entry_after, FailsByTarget, target_by};
 ghost use Rattle.dw_links.specs.UnitAtHand.{IsLinkable};
@@ -153,8 +153,8 @@ impl<'e, 'd, 't> UnitLinks<'e, 'd, 't> {
         unit: usize,
         signatures: &'t BTreeMap<u64, EntryId>,
     ) -> UnitLinks<'e, 'd, 't>
-        requires str_end { IsEndOfStrings (sections_of entries.now).str.now ends.0 }
-        requires line_str_end { IsEndOfStrings (sections_of entries.now).line_str.now ends.1 }
+        requires str_end { IsAfterLastZero (sections_of entries.now).str.now ends.0 }
+        requires line_str_end { IsAfterLastZero (sections_of entries.now).line_str.now ends.1 }
         requires unit { unit < length (units_of entries.now) }
         requires types { HasSignedTypes entries.now signatures.now }
         requires headers { HasNone (HeaderFailures (all_entries entries.now) (all_units entries.now)) }

@@ -2,19 +2,19 @@
 //! for the first failure, unit by unit.
 
 ghost use Rattle.std.specs.Prelude.{◌≡◌, ◌<◌, length, OnOk, IfErr};
+ghost use Rattle.dw_elf.specs.Elf.{IsAfterLastZero};
 ghost use Rattle.dw_forms.specs.Value.{view};
 ghost use Rattle.dw_entries.specs.Failures.{HasNone, IsFirst, IsLeast, IsPlainFault};
 ghost use Rattle.dw_entries.specs.ByNumber.{entry_of};
 ghost use Rattle.dw_entries.specs.Views.{sections_of, all_entries, units_of};
-ghost use Rattle.dw_links.specs.Contributions.{IsEndOfStrings};
 ghost use Rattle.dw_links.specs.Strings.{OffsetFails, BaseFails, StringIndexFails, AddressIndexFails, StringFailures};
 ghost use Rattle.dw_links.specs.UnitAtHand.{FailsByText};
 ghost use Rattle.dw_links.specs.UnitContributions.{AreContributions, IsReady, FailsByTexts};
 ghost use Rattle.dw_links.specs.RulesOfAttributes.{AtHead};
 
 use crate::class::plain_fault_at;
-use crate::contribution::{base_in_unit, count_named, count_slots, end_of_strings, number};
-use dw_elf::Sections;
+use crate::contribution::{base_in_unit, count_named, count_slots, number};
+use dw_elf::{Sections, end_of_texts};
 use dw_entries::constants::*;
 use dw_entries::{Entries, EntryHead, EntryId, Fault, PlainFault, Rule, UnitHead};
 use dw_forms::{Attribute, Value};
@@ -22,7 +22,7 @@ use std::alloc::Global;
 
 /// The rule on an offset into a section whose strings begin below `end`.
 fn ask_offset(section: &[u8], end: usize, offset: u32) -> Option<Rule>
-    requires { IsEndOfStrings section.now end }
+    requires { IsAfterLastZero section.now end }
     ensures { IsLeast (OffsetFails section.now offset) result }
 {
     if (offset as usize) < end {
@@ -150,8 +150,8 @@ pub fn read_texts<'a>(
     line_str_end: usize,
     number: usize,
 ) -> UnitContributions<'a>
-    requires str_end { IsEndOfStrings (sections_of entries.now).str.now str_end }
-    requires line_str_end { IsEndOfStrings (sections_of entries.now).line_str.now line_str_end }
+    requires str_end { IsAfterLastZero (sections_of entries.now).str.now str_end }
+    requires line_str_end { IsAfterLastZero (sections_of entries.now).line_str.now line_str_end }
     requires number { number < length (units_of entries.now) }
     ensures texts { AreContributions entries.now result }
     ensures unit { result.unit ≡ number }
@@ -222,8 +222,8 @@ pub fn check_strings(alloc: Global, entries: &Entries<'_>) -> Result<(), Fault>
         return Ok(());
     }
     let sections = entries.sections();
-    let str_end = end_of_strings(sections.str);
-    let line_str_end = end_of_strings(sections.line_str);
+    let str_end = end_of_texts(sections.str);
+    let line_str_end = end_of_texts(sections.line_str);
     let mut texts = read_texts(entries, str_end, line_str_end, 0);
     for number in 0..entries.count() {
         let id = entries.id(number);
