@@ -1,8 +1,8 @@
 -- Chapter: the entries of a range list (DWARF 5, 2.17.3, and 7.25 with Table 7.30; DWARF 4, 2.17.3): which bytes spell
 -- which entry.
 use Rattle.std.specs.Prelude.{ℕ, ◌==◌, ◌&&◌, if◌then◌else◌}
-use Rattle.dw_forms.specs.BaseFormats.{byte, fixed_number, uleb}
-use Rattle.dw_forms.specs.Formats.{Format, and_then, nothing, failing, mapped, choose, renamed}
+use Rattle.dw_forms.specs.BaseFormats.{byte, fixed_number, uleb_or}
+use Rattle.dw_forms.specs.Formats.{Format, and_then, nothing, failing, mapped, choose}
 use Rattle.dw_ranges.specs.Addresses.{greatest_address}
 use Rattle.dw_ranges.specs.declared.list_entry.ListEntry.{ListEntry}
 use Rattle.dw_ranges.specs.declared.list_entry.ListEntry.TheVariants.{EndOfList, BaseAddressx, StartxEndx, StartxLength}
@@ -12,7 +12,7 @@ use Rattle.dw_ranges.specs.declared.rule.RangeRule.TheVariants.{BadList}
 
 -- an unsigned LEB128 number
 abbrev pub number : Format ℕ RangeRule
-number = renamed (λ bytes fault. BadList) uleb
+number = uleb_or BadList BadList
 
 -- an address of so many bytes
 abbrev pub address : ℕ → Format ℕ RangeRule

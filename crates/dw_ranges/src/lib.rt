@@ -7,7 +7,6 @@ mod bounds;
 mod code;
 mod contribution;
 mod fault;
-mod fields;
 mod file;
 mod file_reader;
 mod functions;

@@ -83,18 +83,18 @@ fn meaning_after(
     }
 }
 
-/// The next entry as what it means after this base address, and the bytes after the entry.
+/// The next entry as what it means after this base address. Moves past the entry.
 #[tactic(auto, unfolding(crate::specs::RangeLists::meant))]
-fn next<'a>(
+fn next(
     unit: &UnitAddresses<'_>,
     base: Option<u64>,
-    bytes: &'a [u8],
-) -> Result<(Meaning, &'a [u8]), RangeRule>
-    ensures exact { Gives (λ x. (x.0, x.1.now)) result ((meant unit.now base).read bytes.now) }
-    ensures shorter { IfOk result (λ x. length x.1.now < length bytes.now) }
+    bytes: &mut &[u8],
+) -> Result<Meaning, RangeRule>
+    ensures exact { Gives (λ x. (x, bytes.new.now)) result ((meant unit.now base).read bytes.old.now) }
+    ensures shorter { IfOk result (λ _. length bytes.new.now < length bytes.old.now) }
 {
-    let (entry, rest) = list_entry(unit.version, unit.address_size, bytes)?;
-    Ok((meaning_after(unit, base, entry)?, rest))
+    let entry = list_entry(unit.version, unit.address_size, bytes)?;
+    meaning_after(unit, base, entry)
 }
 
 /// Appends the ranges of the list at an offset, and returns the offset after the list. After a fault some may have been
@@ -111,21 +111,15 @@ fn append_ranges(
         (list_after ranges.old.items unit.now section.now offset) }
 {
     let mut base = unit.base;
-    let mut rest = &section[offset..];
+    let mut bytes = &section[offset..];
     loop {
-        let (meaning, after) = match next(unit, base, rest) {
-            Ok(found) => found,
-            Err(rule) => {
-                let at = section.len() - rest.len();
-                return Err(Stop::Fault(ListFault { rule, at }));
-            }
-        };
-        match meaning {
-            Meaning::End => return Ok(section.len() - after.len()),
-            Meaning::Base(address) => base = Some(address),
-            Meaning::Bounded(range) => ranges.push(range)?,
+        let at = section.len() - bytes.len();
+        match next(unit, base, &mut bytes) {
+            Err(rule) => return Err(Stop::Fault(ListFault { rule, at })),
+            Ok(Meaning::End) => return Ok(section.len() - bytes.len()),
+            Ok(Meaning::Base(address)) => base = Some(address),
+            Ok(Meaning::Bounded(range)) => ranges.push(range)?,
         }
-        rest = after;
     }
 }
 

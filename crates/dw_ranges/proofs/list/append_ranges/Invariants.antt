@@ -3,11 +3,11 @@ use Rattle.dw_ranges.specs.RangeLists.{list_after}
 use Rattle.dw_ranges.proofs.ListSteps.{Extends, GoesOn}
 use Rattle.dw_ranges.proofs.list.append_ranges.Given as goal
 
-abbrev pub invariant-loop-found : goal.invariant-loop-found
-invariant-loop-found l =
-    Extends l.initial.ranges.items l.ranges.items × (length l.rest ≤ length l.section)
-    × GoesOn l.unit l.section l.ranges.items l.base l.rest
+abbrev pub invariant-loop-rule : goal.invariant-loop-rule
+invariant-loop-rule l =
+    Extends l.initial.ranges.items l.ranges.items × (length l.bytes ≤ length l.section)
+    × GoesOn l.unit l.section l.ranges.items l.base l.bytes
     (list_after l.initial.ranges.items l.unit l.section l.offset)
 
-abbrev pub decreases-loop-found : goal.decreases-loop-found
-decreases-loop-found l = length l.rest
+abbrev pub decreases-loop-rule : goal.decreases-loop-rule
+decreases-loop-rule l = length l.bytes
