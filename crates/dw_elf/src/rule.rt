@@ -45,41 +45,37 @@ pub enum ElfRule {
 impl ElfRule {
     ghost use Rattle.dw_elf.specs.RuleTexts.{code_text, name_text};
 
-    /// The short code of the rule, as `E4`.
-    #[tactic(auto, unfolding(crate::specs::RuleTexts::code_text))]
-    pub fn code(self) -> &'static str
-        ensures { result.now ≡ code_text self }
+    /// The code of the rule, and its name.
+    #[tactic(auto, unfolding(crate::specs::RuleTexts::code_text, crate::specs::RuleTexts::name_text))]
+    fn texts(self) -> (&'static str, &'static str)
+        ensures code { result.0.now ≡ code_text self }
+        ensures name { result.1.now ≡ name_text self }
     {
         match self {
-            ElfRule::TooLarge => "E1",
-            ElfRule::NotElf64 => "E2",
-            ElfRule::NotLinked => "E3",
-            ElfRule::SectionTable => "E4",
-            ElfRule::SectionName => "E5",
-            ElfRule::SectionRange => "E6",
-            ElfRule::Compressed => "E7",
-            ElfRule::SectionTwice => "E8",
-            ElfRule::NoInfo => "E9",
-            ElfRule::NoBits => "E10",
+            ElfRule::TooLarge => ("E1", "TooLarge"),
+            ElfRule::NotElf64 => ("E2", "NotElf64"),
+            ElfRule::NotLinked => ("E3", "NotLinked"),
+            ElfRule::SectionTable => ("E4", "SectionTable"),
+            ElfRule::SectionName => ("E5", "SectionName"),
+            ElfRule::SectionRange => ("E6", "SectionRange"),
+            ElfRule::Compressed => ("E7", "Compressed"),
+            ElfRule::SectionTwice => ("E8", "SectionTwice"),
+            ElfRule::NoInfo => ("E9", "NoInfo"),
+            ElfRule::NoBits => ("E10", "NoBits"),
         }
     }
 
+    /// The short code of the rule, as `E4`.
+    pub fn code(self) -> &'static str
+        ensures { result.now ≡ code_text self }
+    {
+        self.texts().0
+    }
+
     /// The name of the rule, as `SectionTable`.
-    #[tactic(auto, unfolding(crate::specs::RuleTexts::name_text))]
     pub fn name(self) -> &'static str
         ensures { result.now ≡ name_text self }
     {
-        match self {
-            ElfRule::TooLarge => "TooLarge",
-            ElfRule::NotElf64 => "NotElf64",
-            ElfRule::NotLinked => "NotLinked",
-            ElfRule::SectionTable => "SectionTable",
-            ElfRule::SectionName => "SectionName",
-            ElfRule::SectionRange => "SectionRange",
-            ElfRule::Compressed => "Compressed",
-            ElfRule::SectionTwice => "SectionTwice",
-            ElfRule::NoInfo => "NoInfo",
-            ElfRule::NoBits => "NoBits",
-        }
+        self.texts().1
     }
 }

@@ -100,104 +100,69 @@ pub enum Rule {
 impl Rule {
     ghost use Rattle.dw_forms.specs.Rules.{code_text, group_of, name_text};
 
-    /// The code of the rule: the letter of its group and its number there.
-    #[tactic(auto, unfolding(crate::specs::Rules::code_text))]
-    pub fn code(self) -> &'static str
-        ensures { result.now ≡ code_text self }
+    /// The code of the rule, and its name.
+    #[tactic(auto, unfolding(crate::specs::Rules::code_text, crate::specs::Rules::name_text))]
+    fn texts(self) -> (&'static str, &'static str)
+        ensures code { result.0.now ≡ code_text self }
+        ensures name { result.1.now ≡ name_text self }
     {
         match self {
-            Rule::AbbrevCut => "A1",
-            Rule::AbbrevNumber => "A2",
-            Rule::CodeTwice => "A3",
-            Rule::BadTag => "A4",
-            Rule::BadChildren => "A5",
-            Rule::BadPair => "A6",
-            Rule::UnknownForm => "A7",
-            Rule::AttributeTwice => "A8",
-            Rule::UnitCut => "U1",
-            Rule::Not32Bit => "U2",
-            Rule::BadVersion => "U3",
-            Rule::BadUnitType => "U4",
-            Rule::BadAddressSize => "U5",
-            Rule::BadAbbrevOffset => "U6",
-            Rule::NoUnitEntry => "U7",
-            Rule::WrongUnitTag => "U8",
-            Rule::LeftOver => "U9",
-            Rule::UndeclaredCode => "G1",
-            Rule::Cut => "G2",
-            Rule::BadNumber => "G3",
-            Rule::BadIndirect => "G4",
-            Rule::FormVersion => "G5",
-            Rule::WrongClass => "K1",
-            Rule::BadStrBase => "S1",
-            Rule::StrIndex => "S2",
-            Rule::StringEnd => "S3",
-            Rule::BadAddrBase => "S4",
-            Rule::AddrIndex => "S5",
-            Rule::NoEntry => "R1",
-            Rule::WrongKind => "R2",
-            Rule::NotNextSibling => "R3",
-            Rule::NoSignature => "R4",
-            Rule::SignatureTwice => "R5",
-            Rule::BadTypeOffset => "R6",
-            Rule::MissingType => "Y1",
-            Rule::BadCount => "Y2",
-            Rule::ContainsItself => "C1",
-            Rule::NoSize => "Z1",
-            Rule::SizeTooGreat => "Z2",
-            Rule::MemberOutside => "Z3",
-            Rule::EnumSize => "Z4",
+            Rule::AbbrevCut => ("A1", "AbbrevCut"),
+            Rule::AbbrevNumber => ("A2", "AbbrevNumber"),
+            Rule::CodeTwice => ("A3", "CodeTwice"),
+            Rule::BadTag => ("A4", "BadTag"),
+            Rule::BadChildren => ("A5", "BadChildren"),
+            Rule::BadPair => ("A6", "BadPair"),
+            Rule::UnknownForm => ("A7", "UnknownForm"),
+            Rule::AttributeTwice => ("A8", "AttributeTwice"),
+            Rule::UnitCut => ("U1", "UnitCut"),
+            Rule::Not32Bit => ("U2", "Not32Bit"),
+            Rule::BadVersion => ("U3", "BadVersion"),
+            Rule::BadUnitType => ("U4", "BadUnitType"),
+            Rule::BadAddressSize => ("U5", "BadAddressSize"),
+            Rule::BadAbbrevOffset => ("U6", "BadAbbrevOffset"),
+            Rule::NoUnitEntry => ("U7", "NoUnitEntry"),
+            Rule::WrongUnitTag => ("U8", "WrongUnitTag"),
+            Rule::LeftOver => ("U9", "LeftOver"),
+            Rule::UndeclaredCode => ("G1", "UndeclaredCode"),
+            Rule::Cut => ("G2", "Cut"),
+            Rule::BadNumber => ("G3", "BadNumber"),
+            Rule::BadIndirect => ("G4", "BadIndirect"),
+            Rule::FormVersion => ("G5", "FormVersion"),
+            Rule::WrongClass => ("K1", "WrongClass"),
+            Rule::BadStrBase => ("S1", "BadStrBase"),
+            Rule::StrIndex => ("S2", "StrIndex"),
+            Rule::StringEnd => ("S3", "StringEnd"),
+            Rule::BadAddrBase => ("S4", "BadAddrBase"),
+            Rule::AddrIndex => ("S5", "AddrIndex"),
+            Rule::NoEntry => ("R1", "NoEntry"),
+            Rule::WrongKind => ("R2", "WrongKind"),
+            Rule::NotNextSibling => ("R3", "NotNextSibling"),
+            Rule::NoSignature => ("R4", "NoSignature"),
+            Rule::SignatureTwice => ("R5", "SignatureTwice"),
+            Rule::BadTypeOffset => ("R6", "BadTypeOffset"),
+            Rule::MissingType => ("Y1", "MissingType"),
+            Rule::BadCount => ("Y2", "BadCount"),
+            Rule::ContainsItself => ("C1", "ContainsItself"),
+            Rule::NoSize => ("Z1", "NoSize"),
+            Rule::SizeTooGreat => ("Z2", "SizeTooGreat"),
+            Rule::MemberOutside => ("Z3", "MemberOutside"),
+            Rule::EnumSize => ("Z4", "EnumSize"),
         }
     }
 
+    /// The code of the rule: the letter of its group and its number there.
+    pub fn code(self) -> &'static str
+        ensures { result.now ≡ code_text self }
+    {
+        self.texts().0
+    }
+
     /// The name of the rule, which is its variant's.
-    #[tactic(auto, unfolding(crate::specs::Rules::name_text))]
     pub fn name(self) -> &'static str
         ensures { result.now ≡ name_text self }
     {
-        match self {
-            Rule::AbbrevCut => "AbbrevCut",
-            Rule::AbbrevNumber => "AbbrevNumber",
-            Rule::CodeTwice => "CodeTwice",
-            Rule::BadTag => "BadTag",
-            Rule::BadChildren => "BadChildren",
-            Rule::BadPair => "BadPair",
-            Rule::UnknownForm => "UnknownForm",
-            Rule::AttributeTwice => "AttributeTwice",
-            Rule::UnitCut => "UnitCut",
-            Rule::Not32Bit => "Not32Bit",
-            Rule::BadVersion => "BadVersion",
-            Rule::BadUnitType => "BadUnitType",
-            Rule::BadAddressSize => "BadAddressSize",
-            Rule::BadAbbrevOffset => "BadAbbrevOffset",
-            Rule::NoUnitEntry => "NoUnitEntry",
-            Rule::WrongUnitTag => "WrongUnitTag",
-            Rule::LeftOver => "LeftOver",
-            Rule::UndeclaredCode => "UndeclaredCode",
-            Rule::Cut => "Cut",
-            Rule::BadNumber => "BadNumber",
-            Rule::BadIndirect => "BadIndirect",
-            Rule::FormVersion => "FormVersion",
-            Rule::WrongClass => "WrongClass",
-            Rule::BadStrBase => "BadStrBase",
-            Rule::StrIndex => "StrIndex",
-            Rule::StringEnd => "StringEnd",
-            Rule::BadAddrBase => "BadAddrBase",
-            Rule::AddrIndex => "AddrIndex",
-            Rule::NoEntry => "NoEntry",
-            Rule::WrongKind => "WrongKind",
-            Rule::NotNextSibling => "NotNextSibling",
-            Rule::NoSignature => "NoSignature",
-            Rule::SignatureTwice => "SignatureTwice",
-            Rule::BadTypeOffset => "BadTypeOffset",
-            Rule::MissingType => "MissingType",
-            Rule::BadCount => "BadCount",
-            Rule::ContainsItself => "ContainsItself",
-            Rule::NoSize => "NoSize",
-            Rule::SizeTooGreat => "SizeTooGreat",
-            Rule::MemberOutside => "MemberOutside",
-            Rule::EnumSize => "EnumSize",
-        }
+        self.texts().1
     }
 
     /// The group of the rule. A group is checked only where no rule of an earlier one fails: 1 for units with their

@@ -6,34 +6,26 @@ use Rattle.dw_ranges.specs.declared.rule.RangeRule.TheVariants.{BadBounds, BadHi
 use Rattle.dw_ranges.specs.declared.rule.RangeRule.TheVariants.{RangeIndex, RangesMeet, OutsideUnit, OutsideParent}
 use Rattle.dw_ranges.specs.declared.rule.RangeRule.TheVariants.{InlinedMeet, FunctionsMeet, ListBudget}
 
--- the code of a rule: the letter of its group and a number
-unfoldable pub code_text : RangeRule → List ℕ
-code_text BadBounds = codes "X1"
-code_text BadHigh = codes "X2"
-code_text NoList = codes "X3"
-code_text BadList = codes "X4"
-code_text NoBase = codes "X5"
-code_text BadRange = codes "X6"
-code_text RangeIndex = codes "X7"
-code_text RangesMeet = codes "X8"
-code_text OutsideUnit = codes "X9"
-code_text OutsideParent = codes "X10"
-code_text InlinedMeet = codes "X11"
-code_text FunctionsMeet = codes "X12"
-code_text ListBudget = codes "X13"
+-- the code of a rule, which is the letter of its group and its number there, and its name, which is its variant's
+abbrev pub texts : RangeRule → List ℕ × List ℕ
+texts BadBounds = (codes "X1", codes "BadBounds")
+texts BadHigh = (codes "X2", codes "BadHigh")
+texts NoList = (codes "X3", codes "NoList")
+texts BadList = (codes "X4", codes "BadList")
+texts NoBase = (codes "X5", codes "NoBase")
+texts BadRange = (codes "X6", codes "BadRange")
+texts RangeIndex = (codes "X7", codes "RangeIndex")
+texts RangesMeet = (codes "X8", codes "RangesMeet")
+texts OutsideUnit = (codes "X9", codes "OutsideUnit")
+texts OutsideParent = (codes "X10", codes "OutsideParent")
+texts InlinedMeet = (codes "X11", codes "InlinedMeet")
+texts FunctionsMeet = (codes "X12", codes "FunctionsMeet")
+texts ListBudget = (codes "X13", codes "ListBudget")
 
--- the name of a rule, which is its variant's
+-- the code of a rule
+unfoldable pub code_text : RangeRule → List ℕ
+code_text rule = (texts rule).0
+
+-- the name of a rule
 unfoldable pub name_text : RangeRule → List ℕ
-name_text BadBounds = codes "BadBounds"
-name_text BadHigh = codes "BadHigh"
-name_text NoList = codes "NoList"
-name_text BadList = codes "BadList"
-name_text NoBase = codes "NoBase"
-name_text BadRange = codes "BadRange"
-name_text RangeIndex = codes "RangeIndex"
-name_text RangesMeet = codes "RangesMeet"
-name_text OutsideUnit = codes "OutsideUnit"
-name_text OutsideParent = codes "OutsideParent"
-name_text InlinedMeet = codes "InlinedMeet"
-name_text FunctionsMeet = codes "FunctionsMeet"
-name_text ListBudget = codes "ListBudget"
+name_text rule = (texts rule).1

@@ -37,47 +37,40 @@ pub enum RangeRule {
 }
 
 impl RangeRule {
-    /// The code of the rule: the letter of its group and a number.
-    #[tactic(auto, unfolding(crate::specs::RangeRules::code_text))]
-    pub fn code(self) -> &'static str
-        ensures { result.now ≡ code_text self }
+    /// The code of the rule, and its name.
+    #[tactic(auto, unfolding(crate::specs::RangeRules::code_text, crate::specs::RangeRules::name_text))]
+    fn texts(self) -> (&'static str, &'static str)
+        ensures code { result.0.now ≡ code_text self }
+        ensures name { result.1.now ≡ name_text self }
     {
         match self {
-            RangeRule::BadBounds => "X1",
-            RangeRule::BadHigh => "X2",
-            RangeRule::NoList => "X3",
-            RangeRule::BadList => "X4",
-            RangeRule::NoBase => "X5",
-            RangeRule::BadRange => "X6",
-            RangeRule::RangeIndex => "X7",
-            RangeRule::RangesMeet => "X8",
-            RangeRule::OutsideUnit => "X9",
-            RangeRule::OutsideParent => "X10",
-            RangeRule::InlinedMeet => "X11",
-            RangeRule::FunctionsMeet => "X12",
-            RangeRule::ListBudget => "X13",
+            RangeRule::BadBounds => ("X1", "BadBounds"),
+            RangeRule::BadHigh => ("X2", "BadHigh"),
+            RangeRule::NoList => ("X3", "NoList"),
+            RangeRule::BadList => ("X4", "BadList"),
+            RangeRule::NoBase => ("X5", "NoBase"),
+            RangeRule::BadRange => ("X6", "BadRange"),
+            RangeRule::RangeIndex => ("X7", "RangeIndex"),
+            RangeRule::RangesMeet => ("X8", "RangesMeet"),
+            RangeRule::OutsideUnit => ("X9", "OutsideUnit"),
+            RangeRule::OutsideParent => ("X10", "OutsideParent"),
+            RangeRule::InlinedMeet => ("X11", "InlinedMeet"),
+            RangeRule::FunctionsMeet => ("X12", "FunctionsMeet"),
+            RangeRule::ListBudget => ("X13", "ListBudget"),
         }
     }
 
+    /// The code of the rule: the letter of its group and a number.
+    pub fn code(self) -> &'static str
+        ensures { result.now ≡ code_text self }
+    {
+        self.texts().0
+    }
+
     /// The name of the rule, which is its variant's.
-    #[tactic(auto, unfolding(crate::specs::RangeRules::name_text))]
     pub fn name(self) -> &'static str
         ensures { result.now ≡ name_text self }
     {
-        match self {
-            RangeRule::BadBounds => "BadBounds",
-            RangeRule::BadHigh => "BadHigh",
-            RangeRule::NoList => "NoList",
-            RangeRule::BadList => "BadList",
-            RangeRule::NoBase => "NoBase",
-            RangeRule::BadRange => "BadRange",
-            RangeRule::RangeIndex => "RangeIndex",
-            RangeRule::RangesMeet => "RangesMeet",
-            RangeRule::OutsideUnit => "OutsideUnit",
-            RangeRule::OutsideParent => "OutsideParent",
-            RangeRule::InlinedMeet => "InlinedMeet",
-            RangeRule::FunctionsMeet => "FunctionsMeet",
-            RangeRule::ListBudget => "ListBudget",
-        }
+        self.texts().1
     }
 }
