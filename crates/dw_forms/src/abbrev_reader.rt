@@ -69,8 +69,8 @@ pub fn pair_of(bytes: &mut &[u8]) -> Result<Option<(u16, Form)>, DeclFault>
     Ok(Some((attribute, form)))
 }
 
-/// The next pair after the earlier ones of its declaration, whose codes are seen, or none at the pair 0, 0. Its own code
-/// is seen, too.
+/// The next pair after the earlier ones of its declaration, whose codes are seen, or none at the pair 0, 0. Its own
+/// code is seen, too.
 #[tactic(auto, unfolding(crate::specs::Elements::next_at))]
 fn next_attribute(
     earlier: &[AttributeSpec],

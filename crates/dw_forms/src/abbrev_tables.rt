@@ -139,9 +139,10 @@ fn push(
     let Some(number) = codes.push(rest, label)? else {
         return Ok(None);
     };
-    decl.rest = rest;
-    decl.first_place = places.len();
+    let first_place = places.len();
     Attributes::new(lists, decl.first).push_places(decl.bits, places)?;
+    decl.rest = rest;
+    decl.first_place = first_place;
     kept.push_reserved(decl);
     Ok(Some(number))
 }

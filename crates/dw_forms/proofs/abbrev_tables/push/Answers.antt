@@ -49,7 +49,7 @@ returns-clause-kept c =
     let old = c.args.labels.now.long in
     let new = c.enter.new.self.long in
     let stay = c.in_ok-label.ensures.stay in
-    let first : length c.args.places.now.items ≡ c.len.result = search rules in
+    let first : length c.args.places.now.items ≡ c.len-first_place.result = search rules in
     rw (c.push_reserved.ensures.items, c.reserve.ensures.items) (record {
       coded =
           coded_more links c.push.new.self.links.items new kept _
