@@ -13,8 +13,6 @@ use Rattle.dw_lines.specs.Machine.{Turn, after, appends, cleared, last_after, ro
 use Rattle.dw_lines.specs.Opcodes.{Opcode, opcode, opcode_after}
 use Rattle.dw_lines.specs.Rows.{Run, failed, with_row, at_end, turn_at, after_turn, run_of, run}
 use Rattle.dw_lines.specs.Sequences.{HasFile}
-use Rattle.dw_lines.specs.Turns.{Turns}
-use Rattle.dw_lines.specs.declared.rows.Rows.{Rows}
 use Rattle.dw_lines.specs.declared.rule.LineFault.{LineFault}
 use Rattle.dw_lines.specs.declared.program.LineHeader.{LineHeader}
 use Rattle.dw_lines.specs.declared.row.Row.{Row}

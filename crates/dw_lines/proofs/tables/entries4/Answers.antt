@@ -2,7 +2,6 @@ use Rattle.std.proofs.Common.{◌≡◌, ◌^◌, ◌∙◌, Some, None, arith, 
 use Rattle.std.proofs.lemmas.List.{map-append}
 use Rattle.std.proofs.lemmas.Result.{err_from_is_err_and}
 use Rattle.dw_forms.specs.declared.fault.Stop.TheVariants as stops
-use Rattle.dw_lines.specs.declared.rule.LineRule.TheVariants.{LineCut}
 use Rattle.dw_lines.proofs.RepeatLaws.{goes_to_end, goes_further, goes_wrong}
 use Rattle.dw_lines.proofs.tables.entries4.Goals as goal
 use Rattle.dw_lines.proofs.tables.entries4.Goals.{in-Some-directories+in_ok-take_uleb+in_ok-entry+in_ok-_time+in_ok-_size}

@@ -1,4 +1,4 @@
-use Rattle.std.proofs.Common.{rules, refl, sym, ap, ◌∙◌, arith, length, Some, None, Ok}
+use Rattle.std.proofs.Common.{rules, refl, sym, ap, ◌∙◌, arith, Some, None, Ok}
 use Rattle.dw_lines.specs.Machine.{Turn}
 use Rattle.dw_lines.proofs.RunSteps.{run_done, run_fails, run_on, rest_shorter}
 use Rattle.dw_lines.proofs.rows.Rows.next.Goals as goal
