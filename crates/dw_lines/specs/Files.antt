@@ -151,7 +151,7 @@ are_contents (c ∷ others) = may_have c.kind c.form && not (has_kind c.kind oth
 
 -- a content and its form
 abbrev pub content_format : Format Content LineRule
-content_format = and_then (number) (λ kind. and_then (number) (λ code.
+content_format = and_then number (λ kind. and_then number (λ code.
     found (form_of code) (failing LineForm) (λ f. nothing (record { kind = kind; form = f }))))
 
 -- the format of the entries of a table
@@ -161,7 +161,7 @@ entry_format = tested are_contents LineForm (and_then byte (λ count. times coun
 -- the format of entries, and how many there are; without a path there is none
 abbrev pub table_head : Format (List Content × ℕ) LineRule
 table_head = tested (λ h. has_kind DW_LNCT_path h.0 || h.1 == 0) LineForm (
-    and_then entry_format (λ contents. mapped (λ count. (contents, count)) (number)))
+    and_then entry_format (λ contents. mapped (λ count. (contents, count)) number))
 
 -- ---- version 5: entries
 

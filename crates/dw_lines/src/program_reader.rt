@@ -34,7 +34,8 @@ fn version(size: u8, bytes: &mut &[u8]) -> Result<u16, LineRule>
 /// The fields that say what opcodes mean.
 fn parameters(version: u16, size: u8, bytes: &mut &[u8]) -> Result<Parameters, LineRule>
     requires { (size ≡ 4) ⊎ (size ≡ 8) }
-    ensures { Gives (λ x. (spec.numbers_of x, bytes.new.now)) result ((spec.parameters version size).read bytes.old.now) }
+    ensures { Gives (λ x. (spec.numbers_of x, bytes.new.now)) result
+        ((spec.parameters version size).read bytes.old.now) }
 {
     let minimum_instruction_length = take_byte(LineCut, bytes)?;
     let maximum_operations_per_instruction = match version {

@@ -15,8 +15,7 @@ use crate::rule::LineRule::{ExtendedLength, OpcodeCut, OpcodeNumber};
 use crate::rule::{LineFault, LineRule};
 use dw_forms::{take_bytes, take_number, take_sleb, take_uleb};
 
-/// Skips the operands of an opcode that the standard does not define. Their number is in the header's
-/// `standard_opcode_lengths`.
+/// Skips the operands of an opcode that the standard does not define: as many as `standard_opcode_lengths` says.
 #[cold]
 fn skip_others<'a>(lengths: &[u8], code: u8, bytes: &'a [u8]) -> Result<&'a [u8], LineRule>
     requires { 1 ≤ code }
