@@ -1,6 +1,6 @@
 -- What is kept of an entry after a value: that no rule fails there, by what the value leads to. What is told of an entry
 -- by its number: of the unit at hand, by where it starts after the unit's header, and which entries are declarations.
-use Rattle.std.proofs.Common.{rules, ◌≡◌, ◌≢◌, ℕ, Bool, true, false, List, [], ◌∷◌, Option, Some, None, refl, sym, ap, ◌∙◌, map, arith, ◌==◌, ◌<◌, ◌≤◌, length, get_or, zero, suc, set, replicate, inl, inr, ◌⊎◌, ◌++◌, take, drop, ◌&&◌, not, is_some, slice_get, ne_eqb, eqb-true, unwrap_or}
+use Rattle.std.proofs.Common.{rules, ◌≡◌, ◌≢◌, ℕ, Bool, true, false, List, [], ◌∷◌, Option, Some, None, refl, sym, ap, ◌∙◌, map, arith, ◌==◌, ◌<◌, ◌≤◌, length, zero, suc, set, replicate, inl, inr, ◌⊎◌, ◌&&◌, not, is_some, slice_get, ne_eqb, eqb-true, unwrap_or}
 use Rattle.std.proofs.lemmas.Option.{slice_get-get_or}
 use mathlib.Core.Logic.{∥∥₁_elim}
 use Rattle.dw_forms.specs.Codes.{DW_AT_type, DW_AT_sibling, DW_AT_specification, DW_AT_import, DW_AT_signature, DW_AT_declaration, is_type_tag}
@@ -33,7 +33,6 @@ use Rattle.dw_links.proofs.UnitToAll.{least_by_texts, ends_within, FailsByTexts}
 use Rattle.std.specs.Bool.{OnTrue}
 use Rattle.dw_entries.proofs.UnitRanges.{unit_in_range}
 use Rattle.dw_links.proofs.ClassLemmas.{unit_there}
-use Rattle.std.proofs.Math.Seq.{take-append_seam}
 use Rattle.std.proofs.lemmas.List.{length-set, length-replicate}
 use Rattle.dw_links.specs.DeclaredEntries.{KeepsDeclared}
 
@@ -276,13 +275,6 @@ one_more_known entries kept new id number declared keeps below is read same = re
       ];
 }
 
--- what is known of an entry is true of it
-pub known_right : (entries : Entries) (kept : List (Option Bool)) (id number : ℕ) (declared : Bool)
-    → KeepsDeclared entries kept → id < length (all_entries entries) → number ≡ id
-    → get_or kept number None ≡ Some declared
-    → declared ≡ is_declared (entry_of (all_entries entries) id)
-known_right entries kept id number declared keeps below is read = search (rules, slice_get-get_or)
-
 -- none is known of any entry
 none_known : (n j : ℕ) (known : Bool) → slice_get (replicate n None) j ≡ Some (Some known) → ⊥
 none_known zero j known is = absurd cc
@@ -292,16 +284,3 @@ none_known (suc n) (suc j) known is = none_known n j known is
 pub keeps_none : (entries : Entries) (kept : List (Option Bool)) (n : ℕ) → n ≡ length (all_entries entries)
     → kept ≡ replicate n None → KeepsDeclared entries kept
 keeps_none entries kept n all same = search (rules, length-replicate, none_known)
-
--- the list after its slice has changed
-pub keeps_whole : (entries : Entries) (old new : List (Option Bool)) (len : ℕ) → len ≡ length old
-    → KeepsDeclared entries old → KeepsDeclared entries new
-    → KeepsDeclared entries (take len (new ++ drop (length new) old))
-keeps_whole entries old new len is kept keeps =
-    let all : len ≡ length new = is ∙ kept.all ∙ sym keeps.all in
-    rw (all, take-append_seam new (drop (length new) old)) keeps
-
--- a fact that holds of no Some holds of None alone
-pub only_none : (P : Option Bool → Type 0) → ((known : Bool) → P (Some known) → ⊥) → (o : Option Bool) → P o → o ≡ None
-only_none P never None p = refl
-only_none P never (Some known) p = absurd (never known p)

@@ -1,11 +1,11 @@
 -- The rules on strings, addresses and references: their groups, and which of those that fail has the least number.
-use Rattle.std.proofs.Common.{rules, ◌≡◌, ℕ, List, Option, ap, ◌∙◌, arith, inl, inr, false, Some, None, refl, ◌<◌, true, sym, subst, is_some}
+use Rattle.std.proofs.Common.{rules, ◌≡◌, ℕ, List, Option, ap, ◌∙◌, arith, inl, inr, false, Some, None, refl, true, sym, subst, is_some}
 use Rattle.dw_forms.specs.Value.{Datum, str, ref_sig}
 use Rattle.dw_entries.specs.declared.fault.PlainFault.{PlainFault}
 pub use Rattle.dw_entries.specs.declared.entries.Entries.{Entries}
 use Rattle.dw_entries.specs.declared.header.UnitHeader.{UnitHeader}
 use Rattle.dw_entries.specs.declared.entry.EntryHead.{EntryHead}
-use Rattle.dw_forms.specs.Rules.{group_of, number_of}
+use Rattle.dw_forms.specs.Rules.{group_of}
 use Rattle.dw_links.specs.EntryLinks.{IsFirstOfGroup}
 use Rattle.dw_links.specs.Strings.{StringFailsIn, StringFailures, Sections}
 use Rattle.dw_links.specs.References.{ReferenceFailures, HeaderFailures, permits, permits_form, is_signature, is_reference_value, NoEntryThere, IsWrongKind, IsOtherThan, NoSignatureThere, ReferenceFails}
@@ -74,11 +74,6 @@ pub right_sibling : (next reached : Option ℕ) (id : ℕ) → reached ≡ Some 
     → ⊥
 right_sibling next reached id reaches is other = search (rules, same_some)
 
-pub other_sibling : (next reached : Option ℕ) (id : ℕ) → reached ≡ Some id → (next ≡ Some id → ⊥)
-    → IsOtherThan next reached
-other_sibling None reached id reaches other = tt
-other_sibling (Some n) reached id reaches other = (id, reaches, λ same. other (ap (λ (i : ℕ). Some i) (sym same)))
-
 module _ (entries : List Entry) (units : List PlacedUnit) (head : EntryHead) (a : ℕ) (v : Datum) (id : ℕ)
     (reaches : reach_of entries units head.unit v ≡ Some id) where
   abbrev Fails : Rule → Type 0
@@ -110,9 +105,6 @@ module _ (entries : List Entry) (units : List PlacedUnit) (head : EntryHead) (a 
               ∙ get_or_from_slice_get entries other.id other.target no_entry other.is_target in
               let both : true ≡ false = kind ∙ ap (permits head a) target ∙ other.wrong in cc
         ]
-
-    pub least_other : (r : Rule) → Fails r → number_of r < 3 → ⊥
-    least_other = search (rules, by_rule, no_entry_not, not_wrong)
 
     pub least_none : ((a ≡ 1) × IsOtherThan head.next_sibling (reach_of entries units head.unit v) → ⊥) → (r : Rule)
         → Fails r → ⊥

@@ -1,12 +1,11 @@
 //! A value of an entry that may lead elsewhere. What it leads to says which rules can fail there, and only these are
 //! checked. If one fails, the value is judged by all rules.
 
-ghost use Rattle.std.specs.Prelude.{IfErr, IfOk, IfSome};
+ghost use Rattle.std.specs.Prelude.{◌≡◌, IfErr, IfOk, IfSome};
 ghost use Rattle.std.specs.Bool.{OnTrue};
 ghost use Rattle.dw_forms.specs.Value.{view};
 ghost use Rattle.dw_forms.specs.declared.abbrev.AttributeSpec.{AttributeSpec as SpecData};
 ghost use Rattle.dw_entries.specs.Led.{IsLedBy, item_of};
-ghost use Rattle.dw_links.specs.DeclaredEntries.{KeepsDeclared};
 ghost use Rattle.dw_links.specs.EntryLinks.{HasFailedAt, KeepsAt, ReachesAt};
 ghost use Rattle.dw_links.specs.UnitAtHand.{entries_followed, MayLink, IsLinkable, IsTypeAfter, IsSiblingAfter};
 ghost use Rattle.dw_links.specs.UnitAtHand.{IsDeclaredAfter, LeadsWell};
@@ -14,6 +13,7 @@ ghost use Rattle.dw_links.specs.UnitAtHand.{IsDeclaredAfter, LeadsWell};
 use crate::class::plain_fault_at;
 use crate::linking::{keep, number_of};
 use crate::references::UnitLinks;
+use crate::targets::Declared;
 use dw_entries::constants::*;
 use dw_entries::{EntryId, Led, OptionalId, PlainFault};
 use dw_forms::{Attribute, Value};
@@ -86,14 +86,14 @@ impl UnitLinks<'_, '_, '_> {
     #[tactic(auto, using(crate::proofs::LeadSteps::may_ask))]
     fn judge(
         &self,
-        known: &mut [Option<bool>],
+        declared: &mut Declared<'_, '_>,
         id: EntryId,
         attribute: Attribute,
         value: &Value<'_>,
     ) -> Result<OptionalId, PlainFault>
         requires may { MayLink self.now id }
-        requires kept { KeepsDeclared (entries_followed self.now) known.old }
-        ensures kept { KeepsDeclared (entries_followed self.now) known.new }
+        requires of { declared.old.entries.now ≡ entries_followed self.now }
+        ensures of { declared.new.entries.now ≡ entries_followed self.now }
         ensures ok { IfOk result (ReachesAt self.now id attribute (view value.now)) }
         ensures err { IfErr result (HasFailedAt self.now id attribute (view value.now)) }
     {
@@ -103,7 +103,7 @@ impl UnitLinks<'_, '_, '_> {
         }
         let reached = self.reach(&head, value);
         let target = number_of(self.entries, &reached);
-        match self.ask(known, &head, attribute, value, reached) {
+        match declared.ask(&head, attribute, value, reached) {
             None => Ok(target),
             Some(rule) => Err(plain_fault_at(&head, attribute, rule)),
         }
@@ -113,20 +113,20 @@ impl UnitLinks<'_, '_, '_> {
     #[inline(always)]
     fn judge_next(
         &self,
-        known: &mut [Option<bool>],
+        declared: &mut Declared<'_, '_>,
         id: EntryId,
         kept: Option<OptionalId>,
         attribute: Attribute,
         value: Value<'_>,
     ) -> Result<Option<OptionalId>, PlainFault>
         requires may { MayLink self.now id }
-        requires kept { KeepsDeclared (entries_followed self.now) known.old }
-        ensures kept { KeepsDeclared (entries_followed self.now) known.new }
+        requires of { declared.old.entries.now ≡ entries_followed self.now }
+        ensures of { declared.new.entries.now ≡ entries_followed self.now }
         ensures ok { IfOk result (KeepsAt self.now id attribute (view value.entry) kept) }
         ensures err { IfErr result (HasFailedAt self.now id attribute (view value.entry)) }
     {
         let given = value;
-        match self.judge(known, id, attribute, &given) {
+        match self.judge(declared, id, attribute, &given) {
             Ok(reached) => Ok(keep(kept, attribute, reached)),
             Err(broken) => Err(broken),
         }
@@ -137,15 +137,15 @@ impl UnitLinks<'_, '_, '_> {
     #[inline(always)]
     pub(crate) fn link_led(
         &self,
-        known: &mut [Option<bool>],
+        declared: &mut Declared<'_, '_>,
         id: EntryId,
         led: &Led<'_>,
         kept: Option<OptionalId>,
     ) -> Result<Option<OptionalId>, PlainFault>
         requires may { MayLink self.now id }
-        requires kept { KeepsDeclared (entries_followed self.now) known.old }
+        requires of { declared.old.entries.now ≡ entries_followed self.now }
         requires led { (spec : SpecData) × IsLedBy led.now spec }
-        ensures kept { KeepsDeclared (entries_followed self.now) known.new }
+        ensures of { declared.new.entries.now ≡ entries_followed self.now }
         ensures ok { IfOk result (KeepsAt self.now id (item_of led.now).0 (item_of led.now).1 kept) }
         ensures err { IfErr result (HasFailedAt self.now id (item_of led.now).0 (item_of led.now).1) }
     {
@@ -159,6 +159,6 @@ impl UnitLinks<'_, '_, '_> {
             return Ok(kept);
         }
         let (attribute, value) = led.item();
-        self.judge_next(known, id, kept, attribute, value)
+        self.judge_next(declared, id, kept, attribute, value)
     }
 }

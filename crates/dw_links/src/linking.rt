@@ -5,7 +5,6 @@ ghost use Rattle.std.specs.Prelude.{◌≡◌, ◌<◌, length, Some, IfSome, If
 ghost use Rattle.dw_entries.specs.Views.{sections_of, all_entries, all_units, units_of};
 ghost use Rattle.dw_entries.specs.Failures.{HasNone, IsFirst, IsPlainFault};
 ghost use Rattle.dw_entries.specs.Stopped.{IfPlainFault};
-ghost use Rattle.dw_links.specs.DeclaredEntries.{KeepsDeclared};
 ghost use Rattle.dw_links.specs.EntryLinks.{kept_after, IsEntryLinked, IsFirstAtEntry, IsFirstOfGroup};
 ghost use Rattle.dw_links.specs.EntryLinks.{AreLinked};
 ghost use Rattle.dw_links.specs.UnitAtHand.{entries_followed, entry_with, MayLink};
@@ -17,6 +16,7 @@ use crate::constant::language_in_unit;
 use crate::references::UnitLinks;
 use crate::strings::check_strings;
 use crate::tables::LinkTables;
+use crate::targets::Declared;
 use dw_elf::end_of_texts;
 use dw_entries::constants::*;
 use dw_entries::{Entries, EntryId, Fault, OptionalId, PlainFault, Stop, UnitHeader};
@@ -56,14 +56,14 @@ impl UnitLinks<'_, '_, '_> {
     #[inline(always)]
     fn link_entry(
         &self,
-        known: &mut [Option<bool>],
+        declared: &mut Declared<'_, '_>,
         id: EntryId,
         header: UnitHeader,
     ) -> Result<OptionalId, PlainFault>
         requires may { MayLink self.now id }
         requires header { header ≡ self.now.texts.head.header }
-        requires kept { KeepsDeclared (entries_followed self.now) known.old }
-        ensures kept { KeepsDeclared (entries_followed self.now) known.new }
+        requires of { declared.old.entries.now ≡ entries_followed self.now }
+        ensures of { declared.new.entries.now ≡ entries_followed self.now }
         ensures ok { IfOk result (IsEntryLinked (entries_followed self.now) (entry_with self.now id)) }
         ensures err { IfErr result (IsFirstAtEntry (entries_followed self.now) (entry_with self.now id)) }
     {
@@ -71,7 +71,7 @@ impl UnitLinks<'_, '_, '_> {
         let mut leading = entry.leading();
         let mut kept = None;
         while let Some(led) = leading.take() {
-            let after = self.link_led(known, id, &led, kept)?;
+            let after = self.link_led(declared, id, &led, kept)?;
             kept = after;
         }
         Ok(kept.unwrap_or(OptionalId::none()))
@@ -121,7 +121,8 @@ pub(crate) fn link_entries(
     let mut addr_bases = Vec::with_capacity(alloc, entries.unit_count())?;
     let mut languages = Vec::with_capacity(alloc, entries.unit_count())?;
     let mut types = vec![in alloc; OptionalId::none(); entries.count()]?;
-    let mut known = vec![in alloc; None; entries.count()]?;
+    let known = vec![in alloc; None; entries.count()]?;
+    let mut declared = Declared { entries, known };
     for unit in 0..entries.unit_count() {
         let references = UnitLinks::of_unit(entries, ends, unit, &signatures);
         str_bases.push(references.texts.str_base)?;
@@ -131,7 +132,7 @@ pub(crate) fn link_entries(
         let range = references.range;
         for number in range.0..range.1 {
             let id = entries.id(number);
-            match references.link_entry(known.as_mut_slice(), id, header) {
+            match references.link_entry(&mut declared, id, header) {
                 Ok(target) => types[number] = target,
                 Err(broken) => return Err(Stop::Fault(first_fault(alloc, entries, broken))),
             }

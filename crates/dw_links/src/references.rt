@@ -5,7 +5,6 @@ ghost use Rattle.std.specs.Prelude.{OnOk, IfErr};
 ghost use Rattle.dw_elf.specs.Elf.{IsAfterLastZero};
 ghost use Rattle.dw_forms.specs.Value.{view};
 ghost use Rattle.dw_entries.specs.Failures.{IsLeast, HasNone, IsFirst};
-ghost use Rattle.dw_links.specs.DeclaredEntries.{KeepsDeclared};
 ghost use Rattle.dw_links.specs.UnitAtHand.{entries_followed, entry_with, entry_after, FailsByTarget, target_by};
 ghost use Rattle.dw_links.specs.UnitAtHand.{IsLinkable};
 ghost use Rattle.dw_links.specs.UnitAtHand.{MayAsk, MayLink};
@@ -18,7 +17,7 @@ ghost use Rattle.dw_links.specs.Signatures.{HasSignature};
 ghost use Rattle.dw_links.specs.SignedTypes.{AreSignedBelow, HasSignedTypes};
 
 use crate::strings::{UnitContributions, read_texts};
-use crate::targets::{is_permitted, is_permitted_form, is_reference, is_sig8, reach};
+use crate::targets::{Declared, is_permitted_form, is_reference, is_sig8, reach};
 use dw_entries::constants::*;
 use dw_entries::{
     Entries, EntryAt, EntryHead, EntryId, Fault, HeaderKind, PlainFault, Rule, Section, Stop,
@@ -204,7 +203,9 @@ impl<'e, 'd, 't> UnitLinks<'e, 'd, 't> {
             _ => reach(self.entries, self.signatures, head.unit, value),
         }
     }
+}
 
+impl Declared<'_, '_> {
     /// The rule at a reference that has no target.
     #[tactic(auto, using(crate::proofs::RuleGroups::no_signature))]
     fn ask_unreached(
@@ -213,10 +214,11 @@ impl<'e, 'd, 't> UnitLinks<'e, 'd, 't> {
         attribute: Attribute,
         value: &Value<'_>,
     ) -> Option<Rule>
-        requires may { MayAsk self.now head.now }
+        requires headers { HasNone
+            (HeaderFailures (all_entries self.now.entries.now) (all_units self.now.entries.now)) }
         requires reference { is_reference_value (view value.now) ≡ true }
-        requires none { target_by (entries_followed self.now) head.now (view value.now) ≡ None }
-        ensures { IsLeast (FailsByTarget (entries_followed self.now) head.now attribute (view value.now)) result }
+        requires none { target_by self.now.entries.now head.now (view value.now) ≡ None }
+        ensures { IsLeast (FailsByTarget self.now.entries.now head.now attribute (view value.now)) result }
     {
         if !is_sig8(value) {
             return Some(Rule::NoEntry);
@@ -227,26 +229,30 @@ impl<'e, 'd, 't> UnitLinks<'e, 'd, 't> {
         Some(Rule::NoSignature)
     }
 
-    /// The rule at a reference that has a target.
-    fn ask_reached(
-        &self,
-        known: &mut [Option<bool>],
+    /// The rule at an attribute, if this is the target of its value.
+    pub fn ask(
+        &mut self,
         head: &EntryHead,
         attribute: Attribute,
         value: &Value<'_>,
-        id: EntryId,
+        reached: Option<EntryId>,
     ) -> Option<Rule>
-        requires may { MayAsk self.now head.now }
-        requires reference { is_reference_value (view value.now) ≡ true }
-        requires reaches { target_by (entries_followed self.now) head.now (view value.now) ≡ Some id }
-        requires kept { KeepsDeclared (entries_followed self.now) known.old }
-        ensures kept { KeepsDeclared (entries_followed self.now) known.new }
-        ensures rule { IsLeast (FailsByTarget (entries_followed self.now) head.now attribute (view value.now)) result }
+        requires headers { HasNone
+            (HeaderFailures (all_entries self.old.entries.now) (all_units self.old.entries.now)) }
+        requires reached { reached ≡ target_by self.old.entries.now head.now (view value.now) }
+        ensures same { self.new.entries.now ≡ self.old.entries.now }
+        ensures rule { IsLeast (FailsByTarget self.old.entries.now head.now attribute (view value.now)) result }
     {
+        if !is_reference(value) {
+            return None;
+        }
+        let Some(id) = reached else {
+            return self.ask_unreached(head, attribute, value);
+        };
         if !is_permitted_form(head, attribute, value) {
             return Some(Rule::WrongKind);
         }
-        if !is_permitted(self.entries, known, head, attribute, id) {
+        if !self.is_permitted(head, attribute, id) {
             return Some(Rule::WrongKind);
         }
         if attribute != DW_AT_sibling {
@@ -256,29 +262,5 @@ impl<'e, 'd, 't> UnitLinks<'e, 'd, 't> {
             return None;
         }
         Some(Rule::NotNextSibling)
-    }
-
-    /// The rule at an attribute, if this is the target of its value.
-    pub fn ask(
-        &self,
-        known: &mut [Option<bool>],
-        head: &EntryHead,
-        attribute: Attribute,
-        value: &Value<'_>,
-        reached: Option<EntryId>,
-    ) -> Option<Rule>
-        requires may { MayAsk self.now head.now }
-        requires reached { reached ≡ target_by (entries_followed self.now) head.now (view value.now) }
-        requires kept { KeepsDeclared (entries_followed self.now) known.old }
-        ensures kept { KeepsDeclared (entries_followed self.now) known.new }
-        ensures rule { IsLeast (FailsByTarget (entries_followed self.now) head.now attribute (view value.now)) result }
-    {
-        if !is_reference(value) {
-            return None;
-        }
-        match reached {
-            Some(id) => self.ask_reached(known, head, attribute, value, id),
-            None => self.ask_unreached(head, attribute, value),
-        }
     }
 }

@@ -77,24 +77,6 @@ fn read_declared(entries: &Entries<'_>, id: EntryId) -> bool
     )
 }
 
-/// Whether an entry is declared and not defined. `known` has this of each entry that was read before, and None of
-/// the others: an entry is read when this is first needed, and the result is kept.
-fn is_declaration(entries: &Entries<'_>, known: &mut [Option<bool>], id: EntryId) -> bool
-    requires id { id < length (all_entries entries.now) }
-    requires kept { KeepsDeclared entries.now known.old }
-    ensures exact { result ≡ is_declared (entry_of (all_entries entries.now) id) }
-    ensures kept { KeepsDeclared entries.now known.new }
-{
-    match known[id.number()] {
-        Some(declared) => declared,
-        None => {
-            let read = read_declared(entries, id);
-            known[id.number()] = Some(read);
-            read
-        }
-    }
-}
-
 /// Whether a value is a reference.
 pub fn is_reference(value: &Value<'_>) -> bool
     ensures { result ≡ is_reference_value (view value.now) }
@@ -130,33 +112,54 @@ pub fn is_permitted_form(head: &EntryHead, attribute: Attribute, value: &Value<'
     !is_signed_by(head, attribute) || matches!(value, Value::RefSig(_))
 }
 
-/// Whether an attribute of an entry may have a target. This project's choice: the type, the specification, the
-/// signature and the import of a unit have targets of their kinds, and other attributes may refer to any entry. The
-/// target's unit is not looked up.
-pub fn is_permitted(
-    entries: &Entries<'_>,
-    known: &mut [Option<bool>],
-    head: &EntryHead,
-    attribute: Attribute,
-    id: EntryId,
-) -> bool
-    requires id { id < length (all_entries entries.now) }
-    requires kept { KeepsDeclared entries.now known.old }
-    ensures kept { KeepsDeclared entries.now known.new }
-    ensures exact { result ≡ permits head.now attribute (entry_of (all_entries entries.now) id) }
-{
-    let target = entries.decl(id);
-    if attribute == DW_AT_type {
-        return target.is_type();
+/// Which entries are declarations, as far as this was read: an entry is read when this is first needed.
+#[derive(Drop)]
+pub struct Declared<'e, 'd> {
+    pub entries: &'e Entries<'d>,
+    /// Whether DW_AT_declaration of an entry is true, or None if it was not read.
+    pub known: Vec<Option<bool>>,
+    ghost kept: { KeepsDeclared entries.now known.items },
+}
+
+impl Declared<'_, '_> {
+    /// Whether an entry is declared and not defined.
+    fn is_declaration(&mut self, id: EntryId) -> bool
+        requires { id < length (all_entries self.old.entries.now) }
+        ensures exact { result ≡ is_declared (entry_of (all_entries self.old.entries.now) id) }
+        ensures same { self.new.entries.now ≡ self.old.entries.now }
+    {
+        match self.known[id.number()] {
+            Some(declared) => declared,
+            None => {
+                let read = read_declared(self.entries, id);
+                self.known[id.number()] = Some(read);
+                read
+            }
+        }
     }
-    if attribute == DW_AT_specification {
-        return entries.offset(id) != head.offset && is_declaration(entries, known, id);
+
+    /// Whether an attribute of an entry may have a target. This project's choice: the type, the specification, the
+    /// signature and the import of a unit have targets of their kinds, and other attributes may refer to any entry. The
+    /// target's unit is not looked up.
+    pub fn is_permitted(&mut self, head: &EntryHead, attribute: Attribute, id: EntryId) -> bool
+        requires { id < length (all_entries self.old.entries.now) }
+        ensures exact { result ≡ permits head.now attribute (entry_of (all_entries self.old.entries.now) id) }
+        ensures same { self.new.entries.now ≡ self.old.entries.now }
+    {
+        let entries = self.entries;
+        let target = entries.decl(id);
+        if attribute == DW_AT_type {
+            return target.is_type();
+        }
+        if attribute == DW_AT_specification {
+            return entries.offset(id) != head.offset && self.is_declaration(id);
+        }
+        if is_signed_by(head, attribute) {
+            return target.tag() == head.tag;
+        }
+        if attribute == DW_AT_import && head.tag == DW_TAG_imported_unit {
+            return matches!(target.tag(), DW_TAG_compile_unit | DW_TAG_partial_unit);
+        }
+        true
     }
-    if is_signed_by(head, attribute) {
-        return target.tag() == head.tag;
-    }
-    if attribute == DW_AT_import && head.tag == DW_TAG_imported_unit {
-        return matches!(target.tag(), DW_TAG_compile_unit | DW_TAG_partial_unit);
-    }
-    true
 }

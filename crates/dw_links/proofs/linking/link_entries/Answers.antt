@@ -2,13 +2,16 @@ use Rattle.std.proofs.Common.{rules, ◌≡◌, ◌<◌, ◌≤◌, ◌∙◌, �
 use Rattle.std.proofs.lemmas.Option.{slice_get-get_or}
 use Rattle.dw_entries.proofs.FirstPlaces.{none_by_both}
 use Rattle.dw_links.specs.EntryLinks.{IsEntryLinked, IsFirstAtEntry}
-use Rattle.dw_links.proofs.LeadSteps.{may_link, keeps_none, keeps_whole, only_none}
+use Rattle.dw_links.proofs.LeadSteps.{may_link, keeps_none}
 use Rattle.dw_links.proofs.TableLemmas.{map_one_more, map_all, no_entry, entry_of, placed_of, all_entries, all_units, units_of, Entries, placed, unit_there}
 use Rattle.dw_links.proofs.UnitToAll.{more_below, none_fails, failed_first, LinkedBelow, starts_first, starts_next, none_below, types_more, FailsByText, FailsByTarget, HeaderFailures, AttributeFailures, length-placed}
 use Rattle.dw_links.proofs.linking.link_entries.Goals as goal
 
+pub invariant_of-declared : goal.invariant_of-declared
+invariant_of-declared c = search (rules, keeps_none)
+
 pub loop-unit-init : goal.loop-unit-init
-loop-unit-init c = search (rules, keeps_none, starts_first, none_below, only_none)
+loop-unit-init c = search (rules, starts_first, none_below)
 
 pub loop-number-init : goal.loop-number-init
 loop-number-init c =
@@ -17,7 +20,7 @@ loop-number-init c =
     let is = unit_there us c.loop-unit.unit (omega arith) in
     let (number, starts, linked) = c.loop-unit.invariant.linked in
     record {
-      kept = c.loop-unit.invariant.kept;
+      of = c.loop-unit.invariant.of;
       linked = subst (LinkedBelow entries c.loop-unit.types.items)
           (starts.begins (placed_of (placed us) c.loop-unit.unit) is ∙ sym c.of_unit-references.ensures.range.0) linked;
     }
@@ -46,9 +49,7 @@ loop-number-preserved c =
     let below : c.id-id.result < length (all_entries entries) = omega (arith, c.id-id.ensures) in
     let is = slice_get-get_or (all_entries entries) c.id-id.result no_entry below in
     record {
-      kept =
-          keeps_whole entries c.loop-number.known.items c.link_entry.new.known c.loop-number.known.len
-          c.loop-number.known.ok.0 i.kept (rw same at c.in-Ok.ensures.kept);
+      of = c.in-Ok.ensures.of ∙ same;
       linked = record {
         strings =
             more_below entries (FailsByText entries) _ c.id-id.result c.id-id.ensures i.linked.strings below
@@ -74,7 +75,7 @@ loop-unit-preserved c =
     let read = c.loop-unit.invariant.read in
     let texts = c.of_unit-references.ensures.linkable.texts in
     record {
-      kept = c.loop-number.invariant.kept;
+      of = c.loop-number.invariant.of;
       read = record {
         str = rw c.in_ok-push.ensures.items (map_one_more _ _ _ _ p _ is read.str (search rules));
         addr = rw c.in_ok-push-2.ensures.items (map_one_more _ _ _ _ p _ is read.addr (search rules));

@@ -9,6 +9,9 @@ use Rattle.dw_links.proofs.references.UnitLinks.judge.Goals as goal
 pub number_of-target-requires : goal.number_of-target-requires
 number_of-target-requires c = search (rules, reach_within)
 
+pub ask-requires-2-clause-headers : goal.ask-requires-2-clause-headers
+ask-requires-2-clause-headers c = rw c.requires.of c.requires.may.linkable.headers
+
 pub returns-in-Some-clause-err : goal.returns-in-Some-clause-err
 returns-in-Some-clause-err c =
     let may = may_ask _ _ _ _ c.requires.may c.entry.ensures c.head-head.ensures in
@@ -27,7 +30,7 @@ returns-in-None-clause-ok c =
       strings =
           least_by_texts (entries_followed c.args.self.now) c.args.self.now.texts c.head-head.result
           may.linkable.texts may.in_unit c.args.attribute (view c.args.value.now) None c.in_default.ensures;
-      references = c.in-None.ensures.rule;
+      references = rw c.requires.of at c.in-None.ensures.rule;
       is_target = c.number_of-target.ensures ∙ c.reach-reached.ensures;
     })
 
@@ -35,6 +38,6 @@ pub returns-in-Some-ask-clause-err : goal.returns-in-Some-ask-clause-err
 returns-in-Some-ask-clause-err c =
     rw (← c.entry.ensures, ← c.head-head.ensures) (inr (record {
       rule = c.in-Some-ask.rule;
-      least = c.in-Some-ask.ensures.rule;
+      least = rw c.requires.of at c.in-Some-ask.ensures.rule;
       named = c.plain_fault_at-in-Some-ask.ensures;
     }))

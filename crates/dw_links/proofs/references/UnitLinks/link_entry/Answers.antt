@@ -26,7 +26,7 @@ loop-led-preserved c = record {
       (leading_left c.loop-led.leading) c.loop-led.kept c.loop-led.invariant.so_far (item_of c.in-Some.led)
       (leading_left c.take.new.self) c.in-Some.ensures.next c.in_ok-after.after c.in_ok-after.ensures.ok.0
       c.in_ok-after.ensures.ok.1 c.in_ok-after.ensures.ok.2;
-  kept = c.in_ok-after.ensures.kept;
+  of = c.in_ok-after.ensures.of;
 }
 
 pub loop-led-smaller : goal.loop-led-smaller
