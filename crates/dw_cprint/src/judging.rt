@@ -14,7 +14,7 @@ use crate::source::TypeAt;
 use crate::summary::findings_of;
 use crate::survey::Survey;
 use crate::text::LIMIT;
-use std::alloc::{AllocError, Global};
+use std::alloc::AllocError;
 
 impl<'a> Survey<'a> {
     /// Why a declaration is refused, if it is by a rule that needs no text. `types` are those that it leads to.
@@ -32,18 +32,19 @@ impl<'a> Survey<'a> {
         findings_of(self, subject, types).first()
     }
 
-    /// Why a declaration is refused, if it is. No text is written for that.
+    /// Why a declaration is refused, if it is. No text is written for that. `types` is room for the types that it leads
+    /// to.
     pub fn refusal(
         &self,
-        alloc: Global,
+        types: &mut Vec<TypeAt>,
         subject: &Subject<'a>,
     ) -> Result<Option<PrintFault>, AllocError>
         ensures { IfOk result (λ r. BySurvey self.now (first_steps (view_subject subject.now)) (λ shapes.
             IsRefusal shapes (view_subject subject.now) r)) }
     {
-        let mut types = Vec::new(alloc);
-        put_declared_types(&mut types, subject)?;
-        if let Some(fault) = self.refusal_by_types(subject, &types) {
+        types.clear();
+        put_declared_types(types, subject)?;
+        if let Some(fault) = self.refusal_by_types(subject, types) {
             return Ok(Some(fault));
         }
         let length = length_declared(self, subject);

@@ -60,7 +60,8 @@ pub fn declare(
     let mut types = Vec::new(alloc);
     put_declared_types(&mut types, &subject)?;
     let survey = Survey::new(alloc, &source, types)?;
-    if let Some(fault) = survey.refusal(alloc, &subject)? {
+    let mut types = Vec::new(alloc);
+    if let Some(fault) = survey.refusal(&mut types, &subject)? {
         return Err(fault);
     }
     let mut text = Vec::new(alloc);
@@ -118,12 +119,13 @@ fn refusals_of<'a>(
     ensures { IfOk result (λ refusals. AreRefusals source.now.image.now named.now.ids.items refusals.items) }
 {
     let mut refusals = Vec::with_capacity(alloc, named.ids.len())?;
+    let mut types = Vec::new(alloc);
     for k in 0..named.ids.len() {
         let id = named.ids[k];
         let name = named.names[k];
         let kind = &named.kinds[k];
         let subject = subject_at(alloc, source, id, name, kind)?;
-        let refusal = survey.refusal(alloc, &subject)?;
+        let refusal = survey.refusal(&mut types, &subject)?;
         refusals.push(refusal)?;
     }
     Ok(refusals)
