@@ -1,10 +1,11 @@
 -- The place of a declaration is kept as declarations are added, and it is the one that is found.
-use Rattle.std.proofs.Common.{rules, ◌≡◌, ◌≢◌, ℕ, zero, suc, ◌+◌, ◌<◌, Bool, true, false, List, [], ◌∷◌, ◌++◌, length, get_or, Option, Some, None, refl, sym, ◌∙◌, All, arith, find, option_and_then, slice_get, IfSome, IfNone, is_some, ◌||◌, ◌==◌, eq-eqb, length-append, nat_cmp, BTreeMap}
+use Rattle.std.proofs.Common.{rules, ◌≡◌, ◌≢◌, ℕ, zero, suc, ◌+◌, ◌<◌, Bool, true, false, List, [], ◌∷◌, ◌++◌, length, get_or, Option, Some, None, refl, sym, subst, cond, is_eq, ◌∙◌, All, arith, find, option_and_then, slice_get, IfSome, IfNone, is_some, ◌||◌, ◌==◌, eq-eqb, length-append, nat_cmp, BTreeMap}
 use Rattle.std.specs.List.{list_any}
-use Rattle.std.specs.BTreeMap.{get}
-use Rattle.std.proofs.lemmas.Bool.{cases_lt, or_right}
+use Rattle.std.specs.BTreeMap.{get, is_at}
+use Rattle.std.proofs.lemmas.Bool.{or_right}
+use Rattle.std.proofs.lemmas.Bool.Decides.{nat_tests}
 use Rattle.std.proofs.lemmas.List.{get_or_append_left, get_or_at}
-use Rattle.std.proofs.lemmas.List.Elements.{All-map}
+use Rattle.std.proofs.lemmas.List.Elements.{All-append, All-cons, All-map, All-nil}
 use Rattle.dw_forms.specs.Abbrev.{table_view, views, Decl}
 use Rattle.dw_forms.specs.AbbrevReading.{has_code}
 use Rattle.dw_forms.specs.Places.{IsIndex, IsPlace, StandsAt}
@@ -18,10 +19,38 @@ code_of_decl d = d.code
 pub lacks_of : (code : ℕ) (ds : List Decl) → has_code code (views ds) ≡ false → Lacks code_of_decl code ds
 lacks_of code ds e = lacks_from code_of_decl code ds (sym (has_code_views code ds) ∙ e)
 
-pub index_pushed : (ds : List Decl) (m : BTreeMap ℕ ℕ) (d : Decl) → IsIndex ds m → Lacks code_of_decl d.code ds
-    → (d.code ≢ length ds + 1 → get nat_cmp m d.code ≡ Some (length ds)) → IsIndex (ds ++ d ∷ []) m
-index_pushed ds m d index lacks here =
-    search (rules, apart_push, cases_lt, get_or_append_left, length-append, get_or_at)
+same_key : (k q : ℕ) → is_eq (nat_cmp k q) ≡ true → k ≡ q
+same_key k q is = grind (arith, nat_tests)
+
+other_key : (k q : ℕ) → is_eq (nat_cmp k q) ≡ false → k ≢ q
+other_key k q is same = grind (arith, nat_tests)
+
+-- the place of a code after one more declaration, by whether that has the code
+pushed_place : (ds : List Decl) (d : Decl) (n code : ℕ) (b : Bool) (o p : Option ℕ) → n ≡ length ds
+    → b ≡ is_eq (nat_cmp d.code code) → IsPlace ds code o → p ≡ cond b (Some n) o → IsPlace (ds ++ d ∷ []) code p
+pushed_place ds d n code true o p last t place e =
+    subst (IsPlace (ds ++ d ∷ []) code) (sym e) (
+      omega (arith, last, length-append ds (d ∷ [])),
+      λ x. rw (get_or_at ds d [] x n (sym last)) (same_key d.code code (sym t)),
+    )
+pushed_place ds d n code false None p last t lacks e =
+    subst (IsPlace (ds ++ d ∷ []) code) (sym e)
+    (All-append (λ c. c.code ≢ code) ds (d ∷ []) lacks (All-cons (λ c. c.code ≢ code) d []
+    (other_key d.code code (sym t)) (All-nil (λ c. c.code ≢ code))))
+pushed_place ds d n code false (Some i) p last t place e =
+    subst (IsPlace (ds ++ d ∷ []) code) (sym e) (
+      omega (arith, place.0, length-append ds (d ∷ [])),
+      λ x. rw (get_or_append_left ds (d ∷ []) x i place.0) (place.1 x),
+    )
+
+pub index_pushed : (ds : List Decl) (old new : BTreeMap ℕ ℕ) (d : Decl) (n : ℕ) → IsIndex ds old
+    → Lacks code_of_decl d.code ds → n ≡ length ds
+    → ((q : ℕ) → get nat_cmp new q ≡ cond (is_at (nat_cmp d.code) q) (Some n) (get nat_cmp old q))
+    → IsIndex (ds ++ d ∷ []) new
+index_pushed ds old new d n index lacks last gets = record {
+  distinct = apart_push code_of_decl ds d index.distinct lacks;
+  places_are = λ q. pushed_place ds d n q _ _ _ last refl (index.places_are q) (gets q);
+}
 
 -- ---- what is found
 

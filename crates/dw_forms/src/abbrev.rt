@@ -1,14 +1,12 @@
 //! Abbreviation tables (DWARF 5, 7.5.3).
 
 ghost use Rattle.std.specs.Prelude.{◌≡◌, ◌==◌, ◌<◌, [], ◌∷◌, ◌++◌, length, false, find, option_map, option_copied};
-ghost use Rattle.std.specs.Prelude.{option_and_then, slice_get, IfSome, IfNone, OnOk, All, ◌≢◌, ◌+◌, Some};
-ghost use Rattle.std.specs.Ordering.{nat_cmp};
-ghost use Rattle.std.specs.BTreeMap.{get};
+ghost use Rattle.std.specs.Prelude.{option_and_then, slice_get, IfSome, IfNone, OnOk, All, ◌≢◌, Some};
 ghost use Rattle.dw_forms.specs.Abbrev.{table_view};
-ghost use Rattle.dw_forms.specs.Places.{IsIndex, IsPlace, StandsAt};
+ghost use Rattle.dw_forms.specs.Places.{StandsAt};
 ghost use Rattle.dw_forms.specs.AbbrevReading.{has_code};
 
-use crate::code::{Attribute, Tag};
+use crate::constants::{Attribute, Tag};
 use crate::form::Form;
 use std::alloc::{AllocError, Global};
 use std::collections::BTreeMap;
@@ -37,8 +35,8 @@ pub struct Decl {
 #[derive(Debug, Drop)]
 pub struct AbbrevTable {
     decls: Vec<Decl>,
-    /// The places, from 0, of the declarations whose code isn't their place counted from 1.
-    elsewhere: BTreeMap<u64, usize>,
+    /// The place, from 0, of the declaration of each code.
+    places: BTreeMap<u64, usize>,
 }
 
 impl Model for AbbrevTable {
@@ -50,46 +48,7 @@ impl Model for AbbrevTable {
 
     ghost view = { λ t. views t.decls.items };
 
-    ghost invariant = { λ t. IsIndex t.decls.items t.elsewhere };
-}
-
-/// The place of the declaration with this code: the one that the code itself says, or one from the map.
-fn place_of(decls: &[Decl], elsewhere: &BTreeMap<u64, usize>, code: u64) -> Option<usize>
-    requires { IsIndex decls.now elsewhere.now }
-    ensures { IsPlace decls.now code result }
-{
-    if code != 0 && code <= decls.len() as u64 {
-        let place = (code - 1) as usize;
-        if decls[place].code == code {
-            return Some(place);
-        }
-    }
-    let Some(place) = elsewhere.get(&code).copied() else {
-        return None;
-    };
-    if place < decls.len() && decls[place].code == code {
-        Some(place)
-    } else {
-        None
-    }
-}
-
-/// Enters the place of the declaration with this new code that will be the next.
-fn make_room(
-    decls: &[Decl],
-    elsewhere: &mut BTreeMap<u64, usize>,
-    code: u64,
-) -> Result<(), AllocError>
-    requires index { IsIndex decls.now elsewhere.old }
-    requires new { All (λ d. d.code ≢ code) decls.now }
-    ensures index { IsIndex decls.now elsewhere.new }
-    ensures entered { OnOk result (code ≢ length decls.now + 1
-        → get nat_cmp elsewhere.new code ≡ Some (length decls.now)) }
-{
-    if code != decls.len() as u64 + 1 {
-        elsewhere.insert(code, decls.len())?;
-    }
-    Ok(())
+    ghost invariant = { λ t. IsIndex t.decls.items t.places };
 }
 
 impl AbbrevTable {
@@ -99,7 +58,7 @@ impl AbbrevTable {
     {
         AbbrevTable {
             decls: Vec::new(alloc),
-            elsewhere: BTreeMap::new(alloc),
+            places: BTreeMap::new(alloc),
         }
     }
 
@@ -107,7 +66,7 @@ impl AbbrevTable {
     pub(crate) fn has_code(&self, code: u64) -> bool
         ensures { result ≡ has_code code self.now }
     {
-        place_of(&self.decls, &self.elsewhere, code).is_some()
+        self.places.contains_key(&code)
     }
 
     /// Adds a declaration with a new code.
@@ -115,8 +74,9 @@ impl AbbrevTable {
         requires { has_code decl.code self.old ≡ false }
         ensures { OnOk result (self.new ≡ self.old ++ table_view decl ∷ []) }
     {
-        make_room(&self.decls, &mut self.elsewhere, decl.code)?;
-        self.decls.push(decl)?;
+        self.decls.reserve(1)?;
+        self.places.insert(decl.code, self.decls.len())?;
+        self.decls.push_reserved(decl);
         Ok(())
     }
 
@@ -135,7 +95,7 @@ impl AbbrevTable {
         // The same declaration as `get` finds.
         ensures exact { find (λ d. d.code == code) self.now ≡ option_and_then (slice_get self.now) result }
     {
-        place_of(&self.decls, &self.elsewhere, code)
+        self.places.get(&code).copied()
     }
 
     /// The declaration at this place, from 0.
