@@ -74,6 +74,7 @@ test: toolchain
 # The tests that limit no times, which `make test` runs beside the tenth of the edits.
 .PHONY: untimed
 untimed:
+	tests/in-line.py
 	tests/rows.py
 	tests/examples.py
 	tests/real-programs.py
